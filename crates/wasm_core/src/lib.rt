@@ -1,0 +1,6 @@
+//! What the encoder, the parser and the generator stand on: features, limits and the reader of the binary
+//! format, in one place. The parts are `wasm_core_base` and `wasm_core_read`.
+#![tactic(auto)]
+
+pub use wasm_core_base::{features, limits};
+pub use wasm_core_read::{binary_reader, malformed};

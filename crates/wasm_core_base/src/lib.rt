@@ -1,0 +1,5 @@
+//! Features and limits: the lowest part of `wasm_core`.
+#![tactic(auto)]
+
+pub mod features;
+pub mod limits;

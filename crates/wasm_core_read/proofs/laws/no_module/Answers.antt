@@ -1,0 +1,27 @@
+use Rattle.std.proofs.Common.{◌≡◌, ℕ, List, Option, Some, None, refl, sym, ◌∙◌, [], ◌∷◌, ◌++◌}
+use Rattle.std.specs.Str.{is_utf8, chars}
+use Rattle.wasm_spec.specs.Grammar.{header, IsModule}
+use Rattle.wasm_spec.specs.Syntax.{Section}
+use Rattle.wasm_core_read.specs.Laws.{IsNoModule}
+use Rattle.wasm_core_read.specs.Reading.{byte_at, unsigned_at, bytes_at, name_at, framed_at, content_of, section_at, sections_at, sections_of, module_of}
+use Rattle.wasm_core_read.proofs.ModuleForms.{fills_module}
+use Rattle.wasm_core_read.proofs.laws.no_module.Goals as goal
+
+unread : (text : List ℕ) → module_of text ≡ None → IsNoModule text
+unread text e sections m = let some = sym (fills_module.again text sections m) ∙ e in absurd cc
+
+pub returns : goal.returns
+unfolding byte_at unsigned_at bytes_at name_at framed_at content_of section_at sections_at sections_of module_of is_utf8 chars lib.Utf8.encode
+returns c = record {
+  nothing = unread _ refl;
+  cut_header = unread _ refl;
+  version = unread _ refl;
+  another_id = unread _ refl;
+  no_name = unread _ refl;
+  long_size = unread _ refl;
+  long_name = unread _ refl;
+  no_text = unread _ refl;
+  overlong = unread _ refl;
+  surrogate = unread _ refl;
+  past_the_last = unread _ refl;
+}

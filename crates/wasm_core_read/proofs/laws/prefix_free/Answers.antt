@@ -1,0 +1,14 @@
+use Rattle.wasm_spec.specs.Bytes.{IsOneByte, IsUnsigned, IsName}
+use Rattle.wasm_spec.specs.Grammar.{IsSection}
+use Rattle.wasm_core_read.specs.Reading.{byte_at, unsigned_at, name_at, section_at}
+use Rattle.wasm_core_read.proofs.Forms.{reads_byte, reads_unsigned, reads_name, prefix_free}
+use Rattle.wasm_core_read.proofs.ModuleForms.{reads_section}
+use Rattle.wasm_core_read.proofs.laws.prefix_free.Goals as goal
+
+pub returns : goal.returns
+returns c = record {
+  byte = prefix_free IsOneByte byte_at reads_byte;
+  number = λ bits. prefix_free (IsUnsigned bits) (unsigned_at bits) (reads_unsigned bits);
+  name = prefix_free IsName name_at reads_name;
+  section = prefix_free IsSection section_at reads_section;
+}

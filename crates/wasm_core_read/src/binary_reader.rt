@@ -1,0 +1,190 @@
+//! A reader of the front of some bytes.
+
+ghost use Rattle.std.specs.Prelude.{◌≡◌, ℕ, ◌+◌, ◌<◌, ◌^◌, ◌↔◌, length, IsTrue};
+ghost use Rattle.wasm_core_base.specs.Features.{feature_set};
+ghost use Rattle.wasm_spec.specs.Bytes.{IsOneByte, IsU32, IsBytesOf, IsName};
+ghost use Rattle.wasm_spec.specs.Features.{default_features};
+ghost use Rattle.wasm_core_read.specs.Input.{end};
+ghost use Rattle.wasm_core_read.specs.Laws.{Reads};
+ghost use Rattle.wasm_core_read.specs.Reading.{Gives, byte_at, unsigned_at, bytes_at, name_at};
+
+use crate::malformed::Malformed;
+use crate::unsigned::unsigned_front;
+use std::marker::Model;
+use wasm_core_base::features::WasmFeatures;
+
+/// A reader over bytes that stand in a larger input. Strings and slices that it gives are parts of the
+/// input, and no call takes memory.
+///
+/// Contracts see a reader as the bytes that are left, the place of the first of them in the input, and
+/// the features under which operators are read.
+#[derive(Drop)]
+pub struct BinaryReader<'a> {
+    rest: &'a [u8],
+    position: u64,
+    features: WasmFeatures,
+}
+
+impl<'a> Model for BinaryReader<'a> {
+    ghost use Rattle.std.specs.Prelude.{◌+◌, ◌<◌, ◌^◌, length};
+    ghost use Rattle.wasm_core_base.specs.Features.{feature_set};
+    ghost use Rattle.wasm_spec.specs.Bytes.{AreBytes};
+    ghost use Rattle.wasm_core_read.specs.Input.{Input};
+
+    ghost Value = { Input };
+
+    ghost view = { λ r. record { rest = r.rest.now; position = r.position; features = feature_set r.features } };
+
+    ghost invariant = { λ r. (r.position + length r.rest.now < 2 ^ 64) × AreBytes r.rest.now };
+}
+
+impl<'a> BinaryReader<'a> {
+    /// A reader of all of the bytes under the default features; the first byte stands at
+    /// `original_position` of the input.
+    pub fn new(bytes: &'a [u8], original_position: u64) -> Self
+        requires { original_position + length bytes.now < 2 ^ 64 }
+        ensures { result ≡ record { rest = bytes.now; position = original_position; features = default_features } }
+    {
+        BinaryReader {
+            rest: bytes,
+            position: original_position,
+            features: WasmFeatures::default(),
+        }
+    }
+
+    /// The features under which operators are read.
+    pub fn features(&self) -> WasmFeatures
+        ensures { feature_set result ≡ self.now.features }
+    {
+        self.features
+    }
+
+    /// Sets the features under which operators are read.
+    pub fn set_features(&mut self, features: WasmFeatures)
+        ensures { self.new ≡ record self.old { features = feature_set features } }
+    {
+        self.features = features;
+    }
+
+    /// The place of the next byte in the input.
+    pub fn original_position(&self) -> u64
+        ensures place { result ≡ self.now.position }
+        ensures end_fits { end self.now < 2 ^ 64 }
+    {
+        self.position
+    }
+
+    /// The number of bytes that are left.
+    pub fn bytes_remaining(&self) -> usize
+        ensures { result ≡ length self.now.rest }
+    {
+        self.rest.len()
+    }
+
+    /// Whether no bytes are left.
+    pub fn eof(&self) -> bool
+        ensures { IsTrue result ↔ (length self.now.rest ≡ 0) }
+    {
+        self.rest.is_empty()
+    }
+
+    /// Reads one byte.
+    #[tactic(auto, unfolding(crate::specs::Reading::byte_at))]
+    pub fn read_u8(&mut self) -> Result<u8, Malformed>
+        ensures exact { Gives (λ b. b) self.old self.new result (byte_at self.old.rest) }
+        ensures reads { Reads IsOneByte (λ b. b) self.old self.new result }
+    {
+        match self.rest {
+            [] => Err(Malformed {
+                offset: self.position,
+            }),
+            [byte, rest @ ..] => {
+                self.rest = rest;
+                self.position += 1;
+                Ok(*byte)
+            }
+        }
+    }
+
+    /// Reads an unsigned number of 32 bits in LEB128, padded or not: at most five bytes.
+    pub fn read_var_u32(&mut self) -> Result<u32, Malformed>
+        ensures exact { Gives (λ n. n) self.old self.new result (unsigned_at 32 self.old.rest) }
+        ensures reads { Reads IsU32 (λ n. n) self.old self.new result }
+    {
+        let _ = &self.rest;
+        self.var_u32()
+    }
+
+    fn var_u32(&mut self) -> Result<u32, Malformed>
+        ensures { Gives (λ n. n) self.old self.new result (unsigned_at 32 self.old.rest) }
+    {
+        match unsigned_front(self.rest, 32) {
+            None => Err(Malformed {
+                offset: self.position,
+            }),
+            Some((value, rest)) => {
+                self.position += (self.rest.len() - rest.len()) as u64;
+                self.rest = rest;
+                Ok(value as u32)
+            }
+        }
+    }
+
+    /// Reads so many bytes.
+    pub fn read_bytes(&mut self, len: usize) -> Result<&'a [u8], Malformed>
+        ensures exact { Gives (λ b. b.now) self.old self.new result (bytes_at len self.old.rest) }
+        ensures reads { Reads (IsBytesOf len) (λ b. b.now) self.old self.new result }
+    {
+        let _ = &self.rest;
+        self.bytes(len)
+    }
+
+    #[tactic(auto, unfolding(crate::specs::Reading::bytes_at))]
+    fn bytes(&mut self, len: usize) -> Result<&'a [u8], Malformed>
+        ensures { Gives (λ b. b.now) self.old self.new result (bytes_at len self.old.rest) }
+    {
+        if self.rest.len() < len {
+            return Err(Malformed {
+                offset: self.position,
+            });
+        }
+        let (front, rest) = self.rest.split_at(len);
+        self.rest = rest;
+        self.position += len as u64;
+        Ok(front)
+    }
+
+    /// Reads a name: the number of its bytes, and these bytes, which are UTF-8.
+    pub fn read_string(&mut self) -> Result<&'a str, Malformed>
+        ensures exact { Gives (λ s. s.now) self.old self.new result (name_at self.old.rest) }
+        ensures reads { Reads IsName (λ s. s.now) self.old self.new result }
+    {
+        let _ = &self.rest;
+        self.string()
+    }
+
+    #[tactic(auto, using(crate::proofs::Names::utf8, crate::proofs::Names::not_utf8), unfolding(crate::specs::Reading::name_at, crate::specs::Reading::bytes_at))]
+    fn string(&mut self) -> Result<&'a str, Malformed>
+        ensures { Gives (λ s. s.now) self.old self.new result (name_at self.old.rest) }
+    {
+        let malformed = Malformed {
+            offset: self.position,
+        };
+        let Some((len, rest)) = unsigned_front(self.rest, 32) else {
+            return Err(malformed);
+        };
+        let len = len as usize;
+        if rest.len() < len {
+            return Err(malformed);
+        }
+        let (text, rest) = rest.split_at(len);
+        match str::from_utf8(text) {
+            Err(_) => Err(malformed),
+            Ok(text) => {
+                self.position += (self.rest.len() - rest.len()) as u64;
+                self.rest = rest;
+                Ok(text)
+            }
+        }
+    }
+}

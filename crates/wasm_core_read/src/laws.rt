@@ -1,0 +1,57 @@
+//! Laws of the reading functions that the contracts of this crate cite, and of the grammar. The
+//! functions do nothing: their contracts are theorems.
+
+ghost use Rattle.std.specs.Prelude.{◌≡◌, ◌++◌, [], ◌∷◌, ℕ, List};
+ghost use Rattle.wasm_core_read.specs.Laws.{ReadsExactly, FillsExactly, IsPrefixFree, IsNoModule};
+ghost use Rattle.wasm_core_read.specs.Reading.{byte_at, unsigned_at, bytes_at, name_at, section_at, module_of};
+ghost use Rattle.wasm_spec.specs.Bytes.{IsOneByte, IsUnsigned, IsBytesOf, IsName};
+ghost use Rattle.wasm_spec.specs.Grammar.{header, IsSection, IsModule};
+ghost use Rattle.wasm_spec.specs.Syntax.{Section, Custom};
+
+/// What is read from bytes is a text of the form, and each text of it is read, whatever follows it.
+pub fn reads_exactly()
+    ensures byte { ReadsExactly IsOneByte byte_at }
+    ensures number { (bits : ℕ) → ReadsExactly (IsUnsigned bits) (unsigned_at bits) }
+    ensures bytes { (n : ℕ) → ReadsExactly (IsBytesOf n) (bytes_at n) }
+    ensures name { ReadsExactly IsName name_at }
+    ensures section { ReadsExactly IsSection section_at }
+    ensures sections { FillsExactly IsModule module_of }
+{}
+
+/// A text of a form has one value, and no text of it is a proper prefix of another.
+pub fn prefix_free()
+    ensures byte { IsPrefixFree IsOneByte }
+    ensures number { (bits : ℕ) → IsPrefixFree (IsUnsigned bits) }
+    ensures name { IsPrefixFree IsName }
+    ensures section { IsPrefixFree IsSection }
+{}
+
+/// Bytes are a text of at most one module.
+pub fn one_module()
+    ensures { (text : List ℕ) (a b : List Section) → IsModule text a → IsModule text b → a ≡ b }
+{}
+
+/// Bytes that are a text of no module, worked out by hand.
+pub fn no_module()
+    ensures nothing { IsNoModule [] }
+    ensures cut_header { IsNoModule (0x00 ∷ 0x61 ∷ 0x73 ∷ 0x6d ∷ 0x01 ∷ 0x00 ∷ 0x00 ∷ []) }
+    ensures version { IsNoModule (0x00 ∷ 0x61 ∷ 0x73 ∷ 0x6d ∷ 0x02 ∷ 0x00 ∷ 0x00 ∷ 0x00 ∷ []) }
+
+    // A section of another id, one without a name, one whose size goes past the end, a name that goes past its frame.
+    ensures another_id { IsNoModule (header ++ (0x0e ∷ 0x01 ∷ 0x00 ∷ [])) }
+    ensures no_name { IsNoModule (header ++ (0x00 ∷ 0x00 ∷ [])) }
+    ensures long_size { IsNoModule (header ++ (0x00 ∷ 0x02 ∷ 0x01 ∷ 0x61 ∷ []) ++ (0x00 ∷ 0x02 ∷ 0x01 ∷ [])) }
+    ensures long_name { IsNoModule (header ++ (0x00 ∷ 0x01 ∷ 0x01 ∷ [])) }
+
+    // Names that aren't UTF-8: a byte that begins nothing, an overlong form, a surrogate, past the last character.
+    ensures no_text { IsNoModule (header ++ (0x00 ∷ 0x02 ∷ 0x01 ∷ 0xff ∷ [])) }
+    ensures overlong { IsNoModule (header ++ (0x00 ∷ 0x03 ∷ 0x02 ∷ 0xc0 ∷ 0x80 ∷ [])) }
+    ensures surrogate { IsNoModule (header ++ (0x00 ∷ 0x04 ∷ 0x03 ∷ 0xed ∷ 0xa0 ∷ 0x80 ∷ [])) }
+    ensures past_the_last { IsNoModule (header ++ (0x00 ∷ 0x05 ∷ 0x04 ∷ 0xf4 ∷ 0x90 ∷ 0x80 ∷ 0x80 ∷ [])) }
+{}
+
+/// Names of two, three and four bytes a character.
+pub fn wide_names()
+    ensures { IsModule (header ++ (0x00 ∷ 0x0a ∷ 0x09 ∷ 0xc3 ∷ 0xa9 ∷ 0xe2 ∷ 0x82 ∷ 0xac ∷ 0xf4 ∷ 0x8f ∷ 0xbf ∷ 0xbf ∷ []))
+        (Custom (0xc3 ∷ 0xa9 ∷ 0xe2 ∷ 0x82 ∷ 0xac ∷ 0xf4 ∷ 0x8f ∷ 0xbf ∷ 0xbf ∷ []) [] ∷ []) }
+{}

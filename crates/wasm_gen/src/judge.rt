@@ -1,0 +1,5 @@
+//! What users of a session need of the judge.
+
+pub use wasmparser::error::{Error, ErrorKind};
+pub use wasmparser::types::{CoreExports, EntityType, Types, TypesRef};
+pub use wasmparser::validator_id::ValidatorId;

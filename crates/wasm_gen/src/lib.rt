@@ -1,0 +1,13 @@
+//! Sessions that judge modules, and the program's commands over readers and writers.
+#![tactic(auto)]
+
+pub mod device;
+pub mod error;
+#[cfg(test)]
+mod fakes;
+pub mod judge;
+pub mod run;
+pub mod session;
+pub mod status;
+pub mod transfer;
+pub mod verdict;

@@ -1,0 +1,72 @@
+//! The program's commands over a reader and a writer.
+
+ghost use Rattle.std.specs.Prelude.{◌≡◌, ◌≢◌, ◌^◌, ◌⊎◌, IfOk, IfErr, OnOk};
+ghost use Rattle.std.specs.Io.KnownBytes.{Keeps};
+ghost use Rattle.wasm_gen.specs.Device.{FailsOrTires, FailsWrite, ReadsToEnd, ReadsWithin, WritesOn};
+ghost use Rattle.wasm_gen.specs.Run.{WritesVerdict, WritesFront, KeepsOrJudges};
+ghost use Rattle.wasm_gen.specs.Transfer.{ConsumesMore};
+
+use crate::device::{Sink, Source};
+use crate::error::RunError;
+use crate::judge::ErrorKind;
+use crate::session::Session;
+use crate::transfer::{MAX_INPUT, MAX_TURNS, read_whole, write_whole};
+use crate::verdict::verdict_text;
+use std::alloc::Global;
+
+#[cfg(test)]
+mod tests;
+
+/// Reads a module, judges it and writes the line of its verdict. Answers whether the verdict is yes.
+///
+/// After `Write` the session has judged the module. After `Memory` it may have.
+pub fn run_check<R: Source, W: Sink>(
+    alloc: Global,
+    session: &mut Session,
+    reader: &mut R,
+    writer: &mut W,
+) -> Result<bool, RunError>
+    ensures ok { IfOk result (λ is_yes. WritesVerdict session.old session.new
+        (R.remaining reader.old) (R.remaining reader.new) (W.contents writer.old) (W.contents writer.new) is_yes) }
+    ensures front { IfErr result (λ e. e ≡ RunError.Write → WritesFront session.old session.new
+        (R.remaining reader.old) (R.remaining reader.new) (W.contents writer.old) (W.contents writer.new)) }
+    ensures nothing { IfErr result (λ e. e ≢ RunError.Write → Keeps (W.contents writer.old) (W.contents writer.new)) }
+
+    // Each refusal comes only with its cause.
+    ensures kinds { IfErr result (λ e. (e ≡ RunError.Read) ⊎ (e ≡ RunError.TooLong) ⊎ (e ≡ RunError.Memory) ⊎ (e ≡ RunError.Write)) }
+    ensures read { IfErr result (λ e. e ≡ RunError.Read
+        → FailsOrTires (R.reads reader.old) (R.reads reader.new) (2 ^ 29)) }
+    ensures too_long { IfErr result (λ e. e ≡ RunError.TooLong
+        → ConsumesMore (R.remaining reader.old) (R.remaining reader.new) (2 ^ 28)) }
+    ensures write { IfErr result (λ e. e ≡ RunError.Write → FailsWrite (W.faults writer.old) (W.faults writer.new)) }
+
+    // No failed read or write is passed over.
+    ensures read_to_end { OnOk result (ReadsToEnd (R.reads reader.old) (R.reads reader.new) (2 ^ 29)) }
+    ensures written { OnOk result (WritesOn (W.faults writer.old) (W.faults writer.new)) }
+    ensures read_before_write { IfErr result (λ e. e ≡ RunError.Write
+        → ReadsToEnd (R.reads reader.old) (R.reads reader.new) (2 ^ 29)) }
+    ensures unfailed_read { IfErr result (λ e. (e ≡ RunError.TooLong) ⊎ (e ≡ RunError.Memory)
+        → ReadsWithin (R.reads reader.old) (R.reads reader.new) (2 ^ 29) ⊎ ReadsToEnd (R.reads reader.old) (R.reads reader.new) (2 ^ 29)) }
+    ensures unfailed_write { IfErr result (λ e. e ≢ RunError.Write → WritesOn (W.faults writer.old) (W.faults writer.new)) }
+
+    // Without a whole input the session is as it was.
+    ensures unread { IfErr result (λ e. (e ≡ RunError.Read) ⊎ (e ≡ RunError.TooLong) → session.new ≡ session.old) }
+    ensures memory { IfErr result (λ e. e ≡ RunError.Memory → KeepsOrJudges session.old session.new
+        (R.remaining reader.old) (R.remaining reader.new)) }
+    ensures features { session.new.features ≡ session.old.features }
+    ensures id { session.new.id ≡ session.old.id }
+{
+    let bytes = read_whole(alloc, reader, MAX_INPUT, MAX_TURNS)?;
+    let verdict = session.check(&bytes);
+    if let Err(e) = &verdict {
+        if e.kind == ErrorKind::Memory {
+            return Err(RunError::Memory);
+        }
+    }
+    let is_yes = verdict.is_ok();
+    let Ok(text) = verdict_text(alloc, &verdict) else {
+        return Err(RunError::Memory);
+    };
+    write_whole(writer, text.as_bytes())?;
+    Ok(is_yes)
+}

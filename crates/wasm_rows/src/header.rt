@@ -1,0 +1,55 @@
+//! The header, whole, changed and cut.
+
+use crate::modules::{HEADER, new_session, refusal};
+use std::test::Fail;
+use wasm_gen::judge::ErrorKind;
+
+#[test]
+fn header_alone_defines_nothing(rt: HostRuntime) -> Result<(), Fail> {
+    let mut session = new_session();
+    let types = session.check(&HEADER)?;
+    let shown = types.as_ref();
+    assert_eq!(rt; shown.core_type_count_in_module(), 0);
+    assert_eq!(rt; shown.function_count(), 0);
+    assert_eq!(rt; shown.table_count(), 0);
+    assert_eq!(rt; shown.memory_count(), 0);
+    assert_eq!(rt; shown.global_count(), 0);
+    assert_eq!(rt; shown.tag_count(), 0);
+    assert_eq!(rt; shown.element_count(), 0);
+    let exports = shown.core_exports().ok_or("a module shows its exports")?;
+    assert_eq!(rt; exports.count(), 0);
+    Ok(())
+}
+
+#[test]
+fn another_version_fails_the_session(rt: HostRuntime) {
+    let mut session = new_session();
+    let mut other = HEADER;
+    other[4] = 2;
+    assert_eq!(rt; refusal(&mut session, &other), Some(ErrorKind::Malformed));
+    assert_eq!(rt; refusal(&mut session, &HEADER), Some(ErrorKind::Failed));
+}
+
+#[test]
+fn cut_header_is_malformed(rt: HostRuntime) {
+    for end in 0..HEADER.len() {
+        assert_eq!(rt;
+            refusal(&mut new_session(), &HEADER[..end]),
+            Some(ErrorKind::Malformed),
+            "{end}"
+        );
+    }
+}
+
+#[test]
+fn changed_header_is_malformed(rt: HostRuntime) {
+    for place in 0..HEADER.len() {
+        let mut other = HEADER;
+        other[place] ^= 1;
+        assert_eq!(rt;
+            refusal(&mut new_session(), &other),
+            Some(ErrorKind::Malformed),
+            "{place}"
+        );
+    }
+}

@@ -1,0 +1,17 @@
+//! Tests that cross crates: worked modules, judged through public calls alone.
+#![tactic(auto)]
+
+#[cfg(test)]
+mod custom_sections;
+#[cfg(test)]
+mod errors;
+#[cfg(test)]
+mod features;
+#[cfg(test)]
+mod header;
+#[cfg(test)]
+mod modules;
+#[cfg(test)]
+mod reader;
+#[cfg(test)]
+mod sessions;

@@ -1,0 +1,54 @@
+-- Bytes, numbers, names, lists and frames: what the forms of the binary format are made of. A text of a value is a list of bytes that
+-- encodes it; a frame is the size of a content, and the content.
+-- Core Specification 3.0, Binary Format: "Conventions" (grammar, lists), "Values" (bytes, integers, names) and "Modules" (sections).
+use Rattle.std.specs.Prelude.{◌≡◌, ℕ, ◌+◌, ◌-◌, ◌*◌, ◌^◌, ◌<◌, ◌≤◌, List, [], ◌∷◌, ◌++◌, length}
+use Rattle.std.specs.List.{AllByRecursion}
+use Rattle.std.specs.Str.{IsUtf8}
+
+-- A byte is a number below 256.
+abbrev pub IsByte : ℕ → Type 0
+IsByte b = b < 256
+
+abbrev pub AreBytes : List ℕ → Type 0
+AreBytes text = AllByRecursion IsByte text
+
+-- Any bytes are a text of themselves.
+abbrev pub IsBytes : List ℕ → List ℕ → Type 0
+IsBytes text bytes = AreBytes text × (bytes ≡ text)
+
+-- So many bytes, as they are.
+abbrev pub IsBytesOf : ℕ → List ℕ → List ℕ → Type 0
+IsBytesOf n text bytes = IsBytes text bytes × (length bytes ≡ n)
+
+-- A text of one byte (Values, "Bytes").
+abbrev pub IsOneByte : List ℕ → ℕ → Type 0
+IsOneByte text b = (text ≡ b ∷ []) × IsByte b
+
+-- An unsigned number of at most so many bits in LEB128 (Values, "Integers"). A byte below 2 ^ 7 is the last one, and is below
+-- 2 ^ bits. A byte of 2 ^ 7 or more stands only where more than seven bits are left; it gives its low seven bits, and the bytes behind
+-- it are a number of at most bits - 7 bits. So a number may be padded, but by no more bytes than its bits allow.
+abbrev pub IsUnsigned : ℕ → List ℕ → ℕ → Type 0
+IsUnsigned bits [] n = ⊥
+IsUnsigned bits (b ∷ []) n = (b < 2 ^ 7) × (b < 2 ^ bits) × (n ≡ b)
+IsUnsigned bits (b ∷ c ∷ bs) n = (2 ^ 7 ≤ b) × IsByte b × (7 < bits) × (m : ℕ) × (n ≡ 2 ^ 7 * m + (b - 2 ^ 7)) × IsUnsigned (bits - 7) (c ∷ bs) m
+
+abbrev pub IsU32 : List ℕ → ℕ → Type 0
+IsU32 text n = IsUnsigned 32 text n
+
+-- One item behind the other, with nothing between and nothing behind.
+abbrev pub IsItems : {A : Type 0} → (List ℕ → A → Type 0) → List ℕ → List A → Type 0
+IsItems IsA text [] = text ≡ []
+IsItems IsA text (item ∷ items) = (first others : List ℕ) × (text ≡ first ++ others) × IsA first item × IsItems IsA others items
+
+-- A list: the number of its items as u32, and the items (Conventions, "Lists").
+abbrev pub IsList : {A : Type 0} → (List ℕ → A → Type 0) → List ℕ → List A → Type 0
+IsList IsA text items = (count entries : List ℕ) × (text ≡ count ++ entries) × IsU32 count (length items) × IsItems IsA entries items
+
+-- A frame: the number of the bytes of a content as u32, and the content, which is all of them (Modules, "Sections"; the bytes of a name
+-- are written so too, as a list of bytes).
+abbrev pub IsFramed : {A : Type 0} → (List ℕ → A → Type 0) → List ℕ → A → Type 0
+IsFramed IsA text value = (size content : List ℕ) × (text ≡ size ++ content) × IsU32 size (length content) × IsA content value
+
+-- A name: a list of bytes that are the UTF-8 of its characters (Values, "Names"). The value is the list of these bytes.
+abbrev pub IsName : List ℕ → List ℕ → Type 0
+IsName text name = IsFramed IsBytes text name × IsUtf8 name

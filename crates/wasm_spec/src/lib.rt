@@ -1,0 +1,7 @@
+//! The specification: which bytes are a module, which modules are valid, and what a module shows.
+//!
+//! Everything that this crate says stands in `specs/`. The functions of `laws` do nothing: their
+//! contracts are theorems on the definitions.
+#![tactic(auto)]
+
+pub mod laws;

@@ -1,0 +1,3 @@
+pub use Rattle.wasmparser_parser.specs.Error
+pub use Rattle.wasmparser_validator.specs.Judging
+pub mod Types

@@ -1,0 +1,2 @@
+pub mod Custom
+pub mod Error

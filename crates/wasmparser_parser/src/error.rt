@@ -1,0 +1,75 @@
+//! What a judge answers when it refuses a module.
+
+ghost use Rattle.std.specs.Prelude.{◌≡◌};
+ghost use Rattle.wasmparser_parser.specs.declared.error.ErrorKind.TheVariants as kinds;
+
+use thiserror::Error;
+use wasm_core::limits::Limit;
+use wasm_core::malformed::Malformed;
+
+/// Why a module is refused. Its text is the kind in lower case, without the case of a limit.
+#[derive(Clone, Copy, Debug, PartialEq, Eq, Hash, Error)]
+#[error("{}", self.name())]
+pub enum ErrorKind {
+    /// The bytes do not read.
+    Malformed,
+    /// What they read breaks a rule of validity.
+    Invalid,
+    /// A count, a size, a depth or a sum passes a limit.
+    Limit(Limit),
+    /// A body has an operator outside the closed table of operators.
+    Operator,
+    /// A body's bytes or its typing are wrong otherwise.
+    Body,
+    /// The judge has no room for the module's types.
+    Total,
+    /// A call comes where its section can't stand.
+    Order,
+    /// The judge refused a module before.
+    Failed,
+    /// Memory ran out.
+    Memory,
+}
+
+impl ErrorKind {
+    ghost use Rattle.std.specs.Prelude.{◌≡◌};
+    ghost use Rattle.wasmparser_parser.specs.Error.{kind_name};
+
+    /// The kind in lower case.
+    pub fn name(&self) -> &'static str
+        ensures { result.now ≡ kind_name self.now }
+    {
+        match self {
+            ErrorKind::Malformed => "malformed",
+            ErrorKind::Invalid => "invalid",
+            ErrorKind::Limit(_) => "limit",
+            ErrorKind::Operator => "operator",
+            ErrorKind::Body => "body",
+            ErrorKind::Total => "total",
+            ErrorKind::Order => "order",
+            ErrorKind::Failed => "failed",
+            ErrorKind::Memory => "memory",
+        }
+    }
+}
+
+/// A refusal, and where in the bytes it was found.
+#[derive(Clone, Copy, Debug, PartialEq, Eq, Hash, Error)]
+#[error("{kind} at {offset}")]
+pub struct Error {
+    /// A place in the bytes that were handed in, or their end.
+    pub offset: u64,
+    /// Why the module is refused. Where it has several faults, any of them may be named.
+    pub kind: ErrorKind,
+}
+
+impl From<Malformed> for Error {
+    ghost from_gives = { λ m e. e ≡ record { offset = m.offset; kind = kinds.Malformed } };
+
+    fn from(malformed: Malformed) -> Error {
+        Error {
+            offset: malformed.offset,
+            kind: ErrorKind::Malformed,
+        }
+    }
+}

@@ -1,0 +1,5 @@
+//! Refusals, and the items of a module as they stand in its bytes: the lowest part of `wasmparser`.
+#![tactic(auto)]
+
+pub mod custom;
+pub mod error;

@@ -1,0 +1,161 @@
+//! What a judge shows of a valid module.
+
+// No section that defines or exports something reads yet, so a module's spaces are empty and its exports
+// are none.
+
+ghost use Rattle.std.specs.Prelude.{◌≡◌, length, IsSomeAnd};
+ghost use Rattle.std.specs.Iterator.{YieldsFirst, item_count};
+ghost use Rattle.wasmparser_validator.specs.Types.{shown, exports_left};
+
+use std::marker::Model;
+
+/// The index spaces of a valid module. Contracts see it as the sizes of these spaces.
+#[derive(Debug, Drop)]
+pub struct Types {
+    types: u32,
+    functions: u32,
+    tables: u32,
+    memories: u32,
+    globals: u32,
+    tags: u32,
+    elements: u32,
+}
+
+impl Model for Types {
+    ghost use Rattle.wasm_spec.specs.Spaces.{Sizes};
+
+    ghost Value = { Sizes };
+
+    ghost view = { λ t. record {
+      types = t.types;
+      functions = t.functions;
+      tables = t.tables;
+      memories = t.memories;
+      globals = t.globals;
+      tags = t.tags;
+      elements = t.elements;
+      exports = 0;
+    } };
+}
+
+impl Types {
+    ghost use Rattle.wasm_spec.specs.Spaces.{no_items};
+
+    /// The index spaces of a module that defines nothing.
+    pub(crate) fn empty() -> Types
+        ensures { result ≡ no_items }
+    {
+        Types {
+            types: 0,
+            functions: 0,
+            tables: 0,
+            memories: 0,
+            globals: 0,
+            tags: 0,
+            elements: 0,
+        }
+    }
+
+    /// The same, borrowed.
+    pub fn as_ref(&self) -> TypesRef<'_>
+        ensures { shown result ≡ self.now }
+    {
+        TypesRef { types: self }
+    }
+}
+
+/// The index spaces of a valid module, borrowed.
+#[derive(Clone, Copy, Debug)]
+pub struct TypesRef<'a> {
+    types: &'a Types,
+}
+
+impl<'a> TypesRef<'a> {
+    /// The number of types.
+    pub fn core_type_count_in_module(&self) -> u32
+        ensures { result ≡ (shown self.now).types }
+    {
+        let types = self.types;
+        types.types
+    }
+
+    /// The number of functions, imported ones counted.
+    pub fn function_count(&self) -> u32
+        ensures { result ≡ (shown self.now).functions }
+    {
+        let types = self.types;
+        types.functions
+    }
+
+    /// The number of tables, imported ones counted.
+    pub fn table_count(&self) -> u32
+        ensures { result ≡ (shown self.now).tables }
+    {
+        let types = self.types;
+        types.tables
+    }
+
+    /// The number of memories, imported ones counted.
+    pub fn memory_count(&self) -> u32
+        ensures { result ≡ (shown self.now).memories }
+    {
+        let types = self.types;
+        types.memories
+    }
+
+    /// The number of globals, imported ones counted.
+    pub fn global_count(&self) -> u32
+        ensures { result ≡ (shown self.now).globals }
+    {
+        let types = self.types;
+        types.globals
+    }
+
+    /// The number of tags, imported ones counted.
+    pub fn tag_count(&self) -> u32
+        ensures { result ≡ (shown self.now).tags }
+    {
+        let types = self.types;
+        types.tags
+    }
+
+    /// The number of element segments.
+    pub fn element_count(&self) -> u32
+        ensures { result ≡ (shown self.now).elements }
+    {
+        let types = self.types;
+        types.elements
+    }
+
+    /// The exports in order, each a name and what it stands for. Always `Some`, since there are no components.
+    pub fn core_exports(&self) -> Option<CoreExports<'a>>
+        ensures { IsSomeAnd result (λ exports. length (exports_left exports) ≡ (shown self.now).exports) }
+    {
+        let types = self.types;
+        // A proof knows the view of a value once a field of it is used.
+        let _ = &types.types;
+        Some(CoreExports { types })
+    }
+}
+
+/// What an export stands for. It has no case yet, so no value, and nothing to derive but these.
+#[derive(Clone, Copy)]
+pub enum EntityType {}
+
+/// The exports of a module in order.
+#[derive(Debug, Drop)]
+pub struct CoreExports<'a> {
+    types: &'a Types,
+}
+
+impl<'a> Iterator for CoreExports<'a> {
+    type Item = (&'a str, EntityType);
+
+    ghost next_gives = { YieldsFirst exports_left };
+
+    ghost remaining = { item_count exports_left };
+
+    fn next(&mut self) -> Option<(&'a str, EntityType)> {
+        None
+    }
+}

@@ -1,0 +1,29 @@
+//! Names of judges.
+
+ghost use Rattle.std.specs.Prelude.{◌≡◌};
+
+use std::marker::Model;
+
+/// The name of a judge, which tells what it made from what others made. The caller hands it in, and sees to
+/// it that no two judges have the same.
+#[derive(Clone, Copy, Debug, PartialEq, Eq, PartialOrd, Ord, Hash)]
+pub struct ValidatorId(usize);
+
+impl Model for ValidatorId {
+    ghost use Rattle.std.specs.Prelude.{ℕ};
+
+    ghost Value = { ℕ };
+
+    ghost view = { λ id. id.0 };
+
+    ghost inverse = { λ n. record { 0 = n } };
+}
+
+impl ValidatorId {
+    /// The name with this number.
+    pub fn new(number: usize) -> ValidatorId
+        ensures { result ≡ number }
+    {
+        ValidatorId(number)
+    }
+}

@@ -3,4 +3,5 @@ pub use Rattle.wasm_core_base.specs.Limits
 pub use Rattle.wasm_core_read.specs.Input
 pub use Rattle.wasm_core_read.specs.Laws
 pub mod Reading
+pub mod TypeReading
 pub mod Types

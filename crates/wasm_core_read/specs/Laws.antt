@@ -1,8 +1,10 @@
 -- What it is for reading to be that of a form.
 use Rattle.std.specs.Prelude.{◌≡◌, ℕ, List, ◌++◌, Option, Some, Result, Ok, Err}
-use Rattle.wasm_spec.specs.Bytes.{AreBytes}
+use Rattle.wasm_spec.specs.Bytes.{AreBytes, IsU32, IsList}
 use Rattle.wasm_spec.specs.Grammar.{IsModule}
 use Rattle.wasm_spec.specs.Syntax.{Section}
+use Rattle.wasm_spec.specs.TypeGrammar.{IsValType, IsFuncType}
+use Rattle.wasm_spec.specs.Types.{ValType, FuncType}
 use Rattle.wasm_core_read.specs.declared.malformed.Malformed.{Malformed}
 use Rattle.wasm_core_read.specs.Input.{Input, GoesOn, IsWithin}
 
@@ -45,3 +47,13 @@ Reads IsA view old new (Err e) = IsRefused IsA old e.offset × (new ≡ old)
 -- The bytes are a text of no module.
 abbrev pub IsNoModule : List ℕ → Type 0
 IsNoModule text = (sections : List Section) → ¬ (IsModule text sections)
+
+-- Lists of three forms: a law takes a form by its name.
+abbrev pub IsValTypes : List ℕ → List (ValType ℕ) → Type 0
+IsValTypes text types = IsList IsValType text types
+
+abbrev pub IsFuncTypes : List ℕ → List (FuncType ℕ) → Type 0
+IsFuncTypes text types = IsList IsFuncType text types
+
+abbrev pub IsIndexes : List ℕ → List ℕ → Type 0
+IsIndexes text indexes = IsList IsU32 text indexes

@@ -1,3 +1,4 @@
 pub mod Input
 pub mod Laws
 pub mod Reading
+pub mod TypeReading

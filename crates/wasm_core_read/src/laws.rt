@@ -2,11 +2,13 @@
 //! functions do nothing: their contracts are theorems.
 
 ghost use Rattle.std.specs.Prelude.{◌≡◌, ◌++◌, [], ◌∷◌, ℕ, List};
-ghost use Rattle.wasm_core_read.specs.Laws.{ReadsExactly, FillsExactly, IsPrefixFree, IsNoModule};
+ghost use Rattle.wasm_core_read.specs.Laws.{ReadsExactly, FillsExactly, IsPrefixFree, IsNoModule, IsValTypes, IsFuncTypes, IsIndexes};
 ghost use Rattle.wasm_core_read.specs.Reading.{byte_at, unsigned_at, bytes_at, name_at, section_at, module_of};
+ghost use Rattle.wasm_core_read.specs.TypeReading.{list_at, val_type_at, func_type_at};
 ghost use Rattle.wasm_spec.specs.Bytes.{IsOneByte, IsUnsigned, IsBytesOf, IsName};
 ghost use Rattle.wasm_spec.specs.Grammar.{header, IsSection, IsModule};
 ghost use Rattle.wasm_spec.specs.Syntax.{Section, Custom};
+ghost use Rattle.wasm_spec.specs.TypeGrammar.{IsValType, IsFuncType};
 
 /// What is read from bytes is a text of the form, and each text of it is read, whatever follows it.
 pub fn reads_exactly()
@@ -14,8 +16,17 @@ pub fn reads_exactly()
     ensures number { (bits : ℕ) → ReadsExactly (IsUnsigned bits) (unsigned_at bits) }
     ensures bytes { (n : ℕ) → ReadsExactly (IsBytesOf n) (bytes_at n) }
     ensures name { ReadsExactly IsName name_at }
+    ensures val_type { ReadsExactly IsValType val_type_at }
+    ensures func_type { ReadsExactly IsFuncType func_type_at }
     ensures section { ReadsExactly IsSection section_at }
     ensures sections { FillsExactly IsModule module_of }
+{}
+
+/// What is read of a list is a list of what is read of its items.
+pub fn reads_lists()
+    ensures val_types { ReadsExactly IsValTypes (list_at val_type_at) }
+    ensures func_types { ReadsExactly IsFuncTypes (list_at func_type_at) }
+    ensures indexes { ReadsExactly IsIndexes (list_at (unsigned_at 32)) }
 {}
 
 /// A text of a form has one value, and no text of it is a proper prefix of another.
@@ -23,6 +34,8 @@ pub fn prefix_free()
     ensures byte { IsPrefixFree IsOneByte }
     ensures number { (bits : ℕ) → IsPrefixFree (IsUnsigned bits) }
     ensures name { IsPrefixFree IsName }
+    ensures val_type { IsPrefixFree IsValType }
+    ensures func_type { IsPrefixFree IsFuncType }
     ensures section { IsPrefixFree IsSection }
 {}
 

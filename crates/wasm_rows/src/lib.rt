@@ -15,3 +15,5 @@ mod modules;
 mod reader;
 #[cfg(test)]
 mod sessions;
+#[cfg(test)]
+mod types;

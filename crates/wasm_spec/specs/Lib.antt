@@ -1,7 +1,10 @@
 pub mod Bytes
 pub mod Features
+pub mod Gates
 pub mod Grammar
 pub mod Limits
 pub mod Spaces
 pub mod Syntax
+pub mod TypeGrammar
+pub mod Types
 pub mod Validity

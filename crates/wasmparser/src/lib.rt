@@ -2,5 +2,5 @@
 //! and `wasmparser_validator`.
 #![tactic(auto)]
 
-pub use wasmparser_parser::{custom, error};
-pub use wasmparser_validator::{judge, types, validator_id};
+pub use wasmparser_parser::{core_type_reader, core_types, custom, error};
+pub use wasmparser_validator::{gates, judge, types, validator_id};

@@ -1,2 +1,3 @@
 pub mod Custom
 pub mod Error
+pub mod CoreTypes

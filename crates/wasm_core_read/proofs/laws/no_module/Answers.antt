@@ -1,7 +1,5 @@
-use Rattle.std.proofs.Common.{◌≡◌, ℕ, List, Option, Some, None, refl, sym, ◌∙◌, [], ◌∷◌, ◌++◌}
+use Rattle.std.proofs.Common.{◌≡◌, ℕ, List, None, refl, sym, ◌∙◌}
 use Rattle.std.specs.Str.{is_utf8, chars}
-use Rattle.wasm_spec.specs.Grammar.{header, IsModule}
-use Rattle.wasm_spec.specs.Syntax.{Section}
 use Rattle.wasm_core_read.specs.Laws.{IsNoModule}
 use Rattle.wasm_core_read.specs.Reading.{byte_at, unsigned_at, bytes_at, name_at, framed_at, content_of, section_at, sections_at, sections_of, module_of}
 use Rattle.wasm_core_read.proofs.ModuleForms.{fills_module}

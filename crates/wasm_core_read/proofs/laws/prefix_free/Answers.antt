@@ -3,6 +3,9 @@ use Rattle.wasm_spec.specs.Grammar.{IsSection}
 use Rattle.wasm_core_read.specs.Reading.{byte_at, unsigned_at, name_at, section_at}
 use Rattle.wasm_core_read.proofs.Forms.{reads_byte, reads_unsigned, reads_name, prefix_free}
 use Rattle.wasm_core_read.proofs.ModuleForms.{reads_section}
+use Rattle.wasm_core_read.proofs.TypeForms.{reads_val_type, reads_func_type}
+use Rattle.wasm_core_read.specs.TypeReading.{val_type_at, func_type_at}
+use Rattle.wasm_spec.specs.TypeGrammar.{IsValType, IsFuncType}
 use Rattle.wasm_core_read.proofs.laws.prefix_free.Goals as goal
 
 pub returns : goal.returns
@@ -10,5 +13,7 @@ returns c = record {
   byte = prefix_free IsOneByte byte_at reads_byte;
   number = λ bits. prefix_free (IsUnsigned bits) (unsigned_at bits) (reads_unsigned bits);
   name = prefix_free IsName name_at reads_name;
+  val_type = prefix_free IsValType val_type_at reads_val_type;
+  func_type = prefix_free IsFuncType func_type_at reads_func_type;
   section = prefix_free IsSection section_at reads_section;
 }

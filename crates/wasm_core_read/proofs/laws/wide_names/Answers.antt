@@ -1,4 +1,4 @@
-use Rattle.std.proofs.Common.{◌<◌, refl, arith}
+use Rattle.std.proofs.Common.{refl, arith}
 use Rattle.std.specs.Str.{is_utf8, chars}
 use Rattle.wasm_core_read.specs.Reading.{byte_at, unsigned_at, bytes_at, name_at, framed_at, content_of, section_at, sections_at, sections_of, module_of}
 use Rattle.wasm_core_read.proofs.ModuleForms.{fills_module}

@@ -1,0 +1,109 @@
+//! Value types, and their gates.
+
+use std::test::Fail;
+use wasm_core::binary_reader::BinaryReader;
+use wasm_core::features::{Flags, WasmFeatures};
+use wasmparser::core_type_reader::read_val_type;
+use wasmparser::core_types::{AbstractHeapType, FuncType, HeapType, RefType, ValType};
+use wasmparser::gates::is_allowed;
+
+// The nullable reference to a heap type.
+fn nullable(heap_type: AbstractHeapType) -> ValType {
+    ValType::Ref(RefType {
+        nullable: true,
+        heap_type: HeapType::Abstract(heap_type),
+    })
+}
+
+// The value type that a byte is, if it is one.
+fn type_of(code: u8) -> Option<ValType> {
+    read_val_type(&mut BinaryReader::new(&[code], 0)).ok()
+}
+
+#[test]
+fn value_types_are_one_byte(rt: HostRuntime) {
+    for (code, expected) in [
+        (0x7f, ValType::I32),
+        (0x7e, ValType::I64),
+        (0x7d, ValType::F32),
+        (0x7c, ValType::F64),
+        (0x7b, ValType::V128),
+        (0x75, nullable(AbstractHeapType::NoCont)),
+        (0x74, nullable(AbstractHeapType::NoExn)),
+        (0x73, nullable(AbstractHeapType::NoFunc)),
+        (0x72, nullable(AbstractHeapType::NoExtern)),
+        (0x71, nullable(AbstractHeapType::None)),
+        (0x70, nullable(AbstractHeapType::Func)),
+        (0x6f, nullable(AbstractHeapType::Extern)),
+        (0x6e, nullable(AbstractHeapType::Any)),
+        (0x6d, nullable(AbstractHeapType::Eq)),
+        (0x6c, nullable(AbstractHeapType::I31)),
+        (0x6b, nullable(AbstractHeapType::Struct)),
+        (0x6a, nullable(AbstractHeapType::Array)),
+        (0x69, nullable(AbstractHeapType::Exn)),
+        (0x68, nullable(AbstractHeapType::Cont)),
+    ] {
+        assert_eq!(rt; type_of(code), Some(expected), "{code:x}");
+    }
+    for code in [
+        0x00, 0x60, 0x63, 0x64, 0x67, 0x76, 0x77, 0x78, 0x7a, 0x80, 0xff,
+    ] {
+        assert_eq!(rt; type_of(code), None, "{code:x}");
+    }
+}
+
+#[test]
+fn each_type_has_its_gate(rt: HostRuntime) {
+    let all = WasmFeatures::all();
+    for (ty, gate) in [
+        (ValType::F32, WasmFeatures::FLOATS),
+        (ValType::F64, WasmFeatures::FLOATS),
+        (ValType::V128, WasmFeatures::SIMD),
+        (
+            nullable(AbstractHeapType::Func),
+            WasmFeatures::REFERENCE_TYPES,
+        ),
+        (nullable(AbstractHeapType::Extern), WasmFeatures::GC_TYPES),
+        (nullable(AbstractHeapType::Any), WasmFeatures::GC),
+        (nullable(AbstractHeapType::NoFunc), WasmFeatures::GC),
+        (nullable(AbstractHeapType::Exn), WasmFeatures::EXCEPTIONS),
+        (nullable(AbstractHeapType::NoExn), WasmFeatures::EXCEPTIONS),
+        (
+            nullable(AbstractHeapType::Cont),
+            WasmFeatures::STACK_SWITCHING,
+        ),
+        (nullable(AbstractHeapType::NoCont), WasmFeatures::GC_TYPES),
+    ] {
+        assert!(rt; is_allowed(all, ty), "{ty:?}");
+        assert!(rt; !is_allowed(all.difference(gate), ty), "{ty:?}");
+    }
+    assert!(rt; is_allowed(WasmFeatures::empty(), ValType::I32));
+    assert!(rt; is_allowed(WasmFeatures::empty(), ValType::I64));
+    assert!(rt;
+        is_allowed(
+            WasmFeatures::REFERENCE_TYPES,
+            nullable(AbstractHeapType::Func)
+        )
+    );
+}
+
+#[test]
+fn non_null_functions_have_a_gate(rt: HostRuntime) {
+    let function = ValType::Ref(RefType {
+        nullable: false,
+        heap_type: HeapType::Abstract(AbstractHeapType::Func),
+    });
+    assert!(rt; is_allowed(WasmFeatures::all(), function));
+    let without = WasmFeatures::all().difference(WasmFeatures::FUNCTION_REFERENCES);
+    assert!(rt; !is_allowed(without, function));
+}
+
+#[test]
+fn function_types_keep_their_parts(rt: HostRuntime) -> Result<(), Fail> {
+    let params = [ValType::I32, ValType::F64].to_vec(rt.alloc())?;
+    let results = [ValType::V128].to_vec(rt.alloc())?;
+    let func_type = FuncType::new(params, results);
+    assert_eq!(rt; func_type.params(), [ValType::I32, ValType::F64].as_slice());
+    assert_eq!(rt; func_type.results(), [ValType::V128].as_slice());
+    Ok(())
+}

@@ -1,0 +1,49 @@
+//! Which types a module may write under a set of features.
+
+ghost use Rattle.std.specs.Prelude.{◌≡◌};
+ghost use Rattle.wasm_core.specs.Features.{feature_set};
+ghost use Rattle.wasm_spec.specs.Gates.{is_allowed, is_allowed_abstract};
+ghost use Rattle.wasmparser_parser.specs.CoreTypes.{abstract_heap_type, val_type};
+
+use wasm_core::features::WasmFeatures;
+use wasmparser_parser::core_types::{AbstractHeapType, HeapType, ValType};
+
+fn is_allowed_abstract(features: WasmFeatures, nullable: bool, heap_type: AbstractHeapType) -> bool
+    ensures { result ≡ is_allowed_abstract (feature_set features) nullable (abstract_heap_type heap_type) }
+{
+    match heap_type {
+        AbstractHeapType::Func => nullable || features.function_references(),
+        AbstractHeapType::Extern => {
+            features.gc_types() && (nullable || features.function_references())
+        }
+        AbstractHeapType::Any
+        | AbstractHeapType::None
+        | AbstractHeapType::NoExtern
+        | AbstractHeapType::NoFunc
+        | AbstractHeapType::Eq
+        | AbstractHeapType::Struct
+        | AbstractHeapType::Array
+        | AbstractHeapType::I31 => features.gc_types() && features.gc(),
+        AbstractHeapType::Exn => features.exceptions(),
+        AbstractHeapType::NoExn => features.gc_types() && features.exceptions(),
+        AbstractHeapType::Cont | AbstractHeapType::NoCont => {
+            features.gc_types() && features.stack_switching()
+        }
+    }
+}
+
+/// Whether a module may write a value type under these features.
+pub fn is_allowed(features: WasmFeatures, ty: ValType) -> bool
+    ensures { result ≡ is_allowed (feature_set features) (val_type ty) }
+{
+    match ty {
+        ValType::I32 | ValType::I64 => true,
+        ValType::F32 | ValType::F64 => features.floats(),
+        ValType::V128 => features.simd(),
+        ValType::Ref(reference) => {
+            let HeapType::Abstract(heap_type) = reference.heap_type;
+            features.reference_types()
+                && is_allowed_abstract(features, reference.nullable, heap_type)
+        }
+    }
+}

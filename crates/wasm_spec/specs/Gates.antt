@@ -1,5 +1,5 @@
--- Gates of types: which types a module may write under a set of features. The standard has no features: there all of these types are
--- valid, references to types that don't exist aside (Core Specification 3.0, Validation, "Types"). Its appendix "Change History" tells
+-- Gates of types: which types a module may write under a set of features. The standard has no features: there all of these types
+-- but those of continuations are valid, references to types that don't exist aside (Core Specification 3.0, Validation, "Types"). Its appendix "Change History" tells
 -- what came with which proposal. The gates for floats and for all types of garbage collection are this project's.
 use Rattle.std.specs.Prelude.{Bool, true, ◌&&◌, ◌||◌, length, nat_le}
 use Rattle.std.specs.List.{list_all}

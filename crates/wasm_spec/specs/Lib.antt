@@ -1,8 +1,10 @@
+pub mod Bodies
 pub mod Bytes
 pub mod Features
 pub mod Gates
 pub mod Grammar
 pub mod Limits
+pub mod Operators
 pub mod Spaces
 pub mod Syntax
 pub mod TypeGrammar

@@ -3,4 +3,4 @@
 #![tactic(auto)]
 
 pub use wasmparser_parser::{core_type_reader, core_types, custom, error};
-pub use wasmparser_validator::{gates, judge, types, validator_id};
+pub use wasmparser_validator::{body, gates, judge, types, validator_id};

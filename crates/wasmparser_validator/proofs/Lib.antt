@@ -1,2 +1,4 @@
+pub mod BodyJudgingLaws
+pub mod BodyLaws
 pub mod JudgingLaws
 pub mod SectionLaws

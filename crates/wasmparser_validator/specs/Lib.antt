@@ -1,3 +1,5 @@
+pub mod BodyJudging
+pub mod BodyReading
 pub mod Judging
 pub mod Sections
 pub mod Types

@@ -1,0 +1,142 @@
+//! Judging function bodies.
+
+ghost use Rattle.std.specs.Prelude.{◌≡◌, ◌+◌, ◌<◌, ◌≤◌, ◌^◌, ◌==◌, length};
+ghost use Rattle.wasm_core.specs.Features.{feature_set};
+ghost use Rattle.wasm_core.specs.LimitCases.{Locals};
+ghost use Rattle.wasmparser_parser.specs.declared.error.ErrorKind.TheVariants as kinds;
+ghost use Rattle.wasmparser_validator.specs.BodyJudging.{IsBodyJudgedUnder};
+ghost use Rattle.wasmparser_validator.specs.BodyReading.{JudgesBody, JudgesRun, end_judgement, judge_code, judge_runs, judge_body};
+
+use crate::gates::is_allowed;
+use wasm_core::binary_reader::BinaryReader;
+use wasm_core::features::WasmFeatures;
+use wasm_core::limits::{Limit, MAX_WASM_FUNCTION_LOCALS};
+use wasmparser_parser::core_type_reader::read_val_type;
+use wasmparser_parser::core_types::FuncType;
+use wasmparser_parser::error::{Error, ErrorKind};
+
+/// Judges the bytes of a body of a function of this type, the first of which stands at `position` of the input.
+pub fn validate_body(
+    func_type: &FuncType,
+    bytes: &[u8],
+    features: WasmFeatures,
+    position: u64,
+) -> Result<(), Error>
+    requires { position + length bytes.now < 2 ^ 64 }
+    ensures { IsBodyJudgedUnder (feature_set features) func_type.now bytes.now position result }
+{
+    let mut reader = BinaryReader::new(bytes, position);
+    reader.set_features(features);
+    let params = func_type.params().len() as u64;
+    judge_body(
+        &mut reader,
+        params,
+        func_type.results().is_empty(),
+        features,
+    )
+}
+
+const UNREACHABLE: u8 = 0x00;
+
+const END: u8 = 0x0b;
+
+fn broken(offset: u64) -> Error
+    ensures { result ≡ record { offset = offset; kind = kinds.Body } }
+{
+    Error {
+        offset,
+        kind: ErrorKind::Body,
+    }
+}
+
+fn many_locals(offset: u64) -> Error
+    ensures { result ≡ record { offset = offset; kind = kinds.Limit Locals } }
+{
+    Error {
+        offset,
+        kind: ErrorKind::Limit(Limit::Locals),
+    }
+}
+
+// Judges what stands at the end of a body: nothing may follow, and the results have to be there.
+fn judge_end(reader: &BinaryReader<'_>, gives_results: bool) -> Result<(), Error>
+    ensures { JudgesBody reader.now result (end_judgement gives_results reader.now.rest) }
+{
+    if reader.eof() && gives_results {
+        Ok(())
+    } else {
+        Err(broken(reader.original_position()))
+    }
+}
+
+// Judges operators up to the end of a body. `gives_results`: whether the operands so far give the results.
+#[tactic(auto, using(crate::proofs::BodyLaws::code_loop))]
+fn judge_code(reader: &mut BinaryReader<'_>, gives_results: bool) -> Result<(), Error>
+    ensures { JudgesBody reader.old result (judge_code gives_results reader.old.rest) }
+{
+    let mut gives_results = gives_results;
+    'operators: while !reader.eof() {
+        let offset = reader.original_position();
+        match reader.read_u8() {
+            Ok(UNREACHABLE) => gives_results = true,
+            Ok(END) => return judge_end(reader, gives_results),
+            Ok(_) => {
+                return Err(Error {
+                    offset,
+                    kind: ErrorKind::Operator,
+                });
+            }
+            Err(e) => return Err(broken(e.offset)),
+        }
+    }
+    Err(broken(reader.original_position()))
+}
+
+// Judges one run of locals, behind so many locals. Answers how many there are with it.
+fn judge_run(
+    reader: &mut BinaryReader<'_>,
+    locals: u64,
+    features: WasmFeatures,
+) -> Result<u64, Error>
+    requires { locals ≤ 50000 }
+    ensures { JudgesRun (feature_set features) locals reader.old reader.new result }
+{
+    let offset = reader.original_position();
+    let Ok(count) = reader.read_var_u32() else {
+        return Err(broken(offset));
+    };
+    let Ok(ty) = read_val_type(reader) else {
+        return Err(broken(offset));
+    };
+    if !is_allowed(features, ty) {
+        return Err(broken(offset));
+    }
+    let locals = locals + u64::from(count);
+    if locals > MAX_WASM_FUNCTION_LOCALS {
+        return Err(many_locals(offset));
+    }
+    Ok(locals)
+}
+
+// Judges the runs of locals and the operators of a body.
+fn judge_body(
+    reader: &mut BinaryReader<'_>,
+    params: u64,
+    gives_results: bool,
+    features: WasmFeatures,
+) -> Result<(), Error>
+    ensures { JudgesBody reader.old result (judge_body (feature_set features) gives_results params reader.old.rest) }
+{
+    let offset = reader.original_position();
+    let Ok(runs) = reader.read_var_u32() else {
+        return Err(broken(offset));
+    };
+    if params > MAX_WASM_FUNCTION_LOCALS {
+        return Err(many_locals(offset));
+    }
+    let mut locals = params;
+    for _ in 0..runs {
+        locals = judge_run(reader, locals, features)?;
+    }
+    judge_code(reader, gives_results)
+}

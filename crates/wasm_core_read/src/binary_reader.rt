@@ -111,6 +111,7 @@ impl<'a> BinaryReader<'a> {
         ensures exact { Gives (λ n. n) self.old self.new result (unsigned_at 32 self.old.rest) }
         ensures reads { Reads IsU32 (λ n. n) self.old self.new result }
     {
+        // A proof knows the invariant once a field is used.
         let _ = &self.rest;
         self.var_u32()
     }
@@ -135,6 +136,7 @@ impl<'a> BinaryReader<'a> {
         ensures exact { Gives (λ b. b.now) self.old self.new result (bytes_at len self.old.rest) }
         ensures reads { Reads (IsBytesOf len) (λ b. b.now) self.old self.new result }
     {
+        // A proof knows the invariant once a field is used.
         let _ = &self.rest;
         self.bytes(len)
     }
@@ -159,6 +161,7 @@ impl<'a> BinaryReader<'a> {
         ensures exact { Gives (λ s. s.now) self.old self.new result (name_at self.old.rest) }
         ensures reads { Reads IsName (λ s. s.now) self.old self.new result }
     {
+        // A proof knows the invariant once a field is used.
         let _ = &self.rest;
         self.string()
     }

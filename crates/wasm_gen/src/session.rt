@@ -8,8 +8,8 @@ use std::marker::Model;
 use wasm_core::features::WasmFeatures;
 use wasmparser::judge::validate_module;
 
-/// Judges modules under one set of features. A refusal that isn't one of a body ends the judge: from then on
-/// each module is refused as `Failed`, until [`restart`](Session::restart) hands in another judge.
+/// Judges modules under one set of features. A refusal ends the judge: from then on each module is refused as
+/// `Failed`, until [`restart`](Session::restart) hands in another judge.
 ///
 /// Contracts see a session as its features, the judge's name, and whether the judge failed.
 #[derive(Debug, Drop)]

@@ -2,6 +2,7 @@ pub mod BytesLaws
 pub mod Forms
 pub mod FrontLaws
 pub mod ListForms
+pub mod ListLaws
 pub mod ModuleForms
 pub mod Names
 pub mod TypeForms

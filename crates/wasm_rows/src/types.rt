@@ -1,10 +1,11 @@
-//! Value types, and their gates.
+//! Value types, their gates, and function types.
 
 use std::test::Fail;
 use wasm_core::binary_reader::BinaryReader;
 use wasm_core::features::{Flags, WasmFeatures};
-use wasmparser::core_type_reader::read_val_type;
+use wasmparser::core_type_reader::{read_func_type, read_val_type, read_val_types};
 use wasmparser::core_types::{AbstractHeapType, FuncType, HeapType, RefType, ValType};
+use wasmparser::error::{Error, ErrorKind};
 use wasmparser::gates::is_allowed;
 
 // The nullable reference to a heap type.
@@ -105,5 +106,71 @@ fn function_types_keep_their_parts(rt: HostRuntime) -> Result<(), Fail> {
     let func_type = FuncType::new(params, results);
     assert_eq!(rt; func_type.params(), [ValType::I32, ValType::F64].as_slice());
     assert_eq!(rt; func_type.results(), [ValType::V128].as_slice());
+    Ok(())
+}
+
+#[test]
+fn function_types_read(rt: HostRuntime) -> Result<(), Fail> {
+    let bytes = [0x60, 0x02, 0x7f, 0x7c, 0x81, 0x00, 0x70, 0x60];
+    let mut reader = BinaryReader::new(&bytes, 9);
+    let func_type = read_func_type(rt.alloc(), &mut reader)?;
+    assert_eq!(rt; func_type.params(), [ValType::I32, ValType::F64].as_slice());
+    assert_eq!(rt;
+        func_type.results(),
+        [nullable(AbstractHeapType::Func)].as_slice()
+    );
+    assert_eq!(rt; reader.original_position(), 16);
+    assert_eq!(rt; reader.bytes_remaining(), 1);
+    let mut reader = BinaryReader::new(&[0x60, 0x00, 0x00], 0);
+    let func_type = read_func_type(rt.alloc(), &mut reader)?;
+    assert!(rt; func_type.params().is_empty());
+    assert!(rt; func_type.results().is_empty());
+    assert!(rt; reader.eof());
+    Ok(())
+}
+
+#[test]
+fn other_bytes_are_no_function_type(rt: HostRuntime) {
+    let texts: [&[u8]; 9] = [
+        &[],
+        &[0x5f, 0x00, 0x00],
+        &[0x60],
+        &[0x60, 0x00],
+        &[0x60, 0x01, 0x7f],
+        &[0x60, 0x01, 0x00, 0x00],
+        &[0x60, 0x00, 0x02, 0x7f],
+        &[0x60, 0x00, 0x01, 0x60],
+        &[0x60, 0xff, 0xff, 0xff, 0xff, 0x1f, 0x00],
+    ];
+    for text in texts {
+        let refusal = read_func_type(rt.alloc(), &mut BinaryReader::new(text, 7)).err();
+        assert_eq!(rt;
+            refusal.map(|e| e.kind),
+            Some(ErrorKind::Malformed),
+            "{text:?}"
+        );
+    }
+    let struct_type = [0x5f, 0x00];
+    let refusal = read_func_type(rt.alloc(), &mut BinaryReader::new(&struct_type, 7)).err();
+    let expected = Error {
+        offset: 7,
+        kind: ErrorKind::Malformed,
+    };
+    assert_eq!(rt; refusal, Some(expected));
+}
+
+#[test]
+fn lists_of_value_types_read(rt: HostRuntime) -> Result<(), Fail> {
+    let mut reader = BinaryReader::new(&[0x03, 0x7f, 0x7f, 0x7b, 0x7e], 0);
+    let types = read_val_types(rt.alloc(), &mut reader)?;
+    assert_eq!(rt;
+        types.as_slice(),
+        [ValType::I32, ValType::I32, ValType::V128].as_slice()
+    );
+    assert_eq!(rt; reader.bytes_remaining(), 1);
+    // A count that the bytes can't hold takes no memory beforehand.
+    let most = [0xff, 0xff, 0xff, 0xff, 0x0f, 0x7f];
+    let refusal = read_val_types(rt.alloc(), &mut BinaryReader::new(&most, 0)).err();
+    assert_eq!(rt; refusal.map(|e| e.offset), Some(6));
     Ok(())
 }

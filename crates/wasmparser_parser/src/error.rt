@@ -3,6 +3,7 @@
 ghost use Rattle.std.specs.Prelude.{◌≡◌};
 ghost use Rattle.wasmparser_parser.specs.declared.error.ErrorKind.TheVariants as kinds;
 
+use std::alloc::{AllocError, AllocFailed};
 use thiserror::Error;
 use wasm_core::limits::Limit;
 use wasm_core::malformed::Malformed;
@@ -57,7 +58,7 @@ impl ErrorKind {
 #[derive(Clone, Copy, Debug, PartialEq, Eq, Hash, Error)]
 #[error("{kind} at {offset}")]
 pub struct Error {
-    /// A place in the bytes that were handed in, or their end.
+    /// A place in the bytes that were handed in, or their end; 0 where memory ran out.
     pub offset: u64,
     /// Why the module is refused. Where it has several faults, any of them may be named.
     pub kind: ErrorKind,
@@ -71,5 +72,30 @@ impl From<Malformed> for Error {
             offset: malformed.offset,
             kind: ErrorKind::Malformed,
         }
+    }
+}
+
+fn out_of_memory() -> Error
+    ensures { result ≡ record { offset = 0; kind = kinds.Memory } }
+{
+    Error {
+        offset: 0,
+        kind: ErrorKind::Memory,
+    }
+}
+
+impl From<AllocError> for Error {
+    ghost from_gives = { λ _ e. e ≡ record { offset = 0; kind = kinds.Memory } };
+
+    fn from(_error: AllocError) -> Error {
+        out_of_memory()
+    }
+}
+
+impl<T: Drop> From<AllocFailed<T>> for Error {
+    ghost from_gives = { λ _ e. e ≡ record { offset = 0; kind = kinds.Memory } };
+
+    fn from(_error: AllocFailed<T>) -> Error {
+        out_of_memory()
     }
 }

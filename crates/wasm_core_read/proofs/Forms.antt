@@ -1,13 +1,15 @@
--- Each reading is that of its form: numbers, bytes, names, frames.
+-- Each reading is that of its form: numbers, bytes, frames, bodies, names.
 use Rattle.std.proofs.Common.{◌≡◌, ℕ, ◌+◌, ◌-◌, ◌*◌, ◌^◌, ◌<◌, ◌≤◌, true, false, cond, ltb, leb, List, [], ◌∷◌, ◌++◌, length, take, drop, Option, Some, None, refl, sym, ap, subst, ◌∙◌, append_assoc, arith, inl, inr, ◌⊎◌}
 use Rattle.std.specs.Str.{is_utf8}
 use Rattle.std.proofs.lemmas.Bool.{cases_lt, le-ltb, lt-ltb, le-leb, leb-true}
 use Rattle.std.proofs.lemmas.Option.{cond_some}
-use Rattle.std.proofs.lemmas.List.{append_cancel_right, length-append, take-append-drop, length-take}
+use Rattle.std.proofs.lemmas.List.{append_cancel_right, append-nil, length-append, take-append-drop, length-take}
 use Rattle.std.proofs.Math.Seq.{take-append_seam, drop-append_seam}
 use Rattle.wasm_spec.specs.Bytes.{AreBytes, IsBytesOf, IsOneByte, IsUnsigned, IsU32, IsFramed, IsName}
+use Rattle.wasm_spec.specs.Grammar.{IsBody}
 use Rattle.wasm_core_read.specs.Laws.{ReadsExactly, FillsExactly, IsPrefixFree}
-use Rattle.wasm_core_read.specs.Reading.{◌>>=◌, byte_at, unsigned_at, bytes_at, name_at, framed_at}
+use Rattle.wasm_core_read.specs.ModuleReading.{body_at}
+use Rattle.wasm_core_read.specs.Reading.{◌>>=◌, byte_at, unsigned_at, bytes_at, name_at, framed_at, filled}
 use Rattle.wasm_core_read.proofs.Names.{utf8, utf8_from}
 
 -- the value of a step that did not fail
@@ -136,6 +138,46 @@ reads_framed IsA a_of law = record {
   again = λ text v rest h.
       let split : text ++ rest ≡ h.0 ++ (h.1 ++ rest) = rw h.2 (append_assoc h.0 h.1 rest) in
       ap (framed_at a_of) split ∙ rw (unsigned_again 32 h.0 (length h.1) (h.1 ++ rest) h.3, bytes_again h.1 rest, law.again h.1 v h.4) refl;
+}
+
+-- ---- bodies
+
+-- the size of some bytes, and these
+pub sized : (size content rest : List ℕ) → IsU32 size (length content) → body_at (size ++ (content ++ rest)) ≡ Some (content, rest)
+unfolding body_at
+sized size content rest h = rw (unsigned_again 32 size (length content) (content ++ rest) h) (bytes_again content rest)
+
+body_found : (bytes body rest : List ℕ) → AreBytes bytes → body_at bytes ≡ Some (body, rest) → Found IsBody bytes body rest
+unfolding body_at
+body_found bytes body rest h e =
+    let n = bind_some (unsigned_at 32 bytes) (λ n. bytes_at n.0 n.1) (body, rest) e in
+    let size = unsigned_found 32 bytes n.0.0 n.0.1 h n.1 in
+    let content = bytes_found n.0.0 n.0.1 body rest n.2 in
+    let are = (parts_are body rest (subst AreBytes content.0 (behind bytes size.0 n.0.1 h size.1))).0 in
+    (size.0 ++ body, joined bytes size.0 n.0.1 body rest size.1 content.0, (size.0, body, refl, rw content.1 size.2, (are, refl)))
+
+body_again : (text body rest : List ℕ) → IsBody text body → body_at (text ++ rest) ≡ Some (body, rest)
+body_again text body rest h =
+    let split : text ++ rest ≡ h.0 ++ (body ++ rest) = rw (h.2, h.4.1) (append_assoc h.0 h.1 rest) in
+    let size : IsU32 h.0 (length body) = rw h.4.1 h.3 in
+    ap body_at split ∙ sized h.0 body rest size
+
+pub reads_body : ReadsExactly IsBody body_at
+reads_body = record { found = body_found; again = body_again }
+
+-- ---- where the bytes are all of a text
+
+pub filled_some : {A : Type 0} (read : Option (A × List ℕ)) (v : A) → filled read ≡ Some v → read ≡ Some (v, [])
+filled_some None v e = absurd cc
+filled_some (Some (x, [])) v e = ap (λ y. Some (y, [])) (some_is x v e)
+filled_some (Some (x, b ∷ rest)) v e = absurd cc
+
+pub fills_filled : {A : Type 0} (IsA : List ℕ → A → Type 0) (a_at : List ℕ → Option (A × List ℕ)) → ReadsExactly IsA a_at → FillsExactly IsA (λ bytes. filled (a_at bytes))
+fills_filled IsA a_at law = record {
+  found = λ bytes v h e.
+      let f = law.found bytes v [] h (filled_some (a_at bytes) v e) in
+      subst (λ (l : List ℕ). IsA l v) (sym (f.1 ∙ append-nil f.0)) f.2;
+  again = λ text v h. let all : a_at text ≡ Some (v, []) = ap a_at (sym (append-nil text)) ∙ law.again text v [] h in rw all refl;
 }
 
 -- ---- names

@@ -39,3 +39,18 @@ reads_list IsA a_at law = record {
       let split : text ++ rest ≡ h.0 ++ (h.1 ++ rest) = rw h.2 (append_assoc h.0 h.1 rest) in
       ap (list_at a_at) split ∙ rw (unsigned_again 32 h.0 (length vs) (h.1 ++ rest) h.3) (items_again IsA a_at law h.1 vs rest h.4);
 }
+
+items_count : {A : Type 0} (a_at : List ℕ → Option (A × List ℕ)) (n : ℕ) (bytes : List ℕ) (vs : List A) (rest : List ℕ) → items_at a_at n bytes ≡ Some (vs, rest) → n ≡ length vs
+unfolding items_at
+items_count a_at zero bytes vs rest e = ap (λ x. length x.0) (some_is ([], bytes) (vs, rest) e)
+items_count a_at (suc n) bytes vs rest e =
+    let a = bind_some (a_at bytes) (λ first. items_at a_at n first.1 >>= λ others. Some (first.0 ∷ others.0, others.1)) (vs, rest) e in
+    let b = bind_some (items_at a_at n a.0.1) (λ others. Some (a.0.0 ∷ others.0, others.1)) (vs, rest) a.2 in
+    ap suc (items_count a_at n a.0.1 b.0.0 b.0.1 b.1) ∙ ap (λ x. length x.0) (some_is (a.0.0 ∷ b.0.0, b.0.1) (vs, rest) b.2)
+
+-- the number that a list begins with is that of its items
+pub list_count : {A : Type 0} (a_at : List ℕ → Option (A × List ℕ)) (bytes : List ℕ) (vs : List A) (rest : List ℕ) → list_at a_at bytes ≡ Some (vs, rest) → (after : List ℕ) × (unsigned_at 32 bytes ≡ Some (length vs, after))
+unfolding list_at
+list_count a_at bytes vs rest e =
+    let n = bind_some (unsigned_at 32 bytes) (λ n. items_at a_at n.0 n.1) (vs, rest) e in
+    (n.0.1, n.1 ∙ ap (λ (k : ℕ). Some (k, n.0.1)) (items_count a_at n.0.0 n.0.1 vs rest n.2))

@@ -1,13 +1,13 @@
 -- Types are read as their forms say.
-use Rattle.std.proofs.Common.{◌≡◌, ℕ, true, List, [], ◌∷◌, ◌++◌, Option, Some, refl, sym, ap, subst, ◌∙◌, append_assoc, inl, inr}
+use Rattle.std.proofs.Common.{◌≡◌, ℕ, Bool, true, List, [], ◌∷◌, ◌++◌, Option, Some, refl, sym, ap, subst, ◌∙◌, append_assoc, inl, inr}
 use Rattle.std.proofs.lemmas.Bool.Decides.{eqb_tells}
 use Rattle.wasm_spec.specs.Bytes.{AreBytes, IsList}
-use Rattle.wasm_spec.specs.TypeGrammar.{heap_code, IsValType, IsFuncType}
-use Rattle.wasm_spec.specs.Types.{AbstractHeapType, HeapType, Abstract, Concrete, ValType, I32, I64, F32, F64, V128, Ref, FuncType}
+use Rattle.wasm_spec.specs.TypeGrammar.{heap_code, IsValType, IsFuncType, IsCompositeType, IsRecGroup}
+use Rattle.wasm_spec.specs.Types.{AbstractHeapType, HeapType, Abstract, Concrete, ValType, I32, I64, F32, F64, V128, Ref, FuncType, CompositeType, FuncComposite, StructComposite, ArrayComposite, ContComposite, SubType, RecGroup, Single}
 use Rattle.wasm_spec.specs.Types as types
 use Rattle.wasm_core_read.specs.Laws.{ReadsExactly}
 use Rattle.wasm_core_read.specs.Reading.{◌>>=◌}
-use Rattle.wasm_core_read.specs.TypeReading.{list_at, look_up, val_type_codes, val_type_at, func_type_at}
+use Rattle.wasm_core_read.specs.TypeReading.{list_at, look_up, val_type_codes, val_type_at, func_type_at, func_group, rec_group_at}
 use Rattle.wasm_core_read.proofs.Forms.{bind_some, some_is, joined, behind, Found}
 use Rattle.wasm_core_read.proofs.ListForms.{reads_list}
 
@@ -93,3 +93,25 @@ func_type_again text type rest h =
 
 pub reads_func_type : ReadsExactly IsFuncType func_type_at
 reads_func_type = record { found = func_type_found; again = func_type_again }
+
+rec_group_found : (bytes : List ℕ) (group : RecGroup ℕ) (rest : List ℕ) → AreBytes bytes → rec_group_at bytes ≡ Some (group, rest) → Found IsRecGroup bytes group rest
+unfolding rec_group_at
+rec_group_found bytes group rest are e =
+    let t = bind_some (func_type_at bytes) (λ type. Some (func_group type.0, type.1)) (group, rest) e in
+    let f = func_type_found bytes t.0.0 t.0.1 are t.1 in
+    subst (λ x. Found IsRecGroup bytes x.0 x.1) (some_is (func_group t.0.0, t.0.1) (group, rest) t.2) (f.0, f.1, (refl, refl, f.2))
+
+-- a final sub type without supertypes, read as a group of one
+composite_again : (text : List ℕ) (final : Bool) (supertypes : List ℕ) (type : CompositeType ℕ) (rest : List ℕ) → final ≡ true → supertypes ≡ [] → IsCompositeType text type
+    → rec_group_at (text ++ rest) ≡ Some (Single (record { is_final = final; supertypes = supertypes; composite_type = type }), rest)
+unfolding rec_group_at
+composite_again text final supertypes (FuncComposite type) rest f s h = rw (func_type_again text type rest h, f, s) refl
+composite_again text final supertypes (StructComposite fields) rest f s h = absurd h
+composite_again text final supertypes (ArrayComposite field) rest f s h = absurd h
+composite_again text final supertypes (ContComposite function) rest f s h = absurd h
+
+rec_group_again : (text : List ℕ) (group : RecGroup ℕ) (rest : List ℕ) → IsRecGroup text group → rec_group_at (text ++ rest) ≡ Some (group, rest)
+rec_group_again text (Single type) rest h = composite_again text type.is_final type.supertypes type.composite_type rest h.0 h.1 h.2
+
+pub reads_rec_group : ReadsExactly IsRecGroup rec_group_at
+reads_rec_group = record { found = rec_group_found; again = rec_group_again }

@@ -1,10 +1,10 @@
 -- What it is for reading to be that of a form.
-use Rattle.std.specs.Prelude.{◌≡◌, ℕ, List, ◌++◌, Option, Some, Result, Ok, Err}
-use Rattle.wasm_spec.specs.Bytes.{AreBytes, IsU32, IsList}
-use Rattle.wasm_spec.specs.Grammar.{IsModule}
+use Rattle.std.specs.Prelude.{◌≡◌, ℕ, List, ◌∷◌, ◌++◌, Option, Some, Result, Ok, Err}
+use Rattle.wasm_spec.specs.Bytes.{AreBytes, IsBytes, IsU32, IsList, IsFramed}
+use Rattle.wasm_spec.specs.Grammar.{section_id, IsBody, IsContent, IsModule}
 use Rattle.wasm_spec.specs.Syntax.{Section}
-use Rattle.wasm_spec.specs.TypeGrammar.{IsValType, IsFuncType}
-use Rattle.wasm_spec.specs.Types.{ValType, FuncType}
+use Rattle.wasm_spec.specs.TypeGrammar.{IsValType, IsFuncType, IsRecGroup}
+use Rattle.wasm_spec.specs.Types.{ValType, FuncType, RecGroup}
 use Rattle.wasm_core_read.specs.declared.malformed.Malformed.{Malformed}
 use Rattle.wasm_core_read.specs.Input.{Input, GoesOn, IsWithin}
 
@@ -48,7 +48,15 @@ Reads IsA view old new (Err e) = IsRefused IsA old e.offset × (new ≡ old)
 abbrev pub IsNoModule : List ℕ → Type 0
 IsNoModule text = (sections : List Section) → ¬ (IsModule text sections)
 
--- Lists of three forms: a law takes a form by its name.
+-- the bytes are the content of the section, whose id is this one
+abbrev pub IsContentOf : ℕ → List ℕ → Section → Type 0
+IsContentOf id text section = IsContent text section × (section_id section ≡ id)
+
+-- the id of a section, and its content in a frame, whatever the content
+abbrev pub IsFrame : List ℕ → ℕ × List ℕ → Type 0
+IsFrame text frame = (framed : List ℕ) × (text ≡ frame.0 ∷ framed) × IsFramed IsBytes framed frame.1
+
+-- Lists of some forms: a law takes a form by its name.
 abbrev pub IsValTypes : List ℕ → List (ValType ℕ) → Type 0
 IsValTypes text types = IsList IsValType text types
 
@@ -57,3 +65,9 @@ IsFuncTypes text types = IsList IsFuncType text types
 
 abbrev pub IsIndexes : List ℕ → List ℕ → Type 0
 IsIndexes text indexes = IsList IsU32 text indexes
+
+abbrev pub IsRecGroups : List ℕ → List (RecGroup ℕ) → Type 0
+IsRecGroups text groups = IsList IsRecGroup text groups
+
+abbrev pub IsBodies : List ℕ → List (List ℕ) → Type 0
+IsBodies text bodies = IsList IsBody text bodies

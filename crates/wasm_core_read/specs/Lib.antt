@@ -1,4 +1,5 @@
 pub mod Input
 pub mod Laws
+pub mod ModuleReading
 pub mod Reading
 pub mod TypeReading

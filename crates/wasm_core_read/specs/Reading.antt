@@ -1,9 +1,6 @@
 -- Reading the front of a list of bytes, form by form. These functions are means of proof: the laws tie each to its form.
-use Rattle.std.specs.Prelude.{◌≡◌, ℕ, zero, suc, ◌+◌, ◌-◌, ◌*◌, ◌^◌, List, [], ◌∷◌, length, take, drop, Option, Some, None, Result, Ok, Err, nat_lt, nat_le, nat_eq, ◌==◌, if◌then◌else◌}
-use Rattle.std.specs.List.{starts_with}
+use Rattle.std.specs.Prelude.{◌≡◌, ℕ, ◌+◌, ◌-◌, ◌*◌, ◌^◌, List, [], ◌∷◌, length, take, drop, Option, Some, None, Result, Ok, Err, nat_lt, nat_le, if◌then◌else◌}
 use Rattle.std.specs.Str.{is_utf8}
-use Rattle.wasm_spec.specs.Grammar.{header}
-use Rattle.wasm_spec.specs.Syntax.{Section, Custom}
 use Rattle.wasm_core_read.specs.declared.malformed.Malformed.{Malformed}
 use Rattle.wasm_core_read.specs.Input.{Input, GoesOn, IsWithin}
 
@@ -18,10 +15,10 @@ abbrev pub Gives : {X Y : Type 0} → (X → Y) → Input → Input → Result X
 Gives view old new (Ok x) read = (read ≡ Some (view x, new.rest)) × GoesOn old new
 Gives view old new (Err e) read = (read ≡ None) × (new ≡ old) × IsWithin old e.offset
 
--- The same of a reader that is composed of others: where a refusal leaves it is open.
+-- The same of a reader that is composed of others: a refusal leaves it somewhere between where it was and its end.
 abbrev pub Answers : {X Y : Type 0} → (X → Y) → Input → Input → Result X Malformed → Option (Y × List ℕ) → Type 0
 Answers view old new (Ok x) read = (read ≡ Some (view x, new.rest)) × GoesOn old new
-Answers view old new (Err e) read = (read ≡ None) × IsWithin old e.offset
+Answers view old new (Err e) read = (read ≡ None) × GoesOn old new × IsWithin old e.offset
 
 -- What a call returned that takes all of a reader's bytes.
 abbrev pub AnswersAll : {X Y : Type 0} → (X → Y) → Input → Result X Malformed → Option Y → Type 0
@@ -51,22 +48,8 @@ name_at bytes = unsigned_at 32 bytes >>= λ n. bytes_at n.0 n.1 >>= λ x. if is_
 unfoldable pub framed_at : {A : Type 0} → (List ℕ → Option A) → List ℕ → Option (A × List ℕ)
 framed_at content_of bytes = unsigned_at 32 bytes >>= λ n. bytes_at n.0 n.1 >>= λ c. content_of c.0 >>= λ v. Some (v, c.1)
 
--- the section whose content the bytes are
-unfoldable pub content_of : ℕ → List ℕ → Option Section
-content_of id bytes = if id == 0 then (name_at bytes >>= λ name. Some (Custom name.0 name.1)) else None
-
-unfoldable pub section_at : List ℕ → Option (Section × List ℕ)
-section_at bytes = byte_at bytes >>= λ id. framed_at (content_of id.0) id.1
-
--- sections up to the end; there are at most fuel
-unfoldable pub sections_at : ℕ → List ℕ → Option (List Section)
-sections_at fuel [] = Some []
-sections_at zero (b ∷ bs) = None
-sections_at (suc fuel) (b ∷ bs) = section_at (b ∷ bs) >>= λ x. sections_at fuel x.1 >>= λ others. Some (x.0 ∷ others)
-
--- sections up to the end
-unfoldable pub sections_of : List ℕ → Option (List Section)
-sections_of bytes = sections_at (length bytes) bytes
-
-unfoldable pub module_of : List ℕ → Option (List Section)
-module_of bytes = if starts_with nat_eq bytes header then sections_of (drop 8 bytes) else None
+-- what is read where that is all of the bytes
+abbrev pub filled : {A : Type 0} → Option (A × List ℕ) → Option A
+filled None = None
+filled (Some (x, [])) = Some x
+filled (Some (x, b ∷ rest)) = None

@@ -1,7 +1,7 @@
 -- Reading types from the front of a list of bytes: means of proof, which the laws tie to the grammar.
 use Rattle.std.specs.Prelude.{ℕ, zero, suc, true, List, [], ◌∷◌, Option, Some, None, ◌==◌, if◌then◌else◌}
 use Rattle.wasm_spec.specs.TypeGrammar.{heap_code}
-use Rattle.wasm_spec.specs.Types.{AbstractHeapType, Abstract, ValType, I32, I64, F32, F64, V128, Ref, FuncType}
+use Rattle.wasm_spec.specs.Types.{AbstractHeapType, Abstract, ValType, I32, I64, F32, F64, V128, Ref, FuncType, FuncComposite, RecGroup, Single}
 use Rattle.wasm_spec.specs.Types as types
 use Rattle.wasm_core_read.specs.Reading.{◌>>=◌, unsigned_at}
 
@@ -40,3 +40,10 @@ func_type_at (b ∷ rest) =
     if b == 0x60
     then (list_at val_type_at rest >>= λ params. list_at val_type_at params.1 >>= λ results. Some (record { params = params.0; results = results.0 }, results.1))
     else None
+
+-- the group of one final function type without supertypes
+abbrev pub func_group : FuncType ℕ → RecGroup ℕ
+func_group type = Single (record { is_final = true; supertypes = []; composite_type = FuncComposite type })
+
+unfoldable pub rec_group_at : List ℕ → Option (RecGroup ℕ × List ℕ)
+rec_group_at bytes = func_type_at bytes >>= λ type. Some (func_group type.0, type.1)

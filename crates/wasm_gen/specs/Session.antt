@@ -1,9 +1,22 @@
 -- What a session answers.
-use Rattle.std.specs.Prelude.{◌≡◌, ℕ, List, true, false, Result, is_err, IsErrAnd}
+use Rattle.std.specs.Prelude.{◌≡◌, ℕ, List, Bool, true, false, not, Result, Ok, Err, IsErrAnd}
+use Rattle.wasm_core.specs.LimitCases.{Locals}
 use Rattle.wasm_spec.specs.Spaces.{Sizes}
 use Rattle.wasmparser.specs.Judging.{IsJudged}
-use Rattle.wasmparser.specs.Types.{Error, Failed}
+use Rattle.wasmparser.specs.Types.{Error, ErrorKind, Operator, Body, Limit, Failed}
 use Rattle.wasm_gen.specs.History.{History}
+
+-- a refusal of this kind is one of a body
+abbrev pub is_in_body : ErrorKind → Bool
+is_in_body Operator = true
+is_in_body Body = true
+is_in_body (Limit Locals) = true
+is_in_body _ = false
+
+-- the answer ends the judge: a refusal does, unless it is one of a body
+abbrev pub fails : Result Sizes Error → Bool
+fails (Ok sizes) = false
+fails (Err e) = not (is_in_body e.kind)
 
 -- what a session answers to the bytes of a module, and how it goes on
 pub record Checks (old : History) (bytes : List ℕ) (verdict : Result Sizes Error) (new : History) : Type 0 where
@@ -11,7 +24,9 @@ pub record Checks (old : History) (bytes : List ℕ) (verdict : Result Sizes Err
   pub judged : old.has_failed ≡ false → IsJudged old.features bytes verdict
   -- a judge that has failed refuses whatever comes
   pub refused : old.has_failed ≡ true → IsErrAnd verdict (λ e. (e.kind ≡ Failed) × (e.offset ≡ 0))
-  -- a refusal fails the judge
-  pub goes_on : new.has_failed ≡ is_err verdict
+  -- a judge that has not failed fails by some answers
+  pub goes_on : old.has_failed ≡ false → new.has_failed ≡ fails verdict
+  -- a judge that has failed stays so
+  pub stays : old.has_failed ≡ true → new.has_failed ≡ true
   pub features_kept : new.features ≡ old.features
   pub id_kept : new.id ≡ old.id

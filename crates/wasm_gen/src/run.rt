@@ -19,7 +19,7 @@ mod tests;
 
 /// Reads a module, judges it and writes the line of its verdict. Answers whether the verdict is yes.
 ///
-/// After `Write` the session has judged the module. After `Memory` it may have.
+/// After `Write` the session has judged the module. After `Memory` it may have, or have failed for want of memory.
 pub fn run_check<R: Source, W: Sink>(
     alloc: Global,
     session: &mut Session,
@@ -57,7 +57,7 @@ pub fn run_check<R: Source, W: Sink>(
     ensures id { session.new.id ≡ session.old.id }
 {
     let bytes = read_whole(alloc, reader, MAX_INPUT, MAX_TURNS)?;
-    let verdict = session.check(&bytes);
+    let verdict = session.check(alloc, &bytes);
     if let Err(e) = &verdict {
         if e.kind == ErrorKind::Memory {
             return Err(RunError::Memory);

@@ -2,14 +2,18 @@
 
 ghost use Rattle.std.specs.Prelude.{◌≡◌};
 ghost use Rattle.wasm_core.specs.Features.{feature_set};
+ghost use Rattle.wasm_gen.specs.Session.{is_in_body};
 
 use crate::judge::{Error, ErrorKind, Types, ValidatorId};
+use std::alloc::Global;
 use std::marker::Model;
 use wasm_core::features::WasmFeatures;
+use wasm_core::limits::Limit;
 use wasmparser::judge::validate_module;
 
-/// Judges modules under one set of features. A refusal ends the judge: from then on each module is refused as
-/// `Failed`, until [`restart`](Session::restart) hands in another judge.
+/// Judges modules under one set of features. After a module with a refused body the next one is judged. Any other
+/// refusal ends the judge: from then on each module is refused as `Failed`, until
+/// [`restart`](Session::restart) hands in another judge.
 ///
 /// Contracts see a session as its features, the judge's name, and whether the judge failed.
 #[derive(Debug, Drop)]
@@ -26,6 +30,16 @@ impl Model for Session {
     ghost Value = { History };
 
     ghost view = { λ s. record { features = feature_set s.features; id = s.id; has_failed = s.has_failed } };
+}
+
+// Whether a refusal of this kind is one of a body.
+fn is_in_body(kind: ErrorKind) -> bool
+    ensures { result ≡ is_in_body kind }
+{
+    matches!(
+        kind,
+        ErrorKind::Operator | ErrorKind::Body | ErrorKind::Limit(Limit::Locals)
+    )
 }
 
 impl Session {
@@ -45,8 +59,8 @@ impl Session {
 
     /// Judges the bytes of a module, and shows the index spaces of a valid one.
     ///
-    /// The kind of a refusal names a fault that is there; which of several is named is open.
-    pub fn check(&mut self, bytes: &[u8]) -> Result<Types, Error>
+    /// The kind of a refusal names a fault that is there, or want of memory; which of several is named is open.
+    pub fn check(&mut self, alloc: Global, bytes: &[u8]) -> Result<Types, Error>
         ensures { Checks self.old bytes.now result self.new }
     {
         if self.has_failed {
@@ -55,8 +69,10 @@ impl Session {
                 kind: ErrorKind::Failed,
             });
         }
-        let verdict = validate_module(bytes, self.features);
-        self.has_failed = verdict.is_err();
+        let verdict = validate_module(alloc, bytes, self.features);
+        if let Err(e) = &verdict {
+            self.has_failed = !is_in_body(e.kind);
+        }
         verdict
     }
 
@@ -68,7 +84,7 @@ impl Session {
         self.has_failed = false;
     }
 
-    /// Whether the judge refused a module and judges no more.
+    /// Whether the judge has ended, and judges no more.
     pub fn has_failed(&self) -> bool
         ensures { result ≡ self.now.has_failed }
     {

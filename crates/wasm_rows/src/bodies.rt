@@ -5,6 +5,7 @@ use std::test::Fail;
 use wasm_core::features::{Flags, WasmFeatures};
 use wasm_core::limits::Limit;
 use wasmparser::body::validate_body;
+use wasmparser::code_section::FunctionBody;
 use wasmparser::core_types::{FuncType, ValType};
 use wasmparser::error::ErrorKind;
 
@@ -23,7 +24,7 @@ fn func_type(alloc: Global, params: usize, results: usize) -> Result<FuncType, A
 
 // Why a body is refused, if it is.
 fn refusal(ty: &FuncType, bytes: &[u8], features: WasmFeatures) -> Option<ErrorKind> {
-    match validate_body(ty, bytes, features, 0) {
+    match validate_body(ty, &FunctionBody::new(bytes, 0), features) {
         Ok(()) => None,
         Err(e) => Some(e.kind),
     }
@@ -114,7 +115,8 @@ fn parameters_are_locals(rt: HostRuntime) -> Result<(), Fail> {
 #[test]
 fn refusal_stands_in_the_body(rt: HostRuntime) -> Result<(), Fail> {
     let nothing = func_type(rt.alloc(), 0, 0)?;
-    match validate_body(&nothing, &[0x00, 0x00, 0xfe], WasmFeatures::default(), 100) {
+    let body = FunctionBody::new(&[0x00, 0x00, 0xfe], 100);
+    match validate_body(&nothing, &body, WasmFeatures::default()) {
         Ok(()) => Err(Fail::from("an operator is unknown")),
         Err(e) => {
             assert_eq!(rt; e.offset, 102);

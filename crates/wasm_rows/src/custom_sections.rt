@@ -143,6 +143,10 @@ fn frame_holds_its_content(rt: HostRuntime) -> Result<(), Fail> {
 #[test]
 fn other_sections_do_not_read_yet(rt: HostRuntime) -> Result<(), Fail> {
     for id in 1..=255u8 {
+        // These have no entries, which they may.
+        if matches!(id, 1 | 3 | 10) {
+            continue;
+        }
         assert_eq!(rt;
             refusal_of(rt.alloc(), &[&[id, 0x01, 0x00]])?,
             MALFORMED,
@@ -171,14 +175,17 @@ fn section_with_name(alloc: Global, length: usize) -> Result<Vec<u8>, AllocError
 #[test]
 fn long_name_passes_its_limit(rt: HostRuntime) -> Result<(), Fail> {
     let longest = section_with_name(rt.alloc(), 100_000)?;
-    assert_eq!(rt; refusal(&mut new_session(), &longest), None);
+    assert_eq!(rt; refusal(rt.alloc(), &mut new_session(), &longest)?, None);
     let longer = section_with_name(rt.alloc(), 100_001)?;
     let mut session = new_session();
     assert_eq!(rt;
-        refusal(&mut session, &longer),
+        refusal(rt.alloc(), &mut session, &longer)?,
         Some(ErrorKind::Limit(Limit::Name))
     );
-    assert_eq!(rt; refusal(&mut session, &longest), Some(ErrorKind::Failed));
+    assert_eq!(rt;
+        refusal(rt.alloc(), &mut session, &longest)?,
+        Some(ErrorKind::Failed)
+    );
     Ok(())
 }
 
@@ -194,11 +201,11 @@ fn cut_modules_read_where_a_section_ends(rt: HostRuntime) -> Result<(), Fail> {
             MALFORMED
         };
         assert_eq!(rt;
-            refusal(&mut new_session(), &whole[..end]),
+            refusal(rt.alloc(), &mut new_session(), &whole[..end])?,
             expected,
             "{end}"
         );
     }
-    assert_eq!(rt; refusal(&mut new_session(), &whole), None);
+    assert_eq!(rt; refusal(rt.alloc(), &mut new_session(), &whole)?, None);
     Ok(())
 }

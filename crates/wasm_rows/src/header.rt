@@ -7,7 +7,7 @@ use wasm_gen::judge::ErrorKind;
 #[test]
 fn header_alone_defines_nothing(rt: HostRuntime) -> Result<(), Fail> {
     let mut session = new_session();
-    let types = session.check(&HEADER)?;
+    let types = session.check(rt.alloc(), &HEADER)?;
     let shown = types.as_ref();
     assert_eq!(rt; shown.core_type_count_in_module(), 0);
     assert_eq!(rt; shown.function_count(), 0);
@@ -22,34 +22,43 @@ fn header_alone_defines_nothing(rt: HostRuntime) -> Result<(), Fail> {
 }
 
 #[test]
-fn another_version_fails_the_session(rt: HostRuntime) {
+fn another_version_fails_the_session(rt: HostRuntime) -> Result<(), Fail> {
     let mut session = new_session();
     let mut other = HEADER;
     other[4] = 2;
-    assert_eq!(rt; refusal(&mut session, &other), Some(ErrorKind::Malformed));
-    assert_eq!(rt; refusal(&mut session, &HEADER), Some(ErrorKind::Failed));
+    assert_eq!(rt;
+        refusal(rt.alloc(), &mut session, &other)?,
+        Some(ErrorKind::Malformed)
+    );
+    assert_eq!(rt;
+        refusal(rt.alloc(), &mut session, &HEADER)?,
+        Some(ErrorKind::Failed)
+    );
+    Ok(())
 }
 
 #[test]
-fn cut_header_is_malformed(rt: HostRuntime) {
+fn cut_header_is_malformed(rt: HostRuntime) -> Result<(), Fail> {
     for end in 0..HEADER.len() {
         assert_eq!(rt;
-            refusal(&mut new_session(), &HEADER[..end]),
+            refusal(rt.alloc(), &mut new_session(), &HEADER[..end])?,
             Some(ErrorKind::Malformed),
             "{end}"
         );
     }
+    Ok(())
 }
 
 #[test]
-fn changed_header_is_malformed(rt: HostRuntime) {
+fn changed_header_is_malformed(rt: HostRuntime) -> Result<(), Fail> {
     for place in 0..HEADER.len() {
         let mut other = HEADER;
         other[place] ^= 1;
         assert_eq!(rt;
-            refusal(&mut new_session(), &other),
+            refusal(rt.alloc(), &mut new_session(), &other)?,
             Some(ErrorKind::Malformed),
             "{place}"
         );
     }
+    Ok(())
 }

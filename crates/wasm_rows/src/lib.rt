@@ -10,6 +10,10 @@ mod errors;
 #[cfg(test)]
 mod features;
 #[cfg(test)]
+mod function_limits;
+#[cfg(test)]
+mod functions;
+#[cfg(test)]
 mod header;
 #[cfg(test)]
 mod modules;

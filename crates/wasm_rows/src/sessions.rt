@@ -7,32 +7,43 @@ use wasm_gen::judge::{ErrorKind, ValidatorId};
 use wasm_gen::session::Session;
 
 #[test]
-fn failed_session_waits_for_a_restart(rt: HostRuntime) {
+fn failed_session_waits_for_a_restart(rt: HostRuntime) -> Result<(), Fail> {
     let mut session = new_session();
-    assert_eq!(rt; refusal(&mut session, &HEADER), None);
+    assert_eq!(rt; refusal(rt.alloc(), &mut session, &HEADER)?, None);
     assert!(rt; !session.has_failed());
-    assert_eq!(rt; refusal(&mut session, &[]), Some(ErrorKind::Malformed));
+    assert_eq!(rt;
+        refusal(rt.alloc(), &mut session, &[])?,
+        Some(ErrorKind::Malformed)
+    );
     assert!(rt; session.has_failed());
     for _turn in 0..3 {
-        assert_eq!(rt; refusal(&mut session, &HEADER), Some(ErrorKind::Failed));
+        assert_eq!(rt;
+            refusal(rt.alloc(), &mut session, &HEADER)?,
+            Some(ErrorKind::Failed)
+        );
         assert!(rt; session.has_failed());
     }
     session.restart(ValidatorId::new(7));
     assert!(rt; !session.has_failed());
-    assert_eq!(rt; refusal(&mut session, &HEADER), None);
+    assert_eq!(rt; refusal(rt.alloc(), &mut session, &HEADER)?, None);
+    Ok(())
 }
 
 #[test]
-fn session_keeps_what_it_was_handed(rt: HostRuntime) {
+fn session_keeps_what_it_was_handed(rt: HostRuntime) -> Result<(), Fail> {
     let features = WasmFeatures::GC.union(WasmFeatures::THREADS);
     let mut session = Session::new(features, ValidatorId::new(3));
     assert_eq!(rt; session.features(), features);
     assert_eq!(rt; session.id(), ValidatorId::new(3));
-    assert_eq!(rt; refusal(&mut session, &[]), Some(ErrorKind::Malformed));
+    assert_eq!(rt;
+        refusal(rt.alloc(), &mut session, &[])?,
+        Some(ErrorKind::Malformed)
+    );
     assert_eq!(rt; session.id(), ValidatorId::new(3));
     session.restart(ValidatorId::new(4));
     assert_eq!(rt; session.features(), features);
     assert_eq!(rt; session.id(), ValidatorId::new(4));
+    Ok(())
 }
 
 #[test]
@@ -40,7 +51,7 @@ fn refusal_stands_within_the_bytes(rt: HostRuntime) -> Result<(), Fail> {
     let mut cut = HEADER.to_vec(rt.alloc())?;
     cut.extend_from_slice(&[0x00, 0x05, 0x01])?;
     let mut session = new_session();
-    match session.check(&cut) {
+    match session.check(rt.alloc(), &cut) {
         Ok(_types) => return Err(Fail::from("a section was cut")),
         Err(e) => assert!(rt; e.offset <= 11, "{e}"),
     }

@@ -1,7 +1,7 @@
 -- What is shown of a module: the sizes of its index spaces, those of data segments, locals, labels and fields aside.
 -- Core Specification 3.0, Structure, Modules, "Indices", and Validation, "Modules".
-use Rattle.std.specs.Prelude.{ℕ, ◌+◌, List, [], ◌∷◌}
-use Rattle.wasm_spec.specs.Syntax.{Section, Custom}
+use Rattle.std.specs.Prelude.{ℕ, ◌+◌, List, [], ◌∷◌, length}
+use Rattle.wasm_spec.specs.Syntax.{Section, Custom, TypeSection, FunctionSection, CodeSection, types_in}
 
 -- how many items each index space has (the elements are element segments), and how many exports there are
 pub record Sizes : Type 0 where
@@ -33,6 +33,9 @@ together a b = record {
 -- what a section adds to each space
 abbrev pub added_by : Section → Sizes
 added_by (Custom name contents) = no_items
+added_by (TypeSection groups) = record no_items { types = length (types_in (TypeSection groups)) }
+added_by (FunctionSection indexes) = record no_items { functions = length indexes }
+added_by (CodeSection bodies) = no_items
 
 -- what the sections of a module add up to
 abbrev pub sizes_of : List Section → Sizes

@@ -1,8 +1,9 @@
 -- The grammar of types, in which references to defined types are type indexes. Core Specification 3.0, Binary Format, "Types".
--- The forms of references that are written out (63, 64), and with them concrete heap types, are no cases yet.
+-- No cases yet: references that are written out (63, 64), and with them concrete heap types; structures, arrays and continuations (5f, 5e,
+-- 5d); sub types that aren't final or have supertypes, or say that they are final (50, 4f); groups that are written out (4e).
 use Rattle.std.specs.Prelude.{◌≡◌, ℕ, true, List, [], ◌∷◌, ◌++◌}
 use Rattle.wasm_spec.specs.Bytes.{IsList}
-use Rattle.wasm_spec.specs.Types.{AbstractHeapType, Func, Extern, Any, None, NoExtern, NoFunc, Eq, Struct, Array, I31, Exn, NoExn, Cont, NoCont, HeapType, Abstract, Concrete, ValType, I32, I64, F32, F64, V128, Ref, FuncType}
+use Rattle.wasm_spec.specs.Types.{AbstractHeapType, Func, Extern, Any, None, NoExtern, NoFunc, Eq, Struct, Array, I31, Exn, NoExn, Cont, NoCont, HeapType, Abstract, Concrete, ValType, I32, I64, F32, F64, V128, Ref, FuncType, CompositeType, FuncComposite, StructComposite, ArrayComposite, ContComposite, SubType, RecGroup, Single}
 
 -- the byte of an abstract heap type (Types, "Heap Types"; those of continuations are their proposal's)
 abbrev pub heap_code : AbstractHeapType → ℕ
@@ -39,3 +40,18 @@ IsValType text (Ref nullable heap) = (nullable ≡ true) × IsBareHeap text heap
 abbrev pub IsFuncType : List ℕ → FuncType ℕ → Type 0
 IsFuncType text type = (params results : List ℕ) × (text ≡ 0x60 ∷ (params ++ results))
     × IsList IsValType params type.params × IsList IsValType results type.results
+
+-- (Types, "Composite Types")
+abbrev pub IsCompositeType : List ℕ → CompositeType ℕ → Type 0
+IsCompositeType text (FuncComposite type) = IsFuncType text type
+IsCompositeType text (StructComposite fields) = ⊥
+IsCompositeType text (ArrayComposite field) = ⊥
+IsCompositeType text (ContComposite function) = ⊥
+
+-- a composite type alone is a final sub type without supertypes (Types, "Recursive Types")
+abbrev pub IsSubType : List ℕ → SubType ℕ → Type 0
+IsSubType text type = (type.is_final ≡ true) × (type.supertypes ≡ []) × IsCompositeType text type.composite_type
+
+-- a sub type alone is a group of one (Types, "Recursive Types")
+abbrev pub IsRecGroup : List ℕ → RecGroup ℕ → Type 0
+IsRecGroup text (Single type) = IsSubType text type

@@ -54,8 +54,13 @@ pub data CompositeType (R : Type 0) : Type 0 where
   ArrayComposite : FieldType R → CompositeType R
   ContComposite : R → CompositeType R
 
--- (Types, "Recursive Types"); a recursive group is a list of these
+-- (Types, "Recursive Types"); a recursive group is made of these
 pub record SubType (R : Type 0) : Type 0 where
   pub is_final : Bool
   pub supertypes : List R
   pub composite_type : CompositeType R
+
+-- An entry of a type section: a recursive group. One that is written out as a group is no case yet.
+pub data RecGroup (R : Type 0) : Type 0 where
+  -- one sub type by itself
+  Single : SubType R → RecGroup R

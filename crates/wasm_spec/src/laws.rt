@@ -1,13 +1,17 @@
 //! Laws of the definitions, and worked examples.
 
-ghost use Rattle.std.specs.Prelude.{◌≡◌, ◌++◌, ℕ, List, [], ◌∷◌, length, true, false};
-ghost use Rattle.wasm_spec.specs.Bytes.{IsByte, AreBytes, IsUnsigned};
-ghost use Rattle.wasm_spec.specs.Features.{Features, Flag, FunctionReferences, Gc, StackSwitching, bit_of, has, default_features, is_default, needs_type_canonicalization};
-ghost use Rattle.wasm_spec.specs.Grammar.{IsModule, header};
-ghost use Rattle.wasm_spec.specs.Limits.{Limit, Name};
-ghost use Rattle.wasm_spec.specs.Spaces.{no_items, sizes_of, together};
-ghost use Rattle.wasm_spec.specs.Syntax.{Section, Custom};
-ghost use Rattle.wasm_spec.specs.Validity.{Passes, IsValid};
+ghost use Rattle.std.specs.Prelude.{◌≡◌, ◌≤◌, ◌++◌, ◌||◌, ℕ, Bool, List, [], ◌∷◌, length, true, false, is_some, map, nat_lt};
+ghost use Rattle.wasm_spec.specs.Bodies.{Context, Run, AreLocals, IsBodyOf, IsFunctionBody};
+ghost use Rattle.wasm_spec.specs.Bytes.{IsByte, AreBytes, IsItems, IsUnsigned};
+ghost use Rattle.wasm_spec.specs.Features.{Features, Flag, FunctionReferences, Gc, MultiValue, StackSwitching, bit_of, has, default_features, is_default, needs_type_canonicalization};
+ghost use Rattle.wasm_spec.specs.Grammar.{AreOrdered, IsModule, header};
+ghost use Rattle.wasm_spec.specs.Limits.{Types, Groups, Functions, Params, Results, BodySize, Name};
+ghost use Rattle.wasm_spec.specs.Operators.{End};
+ghost use Rattle.wasm_spec.specs.Spaces.{sizes_of, together};
+ghost use Rattle.wasm_spec.specs.Syntax.{Section, Custom, TypeSection, FunctionSection, CodeSection, types_in};
+ghost use Rattle.wasm_spec.specs.TypeGrammar.{IsValType, IsFuncType};
+ghost use Rattle.wasm_spec.specs.Types.{HeapType, Abstract, Func, Extern, Any, None, NoExtern, NoFunc, Eq, Struct, Array, I31, Exn, NoExn, Cont, NoCont, I32, I64, F32, F64, V128, Ref, FuncType, FuncComposite, StructComposite, SubType, RecGroup, Single};
+ghost use Rattle.wasm_spec.specs.Validity.{is_passed, func_type_at, BeginsInvalid, BeginsPast, StatesPast, KeepRules, IsValid};
 
 /// The default set has exactly the flags that are on by default, no two flags are one bit, and exactly three
 /// canonicalise types.
@@ -34,12 +38,46 @@ pub fn small_modules()
     // The same with its size in two bytes, and a section "a" with the byte 7.
     ensures padded { IsModule (header ++ (0x00 ∷ 0x81 ∷ 0x00 ∷ 0x00 ∷ 0x00 ∷ 0x03 ∷ 0x01 ∷ 0x61 ∷ 0x07 ∷ []))
         (Custom [] [] ∷ Custom (0x61 ∷ []) (0x07 ∷ []) ∷ []) }
+
+    // One type without parameters and results, a function of it, and its body.
+    ensures functions { IsModule
+        (header ++ (0x01 ∷ 0x04 ∷ 0x01 ∷ 0x60 ∷ 0x00 ∷ 0x00 ∷ 0x03 ∷ 0x02 ∷ 0x01 ∷ 0x00 ∷ 0x0a ∷ 0x05 ∷ 0x01 ∷ 0x03 ∷ 0x00 ∷ 0x00 ∷ 0x0b ∷ []))
+        (TypeSection (Single (record { is_final = true; supertypes = []; composite_type = FuncComposite (record { params = []; results = [] }) }) ∷ [])
+        ∷ FunctionSection (0 ∷ []) ∷ CodeSection ((0x00 ∷ 0x00 ∷ 0x0b ∷ []) ∷ []) ∷ []) }
 {}
 
-/// The text of a module is bytes, and a module of custom sections shows nothing.
+/// Types, read by hand.
+pub fn small_types()
+    // Three parameters and two results.
+    ensures function { IsFuncType (0x60 ∷ 0x03 ∷ 0x7f ∷ 0x7c ∷ 0x7b ∷ 0x02 ∷ 0x7e ∷ 0x7d ∷ [])
+        (record { params = I32 ∷ F64 ∷ V128 ∷ []; results = I64 ∷ F32 ∷ [] }) }
+    ensures references { IsItems IsValType
+        (0x75 ∷ 0x74 ∷ 0x73 ∷ 0x72 ∷ 0x71 ∷ 0x70 ∷ 0x6f ∷ 0x6e ∷ 0x6d ∷ 0x6c ∷ 0x6b ∷ 0x6a ∷ 0x69 ∷ 0x68 ∷ [])
+        (map (λ heap. Ref true (Abstract heap)) (NoCont ∷ NoExn ∷ NoFunc ∷ NoExtern ∷ None ∷ Func ∷ Extern ∷ Any ∷ Eq ∷ I31 ∷ Struct ∷ Array ∷ Exn ∷ Cont ∷ [])) }
+    ensures not_null { (text : List ℕ) (heap : HeapType ℕ) → ¬ (IsValType text (Ref false heap)) }
+{}
+
+/// Sections stand in their order, none of them twice, and custom ones anywhere; and each function has a body.
+pub fn order()
+    ensures kept { (groups : List (RecGroup ℕ)) (indexes : List ℕ) (bodies : List (List ℕ))
+        → AreOrdered 0 (TypeSection groups ∷ FunctionSection indexes ∷ CodeSection bodies ∷ []) }
+    ensures custom { (last : ℕ) (name contents : List ℕ) (sections : List Section)
+        → AreOrdered last sections → AreOrdered last (Custom name contents ∷ sections) }
+    ensures late_types { (groups : List (RecGroup ℕ)) (indexes : List ℕ) → ¬ (AreOrdered 0 (FunctionSection indexes ∷ TypeSection groups ∷ [])) }
+    ensures late_functions { (indexes : List ℕ) (bodies : List (List ℕ)) → ¬ (AreOrdered 0 (CodeSection bodies ∷ FunctionSection indexes ∷ [])) }
+    ensures twice { (name contents a b : List ℕ) → ¬ (AreOrdered 0 (FunctionSection a ∷ Custom name contents ∷ FunctionSection b ∷ [])) }
+    ensures no_body { (text indexes : List ℕ) (index : ℕ) → ¬ (IsModule text (FunctionSection (index ∷ indexes) ∷ CodeSection [] ∷ [])) }
+    ensures no_function { (text body : List ℕ) → ¬ (IsModule text (CodeSection (body ∷ []) ∷ [])) }
+{}
+
+/// The text of a module is bytes; and what modules show.
 pub fn modules()
     ensures bytes { (text : List ℕ) (sections : List Section) → IsModule text sections → AreBytes text }
-    ensures spaces { (sections : List Section) → sizes_of sections ≡ no_items }
+
+    // One type, two functions, and their bodies.
+    ensures spaces { (group : RecGroup ℕ) (a b : ℕ) (bodies : List (List ℕ)) (name contents : List ℕ)
+        → sizes_of (Custom name contents ∷ TypeSection (group ∷ []) ∷ FunctionSection (a ∷ b ∷ []) ∷ CodeSection bodies ∷ [])
+        ≡ record { types = 1; functions = 2; tables = 0; memories = 0; globals = 0; tags = 0; elements = 0; exports = 0 } }
     ensures added { together
         (record { types = 1; functions = 2; tables = 3; memories = 4; globals = 5; tags = 6; elements = 7; exports = 8 })
         (record { types = 10; functions = 20; tables = 30; memories = 40; globals = 50; tags = 60; elements = 70; exports = 80 })
@@ -60,12 +98,80 @@ pub fn small_numbers()
 
 /// A name of 100,000 bytes is the longest, wherever it stands, and nothing else is limited in custom sections.
 pub fn long_names()
-    ensures only { (limit : Limit) (sections : List Section) → Passes limit sections → limit ≡ Name }
+    ensures names { (before after : List Section) (name contents : List ℕ)
+        → is_passed Name (before ++ (Custom name contents ∷ after)) ≡ (nat_lt 100000 (length name) || is_passed Name (before ++ after)) }
     ensures valid { (features : Features) (a b contents : List ℕ) → length a ≡ 100000 → length b ≡ 100000
         → IsValid features (Custom a contents ∷ Custom b contents ∷ []) }
     ensures invalid { (features : Features) (a contents : List ℕ) → length a ≡ 100001
         → ¬ (IsValid features (Custom a contents ∷ [])) }
-    ensures fits { (name contents : List ℕ) → length name ≡ 100000 → ¬ (Passes Name (Custom name contents ∷ [])) }
-    ensures passes { (name contents other others : List ℕ) → length name ≡ 100001
-        → Passes Name (Custom other others ∷ Custom name contents ∷ []) }
+{}
+
+/// The greatest numbers of types and functions, and of what they have.
+pub fn limits()
+    ensures types { (groups : List (RecGroup ℕ))
+        → is_passed Types (TypeSection groups ∷ []) ≡ nat_lt 1000000 (length (types_in (TypeSection groups))) }
+    ensures groups { (groups : List (RecGroup ℕ)) → is_passed Groups (TypeSection groups ∷ []) ≡ nat_lt 1000000 (length groups) }
+    ensures functions { (indexes : List ℕ) → is_passed Functions (FunctionSection indexes ∷ []) ≡ nat_lt 1000000 (length indexes) }
+    ensures params { (is_final : Bool) (supertypes : List ℕ) (type : FuncType ℕ)
+        → is_passed Params (TypeSection (Single (record { is_final = is_final; supertypes = supertypes; composite_type = FuncComposite type }) ∷ []) ∷ [])
+        ≡ nat_lt 1000 (length type.params) }
+    ensures results { (is_final : Bool) (supertypes : List ℕ) (type : FuncType ℕ)
+        → is_passed Results (TypeSection (Single (record { is_final = is_final; supertypes = supertypes; composite_type = FuncComposite type }) ∷ []) ∷ [])
+        ≡ nat_lt 1000 (length type.results) }
+    ensures body_size { (body : List ℕ) → is_passed BodySize (CodeSection (body ∷ []) ∷ []) ≡ nat_lt 7654321 (length body) }
+{}
+
+/// What a function section names are function types that stand before it.
+pub fn rules()
+    ensures kept { (features : Features) → KeepRules features []
+        (TypeSection (Single (record { is_final = true; supertypes = []; composite_type = FuncComposite (record { params = []; results = [] }) }) ∷ [])
+        ∷ FunctionSection (0 ∷ []) ∷ []) }
+    ensures early { (features : Features) (index : ℕ) (groups : List (RecGroup ℕ))
+        → ¬ (KeepRules features [] (FunctionSection (index ∷ []) ∷ TypeSection groups ∷ [])) }
+    ensures past_the_end { (types : List (SubType ℕ)) (index : ℕ) → length types ≤ index → is_some (func_type_at types index) ≡ false }
+    ensures structure { is_some (func_type_at (record { is_final = true; supertypes = []; composite_type = StructComposite [] } ∷ []) 0) ≡ false }
+{}
+
+/// Several results, and types that aren't final, are features.
+pub fn gates()
+    ensures results { KeepRules (bit_of MultiValue) []
+        (TypeSection (Single (record { is_final = true; supertypes = []; composite_type = FuncComposite (record { params = []; results = I32 ∷ I32 ∷ [] }) }) ∷ []) ∷ []) }
+    ensures without_multi_value { ¬ (KeepRules 0 []
+        (TypeSection (Single (record { is_final = true; supertypes = []; composite_type = FuncComposite (record { params = []; results = I32 ∷ I32 ∷ [] }) }) ∷ []) ∷ [])) }
+    ensures not_final { KeepRules (bit_of Gc) []
+        (TypeSection (Single (record { is_final = false; supertypes = []; composite_type = FuncComposite (record { params = []; results = [] }) }) ∷ []) ∷ []) }
+    ensures without_gc { ¬ (KeepRules 0 []
+        (TypeSection (Single (record { is_final = false; supertypes = []; composite_type = FuncComposite (record { params = []; results = [] }) }) ∷ []) ∷ [])) }
+{}
+
+/// A module with a function is valid where the body is one of its type, and the index that of a function type.
+pub fn one_function()
+    ensures valid { (features : Features) → IsValid features
+        (TypeSection (Single (record { is_final = true; supertypes = []; composite_type = FuncComposite (record { params = []; results = [] }) }) ∷ [])
+        ∷ FunctionSection (0 ∷ []) ∷ CodeSection ((0x00 ∷ 0x00 ∷ 0x0b ∷ []) ∷ []) ∷ []) }
+    ensures no_type { (features : Features) (index : ℕ) (body : List ℕ)
+        → ¬ (IsValid features (FunctionSection (index ∷ []) ∷ CodeSection (body ∷ []) ∷ [])) }
+    ensures no_body { (features : Features) (groups : List (RecGroup ℕ)) (index : ℕ)
+        → ¬ (IsValid features (TypeSection groups ∷ FunctionSection (index ∷ []) ∷ CodeSection ([] ∷ []) ∷ [])) }
+{}
+
+/// What the front of a module decides, whatever follows: 1,000,001 functions are stated, and a function stands before any type.
+pub fn fronts()
+    ensures twice { (rest : List ℕ) → ¬ (StatesPast Groups (TypeSection [] ∷ []) rest) }
+    ensures past { (rest : List ℕ) → BeginsPast Functions (header ++ (0x03 ∷ 0x03 ∷ 0xc1 ∷ 0x84 ∷ 0x3d ∷ rest)) }
+    ensures invalid { (features : Features) (rest : List ℕ) → BeginsInvalid features (header ++ (0x03 ∷ 0x02 ∷ 0x01 ∷ 0x00 ∷ rest)) }
+{}
+
+/// Small bodies: a body may end at once where it has no results, and with any results behind `unreachable`.
+pub fn bodies()
+    ensures empty { (cx : Context ℕ) → IsFunctionBody cx (record { params = []; results = [] }) (0x00 ∷ 0x0b ∷ []) }
+    ensures unreachable { (cx : Context ℕ) (type : FuncType ℕ) → length type.params ≤ 50000 → IsFunctionBody cx type (0x00 ∷ 0x00 ∷ 0x0b ∷ []) }
+    ensures locals { (cx : Context ℕ) → IsFunctionBody cx (record { params = []; results = [] }) (0x01 ∷ 0x02 ∷ 0x7f ∷ 0x0b ∷ []) }
+    ensures nothing { (cx : Context ℕ) (type : FuncType ℕ) → ¬ (IsFunctionBody cx type []) }
+    ensures no_result { (cx : Context ℕ) (runs : List Run)
+        → ¬ (IsBodyOf cx (record { params = []; results = I32 ∷ [] }) runs (End ∷ [])) }
+
+    // The 50,000 locals that a function may have count its parameters.
+    ensures many_locals { (cx : Context ℕ) (type : FuncType ℕ) (text : List ℕ) → length type.params ≡ 1
+        → ¬ (AreLocals cx type text (record { count = 50000; type = I32 } ∷ [])) }
 {}

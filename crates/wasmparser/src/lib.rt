@@ -2,5 +2,8 @@
 //! and `wasmparser_validator`.
 #![tactic(auto)]
 
-pub use wasmparser_parser::{core_type_reader, core_types, custom, error};
+pub use wasmparser_parser::{
+    code_section, core_type_reader, core_types, custom, error, function_section, raw_section,
+    type_section,
+};
 pub use wasmparser_validator::{body, gates, judge, types, validator_id};

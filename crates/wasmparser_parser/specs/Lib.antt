@@ -1,4 +1,4 @@
 pub mod Answers
 pub mod CoreTypes
-pub mod Custom
 pub mod Error
+pub mod Sections

@@ -16,7 +16,7 @@ use Rattle.wasmparser_parser.specs.declared.error.ErrorKind.{ErrorKind}
 use Rattle.wasmparser_parser.specs.declared.error.ErrorKind.TheVariants as kinds
 use Rattle.wasmparser_validator.specs.BodyReading.{NamesFault, JudgesBody, BodyJudgement, Broken, ManyLocals, OtherOperator, end_judgement, judge_code, run_at, with_run, judge_runs, judge_body}
 
-neq-eqb : (a b : ℕ) → a ≢ b → eqb a b ≡ false
+pub neq-eqb : (a b : ℕ) → a ≢ b → eqb a b ≡ false
 neq-eqb a b ne = elim (eqb_tells a b) [ inl (t, e) ↦ absurd (ne e) | inr (t, n) ↦ t ]
 
 -- ---- operators

@@ -1,4 +1,10 @@
+pub mod BodiesLaws
 pub mod BodyJudgingLaws
 pub mod BodyLaws
+pub mod CompleteLaws
+pub mod FaultLaws
 pub mod JudgingLaws
+pub mod RefusalLaws
 pub mod SectionLaws
+pub mod SectionsLaws
+pub mod VerdictLaws

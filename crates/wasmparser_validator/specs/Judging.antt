@@ -1,13 +1,15 @@
--- What a judge answers to the bytes of a module.
-use Rattle.std.specs.Prelude.{◌≡◌, ◌≤◌, ◌⊎◌, ℕ, List, length, Result, IfOk, IfErr, IsOk}
+-- What a judge answers to any bytes.
+use Rattle.std.specs.Prelude.{◌≡◌, ◌≢◌, ◌≤◌, ⊤, ℕ, List, length, Result, IfOk, IfErr}
+use Rattle.wasm_core.specs.LimitCases as limits
 use Rattle.wasm_core.specs.Limits as core
 use Rattle.wasm_core.specs.Types.{Limit}
 use Rattle.wasm_spec.specs.Features.{Features}
 use Rattle.wasm_spec.specs.Grammar.{IsModule}
 use Rattle.wasm_spec.specs.Spaces.{Sizes, sizes_of}
 use Rattle.wasm_spec.specs.Syntax.{Section}
-use Rattle.wasm_spec.specs.Validity.{IsValid, IsSupported, BeginsPast}
+use Rattle.wasm_spec.specs.Validity.{IsValid, IsSupported, BeginsPast, BeginsInvalid, HasBody, IsBodyPast, IsOtherBody, IsBrokenBody}
 use Rattle.wasmparser_parser.specs.declared.error.Error.{Error}
+use Rattle.wasmparser_parser.specs.declared.error.ErrorKind.{ErrorKind}
 use Rattle.wasmparser_parser.specs.declared.error.ErrorKind.TheVariants as kinds
 
 -- the bytes read as a module of supported sections, which is valid under the features
@@ -16,17 +18,34 @@ pub record IsAccepted (features : Features) (bytes : List ℕ) (sections : List 
   pub supported : IsSupported sections
   pub valid : IsValid features sections
 
--- A judge that has not failed answers so to the bytes of a module.
+-- The kinds of refusals that a judge gives; it gives no other.
+abbrev pub IsNamed : ErrorKind → Type 0
+IsNamed kinds.Malformed = ⊤
+IsNamed kinds.Invalid = ⊤
+IsNamed (kinds.Limit l) = ⊤
+IsNamed kinds.Operator = ⊤
+IsNamed kinds.Body = ⊤
+IsNamed kinds.Memory = ⊤
+IsNamed _ = ⊥
+
+-- A judge that has not failed answers so to any bytes.
 pub record IsJudged (features : Features) (bytes : List ℕ) (verdict : Result Sizes Error) : Type 0 where
   -- a yes is right, and shows the index spaces of the module
   pub right : IfOk verdict (λ shown. (sections : List Section) × IsAccepted features bytes sections × (shown ≡ sizes_of sections))
-  -- each module that is to be accepted is
-  pub complete : (sections : List Section) → IsAccepted features bytes sections → IsOk verdict
+  -- a module that is to be accepted is refused, if at all, for want of memory; that memory was wanting is left to tests
+  pub complete : (sections : List Section) → IsAccepted features bytes sections → IfErr verdict (λ e. e.kind ≡ kinds.Memory)
   -- bytes are malformed only where no supported module reads
   pub malformed : IfErr verdict (λ e. e.kind ≡ kinds.Malformed → (sections : List Section) → IsModule bytes sections → ¬ (IsSupported sections))
-  -- a limit is named only where complete sections at the front pass it
-  pub limit : IfErr verdict (λ e. (l : Limit) → e.kind ≡ kinds.Limit l → BeginsPast (core.limit l) bytes)
-  -- no other refusal comes: custom sections have no rule but the limit on names, and no memory is taken
-  pub others : IfErr verdict (λ e. (e.kind ≡ kinds.Malformed) ⊎ ((l : Limit) × (e.kind ≡ kinds.Limit l)))
+  -- a module is invalid only where complete sections at the front break a rule that is no limit, no grammar and no matter of bodies
+  pub invalid : IfErr verdict (λ e. e.kind ≡ kinds.Invalid → BeginsInvalid features bytes)
+  -- a limit is named only where sections at the front pass it, or the next one states a number that does; that of locals only where all
+  -- else is fine and the locals of a body pass it
+  pub limit : IfErr verdict (λ e. (l : Limit) → l ≢ limits.Locals → e.kind ≡ kinds.Limit l → BeginsPast (core.limit l) bytes)
+  pub locals : IfErr verdict (λ e. e.kind ≡ kinds.Limit limits.Locals → HasBody features (IsBodyPast features) bytes)
+  -- bodies are refused only where all else is fine: where a code is no operator's, or the judgement is broken otherwise
+  pub operator : IfErr verdict (λ e. e.kind ≡ kinds.Operator → HasBody features (IsOtherBody features) bytes)
+  pub body : IfErr verdict (λ e. e.kind ≡ kinds.Body → HasBody features (IsBrokenBody features) bytes)
+  -- no other refusal comes
+  pub others : IfErr verdict (λ e. IsNamed e.kind)
   -- the place of a refusal is among the bytes, or at their end; which place it is is open
   pub place : IfErr verdict (λ e. e.offset ≤ length bytes)

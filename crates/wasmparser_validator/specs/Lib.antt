@@ -1,3 +1,4 @@
+pub mod Bodies
 pub mod BodyJudging
 pub mod BodyReading
 pub mod Judging

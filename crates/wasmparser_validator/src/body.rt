@@ -1,6 +1,6 @@
 //! Judging function bodies.
 
-ghost use Rattle.std.specs.Prelude.{◌≡◌, ◌+◌, ◌<◌, ◌≤◌, ◌^◌, ◌==◌, length};
+ghost use Rattle.std.specs.Prelude.{◌≡◌, ◌≤◌, ◌==◌, length};
 ghost use Rattle.wasm_core.specs.Features.{feature_set};
 ghost use Rattle.wasm_core.specs.LimitCases.{Locals};
 ghost use Rattle.wasmparser_parser.specs.declared.error.ErrorKind.TheVariants as kinds;
@@ -11,21 +11,20 @@ use crate::gates::is_allowed;
 use wasm_core::binary_reader::BinaryReader;
 use wasm_core::features::WasmFeatures;
 use wasm_core::limits::{Limit, MAX_WASM_FUNCTION_LOCALS};
+use wasmparser_parser::code_section::FunctionBody;
 use wasmparser_parser::core_type_reader::read_val_type;
 use wasmparser_parser::core_types::FuncType;
 use wasmparser_parser::error::{Error, ErrorKind};
 
-/// Judges the bytes of a body of a function of this type, the first of which stands at `position` of the input.
+/// Judges a body of a function of this type.
 pub fn validate_body(
     func_type: &FuncType,
-    bytes: &[u8],
+    body: &FunctionBody<'_>,
     features: WasmFeatures,
-    position: u64,
 ) -> Result<(), Error>
-    requires { position + length bytes.now < 2 ^ 64 }
-    ensures { IsBodyJudgedUnder (feature_set features) func_type.now bytes.now position result }
+    ensures { IsBodyJudgedUnder (feature_set features) func_type.now body.now.bytes body.now.position result }
 {
-    let mut reader = BinaryReader::new(bytes, position);
+    let mut reader = body.get_binary_reader();
     reader.set_features(features);
     let params = func_type.params().len() as u64;
     judge_body(

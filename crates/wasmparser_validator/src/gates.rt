@@ -1,12 +1,13 @@
 //! Which types a module may write under a set of features.
 
-ghost use Rattle.std.specs.Prelude.{◌≡◌};
+ghost use Rattle.std.specs.Prelude.{◌≡◌, map};
+ghost use Rattle.std.specs.List.{list_all};
 ghost use Rattle.wasm_core.specs.Features.{feature_set};
-ghost use Rattle.wasm_spec.specs.Gates.{is_allowed, is_allowed_abstract};
+ghost use Rattle.wasm_spec.specs.Gates.{is_allowed, is_allowed_abstract, is_allowed_func};
 ghost use Rattle.wasmparser_parser.specs.CoreTypes.{abstract_heap_type, val_type};
 
 use wasm_core::features::WasmFeatures;
-use wasmparser_parser::core_types::{AbstractHeapType, HeapType, ValType};
+use wasmparser_parser::core_types::{AbstractHeapType, FuncType, HeapType, ValType};
 
 fn is_allowed_abstract(features: WasmFeatures, nullable: bool, heap_type: AbstractHeapType) -> bool
     ensures { result ≡ is_allowed_abstract (feature_set features) nullable (abstract_heap_type heap_type) }
@@ -46,4 +47,20 @@ pub fn is_allowed(features: WasmFeatures, ty: ValType) -> bool
                 && is_allowed_abstract(features, reference.nullable, heap_type)
         }
     }
+}
+
+fn are_allowed(features: WasmFeatures, types: &[ValType]) -> bool
+    ensures { result ≡ list_all (is_allowed (feature_set features)) (map val_type types.now) }
+{
+    types.iter().all(|ty| is_allowed(features, *ty))
+}
+
+/// Whether a module may define a function type under these features: its parameters and results are allowed, of
+/// which several results need a feature.
+pub fn is_allowed_func(features: WasmFeatures, ty: &FuncType) -> bool
+    ensures { result ≡ is_allowed_func (feature_set features) ty.now }
+{
+    are_allowed(features, ty.params())
+        && are_allowed(features, ty.results())
+        && (ty.results().len() <= 1 || features.multi_value())
 }

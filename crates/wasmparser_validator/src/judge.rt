@@ -1,31 +1,44 @@
 //! Judging the bytes of a module.
 
-ghost use Rattle.std.specs.Prelude.{◌≡◌};
+ghost use Rattle.std.specs.Prelude.{◌≡◌, ◌<◌, length};
+ghost use Rattle.std.specs.List.{AllByRecursion};
 ghost use Rattle.wasm_core.specs.Features.{feature_set};
+ghost use Rattle.wasm_core.specs.Input.{end};
+ghost use Rattle.wasmparser_validator.specs.Bodies.{JudgesBodies};
 ghost use Rattle.wasmparser_validator.specs.Judging.{IsJudged};
-ghost use Rattle.wasmparser_validator.specs.Sections.{Judges, judge_sections, judge_module};
+ghost use Rattle.wasmparser_validator.specs.Sections.{Judges, at_first, judge_sections, judge_module};
 
+use crate::body::validate_body;
+use crate::module_state::ModuleState;
 use crate::types::Types;
+use std::alloc::Global;
 use wasm_core::binary_reader::BinaryReader;
 use wasm_core::features::WasmFeatures;
-use wasm_core::limits::{Limit, MAX_WASM_STRING_SIZE};
-use wasmparser_parser::custom::read_section;
+use wasmparser_parser::code_section::FunctionBody;
+use wasmparser_parser::core_types::FuncType;
 use wasmparser_parser::error::{Error, ErrorKind};
+use wasmparser_parser::raw_section::RawSection;
 
 // What each module begins with.
 const HEADER: [u8; 8] = [0x00, 0x61, 0x73, 0x6d, 0x01, 0x00, 0x00, 0x00];
 
-/// Judges the bytes of a module under these features, and shows the index spaces of a valid one.
-pub fn validate_module(bytes: &[u8], features: WasmFeatures) -> Result<Types, Error>
+/// Judges the bytes of a module under these features, and shows the index spaces of a valid one. Bodies are judged
+/// after all sections.
+pub fn validate_module(alloc: Global, bytes: &[u8], features: WasmFeatures) -> Result<Types, Error>
     ensures { IsJudged (feature_set features) bytes.now result }
 {
-    judge_module(bytes, features)?;
-    Ok(Types::empty())
+    let state = judge_module(alloc, bytes, features)?;
+    judge_bodies(&state.types, &state.functions, &state.bodies, features)?;
+    Ok(Types::new(state.types.len() as u32, state.functions.len() as u32))
 }
 
 #[tactic(auto, unfolding(crate::specs::Sections::judge_module))]
-fn judge_module(bytes: &[u8], features: WasmFeatures) -> Result<(), Error>
-    ensures { Judges (record { rest = bytes.now; position = 0; features = feature_set features }) result (judge_module bytes.now) }
+fn judge_module<'a>(
+    alloc: Global,
+    bytes: &'a [u8],
+    features: WasmFeatures,
+) -> Result<ModuleState<'a>, Error>
+    ensures { Judges (record { rest = bytes.now; position = 0; features = feature_set features }) result (judge_module (feature_set features) bytes.now) }
 {
     if !bytes.starts_with(&HEADER) {
         return Err(Error {
@@ -34,24 +47,45 @@ fn judge_module(bytes: &[u8], features: WasmFeatures) -> Result<(), Error>
         });
     }
     let mut reader = BinaryReader::new(&bytes[8..], 8);
-    reader.set_features(features);
-    judge_sections(&mut reader)
+    judge_sections(alloc, &mut reader, features)
 }
 
 // Judges sections up to the end.
-#[tactic(auto, using(crate::proofs::SectionLaws::section_loop))]
-fn judge_sections(reader: &mut BinaryReader<'_>) -> Result<(), Error>
-    ensures { Judges reader.old result (judge_sections reader.old.rest) }
+fn judge_sections<'a>(
+    alloc: Global,
+    reader: &mut BinaryReader<'a>,
+    features: WasmFeatures,
+) -> Result<ModuleState<'a>, Error>
+    ensures { Judges reader.old result (judge_sections (feature_set features) at_first reader.old.rest) }
 {
+    let mut state = ModuleState::new(alloc);
     'sections: while !reader.eof() {
-        let offset = reader.original_position();
-        let section = read_section(reader)?;
-        if section.name.len() as u64 > MAX_WASM_STRING_SIZE {
-            return Err(Error {
-                offset,
-                kind: ErrorKind::Limit(Limit::Name),
-            });
-        }
+        let section = RawSection::read(reader)?;
+        state.section(alloc, &section, features)?;
+    }
+    if state.functions.len() != state.bodies.len() {
+        return Err(Error {
+            offset: reader.original_position(),
+            kind: ErrorKind::Malformed,
+        });
+    }
+    Ok(state)
+}
+
+// Judges the body of each function.
+fn judge_bodies(
+    types: &[FuncType],
+    functions: &[u32],
+    bodies: &[FunctionBody<'_>],
+    features: WasmFeatures,
+) -> Result<(), Error>
+    requires named { AllByRecursion (λ index. index < length types.now) functions.now }
+    requires paired { length functions.now ≡ length bodies.now }
+    ensures { JudgesBodies (feature_set features) types.now functions.now bodies.now result }
+{
+    for i in 0..functions.len() {
+        let index = functions[i] as usize;
+        validate_body(&types[index], &bodies[i], features)?;
     }
     Ok(())
 }

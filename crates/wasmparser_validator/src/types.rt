@@ -1,7 +1,6 @@
 //! What a judge shows of a valid module.
 
-// No section that defines or exports something reads yet, so a module's spaces are empty and its exports
-// are none.
+// Only types and functions read yet: a module's other spaces are empty, and it has no exports.
 
 ghost use Rattle.std.specs.Prelude.{◌≡◌, length, IsSomeAnd};
 ghost use Rattle.std.specs.Iterator.{YieldsFirst, item_count};
@@ -41,13 +40,13 @@ impl Model for Types {
 impl Types {
     ghost use Rattle.wasm_spec.specs.Spaces.{no_items};
 
-    /// The index spaces of a module that defines nothing.
-    pub(crate) fn empty() -> Types
-        ensures { result ≡ no_items }
+    /// The index spaces of a module with so many types and functions, and nothing else.
+    pub(crate) fn new(types: u32, functions: u32) -> Types
+        ensures { result ≡ record no_items { types = types; functions = functions } }
     {
         Types {
-            types: 0,
-            functions: 0,
+            types,
+            functions,
             tables: 0,
             memories: 0,
             globals: 0,

@@ -1,7 +1,9 @@
 use Rattle.std.proofs.Common.{◌≡◌, ℕ, List, None, refl, sym, ◌∙◌}
 use Rattle.std.specs.Str.{is_utf8, chars}
 use Rattle.wasm_core_read.specs.Laws.{IsNoModule}
-use Rattle.wasm_core_read.specs.Reading.{byte_at, unsigned_at, bytes_at, name_at, framed_at, content_of, section_at, sections_at, sections_of, module_of}
+use Rattle.wasm_core_read.specs.ModuleReading.{body_at, content_of, frame_at, section_at, sections_at, sections_of, module_of}
+use Rattle.wasm_core_read.specs.Reading.{byte_at, unsigned_at, bytes_at, name_at}
+use Rattle.wasm_core_read.specs.TypeReading.{items_at, list_at, val_type_at, func_type_at, rec_group_at}
 use Rattle.wasm_core_read.proofs.ModuleForms.{fills_module}
 use Rattle.wasm_core_read.proofs.laws.no_module.Goals as goal
 
@@ -9,7 +11,7 @@ unread : (text : List ℕ) → module_of text ≡ None → IsNoModule text
 unread text e sections m = let some = sym (fills_module.again text sections m) ∙ e in absurd cc
 
 pub returns : goal.returns
-unfolding byte_at unsigned_at bytes_at name_at framed_at content_of section_at sections_at sections_of module_of is_utf8 chars lib.Utf8.encode
+unfolding byte_at unsigned_at bytes_at name_at items_at list_at val_type_at func_type_at rec_group_at body_at content_of frame_at section_at sections_at sections_of module_of is_utf8 chars lib.Utf8.encode
 returns c = record {
   nothing = unread _ refl;
   cut_header = unread _ refl;
@@ -22,4 +24,14 @@ returns c = record {
   overlong = unread _ refl;
   surrogate = unread _ refl;
   past_the_last = unread _ refl;
+  functions_first = unread _ refl;
+  types_twice = unread _ refl;
+  no_code = unread _ refl;
+  no_functions = unread _ refl;
+  body_too_many = unread _ refl;
+  long_count = unread _ refl;
+  byte_behind = unread _ refl;
+  short_types = unread _ refl;
+  structure = unread _ refl;
+  written_group = unread _ refl;
 }

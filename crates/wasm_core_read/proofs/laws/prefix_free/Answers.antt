@@ -1,11 +1,13 @@
 use Rattle.wasm_spec.specs.Bytes.{IsOneByte, IsUnsigned, IsName}
-use Rattle.wasm_spec.specs.Grammar.{IsSection}
-use Rattle.wasm_core_read.specs.Reading.{byte_at, unsigned_at, name_at, section_at}
-use Rattle.wasm_core_read.proofs.Forms.{reads_byte, reads_unsigned, reads_name, prefix_free}
-use Rattle.wasm_core_read.proofs.ModuleForms.{reads_section}
-use Rattle.wasm_core_read.proofs.TypeForms.{reads_val_type, reads_func_type}
-use Rattle.wasm_core_read.specs.TypeReading.{val_type_at, func_type_at}
-use Rattle.wasm_spec.specs.TypeGrammar.{IsValType, IsFuncType}
+use Rattle.wasm_spec.specs.Grammar.{IsBody, IsSection}
+use Rattle.wasm_spec.specs.TypeGrammar.{IsValType, IsFuncType, IsRecGroup}
+use Rattle.wasm_core_read.specs.Laws.{IsFrame}
+use Rattle.wasm_core_read.specs.ModuleReading.{body_at, frame_at, section_at}
+use Rattle.wasm_core_read.specs.Reading.{byte_at, unsigned_at, name_at}
+use Rattle.wasm_core_read.specs.TypeReading.{val_type_at, func_type_at, rec_group_at}
+use Rattle.wasm_core_read.proofs.Forms.{reads_byte, reads_unsigned, reads_name, reads_body, prefix_free}
+use Rattle.wasm_core_read.proofs.ModuleForms.{reads_frame, reads_section}
+use Rattle.wasm_core_read.proofs.TypeForms.{reads_val_type, reads_func_type, reads_rec_group}
 use Rattle.wasm_core_read.proofs.laws.prefix_free.Goals as goal
 
 pub returns : goal.returns
@@ -15,5 +17,8 @@ returns c = record {
   name = prefix_free IsName name_at reads_name;
   val_type = prefix_free IsValType val_type_at reads_val_type;
   func_type = prefix_free IsFuncType func_type_at reads_func_type;
+  rec_group = prefix_free IsRecGroup rec_group_at reads_rec_group;
+  body = prefix_free IsBody body_at reads_body;
+  frame = prefix_free IsFrame frame_at reads_frame;
   section = prefix_free IsSection section_at reads_section;
 }

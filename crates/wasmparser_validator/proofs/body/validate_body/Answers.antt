@@ -1,5 +1,4 @@
 use Rattle.std.proofs.Common.{ap, ◌∙◌}
-use Rattle.wasm_core.proofs.ReadingLaws.{slice_bytes}
 use Rattle.wasm_core.specs.Features.{feature_set}
 use Rattle.wasm_core.specs.Input.{Input}
 use Rattle.wasmparser_parser.specs.CoreTypes.{val_type}
@@ -9,5 +8,5 @@ use Rattle.wasmparser_validator.proofs.body.validate_body.Goals as goal
 pub returns : goal.returns
 returns c = λ is_below.
     judged_slices val_type (record { features = feature_set c.args.features; is_below = is_below }) _ c.params.result.now c.results.result.now c.is_empty.result _ _ c.set_features.new.self _ c.params.ensures c.results.ensures c.is_empty.ensures
-    (c.set_features.ensures ∙ ap (λ (i : Input). record { rest = i.rest; position = i.position; features = feature_set c.args.features }) c.new-reader.ensures)
-    (slice_bytes _ c.type_inv.bytes) c.judge_body.ensures
+    (c.set_features.ensures ∙ ap (λ (i : Input). record { rest = i.rest; position = i.position; features = feature_set c.args.features }) c.get_binary_reader-reader.ensures.front)
+    c.get_binary_reader-reader.ensures.bytes c.judge_body.ensures

@@ -1,11 +1,14 @@
 use Rattle.std.proofs.Common.{◌≡◌, length}
-use Rattle.wasm_core.specs.Input.{GoesOn}
-use Rattle.wasmparser_validator.specs.Sections.{judge_sections}
+use Rattle.std.specs.List.{AllByRecursion}
+use Rattle.wasm_core.specs.Features.{feature_set}
+use Rattle.wasm_core.specs.Input.{GoesOn, end}
+use Rattle.wasmparser_validator.specs.Sections.{EndsBy, at_first, judge_sections, progress}
 use Rattle.wasmparser_validator.proofs.judge.judge_sections.Given as goal
 
 abbrev pub invariant-sections : goal.invariant-sections
 invariant-sections l = record {
-  so_far : judge_sections l.reader.rest ≡ judge_sections l.fn.reader.rest;
+  so_far : judge_sections (feature_set l.fn.features) (progress l.state) l.reader.rest ≡ judge_sections (feature_set l.fn.features) at_first l.fn.reader.rest;
+  inside : AllByRecursion (EndsBy (end l.fn.reader)) l.state.bodies.items;
   goes_on : GoesOn l.fn.reader l.reader;
 }
 

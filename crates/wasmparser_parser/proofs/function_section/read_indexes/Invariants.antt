@@ -1,0 +1,12 @@
+use Rattle.std.proofs.Common.{◌≡◌, ◌-◌}
+use Rattle.wasm_core.proofs.ReadingLaws.{with_front}
+use Rattle.wasm_core.specs.Input.{GoesOn}
+use Rattle.wasm_core.specs.Reading.{unsigned_at}
+use Rattle.wasm_core.specs.TypeReading.{items_at, list_at}
+use Rattle.wasmparser_parser.proofs.function_section.read_indexes.Given as goal
+
+abbrev pub invariant-loop : goal.invariant-loop
+invariant-loop l = record {
+  so_far : with_front l.indexes.items (items_at (unsigned_at 32) (l.count - l.counter) l.reader.rest) ≡ list_at (unsigned_at 32) l.fn.reader.rest;
+  goes_on : GoesOn l.fn.reader l.reader;
+}

@@ -1,0 +1,42 @@
+//! Function sections.
+
+ghost use Rattle.std.specs.Prelude.{◌≡◌};
+ghost use Rattle.wasm_core.specs.ModuleReading.{content_of};
+ghost use Rattle.wasm_core.specs.Reading.{unsigned_at};
+ghost use Rattle.wasm_core.specs.TypeReading.{list_at};
+ghost use Rattle.wasm_spec.specs.Syntax.{FunctionSection};
+ghost use Rattle.wasmparser_parser.specs.Answers.{AnswersOrFills, AnswersAllOrFills};
+ghost use Rattle.wasmparser_parser.specs.Sections.{at_front};
+
+use crate::error::{Error, ErrorKind};
+use crate::raw_section::RawSection;
+use std::alloc::Global;
+use wasm_core::binary_reader::BinaryReader;
+
+#[tactic(auto, using(wasm_core::proofs::ReadingLaws::list_loop), unfolding(wasm_core::specs::TypeReading::list_at))]
+fn read_indexes(alloc: Global, reader: &mut BinaryReader<'_>) -> Result<Vec<u32>, Error>
+    ensures { AnswersOrFills (λ v. v.items) reader.old reader.new result (list_at (unsigned_at 32) reader.old.rest) }
+{
+    let count = reader.read_var_u32()?;
+    let mut indexes = Vec::new(alloc);
+    for _ in 0..count {
+        indexes.push(reader.read_var_u32()?)?;
+    }
+    Ok(indexes)
+}
+
+/// Reads the content of a function section: the type index of each function (Core Specification, 5.5.6).
+#[tactic(auto, unfolding(wasm_core::specs::ModuleReading::content_of))]
+pub fn read_function_section(alloc: Global, section: &RawSection<'_>) -> Result<Vec<u32>, Error>
+    ensures { AnswersAllOrFills (λ v. FunctionSection v.items) (at_front section.now.content) result (content_of 3 section.now.content.bytes) }
+{
+    let mut reader = section.reader();
+    let indexes = read_indexes(alloc, &mut reader)?;
+    if !reader.eof() {
+        return Err(Error {
+            offset: reader.original_position(),
+            kind: ErrorKind::Malformed,
+        });
+    }
+    Ok(indexes)
+}

@@ -1,2 +1,3 @@
 pub mod Features
 pub mod Limits
+pub mod Shortest

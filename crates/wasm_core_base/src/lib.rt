@@ -2,4 +2,6 @@
 #![tactic(auto)]
 
 pub mod features;
+pub mod laws;
+pub mod leb128;
 pub mod limits;

@@ -18,6 +18,8 @@ mod header;
 #[cfg(test)]
 mod modules;
 #[cfg(test)]
+mod numbers;
+#[cfg(test)]
 mod reader;
 #[cfg(test)]
 mod sessions;

@@ -52,3 +52,8 @@ IsFramed IsA text value = (size content : List ℕ) × (text ≡ size ++ content
 -- A name: a list of bytes that are the UTF-8 of its characters (Values, "Names"). The value is the list of these bytes.
 abbrev pub IsName : List ℕ → List ℕ → Type 0
 IsName text name = IsFramed IsBytes text name × IsUtf8 name
+
+-- A text than which the value has no shorter one. This is what an encoder writes.
+pub record IsShortest {A : Type 0} (IsA : List ℕ → A → Type 0) (text : List ℕ) (value : A) : Type 0 where
+  pub spells : IsA text value
+  pub shortest : (other : List ℕ) → IsA other value → length text ≤ length other

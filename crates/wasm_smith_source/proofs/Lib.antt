@@ -1,0 +1,3 @@
+pub mod NumberLaws
+pub mod ChooseLaws
+pub mod TextLaws

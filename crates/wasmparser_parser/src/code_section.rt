@@ -1,6 +1,6 @@
 //! Code sections and the bodies of functions.
 
-ghost use Rattle.std.specs.Prelude.{◌≡◌, ◌↔◌, map, length, IfOk, IsTrue};
+ghost use Rattle.std.specs.Prelude.{◌≡◌, ◌↔◌, ◌+◌, map, length, IfOk, IsTrue};
 ghost use Rattle.std.specs.List.{AllByRecursion};
 ghost use Rattle.wasm_core.specs.ModuleReading.{body_at, content_of};
 ghost use Rattle.wasm_core.specs.Reading.{Answers};
@@ -75,6 +75,7 @@ impl<'a> FunctionBody<'a> {
 fn read_body<'a>(reader: &mut BinaryReader<'a>) -> Result<FunctionBody<'a>, Malformed>
     ensures read { Answers (λ b. b.bytes) reader.old reader.new result (body_at reader.old.rest) }
     ensures inside { IfOk result (λ b. IsInside reader.old b) }
+    ensures ends { IfOk result (λ b. b.position + length b.bytes ≡ reader.new.position) }
 {
     let size = reader.read_var_u32()?;
     let position = reader.original_position();

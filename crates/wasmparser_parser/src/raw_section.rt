@@ -1,6 +1,6 @@
 //! Sections as frames: an id, and a content whose size is stated.
 
-ghost use Rattle.std.specs.Prelude.{◌≡◌, IfOk};
+ghost use Rattle.std.specs.Prelude.{◌≡◌, ◌+◌, length, IfOk};
 ghost use Rattle.std.specs.Option.{option_map};
 ghost use Rattle.wasm_core.specs.ModuleReading.{frame_at};
 ghost use Rattle.wasm_core.specs.Reading.{Answers, AnswersAll, unsigned_at};
@@ -36,6 +36,7 @@ impl<'a> RawSection<'a> {
     pub fn read(reader: &mut BinaryReader<'a>) -> Result<RawSection<'a>, Malformed>
         ensures read { Answers (λ s. (s.id, s.content.bytes)) reader.old reader.new result (frame_at reader.old.rest) }
         ensures inside { IfOk result (λ s. IsInside reader.old s.content) }
+        ensures ends { IfOk result (λ s. s.content.position + length s.content.bytes ≡ reader.new.position) }
     {
         let id = reader.read_u8()?;
         let size = reader.read_var_u32()?;

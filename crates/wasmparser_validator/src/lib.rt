@@ -2,9 +2,9 @@
 #![tactic(auto)]
 
 pub mod body;
-pub mod func_types;
+mod func_types;
 pub mod gates;
 pub mod judge;
-pub mod module_state;
+mod module_state;
 pub mod types;
 pub mod validator_id;

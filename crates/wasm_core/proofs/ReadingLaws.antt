@@ -1,13 +1,10 @@
 -- The reading laws of the parts, under the name of this crate.
 pub use Rattle.wasm_core_read.proofs.BytesLaws.{all_bytes, bytes_length}
 pub use Rattle.wasm_core_read.proofs.Forms.{parts_are, bind_some, some_is, joined, behind}
-pub use Rattle.wasm_core_read.proofs.Forms.{unsigned_found, unsigned_again, reads_unsigned}
-pub use Rattle.wasm_core_read.proofs.Forms.{sized, reads_body, filled_some, fills_filled}
+pub use Rattle.wasm_core_read.proofs.Forms.{unsigned_found, unsigned_again}
 pub use Rattle.wasm_core_read.proofs.FrontLaws.{slice_bytes, goes_further}
-pub use Rattle.wasm_core_read.proofs.ListForms.{reads_list, list_count}
 pub use Rattle.wasm_core_read.proofs.ListLaws.{with_front, list_loop}
 pub use Rattle.wasm_core_read.proofs.ModuleForms.{reads_frame, frame_bytes, frame_shorter}
 pub use Rattle.wasm_core_read.proofs.ModuleForms.{fills_content, content_id, groups_count, functions_count, bodies_count}
-pub use Rattle.wasm_core_read.proofs.ModuleForms.{reads_section, section_shorter}
-pub use Rattle.wasm_core_read.proofs.ModuleForms.{ordered_found, ordered_again, in_order_found, in_order_again, fills_module, module_one}
-pub use Rattle.wasm_core_read.proofs.TypeForms.{reads_val_type, reads_func_type, reads_rec_group}
+pub use Rattle.wasm_core_read.proofs.ModuleForms.{module_one}
+pub use Rattle.wasm_core_read.proofs.TypeForms.{reads_val_type}

@@ -1,15 +1,15 @@
--- Each reading is that of its form: numbers, bytes, frames, bodies, names.
+-- Each reading is that of its form: numbers, bytes, bodies, names.
 use Rattle.std.proofs.Common.{◌≡◌, ℕ, ◌+◌, ◌-◌, ◌*◌, ◌^◌, ◌<◌, ◌≤◌, true, false, cond, ltb, leb, List, [], ◌∷◌, ◌++◌, length, take, drop, Option, Some, None, refl, sym, ap, subst, ◌∙◌, append_assoc, arith, inl, inr, ◌⊎◌}
 use Rattle.std.specs.Str.{is_utf8}
 use Rattle.std.proofs.lemmas.Bool.{cases_lt, le-ltb, lt-ltb, le-leb, leb-true}
 use Rattle.std.proofs.lemmas.Option.{cond_some}
 use Rattle.std.proofs.lemmas.List.{append_cancel_right, append-nil, length-append, take-append-drop, length-take}
 use Rattle.std.proofs.Math.Seq.{take-append_seam, drop-append_seam}
-use Rattle.wasm_spec.specs.Bytes.{AreBytes, IsBytesOf, IsOneByte, IsUnsigned, IsU32, IsFramed, IsName}
+use Rattle.wasm_spec.specs.Bytes.{AreBytes, IsBytesOf, IsOneByte, IsUnsigned, IsU32, IsName}
 use Rattle.wasm_spec.specs.Grammar.{IsBody}
 use Rattle.wasm_core_read.specs.Laws.{ReadsExactly, FillsExactly, IsPrefixFree}
 use Rattle.wasm_core_read.specs.ModuleReading.{body_at}
-use Rattle.wasm_core_read.specs.Reading.{◌>>=◌, byte_at, unsigned_at, bytes_at, name_at, framed_at, filled}
+use Rattle.wasm_core_read.specs.Reading.{◌>>=◌, byte_at, unsigned_at, bytes_at, name_at, filled}
 use Rattle.wasm_core_read.proofs.Names.{utf8, utf8_from}
 
 -- the value of a step that did not fail
@@ -119,25 +119,6 @@ pub reads_bytes : (n : ℕ) → ReadsExactly (IsBytesOf n) (bytes_at n)
 reads_bytes n = record {
   found = λ bytes v rest h e. let p = bytes_found n bytes v rest e in (v, p.0, (((parts_are v rest (subst AreBytes p.0 h)).0, refl), p.1));
   again = λ text v rest h. rw (← h.1, ← h.0.1) (bytes_again v rest);
-}
-
--- ---- frames
-
-pub reads_framed : {A : Type 0} (IsA : List ℕ → A → Type 0) (a_of : List ℕ → Option A) → FillsExactly IsA a_of → ReadsExactly (IsFramed IsA) (framed_at a_of)
-unfolding framed_at
-reads_framed IsA a_of law = record {
-  found = λ bytes v rest h e.
-      let n = bind_some (unsigned_at 32 bytes) (λ n. bytes_at n.0 n.1 >>= λ c. a_of c.0 >>= λ v. Some (v, c.1)) (v, rest) e in
-      let c = bind_some (bytes_at n.0.0 n.0.1) (λ c. a_of c.0 >>= λ v. Some (v, c.1)) (v, rest) n.2 in
-      let a = bind_some (a_of c.0.0) (λ v. Some (v, c.0.1)) (v, rest) c.2 in
-      let size = unsigned_found 32 bytes n.0.0 n.0.1 h n.1 in
-      let content = bytes_found n.0.0 n.0.1 c.0.0 c.0.1 c.1 in
-      let are = (parts_are c.0.0 c.0.1 (subst AreBytes content.0 (behind bytes size.0 n.0.1 h size.1))).0 in
-      subst (λ x. Found (IsFramed IsA) bytes x.0 x.1) (some_is (a.0, c.0.1) (v, rest) a.2)
-      (size.0 ++ c.0.0, joined bytes size.0 n.0.1 c.0.0 c.0.1 size.1 content.0, (size.0, c.0.0, refl, rw content.1 size.2, law.found c.0.0 a.0 are a.1));
-  again = λ text v rest h.
-      let split : text ++ rest ≡ h.0 ++ (h.1 ++ rest) = rw h.2 (append_assoc h.0 h.1 rest) in
-      ap (framed_at a_of) split ∙ rw (unsigned_again 32 h.0 (length h.1) (h.1 ++ rest) h.3, bytes_again h.1 rest, law.again h.1 v h.4) refl;
 }
 
 -- ---- bodies

@@ -194,7 +194,7 @@ number_shorter bits (b ∷ bs) v rest e = elim (ltb_tells b 128) [
   ]
 ]
 
--- What stands behind a frame or a section is shorter, so that reading sections ends.
+-- What stands behind a frame is shorter, so that reading sections ends.
 pub frame_shorter : (bytes : List ℕ) (frame : ℕ × List ℕ) (rest : List ℕ) → frame_at bytes ≡ Some (frame, rest) → length rest < length bytes
 unfolding frame_at byte_at body_at
 frame_shorter [] frame rest e = absurd cc
@@ -203,14 +203,6 @@ frame_shorter (b ∷ bs) frame rest e =
     let c = bind_some (bytes_at n.0.0 n.0.1) (λ c. Some ((b, c.0), c.1)) (frame, rest) n.2 in
     let r : c.0.1 ≡ rest = ap (λ (x : (ℕ × List ℕ) × List ℕ). x.1) (some_is ((b, c.0.0), c.0.1) (frame, rest) c.2) in
     omega (arith, number_shorter 32 bs n.0.0 n.0.1 n.1, (bytes_length n.0.0 n.0.1 c.0.0 c.0.1 c.1).1, ap length r)
-
-pub section_shorter : (bytes : List ℕ) (section : Section) (after : List ℕ) → section_at bytes ≡ Some (section, after) → length after < length bytes
-unfolding section_at
-section_shorter bytes section after e =
-    let f = bind_some (frame_at bytes) (λ f. content_of f.0.0 f.0.1 >>= λ section. Some (section, f.1)) (section, after) e in
-    let s = bind_some (content_of f.0.0.0 f.0.0.1) (λ section. Some (section, f.0.1)) (section, after) f.2 in
-    let r : f.0.1 ≡ after = ap (λ (x : Section × List ℕ). x.1) (some_is (s.0, f.0.1) (section, after) s.2) in
-    subst (λ (l : List ℕ). length l < length bytes) r (frame_shorter bytes f.0.0 f.0.1 f.1)
 
 -- ---- sections up to the end
 

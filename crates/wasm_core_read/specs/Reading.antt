@@ -44,10 +44,6 @@ bytes_at n bytes = if nat_le n (length bytes) then Some (take n bytes, drop n by
 unfoldable pub name_at : List ℕ → Option (List ℕ × List ℕ)
 name_at bytes = unsigned_at 32 bytes >>= λ n. bytes_at n.0 n.1 >>= λ x. if is_utf8 x.0 then Some x else None
 
--- the size of a content, and the content
-unfoldable pub framed_at : {A : Type 0} → (List ℕ → Option A) → List ℕ → Option (A × List ℕ)
-framed_at content_of bytes = unsigned_at 32 bytes >>= λ n. bytes_at n.0 n.1 >>= λ c. content_of c.0 >>= λ v. Some (v, c.1)
-
 -- what is read where that is all of the bytes
 abbrev pub filled : {A : Type 0} → Option (A × List ℕ) → Option A
 filled None = None

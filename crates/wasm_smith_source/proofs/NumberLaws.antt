@@ -89,11 +89,6 @@ little_room b m k byte low =
     let e = power k in
     rw e (omega arith)
 
-pub little_room_64 : (b m k : ℕ) → b < 256 → m < 256 ^ k → k < 8 → b + 256 * m < 2 ^ 64
-little_room_64 b m k byte low few =
-    let le : k + 1 ≤ 8 = omega arith in
-    omega (arith, little_room b m k byte low, power_most (k + 1) le)
-
 pub little_none : (bytes : List ℕ) → length bytes ≡ 0 → little_number bytes ≡ 0
 unfolding little_number
 little_none [] none = refl

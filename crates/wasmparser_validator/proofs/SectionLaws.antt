@@ -252,18 +252,15 @@ none_10 : (content : List ℕ) → first content ≡ None → content_of 10 cont
 unfolding content_of list_at
 none_10 content e = rw (first_none (unsigned_at 32 content) e) refl
 
-unread_10 : (features : Features) (p : Progress) (content : List ℕ) (others : Progress → Judgement) → content_of 10 content ≡ None → judge_content features p 10 content others ≡ Unread
-unread_10 features p content others f = unread features p 10 content others f ∙ nothing (unsigned_at 32 content)
+pub bodies_unread : (features : Features) (p : Progress) (content : List ℕ) (others : Progress → Judgement) → content_of 10 content ≡ None → judge_content features p 10 content others ≡ Unread
+bodies_unread features p content others f = unread features p 10 content others f ∙ nothing (unsigned_at 32 content)
   where
     nothing : (read : Option (ℕ × List ℕ)) → stated p 10 read ≡ Unread
     nothing None = refl
     nothing (Some n) = refl
 
-pub bodies_unread : (features : Features) (p : Progress) (content : List ℕ) (others : Progress → Judgement) → content_of 10 content ≡ None → judge_content features p 10 content others ≡ Unread
-bodies_unread = unread_10
-
 pub bodies_no_count : (features : Features) (p : Progress) (content : List ℕ) (others : Progress → Judgement) → first content ≡ None → judge_content features p 10 content others ≡ Unread
-bodies_no_count features p content others e = unread_10 features p content others (none_10 content e)
+bodies_no_count features p content others e = bodies_unread features p content others (none_10 content e)
 
 pub bodies_late : (features : Features) (p : Progress) (content : List ℕ) (others : Progress → Judgement) → 12 ≤ p.last → judge_content features p 10 content others ≡ Unread
 bodies_late features p content others late = cases (content_of 10 content) refl
@@ -272,7 +269,7 @@ bodies_late features p content others late = cases (content_of 10 content) refl
     t = le-ltb p.last 12 late
 
     cases : (read : Option Section) → content_of 10 content ≡ read → judge_content features p 10 content others ≡ Unread
-    cases None e = unread_10 features p content others e
+    cases None e = bodies_unread features p content others e
     cases (Some (CodeSection bodies)) e = one_section features p 10 content others (CodeSection bodies) e ∙ rw t refl
     cases (Some (Custom name contents)) e = let i = content_id 10 content (Custom name contents) e in absurd (omega (arith, i))
     cases (Some (TypeSection groups)) e = let i = content_id 10 content (TypeSection groups) e in absurd (omega (arith, i))
@@ -289,7 +286,7 @@ bodies_many features p content others n early e many = cases (content_of 10 cont
     u = lt-ltb _ _ many
 
     cases : (read : Option Section) → content_of 10 content ≡ read → judge_content features p 10 content others ≡ Unread
-    cases None f = unread_10 features p content others f
+    cases None f = bodies_unread features p content others f
     cases (Some (CodeSection bodies)) f =
         let c = bodies_count content bodies f in
         let same : length bodies ≡ n = same_first content n (length bodies) c.0 e c.1 in
@@ -399,7 +396,3 @@ unread_or_memory features p q id content e read refused unread = by_kind e.kind 
     by_kind kinds.Total offset h = absurd h
     by_kind kinds.Order offset h = absurd h
     by_kind kinds.Failed offset h = absurd h
-
--- what memory ran out for
-pub out_of_memory : (features : Features) (p q : Progress) (id : ℕ) (content : Part) (e : Error) → e ≡ record { offset = 0; kind = kinds.Memory } → JudgesContent features p id content (Err e) q
-out_of_memory features p q id content e is = refuse features p q id content e 0 kinds.Memory is (λ others. tt) (omega arith)

@@ -5,5 +5,6 @@ pub use Rattle.wasm_core_read.specs.Laws
 pub mod LimitCases
 pub mod ModuleReading
 pub mod Reading
+pub mod Shortest
 pub mod TypeReading
 pub mod Types

@@ -2,5 +2,7 @@
 //! format, in one place. The parts are `wasm_core_base` and `wasm_core_read`.
 #![tactic(auto)]
 
+pub mod laws;
+
 pub use wasm_core_base::{features, leb128, limits};
 pub use wasm_core_read::{binary_reader, malformed};

@@ -3,8 +3,8 @@ use Rattle.std.proofs.Common.{◌≡◌, ℕ, zero, suc, ◌+◌, ◌-◌, ◌*�
 use Rattle.std.proofs.lemmas.Bool.{cases_lt, le-ltb, lt-ltb}
 use Rattle.std.proofs.lemmas.Nat.{pow-add, div_below}
 use Rattle.std.proofs.Math.Pow.{pow_mono}
-use Rattle.wasm_spec.specs.Bytes.{IsUnsigned}
-use Rattle.wasm_core_base.specs.Shortest.{shortest_within}
+use Rattle.wasm_spec.specs.Bytes.{IsUnsigned, IsU32, IsShortest}
+use Rattle.wasm_core_base.specs.Shortest.{shortest_within, shortest_u32}
 
 -- a byte in front of a text
 longer : (bits b : ℕ) (text : List ℕ) (n high : ℕ) → 128 ≤ b → b < 256 → 7 < bits → n ≡ 128 * high + (b - 128) → IsUnsigned (bits - 7) text high → IsUnsigned bits (b ∷ text) n
@@ -63,3 +63,8 @@ shortest (suc more) bits n (b ∷ c ∷ bs) h = elim (cases_lt n 128) [
       let rest = shortest more (bits - 7) h.3 (c ∷ bs) h.5 in
       omega (arith, ap length (more_bytes more n large), ap (λ m. length (shortest_within more m)) high, rest)
 ]
+
+-- what is written of a number of 32 bits
+pub shortest_is : (n : ℕ) → n < 2 ^ 32 → IsShortest IsU32 (shortest_u32 n) n
+unfolding shortest_u32
+shortest_is n fits = record { spells = spells 4 32 n fits (omega arith); shortest = λ other h. shortest 4 32 n other h }

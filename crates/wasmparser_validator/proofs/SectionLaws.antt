@@ -136,7 +136,7 @@ types_refused features p q content e n types slice offset early k few f same pla
     let g : types_fault features types ≡ Some h.0 = ap (types_fault features) (sym same) ∙ h.1 in
     let one : (others : Progress → Judgement) → judge_content features p 1 content.bytes others ≡ h.0 = λ others.
     types_read features p content.bytes others n types early k few f ∙ ap (λ fault. unless fault (others (record p { last = 1; types = p.types ++ map func_sub types }))) g in
-    (λ others. subst (Names e.kind) (sym (one others)) h.2, omega (arith, h.3, place))
+    (λ others. subst (Names e.kind e.offset) (sym (one others)) h.2, omega (arith, h.3, place))
 
 pub types_accepted : (features : Features) (p : Progress) (content : List ℕ) (n : ℕ) (types slice : List (FuncType ℕ)) (all : List (SubType ℕ)) → p.last < 1 → first content ≡ Some n
     → length p.types + n ≤ 1000000 → content_of 1 content ≡ Some (type_section types) → slice ≡ types → types_fault features slice ≡ None → all ≡ p.types ++ map func_sub types
@@ -375,10 +375,11 @@ other_id features p id content others a b c d = unread features p id content oth
 
 -- what is refused, at a place of the content
 pub refuse : (features : Features) (p q : Progress) (id : ℕ) (content : Part) (e : Error) (offset : ℕ) (kind : ErrorKind) → e ≡ record { offset = offset; kind = kind }
-    → ((others : Progress → Judgement) → Names kind (judge_content features p id content.bytes others)) → offset ≤ content.position + length content.bytes
+    → ((others : Progress → Judgement) → Names kind offset (judge_content features p id content.bytes others)) → offset ≤ content.position + length content.bytes
     → JudgesContent features p id content (Err e) q
 refuse features p q id content e offset kind is named place =
-    (λ others. subst (λ k. Names k (judge_content features p id content.bytes others)) (sym (ap (λ x. x.kind) is)) (named others), subst (λ o. o ≤ content.position + length content.bytes) (sym (ap (λ x. x.offset) is)) place)
+    subst (λ (x : Error). ((others : Progress → Judgement) → Names x.kind x.offset (judge_content features p id content.bytes others)) × (x.offset ≤ content.position + length content.bytes))
+    (sym is) (named, place)
 
 -- what doesn't read, or memory ran out
 pub unread_or_memory : (features : Features) (p q : Progress) (id : ℕ) (content : Part) (e : Error) (read : Option Section) → IsRefusal e.kind e.offset ((read ≡ None) × IsWithin (at_front content) e.offset)
@@ -386,9 +387,9 @@ pub unread_or_memory : (features : Features) (p q : Progress) (id : ℕ) (conten
 unread_or_memory features p q id content e read refused unread = by_kind e.kind e.offset refused
   where
     by_kind : (kind : ErrorKind) (offset : ℕ) → IsRefusal kind offset ((read ≡ None) × IsWithin (at_front content) offset)
-        → ((others : Progress → Judgement) → Names kind (judge_content features p id content.bytes others)) × (offset ≤ content.position + length content.bytes)
+        → ((others : Progress → Judgement) → Names kind offset (judge_content features p id content.bytes others)) × (offset ≤ content.position + length content.bytes)
     by_kind kinds.Malformed offset h = (unread h.0, h.1.to)
-    by_kind kinds.Memory offset h = (λ others. tt, omega (arith, h))
+    by_kind kinds.Memory offset h = (λ others. h, omega (arith, h))
     by_kind kinds.Invalid offset h = absurd h
     by_kind (kinds.Limit l) offset h = absurd h
     by_kind kinds.Operator offset h = absurd h

@@ -69,9 +69,9 @@ section_fine features p q bytes total id content rest e h so_far =
     sym (a_frame features p bytes id content.bytes rest e ∙ h (λ q. judge_sections features q rest)) ∙ so_far
 
 pub section_refused : (features : Features) (p q : Progress) (bytes : List ℕ) (total : Judgement) (id : ℕ) (content : Part) (rest : List ℕ) (e : Error)
-    → frame_at bytes ≡ Some ((id, content.bytes), rest) → JudgesContent features p id content (Err e) q → judge_sections features p bytes ≡ total → Names e.kind total
+    → frame_at bytes ≡ Some ((id, content.bytes), rest) → JudgesContent features p id content (Err e) q → judge_sections features p bytes ≡ total → Names e.kind e.offset total
 section_refused features p q bytes total id content rest e f h so_far =
-    subst (Names e.kind) (sym (a_frame features p bytes id content.bytes rest f) ∙ so_far) (h.0 (λ q. judge_sections features q rest))
+    subst (Names e.kind e.offset) (sym (a_frame features p bytes id content.bytes rest f) ∙ so_far) (h.0 (λ q. judge_sections features q rest))
 
 pub sections_apart : (features : Features) (p : Progress) (bytes : List ℕ) (total : Judgement) → length bytes ≡ 0 → length p.functions ≢ length p.bodies → judge_sections features p bytes ≡ total → total ≡ Unread
 sections_apart features p bytes total e ne so_far =

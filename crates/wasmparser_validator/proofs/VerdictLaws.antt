@@ -137,47 +137,49 @@ judged_yes features bytes types functions bodies last shown n m are e judged is 
       body = tt;
       others = tt;
       place = tt;
+      memory = tt;
     }
 
 -- only want of memory refuses what is accepted
-only_memory : (kind : ErrorKind) (judgement : Judgement) (q : Progress) → judgement ≡ Accepted q → Names kind judgement → kind ≡ kinds.Memory
-only_memory kinds.Malformed judgement q e n = let f = sym e ∙ n in absurd cc
-only_memory kinds.Invalid judgement q e n = let f = sym e ∙ n in absurd cc
-only_memory (kinds.Limit l) judgement q e n = let f = sym e ∙ n in absurd cc
-only_memory kinds.Operator judgement q e n = absurd n
-only_memory kinds.Body judgement q e n = absurd n
-only_memory kinds.Total judgement q e n = absurd n
-only_memory kinds.Order judgement q e n = absurd n
-only_memory kinds.Failed judgement q e n = absurd n
-only_memory kinds.Memory judgement q e n = refl
+only_memory : (kind : ErrorKind) (offset : ℕ) (judgement : Judgement) (q : Progress) → judgement ≡ Accepted q → Names kind offset judgement → kind ≡ kinds.Memory
+only_memory kinds.Malformed offset judgement q e n = let f = sym e ∙ n in absurd cc
+only_memory kinds.Invalid offset judgement q e n = let f = sym e ∙ n in absurd cc
+only_memory (kinds.Limit l) offset judgement q e n = let f = sym e ∙ n in absurd cc
+only_memory kinds.Operator offset judgement q e n = absurd n
+only_memory kinds.Body offset judgement q e n = absurd n
+only_memory kinds.Total offset judgement q e n = absurd n
+only_memory kinds.Order offset judgement q e n = absurd n
+only_memory kinds.Failed offset judgement q e n = absurd n
+only_memory kinds.Memory offset judgement q e n = refl
 
-has_name : (kind : ErrorKind) (judgement : Judgement) → Names kind judgement → IsNamed kind
-has_name kinds.Malformed judgement n = tt
-has_name kinds.Invalid judgement n = tt
-has_name (kinds.Limit l) judgement n = tt
-has_name kinds.Operator judgement n = absurd n
-has_name kinds.Body judgement n = absurd n
-has_name kinds.Total judgement n = absurd n
-has_name kinds.Order judgement n = absurd n
-has_name kinds.Failed judgement n = absurd n
-has_name kinds.Memory judgement n = tt
+has_name : (kind : ErrorKind) (offset : ℕ) (judgement : Judgement) → Names kind offset judgement → IsNamed kind
+has_name kinds.Malformed offset judgement n = tt
+has_name kinds.Invalid offset judgement n = tt
+has_name (kinds.Limit l) offset judgement n = tt
+has_name kinds.Operator offset judgement n = absurd n
+has_name kinds.Body offset judgement n = absurd n
+has_name kinds.Total offset judgement n = absurd n
+has_name kinds.Order offset judgement n = absurd n
+has_name kinds.Failed offset judgement n = absurd n
+has_name kinds.Memory offset judgement n = tt
 
 -- no section passes a limit that bodies alone can pass
 no_locals : (features : Features) (bytes : List ℕ) → AreBytes bytes → judge_module features bytes ≢ Past spec.Locals
 no_locals features bytes are e = elim (past_module features spec.Locals bytes are e).passes [ inl p ↦ absurd cc | inr p ↦ absurd p ]
 
-pub judged_no : (features : Features) (bytes : List ℕ) (e : Error) → AreBytes bytes → Names e.kind (judge_module features bytes) → e.offset ≤ length bytes → IsJudged features bytes (Err e)
+pub judged_no : (features : Features) (bytes : List ℕ) (e : Error) → AreBytes bytes → Names e.kind e.offset (judge_module features bytes) → e.offset ≤ length bytes → IsJudged features bytes (Err e)
 judged_no features bytes e are named place = record {
   right = tt;
-  complete = λ sections m. let a = fine_module features bytes sections are m.reads m.valid.fine in only_memory e.kind (judge_module features bytes) a.0 a.1 named;
-  malformed = λ k sections m s. read_module features bytes sections are m (subst (λ kind. Names kind (judge_module features bytes)) k named);
-  invalid = λ k. broken_module features bytes are (subst (λ kind. Names kind (judge_module features bytes)) k named);
-  limit = λ l other k. past_module features (views.limit l) bytes are (subst (λ kind. Names kind (judge_module features bytes)) k named);
-  locals = λ k. absurd (no_locals features bytes are (subst (λ kind. Names kind (judge_module features bytes)) k named));
-  operator = λ k. absurd (subst (λ kind. Names kind (judge_module features bytes)) k named);
-  body = λ k. absurd (subst (λ kind. Names kind (judge_module features bytes)) k named);
-  others = has_name e.kind (judge_module features bytes) named;
+  complete = λ sections m. let a = fine_module features bytes sections are m.reads m.valid.fine in only_memory e.kind e.offset (judge_module features bytes) a.0 a.1 named;
+  malformed = λ k sections m s. read_module features bytes sections are m (subst (λ kind. Names kind e.offset (judge_module features bytes)) k named);
+  invalid = λ k. broken_module features bytes are (subst (λ kind. Names kind e.offset (judge_module features bytes)) k named);
+  limit = λ l other k. past_module features (views.limit l) bytes are (subst (λ kind. Names kind e.offset (judge_module features bytes)) k named);
+  locals = λ k. absurd (no_locals features bytes are (subst (λ kind. Names kind e.offset (judge_module features bytes)) k named));
+  operator = λ k. absurd (subst (λ kind. Names kind e.offset (judge_module features bytes)) k named);
+  body = λ k. absurd (subst (λ kind. Names kind e.offset (judge_module features bytes)) k named);
+  others = has_name e.kind e.offset (judge_module features bytes) named;
   place = place;
+  memory = λ k. subst (λ kind. Names kind e.offset (judge_module features bytes)) k named;
 }
 
 -- ---- refusals of bodies
@@ -190,6 +192,9 @@ not_malformed kind h e = elim h [ inl a ↦ let f = sym e ∙ a in absurd cc | i
 
 not_invalid : (kind : ErrorKind) → IsBodyKind kind → kind ≢ kinds.Invalid
 not_invalid kind h e = elim h [ inl a ↦ let f = sym e ∙ a in absurd cc | inr b ↦ elim b [ inl a ↦ let f = sym e ∙ a in absurd cc | inr a ↦ let f = sym e ∙ a in absurd cc ] ]
+
+not_memory : (kind : ErrorKind) → IsBodyKind kind → kind ≢ kinds.Memory
+not_memory kind h e = elim h [ inl a ↦ let f = sym e ∙ a in absurd cc | inr b ↦ elim b [ inl a ↦ let f = sym e ∙ a in absurd cc | inr a ↦ let f = sym e ∙ a in absurd cc ] ]
 
 not_limit : (kind : ErrorKind) (l : core.Limit) → IsBodyKind kind → l ≢ limits.Locals → kind ≢ kinds.Limit l
 not_limit kind l h other e = elim h [
@@ -249,6 +254,7 @@ refused_body features bytes types functions bodies last e place are accepted ins
       body = λ is. some (IsBrokenBody features) (λ is_below. (j.3 is_below).broken is);
       others = of_body e.kind kind;
       place = omega (arith, (j.3 nothing_below).to, end, inside_all (EndsBy place) bodies refused.0 j.1 inside j.2.has);
+      memory = λ is. absurd (not_memory e.kind kind is);
     }
 
 -- ---- what the code asks of what it knows

@@ -49,3 +49,5 @@ pub record IsJudged (features : Features) (bytes : List ℕ) (verdict : Result S
   pub others : IfErr verdict (λ e. IsNamed e.kind)
   -- the place of a refusal is among the bytes, or at their end; which place it is is open
   pub place : IfErr verdict (λ e. e.offset ≤ length bytes)
+  -- want of memory has no place
+  pub memory : IfErr verdict (λ e. e.kind ≡ kinds.Memory → e.offset ≡ 0)

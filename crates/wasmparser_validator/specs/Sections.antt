@@ -1,5 +1,5 @@
 -- Judging sections one after the other: a means of proof, which laws tie to the rules.
-use Rattle.std.specs.Prelude.{◌≡◌, ◌+◌, ◌≤◌, ⊤, ℕ, true, zero, suc, List, [], ◌∷◌, ◌++◌, map, length, drop, nat_eq, nat_lt, ◌==◌, Result, Ok, Err, Option, Some, None, is_some, if◌then◌else◌}
+use Rattle.std.specs.Prelude.{◌≡◌, ◌+◌, ◌≤◌, ℕ, true, zero, suc, List, [], ◌∷◌, ◌++◌, map, length, drop, nat_eq, nat_lt, ◌==◌, Result, Ok, Err, Option, Some, None, is_some, if◌then◌else◌}
 use Rattle.std.specs.List.{AllByRecursion, filter_map, flat_map, list_all, list_any, starts_with}
 use Rattle.wasm_core.specs.Input.{Input, end}
 use Rattle.wasm_core.specs.Limits as core
@@ -132,27 +132,27 @@ judge_sections features p bytes = judge_at features (length bytes) p bytes
 unfoldable pub judge_module : Features → List ℕ → Judgement
 judge_module features bytes = if starts_with nat_eq bytes header then judge_sections features at_first (drop 8 bytes) else Unread
 
--- what a refusal names
-abbrev pub Names : ErrorKind → Judgement → Type 0
-Names kinds.Malformed judgement = judgement ≡ Unread
-Names kinds.Invalid judgement = judgement ≡ Broken
-Names (kinds.Limit l) judgement = judgement ≡ Past (core.limit l)
-Names kinds.Memory judgement = ⊤
-Names _ judgement = ⊥
+-- what a refusal at an offset names; want of memory has no place
+abbrev pub Names : ErrorKind → ℕ → Judgement → Type 0
+Names kinds.Malformed offset judgement = judgement ≡ Unread
+Names kinds.Invalid offset judgement = judgement ≡ Broken
+Names (kinds.Limit l) offset judgement = judgement ≡ Past (core.limit l)
+Names kinds.Memory offset judgement = offset ≡ 0
+Names _ offset judgement = ⊥
 
 -- What a call returned that judges the content of a section: whatever is judged of the rest, it is judged with the section as without it,
 -- or the section is refused.
 abbrev pub JudgesContent : Features → Progress → ℕ → Part → Result (Unit {0}) Error → Progress → Type 0
 JudgesContent features p id content (Ok x) q = (others : Progress → Judgement) → judge_content features p id content.bytes others ≡ others q
 JudgesContent features p id content (Err e) q =
-    ((others : Progress → Judgement) → Names e.kind (judge_content features p id content.bytes others)) × (e.offset ≤ content.position + length content.bytes)
+    ((others : Progress → Judgement) → Names e.kind e.offset (judge_content features p id content.bytes others)) × (e.offset ≤ content.position + length content.bytes)
 
 -- what a call returned that judges function types
 abbrev pub JudgesTypes : Features → List (FuncType ℕ) → ℕ → Result (Unit {0}) Error → Type 0
 JudgesTypes features types offset (Ok x) = types_fault features types ≡ None
-JudgesTypes features types offset (Err e) = (judgement : Judgement) × (types_fault features types ≡ Some judgement) × Names e.kind judgement × (e.offset ≡ offset)
+JudgesTypes features types offset (Err e) = (judgement : Judgement) × (types_fault features types ≡ Some judgement) × Names e.kind e.offset judgement × (e.offset ≡ offset)
 
 -- what a call returned that judges what stands before a reader
 abbrev pub Judges : Input → Result ModuleState Error → Judgement → Type 0
 Judges old (Ok state) judgement = (judgement ≡ Accepted (progress state)) × AllByRecursion (EndsBy (end old)) state.bodies.items
-Judges old (Err e) judgement = Names e.kind judgement × (e.offset ≤ end old)
+Judges old (Err e) judgement = Names e.kind e.offset judgement × (e.offset ≤ end old)

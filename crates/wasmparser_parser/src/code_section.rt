@@ -8,8 +8,8 @@ ghost use Rattle.wasm_core.specs.TypeReading.{list_at};
 ghost use Rattle.wasmparser_parser.specs.Answers.{AnswersOrFills, AnswersAllOrFills};
 ghost use Rattle.wasmparser_parser.specs.Sections.{IsInside, at_front, code_section};
 
-use crate::error::{Error, ErrorKind};
-use crate::raw_section::RawSection;
+use crate::error::Error;
+use crate::raw_section::{RawSection, check_end};
 use std::alloc::Global;
 use std::marker::Model;
 use wasm_core::binary_reader::BinaryReader;
@@ -110,11 +110,6 @@ pub fn read_code_section<'a>(
 {
     let mut reader = section.reader();
     let bodies = read_bodies(alloc, &mut reader)?;
-    if !reader.eof() {
-        return Err(Error {
-            offset: reader.original_position(),
-            kind: ErrorKind::Malformed,
-        });
-    }
+    check_end(&reader)?;
     Ok(bodies)
 }

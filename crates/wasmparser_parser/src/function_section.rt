@@ -8,8 +8,8 @@ ghost use Rattle.wasm_spec.specs.Syntax.{FunctionSection};
 ghost use Rattle.wasmparser_parser.specs.Answers.{AnswersOrFills, AnswersAllOrFills};
 ghost use Rattle.wasmparser_parser.specs.Sections.{at_front};
 
-use crate::error::{Error, ErrorKind};
-use crate::raw_section::RawSection;
+use crate::error::Error;
+use crate::raw_section::{RawSection, check_end};
 use std::alloc::Global;
 use wasm_core::binary_reader::BinaryReader;
 
@@ -32,11 +32,6 @@ pub fn read_function_section(alloc: Global, section: &RawSection<'_>) -> Result<
 {
     let mut reader = section.reader();
     let indexes = read_indexes(alloc, &mut reader)?;
-    if !reader.eof() {
-        return Err(Error {
-            offset: reader.original_position(),
-            kind: ErrorKind::Malformed,
-        });
-    }
+    check_end(&reader)?;
     Ok(indexes)
 }

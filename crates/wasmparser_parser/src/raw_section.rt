@@ -1,6 +1,6 @@
 //! Sections as frames: an id, and a content whose size is stated.
 
-ghost use Rattle.std.specs.Prelude.{◌≡◌, ◌+◌, length, IfOk};
+ghost use Rattle.std.specs.Prelude.{◌≡◌, ◌≢◌, ◌+◌, length, IfOk, IfErr, OnOk, OnErr};
 ghost use Rattle.std.specs.Option.{option_map};
 ghost use Rattle.wasm_core.specs.ModuleReading.{frame_at};
 ghost use Rattle.wasm_core.specs.Reading.{Answers, AnswersAll, unsigned_at};
@@ -77,4 +77,18 @@ impl<'a> RawSection<'a> {
         let mut reader = self.reader();
         reader.read_var_u32()
     }
+}
+
+/// Refuses a content of which bytes are left.
+pub(crate) fn check_end(reader: &BinaryReader<'_>) -> Result<(), Malformed>
+    ensures ended { OnOk result (length reader.now.rest ≡ 0) }
+    ensures left { OnErr result (length reader.now.rest ≢ 0) }
+    ensures place { IfErr result (λ e. e.offset ≡ reader.now.position) }
+{
+    if reader.eof() {
+        return Ok(());
+    }
+    Err(Malformed {
+        offset: reader.original_position(),
+    })
 }

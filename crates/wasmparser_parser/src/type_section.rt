@@ -8,8 +8,8 @@ ghost use Rattle.wasmparser_parser.specs.Sections.{at_front, type_section};
 
 use crate::core_type_reader::read_func_type;
 use crate::core_types::FuncType;
-use crate::error::{Error, ErrorKind};
-use crate::raw_section::RawSection;
+use crate::error::Error;
+use crate::raw_section::{RawSection, check_end};
 use std::alloc::Global;
 use wasm_core::binary_reader::BinaryReader;
 
@@ -40,11 +40,6 @@ pub fn read_type_section(alloc: Global, section: &RawSection<'_>) -> Result<Vec<
 {
     let mut reader = section.reader();
     let types = read_rec_groups(alloc, &mut reader)?;
-    if !reader.eof() {
-        return Err(Error {
-            offset: reader.original_position(),
-            kind: ErrorKind::Malformed,
-        });
-    }
+    check_end(&reader)?;
     Ok(types)
 }

@@ -3,7 +3,7 @@ use Rattle.std.proofs.Common.{◌≡◌, ℕ, ◌<◌, ◌^◌, List, ◌++◌, 
 use Rattle.wasm_core.specs.Reading.{unsigned_at}
 use Rattle.wasm_core.specs.Shortest.{shortest_u32}
 use Rattle.wasm_core.proofs.ReadingLaws.{unsigned_again}
-pub use Rattle.wasm_core_base.proofs.ShortestLaws.{shortest_is}
+pub use Rattle.wasm_core_base.proofs.ShortestLaws.{shortest_is, spells}
 
 -- a number that is written is read back
 pub read_back : (n : ℕ) (rest : List ℕ) → n < 2 ^ 32 → unsigned_at 32 (shortest_u32 n ++ rest) ≡ Some (n, rest)

@@ -2,3 +2,15 @@
 pub use Rattle.wasm_core_base.specs.declared.features.WasmFeatures.{WasmFeatures}
 pub use Rattle.wasm_core_base.specs.declared.limits.Limit.{Limit}
 pub use Rattle.wasm_core_read.specs.declared.malformed.Malformed.{Malformed}
+pub use Rattle.wasm_core_base.specs.declared.types.AbstractHeapType.{AbstractHeapType}
+pub use Rattle.wasm_core_base.specs.declared.types.HeapType.{HeapType}
+pub use Rattle.wasm_core_base.specs.declared.types.RefType.{RefType}
+pub use Rattle.wasm_core_base.specs.declared.types.ValType.{ValType}
+pub use Rattle.wasm_core_base.specs.declared.types.StorageType.{StorageType}
+pub use Rattle.wasm_core_base.specs.declared.types.FieldType.{FieldType}
+pub use Rattle.wasm_core_base.specs.declared.types.FuncType.{FuncType}
+pub use Rattle.wasm_core_base.specs.declared.types.StructType.{StructType}
+pub use Rattle.wasm_core_base.specs.declared.types.ArrayType.{ArrayType}
+pub use Rattle.wasm_core_base.specs.declared.types.ContType.{ContType}
+pub use Rattle.wasm_core_base.specs.declared.types.CompositeType.{CompositeType}
+pub use Rattle.wasm_core_base.specs.declared.types.SubType.{SubType}

@@ -4,5 +4,5 @@
 
 pub mod laws;
 
-pub use wasm_core_base::{features, leb128, limits};
+pub use wasm_core_base::{features, leb128, limits, types};
 pub use wasm_core_read::{binary_reader, malformed};

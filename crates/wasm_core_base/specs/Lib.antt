@@ -1,3 +1,5 @@
+pub mod CoreTypes
 pub mod Features
 pub mod Limits
 pub mod Shortest
+pub mod SubTypes

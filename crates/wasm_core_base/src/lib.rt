@@ -5,3 +5,4 @@ pub mod features;
 pub mod laws;
 pub mod leb128;
 pub mod limits;
+pub mod types;

@@ -1,6 +1,13 @@
 //! Why a run of an engine ends with no answer.
+
+ghost use Rattle.std.specs.Prelude.{◌≡◌};
+ghost use Rattle.wasm_gen.specs.Generate.{told};
+ghost use Rattle.wasm_gen.specs.declared.error.GenerateError.TheVariants.{Memory};
+
+use std::alloc::AllocError;
 use thiserror::Error;
 use wasm_core::limits::Limit;
+use wasm_smith::error::Error as SmithError;
 
 /// Why no module is generated.
 #[derive(Clone, Copy, Debug, PartialEq, Eq, Error)]
@@ -28,6 +35,30 @@ pub enum GenerateError {
     Memory,
 }
 
+impl From<SmithError> for GenerateError {
+    ghost from_gives = { λ error given. given ≡ told error };
+
+    fn from(error: SmithError) -> GenerateError {
+        match error {
+            SmithError::IncorrectFormat => GenerateError::Minimum,
+            SmithError::EmptyChoose | SmithError::NotEnoughData => GenerateError::EmptyChoice,
+            SmithError::BadConfig(field) => GenerateError::Config(field),
+            SmithError::BadShape(part) => GenerateError::Shape(part),
+            SmithError::TypeSize => GenerateError::TypeSize,
+            SmithError::Memory => GenerateError::Memory,
+            SmithError::TooLong => GenerateError::Limit(Limit::Length),
+        }
+    }
+}
+
+impl From<AllocError> for GenerateError {
+    ghost from_gives = { λ _ given. given ≡ Memory };
+
+    fn from(_error: AllocError) -> GenerateError {
+        GenerateError::Memory
+    }
+}
+
 /// Why a run ends with no answer.
 #[derive(Clone, Copy, Debug, PartialEq, Eq, Error)]
 pub enum RunError {
@@ -46,6 +77,21 @@ pub enum RunError {
     /// No module was generated.
     #[error(transparent)]
     Generate(GenerateError),
+}
+
+/// Want of memory is told as such.
+impl From<GenerateError> for RunError {
+    ghost use Rattle.std.specs.Prelude.{◌≡◌};
+    ghost use Rattle.wasm_gen.specs.RunGenerate.{run_error};
+
+    ghost from_gives = { λ cause e. e ≡ run_error cause };
+
+    fn from(cause: GenerateError) -> RunError {
+        match cause {
+            GenerateError::Memory => RunError::Memory,
+            _ => RunError::Generate(cause),
+        }
+    }
 }
 
 #[cfg(test)]

@@ -5,9 +5,11 @@ pub mod device;
 pub mod error;
 #[cfg(test)]
 mod fakes;
+pub mod generate;
 pub mod judge;
 pub mod run;
 pub mod session;
+pub mod smith;
 pub mod status;
 pub mod transfer;
 pub mod verdict;

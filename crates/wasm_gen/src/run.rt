@@ -4,16 +4,22 @@ ghost use Rattle.std.specs.Prelude.{◌≡◌, ◌≢◌, ◌^◌, ◌⊎◌, If
 ghost use Rattle.std.specs.Io.KnownBytes.{Keeps};
 ghost use Rattle.wasm_gen.specs.Device.{FailsOrTires, FailsWrite, ReadsToEnd, ReadsWithin, WritesOn};
 ghost use Rattle.wasm_gen.specs.Run.{WritesVerdict, WritesFront, KeepsOrJudges};
+ghost use Rattle.wasm_gen.specs.RunGenerate.{WritesModule, WritesModuleFront, RefusesSeed};
 ghost use Rattle.wasm_gen.specs.Transfer.{ConsumesMore};
+ghost use Rattle.wasm_gen.specs.declared.error.GenerateError.{GenerateError};
 
 use crate::device::{Sink, Source};
 use crate::error::RunError;
+use crate::generate::generate;
 use crate::judge::ErrorKind;
 use crate::session::Session;
 use crate::transfer::{MAX_INPUT, MAX_TURNS, read_whole, write_whole};
 use crate::verdict::verdict_text;
 use std::alloc::Global;
+use wasm_smith::config::Config;
 
+#[cfg(test)]
+mod generate_tests;
 #[cfg(test)]
 mod tests;
 
@@ -69,4 +75,42 @@ pub fn run_check<R: Source, W: Sink>(
     };
     write_whole(writer, text.as_bytes())?;
     Ok(is_yes)
+}
+
+/// Reads a seed, makes a module of it and writes its bytes.
+pub fn run_generate<R: Source, W: Sink>(
+    alloc: Global,
+    config: &Config,
+    reader: &mut R,
+    writer: &mut W,
+) -> Result<(), RunError>
+    ensures ok { OnOk result (WritesModule config.now
+        (R.remaining reader.old) (R.remaining reader.new) (W.contents writer.old) (W.contents writer.new)) }
+    ensures front { IfErr result (λ e. e ≡ RunError.Write → WritesModuleFront config.now
+        (R.remaining reader.old) (R.remaining reader.new) (W.contents writer.old) (W.contents writer.new)) }
+    ensures nothing { IfErr result (λ e. e ≢ RunError.Write → Keeps (W.contents writer.old) (W.contents writer.new)) }
+
+    // Each refusal comes only with its cause.
+    ensures read { IfErr result (λ e. e ≡ RunError.Read
+        → FailsOrTires (R.reads reader.old) (R.reads reader.new) (2 ^ 29)) }
+    ensures too_long { IfErr result (λ e. e ≡ RunError.TooLong
+        → ConsumesMore (R.remaining reader.old) (R.remaining reader.new) (2 ^ 28)) }
+    ensures write { IfErr result (λ e. e ≡ RunError.Write → FailsWrite (W.faults writer.old) (W.faults writer.new)) }
+    ensures generate { IfErr result (λ e. (cause : GenerateError) → e ≡ RunError.Generate cause
+        → RefusesSeed config.now (R.remaining reader.old) (R.remaining reader.new) cause) }
+
+    // No failed read or write is passed over.
+    ensures read_to_end { OnOk result (ReadsToEnd (R.reads reader.old) (R.reads reader.new) (2 ^ 29)) }
+    ensures written { OnOk result (WritesOn (W.faults writer.old) (W.faults writer.new)) }
+    ensures read_before_write { IfErr result (λ e. e ≡ RunError.Write
+        → ReadsToEnd (R.reads reader.old) (R.reads reader.new) (2 ^ 29)) }
+    ensures read_before_refusal { IfErr result (λ e. (cause : GenerateError) → e ≡ RunError.Generate cause
+        → ReadsToEnd (R.reads reader.old) (R.reads reader.new) (2 ^ 29)) }
+    ensures unfailed_read { IfErr result (λ e. (e ≡ RunError.TooLong) ⊎ (e ≡ RunError.Memory)
+        → ReadsWithin (R.reads reader.old) (R.reads reader.new) (2 ^ 29) ⊎ ReadsToEnd (R.reads reader.old) (R.reads reader.new) (2 ^ 29)) }
+    ensures unfailed_write { IfErr result (λ e. e ≢ RunError.Write → WritesOn (W.faults writer.old) (W.faults writer.new)) }
+{
+    let seed = read_whole(alloc, reader, MAX_INPUT, MAX_TURNS)?;
+    let bytes = generate(alloc, config, &seed)?;
+    write_whole(writer, &bytes)
 }

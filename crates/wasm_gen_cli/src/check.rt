@@ -39,7 +39,7 @@ fn outcome_of<R: Eprint>(rt: &R, answer: Result<bool, RunError>, name: &str) -> 
         Ok(true) => Outcome::Yes,
         Ok(false) => Outcome::No,
         Err(e) => {
-            tell_of_file(rt, e, name);
+            let _ = tell_of_file(rt, e, name);
             Outcome::Fault
         }
     }

@@ -2,7 +2,7 @@
 
 ghost use Rattle.std.specs.Prelude.{◌≡◌};
 
-use wasm_gen::error::RunError;
+use wasm_gen::error::{GenerateError, RunError};
 use wasm_gen::status::{Outcome, status_of};
 
 /// Tells why a run gives no answer, and gives the status of a fault.
@@ -13,12 +13,23 @@ pub fn tell<R: Eprint>(rt: &R, e: RunError) -> u8
     status_of(&[Outcome::Fault])
 }
 
-/// The same of a file that can't be read or judged.
-pub fn tell_of_file<R: Eprint>(rt: &R, e: RunError, name: &str) {
+/// The same of a file that can't be read, or whose run has a fault.
+pub fn tell_of_file<R: Eprint>(rt: &R, e: RunError, name: &str) -> u8
+    ensures { result ≡ 2 }
+{
     let _ = match e {
         RunError::Read => eprintln!(rt; "wasm_gen: {e} {name}"),
         _ => eprintln!(rt; "wasm_gen: {e}"),
     };
+    status_of(&[Outcome::Fault])
+}
+
+/// Tells why no module is made, and gives the status of a refusal.
+pub fn tell_refusal<R: Eprint>(rt: &R, e: GenerateError) -> u8
+    ensures { result ≡ 1 }
+{
+    let _ = eprintln!(rt; "wasm_gen: {e}");
+    status_of(&[Outcome::Refused])
 }
 
 /// The same of another fault.

@@ -1,12 +1,14 @@
-//! The program `wasm_gen`: judges WebAssembly modules in files.
+//! The program `wasm_gen`: makes WebAssembly modules of seeds, and judges modules in files.
 #![tactic(auto)]
 
 mod check;
 mod fault;
+mod generate;
 #[cfg(test)]
 mod tests;
 mod words;
 
+use clap::ArgMatches;
 use clap::error::ErrorKind;
 use std::process::ExitCode;
 use std::rt::{Env, Files};
@@ -32,15 +34,24 @@ fn run<R: Env + Files + Print + Eprint + AllocGlobal>(rt: &R) -> u8 {
         return fault::tell(rt, RunError::Memory);
     };
     match words::matches_of(alloc, words.as_slice()) {
-        Ok(matches) => match matches.subcommand_matches("check") {
-            Some(found) => match found.get_strs("FILE") {
-                Some(names) => check::check_files(rt, names),
-                None => status_of(&[]),
-            },
-            None => status_of(&[]),
-        },
+        Ok(matches) => run_command(rt, &matches),
         Err(error) => tell_words(rt, &error),
     }
+}
+
+// Runs the command, and gives the status.
+fn run_command<R: Files + Print + Eprint + AllocGlobal>(rt: &R, matches: &ArgMatches<'_>) -> u8 {
+    if let Some(found) = matches.subcommand_matches("generate") {
+        if let Some(name) = found.get_str("SEED") {
+            return generate::generate_from_file(rt, name);
+        }
+    }
+    if let Some(found) = matches.subcommand_matches("check") {
+        if let Some(names) = found.get_strs("FILE") {
+            return check::check_files(rt, names);
+        }
+    }
+    status_of(&[])
 }
 
 // Shows help, or what is wrong with the words, and gives the status.

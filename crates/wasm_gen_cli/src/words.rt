@@ -13,11 +13,18 @@ pub fn command<'a>(alloc: Global) -> Result<Command<'a>, AllocError> {
     let check = Command::new(alloc, "check")
         .about("Says of each file whether it holds a valid module")
         .arg(files)?;
+    let seed = Arg::new(alloc, "SEED")
+        .help("A file with any bytes")
+        .required(true);
+    let generate = Command::new(alloc, "generate")
+        .about("Makes a module of a seed and writes it to standard output")
+        .arg(seed)?;
     let program = Command::new(alloc, "wasm_gen")
         .bin_name("wasm_gen")?
-        .about("Judges WebAssembly modules")
+        .about("Makes and judges WebAssembly modules")
         .subcommand_required(true)
         .arg_required_else_help(true)
+        .subcommand(generate)?
         .subcommand(check)?;
     Ok(program)
 }

@@ -14,6 +14,8 @@ mod function_limits;
 #[cfg(test)]
 mod functions;
 #[cfg(test)]
+mod generated;
+#[cfg(test)]
 mod header;
 #[cfg(test)]
 mod modules;

@@ -1,6 +1,7 @@
 //! Numbers in LEB128.
 
 use std::test::Fail;
+use wasm_core::binary_reader::BinaryReader;
 use wasm_core::leb128::{len_u32, write_u32};
 
 #[test]
@@ -24,6 +25,21 @@ fn shortest_texts(rt: HostRuntime) -> Result<(), Fail> {
         write_u32(&mut sink, number)?;
         assert_eq!(rt; sink.as_slice(), text, "{number}");
         assert_eq!(rt; len_u32(number), text.len(), "{number}");
+    }
+    Ok(())
+}
+
+#[test]
+fn what_is_written_is_read_back(rt: HostRuntime) -> Result<(), Fail> {
+    for number in [0, 127, 128, 16_384, 2_097_152, 268_435_456, u32::MAX] {
+        let mut sink = [7; 3].to_vec(rt.alloc())?;
+        write_u32(&mut sink, number)?;
+        assert!(rt; sink.starts_with(&[7, 7, 7]));
+        sink.extend_from_slice(&[1, 2])?;
+        let mut reader = BinaryReader::new(&sink, 0);
+        let _front = reader.read_bytes(3)?;
+        assert_eq!(rt; reader.read_var_u32()?, number);
+        assert_eq!(rt; reader.bytes_remaining(), 2);
     }
     Ok(())
 }

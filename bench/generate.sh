@@ -1,0 +1,38 @@
+#!/bin/sh
+# Modules/s and MB/s of seed of `generate`, for random seeds of 1 KB and 10 KB, many in one process; beside it the same of
+# `wasm-opt -ttf` of Debian's binaryen, one process a seed, where that is installed.
+set -eu
+. "$(dirname "$0")/setup.sh"
+driver=$(pwd)/crates/wasm_gen_bench
+(cd "$driver" && rt run -- /dev/null 1 > /dev/null 2>&1) || true
+python3 - "$driver/out/wasm_gen_bench" "$folder" <<'PYTHON'
+import os, random, shutil, subprocess, sys, time
+driver, folder = sys.argv[1:]
+random.seed(7)
+size = 64 << 20
+seeds = f"{folder}/seeds"
+open(seeds, "wb").write(random.randbytes(size))
+def best(command, count):
+    times = []
+    for _ in range(count):
+        begin = time.perf_counter()
+        out = subprocess.run(command, capture_output=True, text=True, check=True).stdout
+        times.append(time.perf_counter() - begin)
+    return min(times), out.strip()
+slow = False
+for length in (1000, 10000):
+    taken, out = best([driver, seeds, str(length)], 5)
+    modules = (size + length - 1) // length
+    print(f"generate, seeds of {length} bytes: {modules / taken:.0f} modules/s, {size / taken / 1e6:.1f} MB/s of seed, {out}")
+    slow = slow or size / taken < 20e6
+    if shutil.which("wasm-opt"):
+        runs = 50
+        begin = time.perf_counter()
+        for i in range(runs):
+            seed = f"{folder}/seed"
+            open(seed, "wb").write(random.randbytes(length))
+            subprocess.run(["wasm-opt", "-ttf", seed, "-o", f"{folder}/made.wasm"], check=True, capture_output=True)
+        taken = time.perf_counter() - begin
+        print(f"wasm-opt -ttf, seeds of {length} bytes: {runs / taken:.0f} modules/s, {runs * length / taken / 1e6:.3f} MB/s of seed")
+sys.exit(slow)
+PYTHON

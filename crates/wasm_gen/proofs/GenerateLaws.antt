@@ -1,0 +1,55 @@
+-- What is generated, and why nothing is.
+use Rattle.std.proofs.Common.{◌≡◌, ℕ, true, List, [], sym, subst, ap}
+use Rattle.wasm_core.specs.Limits.{limit}
+use Rattle.wasm_core.specs.Types as core
+use Rattle.wasm_spec.specs.Features.{Features}
+use Rattle.wasm_spec.specs.Validity.{is_passed}
+use Rattle.wasm_smith.specs.Config.{AreFeaturesOf}
+use Rattle.wasm_smith.specs.ErrorCases as smith
+use Rattle.wasm_smith.specs.Generating.{module_at}
+use Rattle.wasm_smith.specs.Made.{Made, ModuleValue}
+use Rattle.wasm_smith.specs.Promise.{IsMadeFor, IsReason}
+use Rattle.wasm_smith.specs.Types.{Config, Error}
+use Rattle.wasm_smith.specs.Bounds.{IsWithinBounds}
+use Rattle.wasm_smith.specs.Validity.{IsValidByIndex}
+use Rattle.wasm_gen_writer.specs.Written.{sections_with, IsGenerated}
+use Rattle.wasm_gen.specs.Generate.{told, IsGeneratedFrom, PassesLimit, IsCause}
+
+drawn : (c : Config) (seed left : List ℕ) (m : ModuleValue) → module_at c seed ≡ (m.made, left) → (module_at c seed).0 ≡ m.made
+drawn c seed left m e = ap (λ (d : Made × List ℕ). d.0) e
+
+pub is_within : (c : Config) (m : ModuleValue) → IsMadeFor c m → IsWithinBounds m.config m.made
+is_within c m made = subst (λ (d : Config). IsWithinBounds d m.made) (sym made.config) made.bounds
+
+pub is_valid : (c : Config) (m : ModuleValue) → IsMadeFor c m → (features : Features) → AreFeaturesOf m.config features → IsValidByIndex features m.made
+is_valid c m made features are = made.valid features (subst (λ (d : Config). AreFeaturesOf d features) made.config are)
+
+pub is_generated_from : (c : Config) (seed left : List ℕ) (m : ModuleValue) (bytes : List ℕ) → IsMadeFor c m → module_at c seed ≡ (m.made, left) → IsGenerated m.config m.made bytes
+    → IsGeneratedFrom c seed bytes
+is_generated_from c seed left m bytes made e g =
+    record {
+      good = made.good;
+      generated = subst (λ (d : Config). IsGenerated d (module_at c seed).0 bytes) made.config (subst (λ (d : Made). IsGenerated m.config d bytes) (sym (drawn c seed left m e)) g);
+    }
+
+pub passes_limit : (c : Config) (seed left : List ℕ) (m : ModuleValue) (passed : core.Limit) → IsMadeFor c m → module_at c seed ≡ (m.made, left)
+    → is_passed (limit passed) (sections_with m.made []) ≡ true → PassesLimit c seed passed
+passes_limit c seed left m passed made e p =
+    let same = sym (drawn c seed left m e) in
+    record {
+      good = made.good;
+      valid = λ features are. subst (λ (d : Made). IsValidByIndex features d) same (made.valid features are);
+      bounds = subst (λ (d : Made). IsWithinBounds c d) same made.bounds;
+      passes = subst (λ (d : Made). is_passed (limit passed) (sections_with d []) ≡ true) same p;
+    }
+
+-- the reason that the generator gives is the cause that is told
+pub told_cause : (c : Config) (seed : List ℕ) (e : Error) → IsReason c seed e → IsCause c seed (told e)
+told_cause c seed smith.IncorrectFormat h = h
+told_cause c seed smith.EmptyChoose h = absurd h
+told_cause c seed smith.NotEnoughData h = absurd h
+told_cause c seed (smith.BadConfig field) h = h
+told_cause c seed (smith.BadShape part) h = absurd h
+told_cause c seed smith.TypeSize h = absurd h
+told_cause c seed smith.Memory h = h
+told_cause c seed smith.TooLong h = absurd h

@@ -1,0 +1,28 @@
+//! Generating modules.
+
+ghost use Rattle.std.specs.Prelude.{◌≡◌, IfOk, IfErr};
+ghost use Rattle.wasm_gen.specs.Generate.{IsGeneratedFrom, IsCause};
+ghost use Rattle.wasm_smith.specs.Config.{sanitized};
+
+use crate::error::GenerateError;
+use std::alloc::Global;
+use wasm_gen_writer::encode::encode;
+use wasm_gen_writer::limits::passed_limit;
+use wasm_smith::config::Config;
+use wasm_smith::module::Module;
+use wasm_smith::unstructured::Unstructured;
+
+#[cfg(test)]
+mod tests;
+
+/// A valid module for the configuration put in order, drawn from the bytes of the seed.
+pub fn generate(alloc: Global, config: &Config, seed: &[u8]) -> Result<Vec<u8>, GenerateError>
+    ensures generated { IfOk result (λ bytes. IsGeneratedFrom (sanitized config.now) seed.now bytes.items) }
+    ensures refused { IfErr result (IsCause (sanitized config.now) seed.now) }
+{
+    let made = Module::new(alloc, *config, &mut Unstructured::new(seed))?;
+    if let Some(limit) = passed_limit(&made) {
+        return Err(GenerateError::Limit(limit));
+    }
+    Ok(encode(alloc, &made)?)
+}

@@ -1,0 +1,45 @@
+-- The bodies that are written.
+use Rattle.std.proofs.Common.{ℕ, ◌≤◌, List, [], ◌∷◌, length, map, refl, arith, length-append}
+use Rattle.std.specs.List.{AllByRecursion}
+use Rattle.wasm_spec.specs.Bytes.{IsByte, AreBytes, IsBytes}
+use Rattle.wasm_spec.specs.Grammar.{IsBody}
+use Rattle.wasm_spec.specs.Types.{ValType}
+use Rattle.wasm_smith.specs.Plain.{IsPlain}
+use Rattle.wasm_gen_writer.specs.Texts.{list_text, run_text, runs_of, body_text, entry_text}
+use Rattle.wasm_gen_writer.specs.Written.{IsUnreachableBody, AreUnreachableBodies}
+use Rattle.wasm_gen_writer.proofs.Forms.{all_append, frame_is, framed_length}
+use Rattle.wasm_gen_writer.proofs.Runs.{runs_are, runs_are_merged, runs_text_is, runs_bytes, runs_length}
+
+-- the types of few locals, all plain
+abbrev pub AreFewPlain : List (ValType ℕ) → Type 0
+AreFewPlain locals = (length locals ≤ 100) × AllByRecursion IsPlain locals
+
+pub body_length : (locals : List (ValType ℕ)) → length locals ≤ 100 → length (body_text locals) ≤ 607
+unfolding body_text
+body_length locals few = omega (arith, few, runs_length locals, length-append (list_text run_text (runs_of locals)) (0x00 ∷ 0x0b ∷ []))
+
+pub entry_length : (locals : List (ValType ℕ)) → length locals ≤ 100 → length (entry_text locals) ≤ 612
+entry_length locals few = omega (arith, body_length locals few, framed_length (body_text locals))
+
+body_bytes : (locals : List (ValType ℕ)) → AreFewPlain locals → AreBytes (body_text locals)
+unfolding body_text
+body_bytes locals h =
+    all_append IsByte (list_text run_text (runs_of locals)) (0x00 ∷ 0x0b ∷ []) (runs_bytes locals h.1 (omega (arith, h.0))) (omega arith, (omega arith, tt))
+
+pub entry_is : (locals : List (ValType ℕ)) → AreFewPlain locals → IsBody (entry_text locals) (body_text locals)
+entry_is locals h = frame_is IsBytes (body_text locals) (body_text locals) (body_bytes locals h, refl) (omega (arith, body_length locals h.0))
+
+body_is : (locals : List (ValType ℕ)) → AreFewPlain locals → IsUnreachableBody locals (body_text locals)
+unfolding body_text
+body_is locals h = record {
+  runs = runs_of locals;
+  text = list_text run_text (runs_of locals);
+  is = refl;
+  declared = runs_text_is locals h.1 (omega (arith, h.0));
+  merged = runs_are_merged locals;
+  locals_are = runs_are locals h.1;
+}
+
+pub bodies_are_written : (locals : List (List (ValType ℕ))) → AllByRecursion AreFewPlain locals → AreUnreachableBodies locals (map body_text locals)
+bodies_are_written [] h = tt
+bodies_are_written (first ∷ others) h = (body_is first h.0, bodies_are_written others h.1)

@@ -1,0 +1,34 @@
+-- What is written of a made module is what was asked for.
+use Rattle.std.proofs.Common.{◌≡◌, ℕ, suc, ◌<◌, ◌≤◌, ◌^◌, List, [], ◌∷◌, length, map, get_or, Fits, w32, sym, subst, arith}
+use Rattle.std.specs.List.{AllByRecursion}
+use Rattle.wasm_spec.specs.Features.{Features}
+use Rattle.wasm_spec.specs.Grammar.{IsModule}
+use Rattle.wasm_spec.specs.Limits.{Types, Functions, most}
+use Rattle.wasm_smith.specs.Bounds.{IsWithinBounds}
+use Rattle.wasm_smith.specs.Plain.{IsPlainModule}
+use Rattle.wasm_smith.specs.Config.{AreFeaturesOf}
+use Rattle.wasm_smith.specs.Made.{Made}
+use Rattle.wasm_smith.specs.Types.{Config}
+use Rattle.wasm_smith.specs.Validity.{IsValidByIndex}
+use Rattle.wasm_gen_writer.specs.Texts.{body_text, module_text}
+use Rattle.wasm_gen_writer.specs.Written.{sections_with, IsGenerated}
+use Rattle.wasm_gen_writer.proofs.SectionTexts.{bodies_written, module_reads}
+use Rattle.wasm_gen_writer.proofs.Validity.{is_valid}
+
+pub all_fit : (xs : List ℕ) → ((i : ℕ) → Fits w32 (get_or xs i 0)) → AllByRecursion (λ index. index < 2 ^ 32) xs
+all_fit [] h = tt
+all_fit (x ∷ xs) h = (omega (arith, h 0), all_fit xs (λ i. h (suc i)))
+
+pub is_generated : (c : Config) (m : Made) (bytes : List ℕ) → IsWithinBounds c m → IsPlainModule m → length m.locals ≡ length m.funcs
+    → AllByRecursion (λ index. index < 2 ^ 32) m.funcs → length m.types ≤ most Types → length m.funcs ≤ most Functions
+    → ((features : Features) → AreFeaturesOf c features → IsValidByIndex features m) → bytes ≡ module_text m → IsGenerated c m bytes
+is_generated c m bytes b plain pairs indexes few_types few_funcs v e =
+    let written = bodies_written c m b plain in
+    record {
+      bodies = map body_text m.locals;
+      unreachable = written;
+      reads = subst (λ l. IsModule l (sections_with m (map body_text m.locals))) (sym e) (module_reads c m b plain pairs indexes few_types few_funcs);
+      valid = λ features h. is_valid c m features (map body_text m.locals) b few_types few_funcs (v features h) written;
+      within = b;
+      shortest = e;
+    }

@@ -1,0 +1,11 @@
+mod BodyTexts
+mod Forms
+mod Generated
+mod Judged
+mod Numbers
+mod Runs
+mod SectionTexts
+mod TypeTexts
+mod Validity
+mod Values
+mod Writing

@@ -1,0 +1,84 @@
+-- Texts of value types.
+use Rattle.std.proofs.Common.{◌≡◌, ℕ, ◌<◌, true, false, List, length, Some, refl, sym, ap, ◌∙◌, arith}
+use Rattle.std.specs.Option.{unwrap_or}
+use Rattle.wasm_spec.specs.TypeGrammar.{heap_code, IsValType}
+use Rattle.wasm_spec.specs.Types.{AbstractHeapType, Func, Extern, Any, None, NoExtern, NoFunc, Eq, Struct, Array, I31, Exn, NoExn, Cont, NoCont, Abstract, Concrete, ValType, I32, I64, F32, F64, V128, Ref}
+use Rattle.wasm_core.specs.TypeReading.{look_up, val_type_codes}
+use Rattle.wasm_smith.specs.Plain.{IsPlain}
+use Rattle.wasm_gen_writer.specs.Texts.{val_code, val_text}
+
+pub value_is : (type : ValType ℕ) → IsPlain type → IsValType (val_text type) type
+value_is I32 h = refl
+value_is I64 h = refl
+value_is F32 h = refl
+value_is F64 h = refl
+value_is V128 h = refl
+value_is (Ref true (Abstract heap)) h = (refl, refl)
+value_is (Ref false (Abstract heap)) h = absurd cc
+value_is (Ref nullable (Concrete index)) h = absurd h
+
+-- each text is one byte
+pub value_length : (text : List ℕ) (type : ValType ℕ) → IsValType text type → length text ≡ 1
+value_length text I32 h = ap length h
+value_length text I64 h = ap length h
+value_length text F32 h = ap length h
+value_length text F64 h = ap length h
+value_length text V128 h = ap length h
+value_length text (Ref nullable (Abstract heap)) h = ap length h.1
+value_length text (Ref nullable (Concrete index)) h = absurd h.1
+
+heap_is_byte : (heap : AbstractHeapType) → heap_code heap < 256
+heap_is_byte NoCont = omega arith
+heap_is_byte NoExn = omega arith
+heap_is_byte NoFunc = omega arith
+heap_is_byte NoExtern = omega arith
+heap_is_byte None = omega arith
+heap_is_byte Func = omega arith
+heap_is_byte Extern = omega arith
+heap_is_byte Any = omega arith
+heap_is_byte Eq = omega arith
+heap_is_byte I31 = omega arith
+heap_is_byte Struct = omega arith
+heap_is_byte Array = omega arith
+heap_is_byte Exn = omega arith
+heap_is_byte Cont = omega arith
+
+pub code_is_byte : (type : ValType ℕ) → val_code type < 256
+code_is_byte I32 = omega arith
+code_is_byte I64 = omega arith
+code_is_byte F32 = omega arith
+code_is_byte F64 = omega arith
+code_is_byte V128 = omega arith
+code_is_byte (Ref true (Abstract heap)) = heap_is_byte heap
+code_is_byte (Ref true (Concrete index)) = omega arith
+code_is_byte (Ref false heap) = omega arith
+
+heap_found : (heap : AbstractHeapType) → look_up val_type_codes (heap_code heap) ≡ Some (Ref true (Abstract heap))
+heap_found NoCont = refl
+heap_found NoExn = refl
+heap_found NoFunc = refl
+heap_found NoExtern = refl
+heap_found None = refl
+heap_found Func = refl
+heap_found Extern = refl
+heap_found Any = refl
+heap_found Eq = refl
+heap_found I31 = refl
+heap_found Struct = refl
+heap_found Array = refl
+heap_found Exn = refl
+heap_found Cont = refl
+
+found : (type : ValType ℕ) → IsPlain type → look_up val_type_codes (val_code type) ≡ Some type
+found I32 h = refl
+found I64 h = refl
+found F32 h = refl
+found F64 h = refl
+found V128 h = refl
+found (Ref true (Abstract heap)) h = heap_found heap
+found (Ref false (Abstract heap)) h = absurd cc
+found (Ref nullable (Concrete index)) h = absurd h
+
+-- types of one code are one type
+pub same_type : (s t : ValType ℕ) → IsPlain s → IsPlain t → val_code s ≡ val_code t → s ≡ t
+same_type s t p q e = ap (λ o. unwrap_or o s) (sym (found s p) ∙ ap (look_up val_type_codes) e ∙ found t q)

@@ -1,0 +1,34 @@
+//! Laws of made modules: where layers meet, their contracts cite these. The functions do nothing: their contracts are
+//! theorems.
+
+ghost use Rattle.std.specs.Prelude.{◌≡◌, ◌≤◌, ◌<◌, ◌^◌, ℕ, List, length, map};
+ghost use Rattle.std.specs.List.{AllByRecursion};
+ghost use Rattle.wasm_gen_writer.specs.Texts.{body_text, module_text};
+ghost use Rattle.wasm_gen_writer.specs.Written.{AreUnreachableBodies, sections_with};
+ghost use Rattle.wasm_smith.specs.Bounds.{IsWithinBounds};
+ghost use Rattle.wasm_smith.specs.Plain.{IsPlainModule};
+ghost use Rattle.wasm_smith.specs.Made.{Made};
+ghost use Rattle.wasm_smith.specs.Types.{Config};
+ghost use Rattle.wasm_smith.specs.Validity.{IsValidByIndex};
+ghost use Rattle.wasm_spec.specs.Features.{Features};
+ghost use Rattle.wasm_spec.specs.Grammar.{IsModule};
+ghost use Rattle.wasm_spec.specs.Limits.{Types, Functions, most};
+ghost use Rattle.wasm_spec.specs.Validity.{IsValid};
+
+/// A made module that is valid by index is valid, whatever the texts of its bodies, unless it has too many types or
+/// functions.
+pub fn valid_by_index()
+    ensures { (c : Config) (m : Made) (features : Features) (bodies : List (List ℕ)) → IsWithinBounds c m
+        → length m.types ≤ most Types → length m.funcs ≤ most Functions
+        → IsValidByIndex features m → AreUnreachableBodies m.locals bodies → IsValid features (sections_with m bodies) }
+{}
+
+/// The text of a made module reads as its sections, with bodies of its locals.
+pub fn shortest_texts()
+    ensures bodies { (c : Config) (m : Made) → IsWithinBounds c m → IsPlainModule m
+        → AreUnreachableBodies m.locals (map body_text m.locals) }
+    ensures reads { (c : Config) (m : Made) → IsWithinBounds c m → IsPlainModule m
+        → length m.locals ≡ length m.funcs → AllByRecursion (λ index. index < 2 ^ 32) m.funcs
+        → length m.types ≤ most Types → length m.funcs ≤ most Functions
+        → IsModule (module_text m) (sections_with m (map body_text m.locals)) }
+{}

@@ -1,0 +1,10 @@
+//! The bytes of made modules: a private part of `wasm_gen`, until the encoder writes them.
+#![tactic(auto)]
+
+mod bodies;
+pub mod encode;
+pub mod laws;
+pub mod limits;
+mod sections;
+mod val_types;
+pub mod writer;

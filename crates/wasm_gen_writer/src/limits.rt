@@ -1,0 +1,56 @@
+//! The limits that a made module can pass: more types and functions can be asked for than a module may have.
+
+ghost use Rattle.std.specs.Prelude.{◌≡◌, ◌≤◌, [], length, true, false, IfSome, IfNone};
+ghost use Rattle.wasm_core.specs.Limits.{limit};
+ghost use Rattle.wasm_gen_writer.specs.Written.{sections_with};
+ghost use Rattle.wasm_spec.specs.Limits.{Types, Groups, Functions, most};
+ghost use Rattle.wasm_spec.specs.Validity.{is_passed};
+
+use wasm_core::limits::Limit;
+use wasm_smith::module::Module;
+
+/// A limit that the sections of a made module pass.
+pub fn passed_limit(made: &Module) -> Option<Limit>
+    ensures found { IfSome result (λ l. is_passed (limit l) (sections_with made.now.made []) ≡ true) }
+    ensures no_types { IfNone result (is_passed Types (sections_with made.now.made []) ≡ false) }
+    ensures no_groups { IfNone result (is_passed Groups (sections_with made.now.made []) ≡ false) }
+    ensures no_functions { IfNone result (is_passed Functions (sections_with made.now.made []) ≡ false) }
+    ensures few_types { IfNone result (length made.now.made.types ≤ most Types) }
+    ensures few_funcs { IfNone result (length made.now.made.funcs ≤ most Functions) }
+{
+    if made.types().len() as u64 > Limit::Types.max() {
+        return Some(Limit::Types);
+    }
+    if made.funcs().len() as u64 > Limit::Functions.max() {
+        return Some(Limit::Functions);
+    }
+    None
+}
+
+#[cfg(test)]
+mod tests {
+    use super::*;
+    use std::test::Fail;
+    use wasm_smith::config::Config;
+    use wasm_smith::unstructured::Unstructured;
+
+    #[test]
+    fn a_small_module_passes_none(rt: HostRuntime) -> Result<(), Fail> {
+        let config = Config {
+            gc_enabled: false,
+            allow_start_export: false,
+            max_imports: 0,
+            max_tags: 0,
+            max_globals: 0,
+            max_exports: 0,
+            max_element_segments: 0,
+            max_tables: 0,
+            max_memories: 0,
+            max_data_segments: 0,
+            ..Config::default()
+        };
+        let made = Module::new(rt.alloc(), config, &mut Unstructured::new(&[1, 0, 0, 0, 1]))?;
+        assert!(rt; passed_limit(&made).is_none());
+        Ok(())
+    }
+}

@@ -1,0 +1,11 @@
+pub mod ErrorCases
+pub mod Types
+pub use Rattle.wasm_smith_source.specs.Draws
+pub use Rattle.wasm_smith_types.specs.Config
+pub use Rattle.wasm_smith_module.specs.Made
+pub use Rattle.wasm_smith_module.specs.Validity
+pub use Rattle.wasm_smith_module.specs.Bounds
+pub use Rattle.wasm_smith_module.specs.Generating
+pub use Rattle.wasm_smith_module.specs.Growing
+pub use Rattle.wasm_smith_module.specs.Plain
+pub use Rattle.wasm_smith_module.specs.Promise

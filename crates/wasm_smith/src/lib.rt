@@ -1,0 +1,7 @@
+//! The generator of WebAssembly modules and what it stands on, in one place. The parts are `wasm_smith_source`,
+//! `wasm_smith_types` and `wasm_smith_module`.
+#![tactic(auto)]
+
+pub use wasm_smith_module::module;
+pub use wasm_smith_source::{text, unstructured};
+pub use wasm_smith_types::{config, error};

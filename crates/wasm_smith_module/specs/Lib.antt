@@ -1,0 +1,9 @@
+pub mod Bounds
+pub mod Building
+pub mod Generating
+pub mod Growing
+pub mod Made
+pub mod Offered
+pub mod Plain
+pub mod Promise
+pub mod Validity

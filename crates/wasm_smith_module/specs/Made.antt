@@ -1,0 +1,16 @@
+-- What a made module has.
+use Rattle.std.specs.Prelude.{ℕ, List}
+use Rattle.wasm_spec.specs.Types.{SubType, ValType}
+use Rattle.wasm_smith_types.specs.declared.config.Config.{Config}
+
+-- Types, each a group by itself; the index of each function's type; the locals of each function. References are type indexes. Every body is
+-- `unreachable`.
+pub record Made : Type 0 where
+  pub types : List (SubType ℕ)
+  pub funcs : List ℕ
+  pub locals : List (List (ValType ℕ))
+
+-- and the configuration that it is made for
+pub record ModuleValue : Type 0 where
+  pub config : Config
+  pub made : Made

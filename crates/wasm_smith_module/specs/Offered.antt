@@ -1,0 +1,9 @@
+-- What is offered, as the code has it, as it is in the specification.
+use Rattle.wasm_core.specs.CoreTypes.{val_type}
+use Rattle.wasm_smith_module.specs.Generating as spec
+use Rattle.wasm_smith_module.specs.declared.value_types.Kind.{Kind}
+use Rattle.wasm_smith_module.specs.declared.value_types.Kind.TheVariants.{Plain, Reference}
+
+abbrev pub kind : Kind → spec.Kind
+kind (Plain type) = spec.Plain (val_type type)
+kind Reference = spec.Reference

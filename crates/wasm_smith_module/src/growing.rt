@@ -1,0 +1,20 @@
+//! Growing: one more after the other, for as long as the bytes say.
+
+ghost use Rattle.std.specs.Prelude.{◌<◌, IsTrue};
+ghost use Rattle.wasm_smith_source.specs.Draws.{IsDrawn};
+ghost use Rattle.wasm_smith_module.specs.Growing.{grows_at};
+
+use wasm_smith_source::unstructured::Unstructured;
+
+/// Whether there is one more after `count` of them: as long as there are fewer than `min`, and then, as long as there
+/// are fewer than `max`, where the next bool is true.
+#[tactic(auto, unfolding(crate::specs::Growing::grows_at, crate::specs::Growing::grows_from))]
+pub fn grows(source: &mut Unstructured<'_>, count: usize, min: usize, max: usize) -> bool
+    ensures exact { IsDrawn (λ b. b) result source.new (grows_at min max count source.old) }
+    ensures room { IsTrue result → count < max }
+{
+    if count >= max {
+        return false;
+    }
+    count < min || source.bool()
+}

@@ -1,0 +1,7 @@
+//! The module generator.
+#![tactic(auto)]
+
+mod growing;
+pub mod module;
+mod steps;
+mod value_types;

@@ -1,0 +1,120 @@
+//! The steps of the generator, in the order in which they draw.
+
+ghost use Rattle.std.specs.Prelude.{◌≡◌, map};
+ghost use Rattle.wasm_core.specs.CoreTypes.{val_type};
+ghost use Rattle.wasm_core.specs.SubTypes.{sub_type};
+ghost use Rattle.wasm_smith_module.specs.Generating.{offers, max_results, type_at, types_at, funcs_at, code_at};
+ghost use Rattle.wasm_smith_module.specs.Growing.{Draws};
+
+use crate::growing::grows;
+use crate::value_types::Offers;
+use std::alloc::{AllocError, Global};
+use wasm_core::types::{CompositeType, FuncType, SubType, ValType};
+use wasm_smith_source::unstructured::Unstructured;
+use wasm_smith_types::config::Config;
+
+// The most parameters of a function type.
+const MAX_PARAMS: usize = 20;
+
+// The most results of a function type.
+const MAX_RESULTS: usize = 20;
+
+// The most locals of a function.
+const MAX_LOCALS: usize = 100;
+
+// The most results of a function type of this module.
+fn max_results(config: &Config) -> usize
+    ensures { result ≡ max_results config.now }
+{
+    if config.multi_value_enabled {
+        MAX_RESULTS
+    } else {
+        1
+    }
+}
+
+// A final function type without a supertype.
+#[tactic(auto, unfolding(crate::specs::Generating::type_at))]
+fn func_type(
+    alloc: Global,
+    source: &mut Unstructured<'_>,
+    offered: &Offers,
+    max_results: usize,
+) -> Result<SubType, AllocError>
+    ensures { Draws sub_type source.new result (type_at offered.now max_results source.old) }
+{
+    let params = offered.values(alloc, source, MAX_PARAMS)?;
+    let results = offered.values(alloc, source, max_results)?;
+    Ok(SubType {
+        is_final: true,
+        supertype_idx: None,
+        composite_type: CompositeType::Func(FuncType::new(params, results)),
+    })
+}
+
+/// The types.
+#[tactic(auto, using(crate::proofs::GrowLaws::grow_loop), unfolding(crate::specs::Generating::types_at))]
+pub fn types(
+    alloc: Global,
+    source: &mut Unstructured<'_>,
+    offered: &Offers,
+    config: &Config,
+) -> Result<Vec<SubType>, AllocError>
+    requires { offered.now ≡ offers config.now }
+    ensures { Draws (λ v. map sub_type v.items) source.new result (types_at config.now source.old) }
+{
+    let max_results = max_results(config);
+    let mut types = Vec::new(alloc);
+    'grow: while grows(
+        source,
+        types.len(),
+        config.min_types as usize,
+        config.max_types as usize,
+    ) {
+        types.push(func_type(alloc, source, offered, max_results)?)?;
+    }
+    Ok(types)
+}
+
+/// The functions, each of one of `type_count` types.
+#[tactic(auto, using(crate::proofs::GrowLaws::grow_loop), unfolding(crate::specs::Generating::funcs_at))]
+pub fn funcs(
+    alloc: Global,
+    source: &mut Unstructured<'_>,
+    config: &Config,
+    type_count: u32,
+) -> Result<Vec<u32>, AllocError>
+    ensures { Draws (λ v. v.items) source.new result (funcs_at config.now type_count source.old) }
+{
+    let mut funcs = Vec::new(alloc);
+    if type_count == 0 {
+        return Ok(funcs);
+    }
+    let last = type_count - 1;
+    'grow: while grows(
+        source,
+        funcs.len(),
+        config.min_funcs as usize,
+        config.max_funcs as usize,
+    ) {
+        funcs.push(source.int_in_range(0..=u64::from(last)) as u32)?;
+    }
+    Ok(funcs)
+}
+
+/// The locals of so many functions.
+#[tactic(auto, using(crate::proofs::GrowLaws::times_loop), unfolding(crate::specs::Generating::code_at))]
+pub fn code(
+    alloc: Global,
+    source: &mut Unstructured<'_>,
+    offered: &Offers,
+    count: usize,
+) -> Result<Vec<Vec<ValType>>, AllocError>
+    ensures { Draws (λ v. map (λ ls. map val_type ls.items) v.items) source.new result (code_at offered.now count source.old) }
+{
+    let mut locals = Vec::new(alloc);
+    for _ in 0..count {
+        locals.push(offered.values(alloc, source, MAX_LOCALS)?)?;
+    }
+    Ok(locals)
+}

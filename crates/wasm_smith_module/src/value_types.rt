@@ -1,0 +1,111 @@
+//! The value types that are drawn.
+
+ghost use Rattle.std.specs.Prelude.{◌≡◌, IfOk, map};
+ghost use Rattle.wasm_core.specs.CoreTypes.{val_type};
+ghost use Rattle.wasm_smith_source.specs.Draws.{IsDrawn};
+ghost use Rattle.wasm_smith_module.specs.Generating.{offers, reference_at, value_at, values_at};
+ghost use Rattle.wasm_smith_module.specs.Growing.{Draws};
+
+use crate::growing::grows;
+use std::alloc::{AllocError, Global};
+use std::marker::Model;
+use wasm_core::types::{AbstractHeapType, HeapType, RefType, ValType};
+use wasm_smith_source::unstructured::Unstructured;
+use wasm_smith_types::config::Config;
+
+/// What is drawn first of a value type.
+#[derive(Clone, Copy, Debug)]
+pub enum Kind {
+    /// This number or vector type.
+    Plain(ValType),
+    /// A reference, to what is drawn next.
+    Reference,
+}
+
+/// What the value types of a module are drawn from.
+#[derive(Debug, Drop)]
+pub struct Offers {
+    kinds: Vec<Kind>,
+    heaps: Vec<AbstractHeapType>,
+}
+
+impl Model for Offers {
+    ghost use Rattle.std.specs.Prelude.{map, length, ◌<◌};
+    ghost use Rattle.wasm_core.specs.CoreTypes.{abstract_heap_type};
+    ghost use Rattle.wasm_smith_module.specs.Generating as generating;
+    ghost use Rattle.wasm_smith_module.specs.Offered.{kind};
+
+    ghost Value = { generating.Offers };
+
+    ghost view = { λ o. record { kinds = map kind o.kinds.items; heaps = map abstract_heap_type o.heaps.items } };
+
+    ghost invariant = { λ o. record { some_kind : 0 < length o.kinds.items; some_heap : 0 < length o.heaps.items } };
+}
+
+impl Offers {
+    /// What the configuration offers.
+    #[tactic(auto, unfolding(crate::specs::Generating::offers))]
+    pub fn new(alloc: Global, config: &Config) -> Result<Offers, AllocError>
+        ensures { IfOk result (λ o. o ≡ offers config.now) }
+    {
+        let mut kinds = vec![in alloc; Kind::Plain(ValType::I32), Kind::Plain(ValType::I64)]?;
+        if config.allow_floats {
+            kinds.push(Kind::Plain(ValType::F32))?;
+            kinds.push(Kind::Plain(ValType::F64))?;
+        }
+        if config.simd_enabled {
+            kinds.push(Kind::Plain(ValType::V128))?;
+        }
+        if config.reference_types_enabled {
+            kinds.push(Kind::Reference)?;
+        }
+        let mut heaps = vec![in alloc; AbstractHeapType::Func, AbstractHeapType::Extern]?;
+        if config.exceptions_enabled {
+            heaps.push(AbstractHeapType::Exn)?;
+        }
+        if config.stack_switching_enabled {
+            heaps.push(AbstractHeapType::Cont)?;
+            heaps.push(AbstractHeapType::NoCont)?;
+        }
+        Ok(Offers { kinds, heaps })
+    }
+
+    // A reference, which may be null.
+    fn reference(&self, source: &mut Unstructured<'_>) -> ValType
+        ensures { IsDrawn val_type result source.new (reference_at self.now source.old) }
+    {
+        let heap = *source.choose(&self.heaps).unwrap();
+        ValType::Ref(RefType {
+            nullable: true,
+            heap_type: HeapType::Abstract(heap),
+        })
+    }
+
+    /// A value type.
+    #[tactic(auto, using(crate::proofs::OfferLaws::value_reference))]
+    pub fn value(&self, source: &mut Unstructured<'_>) -> ValType
+        ensures { IsDrawn val_type result source.new (value_at self.now source.old) }
+    {
+        match *source.choose(&self.kinds).unwrap() {
+            Kind::Plain(type_) => type_,
+            Kind::Reference => self.reference(source),
+        }
+    }
+
+    /// At most `max` value types.
+    #[tactic(auto, using(crate::proofs::GrowLaws::grow_loop), unfolding(crate::specs::Generating::values_at))]
+    pub fn values(
+        &self,
+        alloc: Global,
+        source: &mut Unstructured<'_>,
+        max: usize,
+    ) -> Result<Vec<ValType>, AllocError>
+        ensures { Draws (λ v. map val_type v.items) source.new result (values_at self.now max source.old) }
+    {
+        let mut values = Vec::new(alloc);
+        'grow: while grows(source, values.len(), 0, max) {
+            values.push(self.value(source))?;
+        }
+        Ok(values)
+    }
+}

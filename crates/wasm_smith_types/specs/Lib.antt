@@ -1,0 +1,4 @@
+pub mod Config
+pub mod Defaults
+pub mod Fields
+pub mod Rows

@@ -1,0 +1,6 @@
+//! What a generator is asked for: its configuration, and why it makes no module.
+#![tactic(auto)]
+
+mod check;
+pub mod config;
+pub mod error;

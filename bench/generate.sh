@@ -1,6 +1,7 @@
 #!/bin/sh
 # Modules/s and MB/s of seed of `generate`, for random seeds of 1 KB and 10 KB, many in one process; beside it the same of
-# `wasm-opt -ttf` of Debian's binaryen, one process a seed, where that is installed.
+# `wasm-opt -ttf` of Debian's binaryen, one process a seed, where that is installed. Of a random seed most is not drawn, since growing
+# ends at the first even byte; so the same is measured of seeds of odd bytes, which are drawn whole or make as much as there may be.
 set -eu
 . "$(dirname "$0")/setup.sh"
 driver=$(pwd)/crates/wasm_gen_bench
@@ -10,8 +11,10 @@ import os, random, shutil, subprocess, sys, time
 driver, folder = sys.argv[1:]
 random.seed(7)
 size = 64 << 20
-seeds = f"{folder}/seeds"
-open(seeds, "wb").write(random.randbytes(size))
+any_bytes = random.randbytes(size)
+files = {"random": any_bytes, "odd": bytes(byte | 1 for byte in any_bytes)}
+for kind, contents in files.items():
+    open(f"{folder}/{kind}", "wb").write(contents)
 def best(command, count):
     times = []
     for _ in range(count):
@@ -21,10 +24,11 @@ def best(command, count):
     return min(times), out.strip()
 slow = False
 for length in (1000, 10000):
-    taken, out = best([driver, seeds, str(length)], 5)
-    modules = (size + length - 1) // length
-    print(f"generate, seeds of {length} bytes: {modules / taken:.0f} modules/s, {size / taken / 1e6:.1f} MB/s of seed, {out}")
-    slow = slow or size / taken < 20e6
+    for kind in files:
+        taken, out = best([driver, f"{folder}/{kind}", str(length)], 5)
+        modules = (size + length - 1) // length
+        print(f"generate, {kind} seeds of {length} bytes: {modules / taken:.0f} modules/s, {size / taken / 1e6:.1f} MB/s of seed, {out}")
+        slow = slow or size / taken < 20e6
     if shutil.which("wasm-opt"):
         runs = 50
         begin = time.perf_counter()

@@ -5,15 +5,14 @@ use Rattle.wasm_core.specs.Types as core
 use Rattle.wasm_spec.specs.Features.{Features}
 use Rattle.wasm_spec.specs.Validity.{is_passed}
 use Rattle.wasm_smith.specs.Config.{AreFeaturesOf}
-use Rattle.wasm_smith.specs.ErrorCases as smith
 use Rattle.wasm_smith.specs.Generating.{module_at}
 use Rattle.wasm_smith.specs.Made.{Made, ModuleValue}
-use Rattle.wasm_smith.specs.Promise.{IsMadeFor, IsReason}
-use Rattle.wasm_smith.specs.Types.{Config, Error}
+use Rattle.wasm_smith.specs.Promise.{IsMadeFor}
+use Rattle.wasm_smith.specs.Types.{Config}
 use Rattle.wasm_smith.specs.Bounds.{IsWithinBounds}
 use Rattle.wasm_smith.specs.Validity.{IsValidByIndex}
 use Rattle.wasm_gen_writer.specs.Written.{sections_with, IsGenerated}
-use Rattle.wasm_gen.specs.Generate.{told, IsGeneratedFrom, PassesLimit, IsCause}
+use Rattle.wasm_gen.specs.Generate.{IsGeneratedFrom, PassesLimit}
 
 drawn : (c : Config) (seed left : List ℕ) (m : ModuleValue) → module_at c seed ≡ (m.made, left) → (module_at c seed).0 ≡ m.made
 drawn c seed left m e = ap (λ (d : Made × List ℕ). d.0) e
@@ -42,14 +41,3 @@ passes_limit c seed left m passed made e p =
       bounds = subst (λ (d : Made). IsWithinBounds c d) same made.bounds;
       passes = subst (λ (d : Made). is_passed (limit passed) (sections_with d []) ≡ true) same p;
     }
-
--- the reason that the generator gives is the cause that is told
-pub told_cause : (c : Config) (seed : List ℕ) (e : Error) → IsReason c seed e → IsCause c seed (told e)
-told_cause c seed smith.IncorrectFormat h = h
-told_cause c seed smith.EmptyChoose h = absurd h
-told_cause c seed smith.NotEnoughData h = absurd h
-told_cause c seed (smith.BadConfig field) h = h
-told_cause c seed (smith.BadShape part) h = absurd h
-told_cause c seed smith.TypeSize h = absurd h
-told_cause c seed smith.Memory h = h
-told_cause c seed smith.TooLong h = absurd h

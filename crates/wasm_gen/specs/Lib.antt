@@ -1,3 +1,4 @@
+pub mod Asked
 pub mod Device
 pub mod Generate
 pub mod History

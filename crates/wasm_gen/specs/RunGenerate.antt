@@ -3,6 +3,7 @@ use Rattle.std.specs.Prelude.{◌≢◌, ◌≤◌, ◌^◌, ℕ, List, length, 
 use Rattle.std.specs.Io.KnownBytes.{Appends}
 use Rattle.wasm_smith.specs.Config.{sanitized}
 use Rattle.wasm_smith.specs.Types.{Config}
+use Rattle.wasm_gen.specs.Asked.{MakesLists, RefusesRightly}
 use Rattle.wasm_gen.specs.Generate.{IsGeneratedFrom, IsCause}
 use Rattle.wasm_gen.specs.Transfer.{ConsumesAll, AppendsFront}
 use Rattle.wasm_gen.specs.declared.error.GenerateError.{GenerateError}
@@ -16,6 +17,7 @@ pub record MakesBytes (config : Config) (unread left : Option (List ℕ)) (bytes
   pub read : ConsumesAll unread left seed
   pub within : length seed ≤ 2 ^ 28
   pub given : IsGeneratedFrom (sanitized config) seed bytes
+  pub lists : MakesLists (sanitized config) seed bytes
 
 -- the bytes that are made of what was read are written, and nothing else
 abbrev pub WritesModule : Config → (unread left before after : Option (List ℕ)) → Type 0
@@ -32,6 +34,7 @@ pub record RefusesSeed (config : Config) (unread left : Option (List ℕ)) (e : 
   pub read : ConsumesAll unread left seed
   pub within : length seed ≤ 2 ^ 28
   pub cause : IsCause (sanitized config) seed e
+  pub rightly : RefusesRightly (sanitized config) seed e
   pub is_refusal : e ≢ Memory
 
 -- how a run tells why nothing is generated

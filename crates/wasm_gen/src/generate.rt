@@ -1,6 +1,7 @@
 //! Generating modules.
 
 ghost use Rattle.std.specs.Prelude.{◌≡◌, IfOk, IfErr};
+ghost use Rattle.wasm_gen.specs.Asked.{MakesLists, RefusesRightly};
 ghost use Rattle.wasm_gen.specs.Generate.{IsGeneratedFrom, IsCause};
 ghost use Rattle.wasm_smith.specs.Config.{sanitized};
 
@@ -15,8 +16,8 @@ use wasm_smith::unstructured::Unstructured;
 #[cfg(test)]
 mod tests;
 
-/// A valid module for the configuration put in order, drawn from the bytes of the seed.
-pub fn generate(alloc: Global, config: &Config, seed: &[u8]) -> Result<Vec<u8>, GenerateError>
+// The bytes of the module that is drawn from the seed.
+fn drawn_bytes(alloc: Global, config: &Config, seed: &[u8]) -> Result<Vec<u8>, GenerateError>
     ensures generated { IfOk result (λ bytes. IsGeneratedFrom (sanitized config.now) seed.now bytes.items) }
     ensures refused { IfErr result (IsCause (sanitized config.now) seed.now) }
 {
@@ -25,4 +26,16 @@ pub fn generate(alloc: Global, config: &Config, seed: &[u8]) -> Result<Vec<u8>, 
         return Err(GenerateError::Limit(limit));
     }
     Ok(encode(alloc, &made)?)
+}
+
+/// A valid module for the configuration put in order, drawn from the bytes of the seed. A list for which
+/// [`seed_for`](crate::seed::seed_for) gives a seed is made exactly, without locals, from every seed that spells it. With a
+/// configuration without minimums nothing but want of memory, or a limit that is passed, is a refusal.
+pub fn generate(alloc: Global, config: &Config, seed: &[u8]) -> Result<Vec<u8>, GenerateError>
+    ensures generated { IfOk result (λ bytes. IsGeneratedFrom (sanitized config.now) seed.now bytes.items) }
+    ensures refused { IfErr result (IsCause (sanitized config.now) seed.now) }
+    ensures lists { IfOk result (λ bytes. MakesLists (sanitized config.now) seed.now bytes.items) }
+    ensures rightly { IfErr result (RefusesRightly (sanitized config.now) seed.now) }
+{
+    drawn_bytes(alloc, config, seed)
 }

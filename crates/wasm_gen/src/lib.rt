@@ -1,4 +1,5 @@
-//! Sessions that judge modules, and the program's commands over readers and writers.
+//! Modules made of seeds, seeds for lists of types and functions, sessions that judge modules, and the program's commands over
+//! readers and writers.
 #![tactic(auto)]
 
 pub mod device;
@@ -8,6 +9,7 @@ mod fakes;
 pub mod generate;
 pub mod judge;
 pub mod run;
+pub mod seed;
 pub mod session;
 pub mod smith;
 pub mod status;

@@ -6,6 +6,6 @@ mod Numbers
 mod Runs
 mod SectionTexts
 mod TypeTexts
-mod Validity
+pub mod Validity
 mod Values
 mod Writing

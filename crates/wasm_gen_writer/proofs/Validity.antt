@@ -1,5 +1,5 @@
 -- What is valid by index is valid.
-use Rattle.std.proofs.Common.{◌≡◌, ℕ, zero, suc, ◌<◌, ◌≤◌, Bool, true, false, ltb, List, [], ◌∷◌, length, map, Option, None, Some, refl, sym, subst, ap, ◌∙◌, arith}
+use Rattle.std.proofs.Common.{◌≡◌, ℕ, zero, suc, ◌<◌, ◌≤◌, Bool, true, false, ltb, List, [], ◌∷◌, ◌++◌, length, map, Option, None, Some, refl, sym, subst, ap, ◌∙◌, arith}
 use Rattle.std.specs.List.{AllByRecursion, flat_map, filter_map, cons_option, list_all, list_any, slice_get}
 use Rattle.std.specs.Option.{is_some, unwrap_or}
 use Rattle.std.proofs.lemmas.Bool.{le-ltb}
@@ -9,7 +9,7 @@ use Rattle.wasm_spec.specs.Features.{Features}
 use Rattle.wasm_spec.specs.Gates.{is_allowed, is_allowed_sub, is_allowed_group}
 use Rattle.wasm_spec.specs.Limits.{Limit, Types, Groups, Imports, Functions, Globals, Tags, Exports, Tables, Memories, ElementSegments, DataSegments, SegmentEntries, Params, Results, Fields, Locals, BodySize, Name, TypeSize, Depth, Length, most}
 use Rattle.wasm_spec.specs.Spaces.{sizes_of}
-use Rattle.wasm_spec.specs.Syntax.{TypeSection, members, groups_of, types_of}
+use Rattle.wasm_spec.specs.Syntax.{TypeSection, FunctionSection, CodeSection, members, groups_of, types_of, bodies_of}
 use Rattle.wasm_spec.specs.Types.{ValType, FuncType, CompositeType, FuncComposite, StructComposite, ArrayComposite, ContComposite, SubType, RecGroup, Single}
 use Rattle.wasm_spec.specs.Validity.{func_type_of, func_type_at, is_past, is_passed, names_in, KeepRules, BodyAt, IsJudgedBody, IsValid}
 use Rattle.wasm_smith.specs.Bounds.{IsSmall, IsWithinBounds}
@@ -125,7 +125,14 @@ record IsInLimits (m : Made) (bodies : List (List ℕ)) : Type 0 where
   many : length bodies ≡ length m.funcs
   unreachable : AreUnreachableBodies m.locals bodies
 
-limits_kept : (m : Made) (bodies : List (List ℕ)) → IsInLimits m bodies → (limit : Limit) → is_passed limit (sections_with m bodies) ≡ false
+-- what is asked of it by the limits
+record HasFew (m : Made) (bodies : List (List ℕ)) : Type 0 where
+  types : length m.types ≤ most Types
+  funcs : length m.funcs ≤ most Functions
+  small : AllByRecursion IsSmall m.types
+  few_bytes : is_passed BodySize (sections_with m bodies) ≡ false
+
+limits_kept : (m : Made) (bodies : List (List ℕ)) → HasFew m bodies → (limit : Limit) → is_passed limit (sections_with m bodies) ≡ false
 limits_kept m bodies h Types = types_passed m bodies ∙ le-ltb 1000000 (length m.types) h.types
 limits_kept m bodies h Groups = groups_passed m bodies ∙ le-ltb 1000000 (length m.types) h.types
 limits_kept m bodies h Imports = refl
@@ -142,11 +149,23 @@ limits_kept m bodies h Params = params_kept m bodies h.small
 limits_kept m bodies h Results = results_kept m bodies h.small
 limits_kept m bodies h Fields = refl
 limits_kept m bodies h Locals = refl
-limits_kept m bodies h BodySize = sizes_kept m bodies h.many h.few_locals h.unreachable
+limits_kept m bodies h BodySize = h.few_bytes
 limits_kept m bodies h Name = names_kept m bodies
 limits_kept m bodies h TypeSize = refl
 limits_kept m bodies h Depth = refl
 limits_kept m bodies h Length = refl
+
+no_bodies : (types : List (SubType ℕ)) (funcs : List ℕ) → bodies_of (unless_empty types (TypeSection (map Single types)) ++ unless_empty funcs (FunctionSection funcs) ++ unless_empty funcs (CodeSection [])) ≡ []
+no_bodies [] [] = refl
+no_bodies [] (f ∷ fs) = refl
+no_bodies (t ∷ ts) [] = refl
+no_bodies (t ∷ ts) (f ∷ fs) = refl
+
+-- of what stands outside of bodies no limit is passed where there are few types and functions
+pub counts_kept : (m : Made) (limit : Limit) → AllByRecursion IsSmall m.types → length m.types ≤ most Types → length m.funcs ≤ most Functions → is_passed limit (sections_with m []) ≡ false
+counts_kept m limit small types funcs =
+    let none = ap (λ (l : List (List ℕ)). list_any (λ body. is_past BodySize (length body)) l) (no_bodies m.types m.funcs) in
+    limits_kept m [] (record { types = types; funcs = funcs; small = small; few_bytes = none }) limit
 
 -- ---- rules
 
@@ -239,9 +258,15 @@ is_valid c m features bodies b few_types few_funcs v h =
       many = as_many m.locals bodies h ∙ v.bodies;
       unreachable = h;
     } in
+    let few : HasFew m bodies = record {
+      types = few_types;
+      funcs = few_funcs;
+      small = b.small_types;
+      few_bytes = sizes_kept m bodies kept.many b.few_locals h;
+    } in
     record {
       fine = record {
-        within_limits = limits_kept m bodies kept;
+        within_limits = limits_kept m bodies few;
         rules = rules_kept features m.types m.funcs bodies (groups_allowed features m.types v.types)
             (all_pass (λ index. is_some (func_type_at m.types index)) m.funcs v.funcs);
       };

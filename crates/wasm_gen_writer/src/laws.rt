@@ -1,19 +1,19 @@
 //! Laws of made modules: where layers meet, their contracts cite these. The functions do nothing: their contracts are
 //! theorems.
 
-ghost use Rattle.std.specs.Prelude.{◌≡◌, ◌≤◌, ◌<◌, ◌^◌, ℕ, List, length, map};
+ghost use Rattle.std.specs.Prelude.{◌≡◌, ◌≤◌, ◌<◌, ◌^◌, ℕ, false, List, [], length, map};
 ghost use Rattle.std.specs.List.{AllByRecursion};
 ghost use Rattle.wasm_gen_writer.specs.Texts.{body_text, module_text};
 ghost use Rattle.wasm_gen_writer.specs.Written.{AreUnreachableBodies, sections_with};
-ghost use Rattle.wasm_smith.specs.Bounds.{IsWithinBounds};
+ghost use Rattle.wasm_smith.specs.Bounds.{IsSmall, IsWithinBounds};
 ghost use Rattle.wasm_smith.specs.Plain.{IsPlainModule};
 ghost use Rattle.wasm_smith.specs.Made.{Made};
 ghost use Rattle.wasm_smith.specs.Types.{Config};
 ghost use Rattle.wasm_smith.specs.Validity.{IsValidByIndex};
 ghost use Rattle.wasm_spec.specs.Features.{Features};
 ghost use Rattle.wasm_spec.specs.Grammar.{IsModule};
-ghost use Rattle.wasm_spec.specs.Limits.{Types, Functions, most};
-ghost use Rattle.wasm_spec.specs.Validity.{IsValid};
+ghost use Rattle.wasm_spec.specs.Limits.{Limit, Types, Functions, most};
+ghost use Rattle.wasm_spec.specs.Validity.{IsValid, is_passed};
 
 /// A made module that is valid by index is valid, whatever the texts of its bodies, unless it has too many types or
 /// functions.
@@ -21,6 +21,12 @@ pub fn valid_by_index()
     ensures { (c : Config) (m : Made) (features : Features) (bodies : List (List ℕ)) → IsWithinBounds c m
         → length m.types ≤ most Types → length m.funcs ≤ most Functions
         → IsValidByIndex features m → AreUnreachableBodies m.locals bodies → IsValid features (sections_with m bodies) }
+{}
+
+/// Of what stands outside of bodies a made module passes no limit, unless it has too many types or functions.
+pub fn few_counts()
+    ensures { (m : Made) (limit : Limit) → AllByRecursion IsSmall m.types → length m.types ≤ most Types
+        → length m.funcs ≤ most Functions → is_passed limit (sections_with m []) ≡ false }
 {}
 
 /// The text of a made module reads as its sections, with bodies of its locals.

@@ -18,11 +18,15 @@ mod generated;
 #[cfg(test)]
 mod header;
 #[cfg(test)]
+mod lists;
+#[cfg(test)]
 mod modules;
 #[cfg(test)]
 mod numbers;
 #[cfg(test)]
 mod reader;
+#[cfg(test)]
+mod seeds;
 #[cfg(test)]
 mod sessions;
 #[cfg(test)]

@@ -9,3 +9,6 @@ pub use Rattle.wasm_smith_module.specs.Generating
 pub use Rattle.wasm_smith_module.specs.Growing
 pub use Rattle.wasm_smith_module.specs.Plain
 pub use Rattle.wasm_smith_module.specs.Promise
+pub use Rattle.wasm_smith_witness.specs.Family
+pub use Rattle.wasm_smith_witness.specs.Groups
+pub use Rattle.wasm_smith_witness.specs.Spelling

@@ -1,7 +1,8 @@
 //! The generator of WebAssembly modules and what it stands on, in one place. The parts are `wasm_smith_source`,
-//! `wasm_smith_types` and `wasm_smith_module`.
+//! `wasm_smith_types`, `wasm_smith_module` and `wasm_smith_witness`.
 #![tactic(auto)]
 
 pub use wasm_smith_module::module;
 pub use wasm_smith_source::{text, unstructured};
 pub use wasm_smith_types::{config, error};
+pub use wasm_smith_witness::{laws, witness};

@@ -2,6 +2,6 @@
 #![tactic(auto)]
 
 pub mod error;
-mod number;
+pub mod number;
 pub mod text;
 pub mod unstructured;

@@ -1,15 +1,19 @@
-use Rattle.std.proofs.Common.{◌≡◌, ℕ, List, subst}
+use Rattle.std.proofs.lemmas.Result.{IfOk-weaker, IfErr-weaker}
 use Rattle.wasm_smith.specs.Config.{sanitized}
-use Rattle.wasm_smith.specs.Generating.{module_at}
-use Rattle.wasm_gen.proofs.GenerateLaws.{is_valid, passes_limit}
+use Rattle.wasm_gen.specs.Asked.{MakesLists, RefusesRightly}
+use Rattle.wasm_gen.specs.Generate.{IsGeneratedFrom, IsCause}
+use Rattle.wasm_gen.proofs.AskedLaws.{makes_lists, refuses_rightly}
 use Rattle.wasm_gen.proofs.generate.generate.Goals as goal
 
-pub returns-in-Some-clause-refused : goal.returns-in-Some-clause-refused
-returns-in-Some-clause-refused c =
+pub returns-clause-lists : goal.returns-clause-lists
+returns-clause-lists c =
     let config = sanitized c.args.config.now in
-    let left = c.new-2.new.source in
-    let exact = subst (λ (s : List ℕ). module_at config s ≡ (c.in_ok-made.made.made, left)) c.new.ensures c.in_ok-made.ensures.exact in
-    passes_limit config c.args.seed.now left c.in_ok-made.made c.in-Some.limit c.in_ok-made.ensures.made exact c.in-Some.ensures.found
+    let seed = c.args.seed.now in
+    IfOk-weaker c.drawn_bytes.result (λ bytes. IsGeneratedFrom config seed bytes.items) (λ bytes. MakesLists config seed bytes.items)
+    (λ bytes g. makes_lists config seed bytes.items g) c.drawn_bytes.ensures.generated
 
-pub encode-requires-clause-valid : goal.encode-requires-clause-valid
-encode-requires-clause-valid c = is_valid (sanitized c.args.config.now) c.in_ok-made.made c.in_ok-made.ensures.made
+pub returns-clause-rightly : goal.returns-clause-rightly
+returns-clause-rightly c =
+    let config = sanitized c.args.config.now in
+    let seed = c.args.seed.now in
+    IfErr-weaker c.drawn_bytes.result (IsCause config seed) (RefusesRightly config seed) (λ e h. refuses_rightly config seed e h) c.drawn_bytes.ensures.refused

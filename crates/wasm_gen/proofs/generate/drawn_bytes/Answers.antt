@@ -1,0 +1,15 @@
+use Rattle.std.proofs.Common.{◌≡◌, ℕ, List, subst}
+use Rattle.wasm_smith.specs.Config.{sanitized}
+use Rattle.wasm_smith.specs.Generating.{module_at}
+use Rattle.wasm_gen.proofs.GenerateLaws.{is_valid, passes_limit}
+use Rattle.wasm_gen.proofs.generate.drawn_bytes.Goals as goal
+
+pub returns-in-Some-clause-refused : goal.returns-in-Some-clause-refused
+returns-in-Some-clause-refused c =
+    let config = sanitized c.args.config.now in
+    let left = c.new-2.new.source in
+    let exact = subst (λ (s : List ℕ). module_at config s ≡ (c.in_ok-made.made.made, left)) c.new.ensures c.in_ok-made.ensures.exact in
+    passes_limit config c.args.seed.now left c.in_ok-made.made c.in-Some.limit c.in_ok-made.ensures.made exact c.in-Some.ensures.found
+
+pub encode-requires-clause-valid : goal.encode-requires-clause-valid
+encode-requires-clause-valid c = is_valid (sanitized c.args.config.now) c.in_ok-made.made c.in_ok-made.ensures.made

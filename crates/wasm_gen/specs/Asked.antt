@@ -1,0 +1,45 @@
+-- Lists of groups and functions that `generate` makes of their seeds, and what it makes of them.
+use Rattle.std.specs.Prelude.{◌≡◌, ◌⊎◌, ◌≤◌, ◌%◌, ℕ, List, ◌∷◌, ◌++◌, length}
+use Rattle.wasm_core.specs.Types as core
+use Rattle.wasm_spec.specs.Limits.{Types, Functions, most}
+use Rattle.wasm_spec.specs.Types.{SubType}
+use Rattle.wasm_smith.specs.Family.{IsAskable, IsInFamily, plain, types_of}
+use Rattle.wasm_smith.specs.Made.{Made}
+use Rattle.wasm_smith.specs.Spelling.{Spells}
+use Rattle.wasm_smith.specs.Types.{Config}
+use Rattle.wasm_gen.specs.Generate.{PassesLimit}
+use Rattle.wasm_gen.specs.declared.error.GenerateError.{GenerateError}
+use Rattle.wasm_gen.specs.declared.error.GenerateError.TheVariants.{Limit, Memory}
+use Rattle.wasm_gen_writer.specs.Written.{IsGenerated}
+
+-- lists of the family that pass no limit
+pub record IsReachable (c : Config) (groups : List (List (SubType ℕ))) (funcs : List ℕ) : Type 0 where
+  pub family : IsInFamily c groups funcs
+  pub few_types : length (types_of groups) ≤ most Types
+  pub few_funcs : length funcs ≤ most Functions
+
+-- The bytes are those of a module with these types and functions.
+pub record HasLists (c : Config) (groups : List (List (SubType ℕ))) (funcs : List ℕ) (bytes : List ℕ) : Type 0 where
+  pub made : Made
+  pub types : made.types ≡ types_of groups
+  pub functions : made.funcs ≡ funcs
+  pub generated : IsGenerated c made bytes
+
+-- What is generated from each spelling of a list is the module of just this list, without locals; where an even byte and any others follow, it
+-- is a module of this list.
+pub record MakesLists (c : Config) (seed bytes : List ℕ) : Type 0 where
+  pub exactly : (groups : List (List (SubType ℕ))) (funcs : List ℕ) → IsReachable c groups funcs → Spells c groups funcs seed
+      → IsGenerated c (plain groups funcs) bytes
+  pub going_on : (groups : List (List (SubType ℕ))) (funcs front rest : List ℕ) (byte : ℕ) → IsReachable c groups funcs
+      → Spells c groups funcs front → seed ≡ front ++ byte ∷ rest → byte % 2 ≡ 0 → HasLists c groups funcs bytes
+
+-- memory ran out, or the module that is drawn passes this limit
+abbrev pub IsWantOrLimit : Config → List ℕ → GenerateError → Type 0
+IsWantOrLimit c seed e = (e ≡ Memory) ⊎ ((passed : core.Limit) × (e ≡ Limit passed) × PassesLimit c seed passed)
+
+-- With a configuration with which lists can be asked for, only want of memory, or a limit that the drawn module passes, keeps a module from being
+-- generated; and where the seed spells a list that passes no limit, only want of memory
+-- does.
+pub record RefusesRightly (c : Config) (seed : List ℕ) (e : GenerateError) : Type 0 where
+  pub total : IsAskable c → IsWantOrLimit c seed e
+  pub spelled : (groups : List (List (SubType ℕ))) (funcs : List ℕ) → IsReachable c groups funcs → Spells c groups funcs seed → e ≡ Memory

@@ -1,0 +1,94 @@
+-- Spellings as loops write them.
+use Rattle.std.proofs.Common.{◌≡◌, ℕ, zero, suc, ◌-◌, ◌+◌, ◌≤◌, ◌<◌, true, false, ltb, List, [], ◌∷◌, ◌++◌, length, map, take, drop, get_or, cond, Result, Ok, Err, refl, sym, ap, ◌∙◌, append_assoc, arith}
+use Rattle.std.specs.Prelude.{IfOk, is_ok}
+use Rattle.std.specs.Int.{bytes_high_first}
+use Rattle.std.proofs.lemmas.List.{append-nil, drop_more, at_drop_all, take_all, length-map}
+use Rattle.std.proofs.lemmas.Bool.{lt-ltb, le-ltb}
+use Rattle.wasm_core.specs.SubTypes.{composite_type, sub_type}
+use Rattle.wasm_core.specs.Types.{SubType}
+use Rattle.wasm_spec.specs.Types.{FuncType}
+use Rattle.wasm_smith_source.specs.Draws.{width}
+use Rattle.wasm_smith_types.specs.declared.config.Config.{Config}
+use Rattle.wasm_smith_module.specs.Generating.{max_results}
+use Rattle.wasm_smith_witness.specs.Words.{value_word, int_word, each_word, list_word, function_word, composite_word, group_word}
+
+-- ---- one after the other
+
+pub each_step : {A : Type 0} (word : A → List ℕ) (out one two : List ℕ) (xs : List A) (i : ℕ) (d : A) (total : List ℕ) → i < length xs → one ≡ out ++ 1 ∷ [] → two ≡ one ++ word (get_or xs i d)
+    → out ++ each_word word (drop i xs) ≡ total → two ++ each_word word (drop (i + 1) xs) ≡ total
+unfolding each_word
+each_step word out one two xs i d total lt first second so_far =
+    let e : drop i xs ≡ get_or xs i d ∷ drop (i + 1) xs = drop_more xs i d lt in
+    rw (second, first) (simp append_assoc (rw e at so_far))
+
+pub each_item : {A : Type 0} (word : A → List ℕ) (out one two : List ℕ) (xs : List A) (i : ℕ) (x : A) (total : List ℕ) → i < length xs → x ≡ get_or xs i x → one ≡ out ++ 1 ∷ [] → two ≡ one ++ word x
+    → out ++ each_word word (drop i xs) ≡ total → two ++ each_word word (drop (i + 1) xs) ≡ total
+each_item word out one two xs i x total lt is first second so_far = each_step word out one two xs i x total lt first (second ∙ ap (λ y. one ++ word y) is) so_far
+
+pub each_done : {A : Type 0} (word : A → List ℕ) (out : List ℕ) (xs : List A) (i : ℕ) (total : List ℕ) → length xs ≤ i → out ++ each_word word (drop i xs) ≡ total → out ≡ total
+unfolding each_word
+each_done word out xs i total le so_far =
+    let none : each_word word (drop i xs) ≡ [] = at_drop_all (each_word word) xs i le in
+    sym (append-nil out) ∙ (rw none at so_far)
+
+each_map : {A B : Type 0} (word : B → List ℕ) (f : A → B) (xs : List A) → each_word (λ x. word (f x)) xs ≡ each_word word (map f xs)
+unfolding each_word
+each_map word f [] = refl
+each_map word f (x ∷ xs) = rw (each_map word f xs) refl
+
+each_seen : {A B : Type 0} (word : B → List ℕ) (f : A → B) (old out : List ℕ) (xs : List A) (i : ℕ) → length xs ≤ i → out ++ each_word (λ x. word (f x)) (drop i xs) ≡ old ++ each_word (λ x. word (f x)) xs → out ≡ old ++ each_word word (map f xs)
+each_seen word f old out xs i le so_far = each_done (λ x. word (f x)) out xs i (old ++ each_word (λ x. word (f x)) xs) le so_far ∙ ap (λ w. old ++ w) (each_map word f xs)
+
+-- the end of a list, where there is room and where there is none
+pub list_open : {A B : Type 0} (word : B → List ℕ) (f : A → B) (max : ℕ) (old out new : List ℕ) (xs : List A) (i : ℕ) → length xs ≤ i → length xs < max → new ≡ out ++ 0 ∷ []
+    → out ++ each_word (λ x. word (f x)) (drop i xs) ≡ old ++ each_word (λ x. word (f x)) xs → new ≡ old ++ list_word word max (map f xs)
+unfolding list_word
+list_open word f max old out new xs i le lt last so_far =
+    let t : ltb (length (map f xs)) max ≡ true = lt-ltb (length (map f xs)) max (omega (arith, length-map xs f)) in
+    rw (t, last, each_seen word f old out xs i le so_far) (append_assoc old (each_word word (map f xs)) (0 ∷ []))
+
+pub list_full : {A B : Type 0} (word : B → List ℕ) (f : A → B) (max : ℕ) (old out : List ℕ) (xs : List A) (i : ℕ) → length xs ≤ i → max ≤ length xs
+    → out ++ each_word (λ x. word (f x)) (drop i xs) ≡ old ++ each_word (λ x. word (f x)) xs → out ≡ old ++ list_word word max (map f xs)
+unfolding list_word
+list_full word f max old out xs i le full so_far =
+    let t : ltb (length (map f xs)) max ≡ false = le-ltb (length (map f xs)) max (omega (arith, length-map xs f)) in
+    rw (t, each_seen word f old out xs i le so_far) (ap (λ ys. old ++ ys) (sym (append-nil (each_word word (map f xs)))))
+
+-- ---- types
+
+pub function_parts : (c : Config) (type : FuncType ℕ) (old one two : List ℕ) → one ≡ old ++ list_word (value_word c) 20 type.params → two ≡ one ++ list_word (value_word c) (max_results c) type.results → two ≡ old ++ function_word c type
+unfolding function_word
+function_parts c type old one two first second = rw (second, first) (append_assoc old (list_word (value_word c) 20 type.params) (list_word (value_word c) (max_results c) type.results))
+
+pub group_step : (c : Config) (out two : List ℕ) (types : List SubType) (i : ℕ) (type : SubType) (total : List ℕ) → i < length types → type ≡ get_or types i type → two ≡ out ++ composite_word c (composite_type type.composite_type)
+    → out ++ group_word c (map sub_type (drop i types)) ≡ total → two ++ group_word c (map sub_type (drop (i + 1) types)) ≡ total
+unfolding group_word
+group_step c out two types i type total lt is written so_far =
+    let e : drop i types ≡ type ∷ drop (i + 1) types = drop_more types i type lt ∙ ap (λ t. t ∷ drop (i + 1) types) (sym is) in
+    rw written (simp append_assoc (rw e at so_far))
+
+pub group_done : (c : Config) (out : List ℕ) (types : List SubType) (i : ℕ) (total : List ℕ) → length types ≤ i → out ++ group_word c (map sub_type (drop i types)) ≡ total → out ≡ total
+unfolding group_word
+group_done c out types i total le so_far =
+    let none : group_word c (map sub_type (drop i types)) ≡ [] = at_drop_all (λ ts. group_word c (map sub_type ts)) types i le in
+    sym (append-nil out) ∙ (rw none at so_far)
+
+-- ---- numbers
+
+low_bytes : (more w n : ℕ) → drop more (bytes_high_first (more + w) n) ≡ bytes_high_first w n
+low_bytes zero w n = let k : 0 + w ≡ w = omega arith in rw k refl
+low_bytes (suc more) w n = let k : suc more + w ≡ suc (more + w) = omega arith in rw k (low_bytes more w n)
+
+pub high_length : (w n : ℕ) → length (bytes_high_first w n) ≡ w
+high_length zero n = refl
+high_length (suc w) n = ap suc (high_length w n)
+
+pub int_written : {E : Type 0} (greatest n w : ℕ) (old new bytes : List ℕ) (r : Result (Unit {0}) E) → w ≡ width greatest → w ≤ 8 → bytes ≡ bytes_high_first 8 n → new ≡ cond (is_ok r) (old ++ take (8 - (8 - w)) (drop (8 - w) bytes)) old → IfOk r (λ _. new ≡ old ++ int_word greatest n)
+unfolding int_word
+int_written greatest n w old new bytes (Err e) is few all h = tt
+int_written greatest n w old new bytes (Ok u) is few all h =
+    let k : 8 ≡ 8 - w + w = omega arith in
+    let whole : bytes ≡ bytes_high_first (8 - w + w) n = all ∙ ap (λ m. bytes_high_first m n) k in
+    let low : drop (8 - w) bytes ≡ bytes_high_first w n = ap (drop (8 - w)) whole ∙ low_bytes (8 - w) w n in
+    let every : take (8 - (8 - w)) (bytes_high_first w n) ≡ bytes_high_first w n = take_all _ _ (omega (arith, high_length w n)) in
+    h ∙ ap (λ ys. old ++ ys) (ap (take (8 - (8 - w))) low ∙ every ∙ ap (λ m. bytes_high_first m n) is)

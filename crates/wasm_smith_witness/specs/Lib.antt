@@ -1,0 +1,5 @@
+pub mod Examples
+pub mod Family
+pub mod Groups
+pub mod Spelling
+pub mod Words

@@ -1,0 +1,37 @@
+//! Laws of spellings.
+
+ghost use Rattle.std.specs.Prelude.{◌≡◌, ◌<◌, ◌%◌, ◌++◌, [], ◌∷◌, ℕ, List};
+ghost use Rattle.wasm_spec.specs.Types.{SubType};
+ghost use Rattle.wasm_smith_module.specs.Generating.{module_at};
+ghost use Rattle.wasm_smith_types.specs.declared.config.Config.{Config};
+ghost use Rattle.wasm_smith_witness.specs.Family.{IsAskable, IsMember, plain, types_of};
+ghost use Rattle.wasm_smith_witness.specs.Examples.{one_function};
+ghost use Rattle.wasm_smith_witness.specs.Spelling.{Spells};
+
+/// From each spelling of a list exactly that list is made, with no locals, and nothing of the spelling is left. `c` is a
+/// configuration after `sanitize`.
+pub fn reach()
+    ensures exact { (c : Config) (groups : List (List (SubType ℕ))) (funcs s : List ℕ) → IsAskable c
+        → Spells c groups funcs s → module_at c s ≡ (plain groups funcs, []) }
+
+    // The types stay whatever follows. The functions stay where an even byte and any others follow: where a function could
+    // follow, that byte says that none does.
+    ensures types_go_on { (c : Config) (groups : List (List (SubType ℕ))) (funcs s rest : List ℕ) → IsAskable c
+        → Spells c groups funcs s → (module_at c (s ++ rest)).0.types ≡ types_of groups }
+    ensures funcs_go_on { (c : Config) (groups : List (List (SubType ℕ))) (funcs s : List ℕ) (byte : ℕ) (rest : List ℕ) → IsAskable c
+        → Spells c groups funcs s → byte % 2 ≡ 0 → (module_at c (s ++ byte ∷ rest)).0.funcs ≡ funcs }
+{}
+
+/// With a configuration with which lists can be asked for, the lists of the family are those that have a spelling.
+pub fn agreement()
+    ensures member { (c : Config) (groups : List (List (SubType ℕ))) (funcs s : List ℕ) → Spells c groups funcs s → IsMember c groups funcs }
+    ensures spelled { (c : Config) (groups : List (List (SubType ℕ))) (funcs : List ℕ) → IsAskable c
+        → IsMember c groups funcs → (s : List ℕ) × Spells c groups funcs s }
+{}
+
+/// A function of one type without parameters and results is spelled by any five bytes of these parities, where there may be
+/// more than one type.
+pub fn small_spellings()
+    ensures { (c : Config) (a b d e f : ℕ) → 1 < c.max_types → 0 < c.max_funcs → a % 2 ≡ 1 → b % 2 ≡ 0 → d % 2 ≡ 0 → e % 2 ≡ 0
+        → f % 2 ≡ 1 → Spells c one_function (0 ∷ []) (a ∷ b ∷ d ∷ e ∷ f ∷ []) }
+{}

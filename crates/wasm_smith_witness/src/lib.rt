@@ -1,0 +1,7 @@
+//! Which lists of groups and functions the generator can be asked for, and seeds that make it give them.
+#![tactic(auto)]
+
+pub mod laws;
+mod membership;
+pub mod witness;
+mod words;

@@ -1,5 +1,3 @@
-pub mod CompositeTypeCases
-pub mod HeapTypeCases
 pub mod LimitCases
 pub mod ModuleReading
 pub mod Reading

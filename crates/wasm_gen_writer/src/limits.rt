@@ -31,25 +31,13 @@ pub fn passed_limit(made: &Module) -> Option<Limit>
 mod tests {
     use super::*;
     use std::test::Fail;
-    use wasm_smith::config::Config;
+    use wasm_smith::plain::plain_config;
     use wasm_smith::unstructured::Unstructured;
 
     #[test]
     fn a_small_module_passes_none(rt: HostRuntime) -> Result<(), Fail> {
-        let config = Config {
-            gc_enabled: false,
-            allow_start_export: false,
-            max_imports: 0,
-            max_tags: 0,
-            max_globals: 0,
-            max_exports: 0,
-            max_element_segments: 0,
-            max_tables: 0,
-            max_memories: 0,
-            max_data_segments: 0,
-            ..Config::default()
-        };
-        let made = Module::new(rt.alloc(), config, &mut Unstructured::new(&[1, 0, 0, 0, 1]))?;
+        let mut source = Unstructured::new(&[1, 0, 0, 0, 1]);
+        let made = Module::new(rt.alloc(), plain_config(), &mut source)?;
         assert!(rt; passed_limit(&made).is_none());
         Ok(())
     }

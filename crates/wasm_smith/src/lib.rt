@@ -4,5 +4,5 @@
 
 pub use wasm_smith_module::module;
 pub use wasm_smith_source::{text, unstructured};
-pub use wasm_smith_types::{config, error};
+pub use wasm_smith_types::{config, error, plain};
 pub use wasm_smith_witness::{laws, witness};

@@ -1,4 +1,5 @@
 pub mod Config
 pub mod Defaults
 pub mod Fields
+pub mod PlainConfig
 pub mod Rows

@@ -4,3 +4,4 @@
 mod check;
 pub mod config;
 pub mod error;
+pub mod plain;

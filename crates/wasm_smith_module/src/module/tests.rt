@@ -1,23 +1,7 @@
 use super::*;
 use std::test::Fail;
 use wasm_core::types::{AbstractHeapType, CompositeType, HeapType, RefType};
-
-// The defaults, without what is not made yet.
-fn small() -> Config {
-    Config {
-        gc_enabled: false,
-        allow_start_export: false,
-        max_imports: 0,
-        max_tags: 0,
-        max_globals: 0,
-        max_exports: 0,
-        max_element_segments: 0,
-        max_tables: 0,
-        max_memories: 0,
-        max_data_segments: 0,
-        ..Config::default()
-    }
-}
+use wasm_smith_types::plain::plain_config;
 
 fn made(alloc: Global, config: Config, bytes: &[u8]) -> Result<Module, Error> {
     Module::new(alloc, config, &mut Unstructured::new(bytes))
@@ -37,17 +21,17 @@ fn is_func(type_: &SubType, params: &[ValType], results: &[ValType]) -> bool {
 
 #[test]
 fn no_bytes_make_nothing(rt: HostRuntime) -> Result<(), Fail> {
-    let module = made(rt.alloc(), small(), &[])?;
+    let module = made(rt.alloc(), plain_config(), &[])?;
     assert!(rt; module.types().is_empty());
     assert!(rt; module.funcs().is_empty());
     assert!(rt; module.locals().is_empty());
-    assert!(rt; *module.config() == small());
+    assert!(rt; *module.config() == plain_config());
     Ok(())
 }
 
 #[test]
 fn a_function_without_parameters(rt: HostRuntime) -> Result<(), Fail> {
-    let module = made(rt.alloc(), small(), &[1, 0, 0, 0, 1])?;
+    let module = made(rt.alloc(), plain_config(), &[1, 0, 0, 0, 1])?;
     assert!(rt; matches!(module.types(), [type_] if is_func(type_, &[], &[])));
     assert!(rt; matches!(module.funcs(), [0]));
     assert!(rt; matches!(module.locals(), [locals] if locals.is_empty()));
@@ -56,7 +40,7 @@ fn a_function_without_parameters(rt: HostRuntime) -> Result<(), Fail> {
 
 #[test]
 fn a_function_with_a_parameter(rt: HostRuntime) -> Result<(), Fail> {
-    let module = made(rt.alloc(), small(), &[1, 1, 0, 0, 0, 0, 1])?;
+    let module = made(rt.alloc(), plain_config(), &[1, 1, 0, 0, 0, 0, 1])?;
     assert!(rt; matches!(module.types(), [type_] if is_func(type_, &[ValType::I32], &[])));
     assert!(rt; matches!(module.funcs(), [0]));
     Ok(())
@@ -64,7 +48,7 @@ fn a_function_with_a_parameter(rt: HostRuntime) -> Result<(), Fail> {
 
 #[test]
 fn a_function_with_a_local(rt: HostRuntime) -> Result<(), Fail> {
-    let module = made(rt.alloc(), small(), &[1, 0, 0, 0, 1, 0, 1, 4])?;
+    let module = made(rt.alloc(), plain_config(), &[1, 0, 0, 0, 1, 0, 1, 4])?;
     assert!(rt; matches!(module.types(), [type_] if is_func(type_, &[], &[])));
     assert!(rt; matches!(module.funcs(), [0]));
     assert!(rt; matches!(module.locals(), [locals] if matches!(&**locals, [ValType::V128])));
@@ -77,7 +61,7 @@ fn a_result_that_is_a_reference(rt: HostRuntime) -> Result<(), Fail> {
         nullable: true,
         heap_type: HeapType::Abstract(AbstractHeapType::Exn),
     });
-    let module = made(rt.alloc(), small(), &[1, 0, 1, 5, 2])?;
+    let module = made(rt.alloc(), plain_config(), &[1, 0, 1, 5, 2])?;
     assert!(rt; matches!(module.types(), [type_] if is_func(type_, &[], &[exn])));
     Ok(())
 }
@@ -86,7 +70,7 @@ fn a_result_that_is_a_reference(rt: HostRuntime) -> Result<(), Fail> {
 fn as_many_types_as_are_owed(rt: HostRuntime) -> Result<(), Fail> {
     let config = Config {
         min_types: 2,
-        ..small()
+        ..plain_config()
     };
     let module = made(rt.alloc(), config, &[])?;
     assert!(rt; matches!(module.types(), [a, b] if is_func(a, &[], &[]) && is_func(b, &[], &[])));
@@ -98,7 +82,7 @@ fn functions_are_owed_though_there_is_no_type(rt: HostRuntime) {
     let config = Config {
         min_funcs: 1,
         max_types: 0,
-        ..small()
+        ..plain_config()
     };
     let result = made(rt.alloc(), config, &[]);
     assert!(rt; matches!(&result, Err(Error::IncorrectFormat)));
@@ -109,7 +93,7 @@ fn more_types_are_owed_than_there_may_be(rt: HostRuntime) {
     let config = Config {
         min_types: 1,
         max_types: 0,
-        ..small()
+        ..plain_config()
     };
     let result = made(rt.alloc(), config, &[]);
     assert!(rt; matches!(&result, Err(Error::BadConfig("min_types"))));

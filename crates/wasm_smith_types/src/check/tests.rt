@@ -1,20 +1,5 @@
 use super::*;
-
-// A configuration of which everything is made.
-fn made() -> Config {
-    let mut config = Config::default();
-    config.allow_start_export = false;
-    config.gc_enabled = false;
-    config.max_imports = 0;
-    config.max_tags = 0;
-    config.max_globals = 0;
-    config.max_exports = 0;
-    config.max_element_segments = 0;
-    config.max_data_segments = 0;
-    config.max_tables = 0;
-    config.max_memories = 0;
-    config
-}
+use crate::plain::plain_config;
 
 // Sets a minimum above its maximum, and says which.
 fn raise_minimum(config: &mut Config, turn: usize) -> &'static str {
@@ -163,12 +148,12 @@ fn ask_for_more(config: &mut Config, turn: usize) -> &'static str {
 
 #[test]
 fn allows_what_is_made(rt: HostRuntime) {
-    assert_eq!(rt; made().check(), Ok(()));
+    assert_eq!(rt; plain_config().check(), Ok(()));
 }
 
 #[test]
 fn allows_the_largest_counts(rt: HostRuntime) {
-    let mut config = made();
+    let mut config = plain_config();
     config.min_funcs = 0x8000_0000;
     config.max_funcs = 0x8000_0000;
     config.max_instructions = 0x8000_0000;
@@ -187,7 +172,7 @@ fn names_a_field_of_the_default(rt: HostRuntime) {
 #[test]
 fn names_a_minimum_above_its_maximum(rt: HostRuntime) {
     for turn in 0..11 {
-        let mut config = made();
+        let mut config = plain_config();
         let name = raise_minimum(&mut config, turn);
         assert_eq!(rt; config.check(), Err(Error::BadConfig(name)));
     }
@@ -196,7 +181,7 @@ fn names_a_minimum_above_its_maximum(rt: HostRuntime) {
 #[test]
 fn names_a_maximum_that_is_too_large(rt: HostRuntime) {
     for turn in 0..7 {
-        let mut config = made();
+        let mut config = plain_config();
         let name = raise_maximum(&mut config, turn);
         assert_eq!(rt; config.check(), Err(Error::BadConfig(name)));
     }
@@ -205,7 +190,7 @@ fn names_a_maximum_that_is_too_large(rt: HostRuntime) {
 #[test]
 fn names_what_is_not_made_yet(rt: HostRuntime) {
     for turn in 0..13 {
-        let mut config = made();
+        let mut config = plain_config();
         let name = ask_for_more(&mut config, turn);
         assert_eq!(rt; config.check(), Err(Error::BadConfig(name)));
     }

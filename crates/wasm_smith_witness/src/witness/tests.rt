@@ -6,23 +6,7 @@ use wasm_core::types::{
 };
 use wasm_smith_module::module::Module;
 use wasm_smith_source::unstructured::Unstructured;
-
-// The defaults, without what is not made yet.
-fn small() -> Config {
-    Config {
-        gc_enabled: false,
-        allow_start_export: false,
-        max_imports: 0,
-        max_tags: 0,
-        max_globals: 0,
-        max_exports: 0,
-        max_element_segments: 0,
-        max_data_segments: 0,
-        max_tables: 0,
-        max_memories: 0,
-        ..Config::default()
-    }
-}
+use wasm_smith_types::plain::plain_config;
 
 fn func(alloc: Global, params: &[ValType], results: &[ValType]) -> Result<SubType, AllocError> {
     let mut all_params = Vec::new(alloc);
@@ -88,15 +72,15 @@ fn makes(
 
 #[test]
 fn a_function_without_parameters(rt: HostRuntime) -> Result<(), Fail> {
-    let seed = of_one_type(rt.alloc(), &small(), func(rt.alloc(), &[], &[])?, &[0])?;
+    let seed = of_one_type(rt.alloc(), &plain_config(), func(rt.alloc(), &[], &[])?, &[0])?;
     assert!(rt; matches!(&seed, Some(bytes) if matches!(bytes.as_slice(), [1, 0, 0, 0, 1])));
-    assert!(rt; makes(rt.alloc(), &small(), &[], &[])?);
+    assert!(rt; makes(rt.alloc(), &plain_config(), &[], &[])?);
     Ok(())
 }
 
 #[test]
 fn nothing(rt: HostRuntime) -> Result<(), Fail> {
-    let seed = witness(rt.alloc(), &small(), &[], &[])?;
+    let seed = witness(rt.alloc(), &plain_config(), &[], &[])?;
     assert!(rt; matches!(&seed, Some(bytes) if matches!(bytes.as_slice(), [0])));
     Ok(())
 }
@@ -113,11 +97,11 @@ fn each_type(rt: HostRuntime) -> Result<(), Fail> {
         reference(AbstractHeapType::Extern),
         reference(AbstractHeapType::Exn),
     ];
-    assert!(rt; makes(rt.alloc(), &small(), &types, &types)?);
+    assert!(rt; makes(rt.alloc(), &plain_config(), &types, &types)?);
     let config = Config {
         allow_floats: false,
         simd_enabled: false,
-        ..small()
+        ..plain_config()
     };
     let references = [reference(AbstractHeapType::Exn), ValType::I64];
     assert!(rt; makes(rt.alloc(), &config, &references, &references)?);
@@ -128,12 +112,12 @@ fn each_type(rt: HostRuntime) -> Result<(), Fail> {
 fn as_many_as_there_may_be(rt: HostRuntime) -> Result<(), Fail> {
     let alloc = rt.alloc();
     let most = [ValType::I64; 20];
-    assert!(rt; makes(alloc, &small(), &most, &most)?);
+    assert!(rt; makes(alloc, &plain_config(), &most, &most)?);
     let config = Config {
         max_types: 1,
         max_funcs: 2,
         multi_value_enabled: false,
-        ..small()
+        ..plain_config()
     };
     assert!(rt; makes(alloc, &config, &most, &[ValType::F32])?);
     let type_ = func(alloc, &[], &[])?;
@@ -146,13 +130,13 @@ fn as_many_as_there_may_be(rt: HostRuntime) -> Result<(), Fail> {
 fn too_many(rt: HostRuntime) -> Result<(), Fail> {
     let alloc = rt.alloc();
     let more = [ValType::I64; 21];
-    assert!(rt; !makes(alloc, &small(), &more, &[])?);
-    assert!(rt; !makes(alloc, &small(), &[], &more)?);
+    assert!(rt; !makes(alloc, &plain_config(), &more, &[])?);
+    assert!(rt; !makes(alloc, &plain_config(), &[], &more)?);
     let config = Config {
         max_types: 1,
         max_funcs: 2,
         multi_value_enabled: false,
-        ..small()
+        ..plain_config()
     };
     assert!(rt; !makes(alloc, &config, &[], &[ValType::I32, ValType::I32])?);
     assert!(rt; of_one_type(alloc, &config, func(alloc, &[], &[])?, &[0, 0, 0])?.is_none());
@@ -161,15 +145,15 @@ fn too_many(rt: HostRuntime) -> Result<(), Fail> {
         vec![in alloc; func(alloc, &[], &[])?]?,
     ]?;
     assert!(rt; witness(alloc, &config, &two, &[])?.is_none());
-    assert!(rt; witness(alloc, &small(), &two, &[1])?.is_some());
+    assert!(rt; witness(alloc, &plain_config(), &two, &[1])?.is_some());
     Ok(())
 }
 
 #[test]
 fn an_index_past_the_types(rt: HostRuntime) -> Result<(), Fail> {
     let alloc = rt.alloc();
-    assert!(rt; of_one_type(alloc, &small(), func(alloc, &[], &[])?, &[1])?.is_none());
-    assert!(rt; witness(alloc, &small(), &[], &[0])?.is_none());
+    assert!(rt; of_one_type(alloc, &plain_config(), func(alloc, &[], &[])?, &[1])?.is_none());
+    assert!(rt; witness(alloc, &plain_config(), &[], &[0])?.is_none());
     Ok(())
 }
 
@@ -178,18 +162,18 @@ fn types_that_are_not_enabled(rt: HostRuntime) -> Result<(), Fail> {
     let alloc = rt.alloc();
     let no_vectors = Config {
         simd_enabled: false,
-        ..small()
+        ..plain_config()
     };
     assert!(rt; !makes(alloc, &no_vectors, &[ValType::V128], &[])?);
     let no_floats = Config {
         allow_floats: false,
-        ..small()
+        ..plain_config()
     };
     assert!(rt; !makes(alloc, &no_floats, &[ValType::F32], &[])?);
     assert!(rt; !makes(alloc, &no_floats, &[], &[ValType::F64])?);
     let no_exceptions = Config {
         exceptions_enabled: false,
-        ..small()
+        ..plain_config()
     };
     assert!(rt;
         !makes(
@@ -201,7 +185,7 @@ fn types_that_are_not_enabled(rt: HostRuntime) -> Result<(), Fail> {
     );
     let no_references = Config {
         reference_types_enabled: false,
-        ..small()
+        ..plain_config()
     };
     assert!(rt;
         !makes(
@@ -221,13 +205,13 @@ fn references_that_are_not_plain(rt: HostRuntime) -> Result<(), Fail> {
         nullable: false,
         heap_type: HeapType::Abstract(AbstractHeapType::Func),
     };
-    assert!(rt; !makes(alloc, &small(), &[ValType::Ref(not_null)], &[])?);
+    assert!(rt; !makes(alloc, &plain_config(), &[ValType::Ref(not_null)], &[])?);
     let concrete = RefType {
         nullable: true,
         heap_type: HeapType::Concrete(0),
     };
-    assert!(rt; !makes(alloc, &small(), &[ValType::Ref(concrete)], &[])?);
-    assert!(rt; !makes(alloc, &small(), &[reference(AbstractHeapType::Any)], &[])?);
+    assert!(rt; !makes(alloc, &plain_config(), &[ValType::Ref(concrete)], &[])?);
+    assert!(rt; !makes(alloc, &plain_config(), &[reference(AbstractHeapType::Any)], &[])?);
     Ok(())
 }
 
@@ -235,19 +219,19 @@ fn references_that_are_not_plain(rt: HostRuntime) -> Result<(), Fail> {
 fn groups_that_are_not_small(rt: HostRuntime) -> Result<(), Fail> {
     let alloc = rt.alloc();
     let two = vec![in alloc; vec![in alloc; func(alloc, &[], &[])?, func(alloc, &[], &[])?]?]?;
-    assert!(rt; witness(alloc, &small(), &two, &[])?.is_none());
+    assert!(rt; witness(alloc, &plain_config(), &two, &[])?.is_none());
     let empty = vec![in alloc; Vec::new(alloc)]?;
-    assert!(rt; witness(alloc, &small(), &empty, &[])?.is_none());
+    assert!(rt; witness(alloc, &plain_config(), &empty, &[])?.is_none());
     let open = SubType {
         is_final: false,
         ..func(alloc, &[], &[])?
     };
-    assert!(rt; of_one_type(alloc, &small(), open, &[])?.is_none());
+    assert!(rt; of_one_type(alloc, &plain_config(), open, &[])?.is_none());
     let below = SubType {
         supertype_idx: Some(0),
         ..func(alloc, &[], &[])?
     };
-    assert!(rt; of_one_type(alloc, &small(), below, &[])?.is_none());
+    assert!(rt; of_one_type(alloc, &plain_config(), below, &[])?.is_none());
     let field = FieldType {
         element_type: StorageType::I8,
         mutable: true,
@@ -257,7 +241,7 @@ fn groups_that_are_not_small(rt: HostRuntime) -> Result<(), Fail> {
         supertype_idx: None,
         composite_type: CompositeType::Struct(StructType::new(vec![in alloc; field]?)),
     };
-    assert!(rt; of_one_type(alloc, &small(), structure, &[])?.is_none());
+    assert!(rt; of_one_type(alloc, &plain_config(), structure, &[])?.is_none());
     Ok(())
 }
 
@@ -269,7 +253,7 @@ fn configurations_of_which_nothing_is_asked(rt: HostRuntime) -> Result<(), Fail>
             alloc,
             &Config {
                 min_types: 1,
-                ..small()
+                ..plain_config()
             },
             &[],
             &[]
@@ -280,7 +264,7 @@ fn configurations_of_which_nothing_is_asked(rt: HostRuntime) -> Result<(), Fail>
             alloc,
             &Config {
                 min_funcs: 1,
-                ..small()
+                ..plain_config()
             },
             &[],
             &[]
@@ -291,7 +275,7 @@ fn configurations_of_which_nothing_is_asked(rt: HostRuntime) -> Result<(), Fail>
             alloc,
             &Config {
                 min_elements: 1,
-                ..small()
+                ..plain_config()
             },
             &[],
             &[]
@@ -302,7 +286,7 @@ fn configurations_of_which_nothing_is_asked(rt: HostRuntime) -> Result<(), Fail>
             alloc,
             &Config {
                 export_everything: true,
-                ..small()
+                ..plain_config()
             },
             &[],
             &[]
@@ -313,7 +297,7 @@ fn configurations_of_which_nothing_is_asked(rt: HostRuntime) -> Result<(), Fail>
             alloc,
             &Config {
                 gc_enabled: true,
-                ..small()
+                ..plain_config()
             },
             &[],
             &[]
@@ -324,7 +308,7 @@ fn configurations_of_which_nothing_is_asked(rt: HostRuntime) -> Result<(), Fail>
             alloc,
             &Config {
                 max_types: 0x8000_0001,
-                ..small()
+                ..plain_config()
             },
             &[],
             &[]
@@ -334,7 +318,7 @@ fn configurations_of_which_nothing_is_asked(rt: HostRuntime) -> Result<(), Fail>
     let config = Config {
         gc_enabled: true,
         reference_types_enabled: false,
-        ..small()
+        ..plain_config()
     };
     assert!(rt; makes(alloc, &config, &[], &[])?);
     Ok(())

@@ -1,6 +1,7 @@
 //! The module generator.
 #![tactic(auto)]
 
+pub mod bounds;
 mod growing;
 pub mod module;
 mod steps;

@@ -3,35 +3,16 @@
 ghost use Rattle.std.specs.Prelude.{◌≡◌, map};
 ghost use Rattle.wasm_core.specs.CoreTypes.{val_type};
 ghost use Rattle.wasm_core.specs.SubTypes.{sub_type};
-ghost use Rattle.wasm_smith_module.specs.Generating.{offers, max_results, type_at, types_at, funcs_at, code_at};
+ghost use Rattle.wasm_smith_module.specs.Generating.{offers, type_at, types_at, funcs_at, code_at};
 ghost use Rattle.wasm_smith_module.specs.Growing.{Draws};
 
+use crate::bounds::{MAX_LOCALS, MAX_PARAMS, max_results};
 use crate::growing::grows;
 use crate::value_types::Offers;
 use std::alloc::{AllocError, Global};
 use wasm_core::types::{CompositeType, FuncType, SubType, ValType};
 use wasm_smith_source::unstructured::Unstructured;
 use wasm_smith_types::config::Config;
-
-// The most parameters of a function type.
-const MAX_PARAMS: usize = 20;
-
-// The most results of a function type.
-const MAX_RESULTS: usize = 20;
-
-// The most locals of a function.
-const MAX_LOCALS: usize = 100;
-
-// The most results of a function type of this module.
-fn max_results(config: &Config) -> usize
-    ensures { result ≡ max_results config.now }
-{
-    if config.multi_value_enabled {
-        MAX_RESULTS
-    } else {
-        1
-    }
-}
 
 // A final function type without a supertype.
 #[tactic(auto, unfolding(crate::specs::Generating::type_at))]

@@ -1,0 +1,26 @@
+//! How much of something there is at most, whatever the configuration says.
+
+ghost use Rattle.std.specs.Prelude.{◌≡◌};
+ghost use Rattle.wasm_smith_module.specs.Generating.{max_results};
+
+use wasm_smith_types::config::Config;
+
+/// The most parameters of a function type.
+pub const MAX_PARAMS: usize = 20;
+
+/// The most results of a function type.
+pub const MAX_RESULTS: usize = 20;
+
+/// The most locals of a function.
+pub const MAX_LOCALS: usize = 100;
+
+/// The most results of a function type with this configuration.
+pub fn max_results(config: &Config) -> usize
+    ensures { result ≡ max_results config.now }
+{
+    if config.multi_value_enabled {
+        MAX_RESULTS
+    } else {
+        1
+    }
+}

@@ -1,5 +1,6 @@
 mod ExampleLaws
 pub mod ReachLaws
+pub mod RefusalLaws
 pub mod MemberLaws
 pub mod WordLaws
 pub mod SpellLaws

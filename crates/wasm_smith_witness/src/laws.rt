@@ -3,7 +3,10 @@
 ghost use Rattle.std.specs.Prelude.{◌≡◌, ◌<◌, ◌%◌, ◌++◌, [], ◌∷◌, ℕ, List};
 ghost use Rattle.wasm_spec.specs.Types.{SubType};
 ghost use Rattle.wasm_smith_module.specs.Generating.{module_at};
+ghost use Rattle.wasm_smith_module.specs.Promise.{IsReason};
 ghost use Rattle.wasm_smith_types.specs.declared.config.Config.{Config};
+ghost use Rattle.wasm_smith_types.specs.declared.error.Error.{Error};
+ghost use Rattle.wasm_smith_types.specs.declared.error.Error.TheVariants.{Memory};
 ghost use Rattle.wasm_smith_witness.specs.Family.{IsAskable, IsMember, plain, types_of};
 ghost use Rattle.wasm_smith_witness.specs.Examples.{one_function};
 ghost use Rattle.wasm_smith_witness.specs.Spelling.{Spells};
@@ -27,6 +30,11 @@ pub fn agreement()
     ensures member { (c : Config) (groups : List (List (SubType ℕ))) (funcs s : List ℕ) → Spells c groups funcs s → IsMember c groups funcs }
     ensures spelled { (c : Config) (groups : List (List (SubType ℕ))) (funcs : List ℕ) → IsAskable c
         → IsMember c groups funcs → (s : List ℕ) × Spells c groups funcs s }
+{}
+
+/// With a configuration with which lists can be asked for, only want of memory keeps a module from being made.
+pub fn total()
+    ensures { (c : Config) (s : List ℕ) (e : Error) → IsAskable c → IsReason c s e → e ≡ Memory }
 {}
 
 /// A function of one type without parameters and results is spelled by any five bytes of these parities, where there may be

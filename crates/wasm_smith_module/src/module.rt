@@ -75,7 +75,8 @@ impl Module {
     /// # Errors
     ///
     /// [`Error::BadConfig`] names a field whose value [`Config::check`] doesn't allow; no bytes are taken then.
-    /// [`Error::IncorrectFormat`] is for functions that are owed though no type is drawn.
+    /// [`Error::IncorrectFormat`] is for functions that are owed though no type is drawn. After it, and after
+    /// [`Error::Memory`], some of the source's bytes may be taken.
     pub fn new(
         alloc: Global,
         mut config: Config,

@@ -122,7 +122,8 @@ pub struct Config {
 
     /// The most operators of a function body. It is kept for those who make bodies, and steers nothing here.
     pub max_instructions: u32,
-    /// The most that the types of all imports and exports come to, where a type counts one more than the types in it.
+    /// The most that the types of all imports and exports come to: each counts 1, and that of a function or a tag its
+    /// parameters and results besides.
     pub max_type_size: u32,
     /// The most elements that the size of a table states.
     pub max_table_elements: u64,

@@ -1,5 +1,5 @@
 -- What a good configuration keeps.
-use Rattle.std.proofs.Common.{◌≡◌, ◌≤◌, ◌^◌, [], arith, false}
+use Rattle.std.proofs.Common.{◌≤◌, ◌^◌, [], arith}
 use Rattle.std.proofs.lemmas.Bool.{ltb-false}
 use Rattle.wasm_smith_types.specs.Config.{IsGood, at_least}
 use Rattle.wasm_smith_types.specs.declared.config.Config.{Config}
@@ -12,6 +12,3 @@ funcs_fine c good = ltb-false c.max_funcs c.min_funcs (good 3 (at_least [] 0 0) 
 
 pub types_small : (c : Config) → IsGood c → c.max_types ≤ 2 ^ 31
 types_small c good = ltb-false (2 ^ 31) c.max_types (good 11 (at_least [] 0 0) (omega arith))
-
-pub no_gc : (c : Config) → IsGood c → c.gc_enabled ≡ false
-no_gc c good = good 34 (at_least [] 0 0) (omega arith)

@@ -72,7 +72,12 @@ fn makes(
 
 #[test]
 fn a_function_without_parameters(rt: HostRuntime) -> Result<(), Fail> {
-    let seed = of_one_type(rt.alloc(), &plain_config(), func(rt.alloc(), &[], &[])?, &[0])?;
+    let seed = of_one_type(
+        rt.alloc(),
+        &plain_config(),
+        func(rt.alloc(), &[], &[])?,
+        &[0],
+    )?;
     assert!(rt; matches!(&seed, Some(bytes) if matches!(bytes.as_slice(), [1, 0, 0, 0, 1])));
     assert!(rt; makes(rt.alloc(), &plain_config(), &[], &[])?);
     Ok(())
@@ -211,7 +216,14 @@ fn references_that_are_not_plain(rt: HostRuntime) -> Result<(), Fail> {
         heap_type: HeapType::Concrete(0),
     };
     assert!(rt; !makes(alloc, &plain_config(), &[ValType::Ref(concrete)], &[])?);
-    assert!(rt; !makes(alloc, &plain_config(), &[reference(AbstractHeapType::Any)], &[])?);
+    assert!(rt;
+        !makes(
+            alloc,
+            &plain_config(),
+            &[reference(AbstractHeapType::Any)],
+            &[]
+        )?
+    );
     Ok(())
 }
 

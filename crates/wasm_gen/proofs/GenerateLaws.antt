@@ -11,25 +11,14 @@ use Rattle.wasm_smith.specs.Promise.{IsMadeFor}
 use Rattle.wasm_smith.specs.Types.{Config}
 use Rattle.wasm_smith.specs.Bounds.{IsWithinBounds}
 use Rattle.wasm_smith.specs.Validity.{IsValidByIndex}
-use Rattle.wasm_gen_writer.specs.Written.{sections_with, IsGenerated}
-use Rattle.wasm_gen.specs.Generate.{IsGeneratedFrom, PassesLimit}
+use Rattle.wasm_gen_writer.specs.Written.{sections_with}
+use Rattle.wasm_gen.specs.Generate.{PassesLimit}
 
 drawn : (c : Config) (seed left : List ℕ) (m : ModuleValue) → module_at c seed ≡ (m.made, left) → (module_at c seed).0 ≡ m.made
 drawn c seed left m e = ap (λ (d : Made × List ℕ). d.0) e
 
-pub is_within : (c : Config) (m : ModuleValue) → IsMadeFor c m → IsWithinBounds m.config m.made
-is_within c m made = subst (λ (d : Config). IsWithinBounds d m.made) (sym made.config) made.bounds
-
 pub is_valid : (c : Config) (m : ModuleValue) → IsMadeFor c m → (features : Features) → AreFeaturesOf m.config features → IsValidByIndex features m.made
 is_valid c m made features are = made.valid features (subst (λ (d : Config). AreFeaturesOf d features) made.config are)
-
-pub is_generated_from : (c : Config) (seed left : List ℕ) (m : ModuleValue) (bytes : List ℕ) → IsMadeFor c m → module_at c seed ≡ (m.made, left) → IsGenerated m.config m.made bytes
-    → IsGeneratedFrom c seed bytes
-is_generated_from c seed left m bytes made e g =
-    record {
-      good = made.good;
-      generated = subst (λ (d : Config). IsGenerated d (module_at c seed).0 bytes) made.config (subst (λ (d : Made). IsGenerated m.config d bytes) (sym (drawn c seed left m e)) g);
-    }
 
 pub passes_limit : (c : Config) (seed left : List ℕ) (m : ModuleValue) (passed : core.Limit) → IsMadeFor c m → module_at c seed ≡ (m.made, left)
     → is_passed (limit passed) (sections_with m.made []) ≡ true → PassesLimit c seed passed

@@ -13,9 +13,6 @@ use wasm_smith::config::Config;
 use wasm_smith::module::Module;
 use wasm_smith::unstructured::Unstructured;
 
-#[cfg(test)]
-mod tests;
-
 // The bytes of the module that is drawn from the seed.
 fn drawn_bytes(alloc: Global, config: &Config, seed: &[u8]) -> Result<Vec<u8>, GenerateError>
     ensures generated { IfOk result (λ bytes. IsGeneratedFrom (sanitized config.now) seed.now bytes.items) }

@@ -3,6 +3,7 @@
 use crate::modules::{HEADER, joined};
 use std::alloc::{AllocError, Global};
 use std::test::Fail;
+use wasm_core::limits::Limit;
 use wasm_gen::error::GenerateError;
 use wasm_gen::generate::generate;
 use wasm_gen::judge::{ErrorKind, ValidatorId};
@@ -98,6 +99,11 @@ fn refusals_name_their_cause(rt: HostRuntime) {
     let mut config = plain_config();
     config.gc_enabled = true;
     let e = GenerateError::Config("gc_enabled");
+    assert!(rt; is_refused(alloc, &config, &[], e));
+    let mut config = plain_config();
+    config.min_types = 1_000_001;
+    config.max_types = 1_000_001;
+    let e = GenerateError::Limit(Limit::Types);
     assert!(rt; is_refused(alloc, &config, &[], e));
 }
 

@@ -1,10 +1,23 @@
--- The laws of written numbers, under the name of this crate.
-use Rattle.std.proofs.Common.{◌≡◌, ℕ, ◌<◌, ◌^◌, List, ◌++◌, Some}
-use Rattle.wasm_core.specs.Reading.{unsigned_at}
-use Rattle.wasm_core.specs.Shortest.{shortest_u32}
-use Rattle.wasm_core.proofs.ReadingLaws.{unsigned_again}
-pub use Rattle.wasm_core_base.proofs.ShortestLaws.{shortest_is, spells}
+-- What is written is read back.
+use Rattle.std.proofs.Common.{◌≡◌, ℕ, ◌<◌, ◌-◌, ◌^◌, pos, negsuc, List, ◌++◌, length, Some, ap, ◌∙◌, append_assoc}
+use Rattle.wasm_spec.specs.Shortest.{unsigned_text, signed_text, framed_text}
+use Rattle.wasm_spec.proofs.NumberLaws.{unsigned_spelled, positive_spelled, negative_spelled}
+use Rattle.wasm_core.specs.Reading.{unsigned_at, signed_at}
+use Rattle.wasm_core.proofs.ReadingLaws.{unsigned_again, signed_again}
+-- The lists of views, under the name of this crate.
+pub use Rattle.wasm_core_base.proofs.TypeLists.{list_mapped, val_types, sub_types}
 
 -- a number that is written is read back
-pub read_back : (n : ℕ) (rest : List ℕ) → n < 2 ^ 32 → unsigned_at 32 (shortest_u32 n ++ rest) ≡ Some (n, rest)
-read_back n rest fits = unsigned_again 32 (shortest_u32 n) n rest (shortest_is n fits).spells
+pub read_back : (bits n : ℕ) (rest : List ℕ) → n < 2 ^ bits → unsigned_at bits (unsigned_text n ++ rest) ≡ Some (n, rest)
+read_back bits n rest fits = unsigned_again bits (unsigned_text n) n rest (unsigned_spelled bits n fits)
+
+pub positive_back : (bits m : ℕ) (rest : List ℕ) → m < 2 ^ (bits - 1) → signed_at bits (signed_text (pos m) ++ rest) ≡ Some (pos m, rest)
+positive_back bits m rest fits = signed_again bits (signed_text (pos m)) (pos m) rest (positive_spelled bits m fits)
+
+pub negative_back : (bits m : ℕ) (rest : List ℕ) → m < 2 ^ (bits - 1) → signed_at bits (signed_text (negsuc m) ++ rest) ≡ Some (negsuc m, rest)
+negative_back bits m rest fits = signed_again bits (signed_text (negsuc m)) (negsuc m) rest (negative_spelled bits m fits)
+
+-- and so is the size of a content
+pub size_back : (content rest : List ℕ) → length content < 2 ^ 32 → unsigned_at 32 (framed_text content ++ rest) ≡ Some (length content, content ++ rest)
+unfolding framed_text
+size_back content rest fits = ap (unsigned_at 32) (append_assoc (unsigned_text (length content)) content rest) ∙ read_back 32 (length content) (content ++ rest) fits

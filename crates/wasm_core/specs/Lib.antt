@@ -1,11 +1,14 @@
+pub mod CoreTexts
+pub mod EncodeErrorCases
 pub mod LimitCases
 pub mod ModuleReading
 pub mod Reading
-pub mod Shortest
+pub mod TypeEntries
 pub mod TypeReading
 pub mod Types
 pub mod ValTypeCases
 pub use Rattle.wasm_core_base.specs.CoreTypes
+pub use Rattle.wasm_core_base.specs.Encoding
 pub use Rattle.wasm_core_base.specs.Features
 pub use Rattle.wasm_core_base.specs.Limits
 pub use Rattle.wasm_core_base.specs.SubTypes

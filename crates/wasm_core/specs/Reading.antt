@@ -1,3 +1,3 @@
 -- The reading functions of the parts, under the name of this crate: by name, so that proofs above can unfold them.
-pub use Rattle.wasm_core_read.specs.Reading.{◌>>=◌, Gives, Answers, AnswersAll, filled}
-unfoldable pub use Rattle.wasm_core_read.specs.Reading.{byte_at, unsigned_at, bytes_at, name_at}
+pub use Rattle.wasm_core_read.specs.Reading.{◌>>=◌, Gives, Answers, AnswersAll, above, filled}
+unfoldable pub use Rattle.wasm_core_read.specs.Reading.{byte_at, unsigned_at, last_signed, signed_at, bytes_at, float_at, name_at}

@@ -14,3 +14,4 @@ pub use Rattle.wasm_core_base.specs.declared.types.ArrayType.{ArrayType}
 pub use Rattle.wasm_core_base.specs.declared.types.ContType.{ContType}
 pub use Rattle.wasm_core_base.specs.declared.types.CompositeType.{CompositeType}
 pub use Rattle.wasm_core_base.specs.declared.types.SubType.{SubType}
+pub use Rattle.wasm_core_base.specs.declared.encode_error.EncodeError.{EncodeError}

@@ -1,1 +1,5 @@
-pub mod ShortestLaws
+pub mod EntryLaws
+pub mod EntryLists
+pub mod Items
+pub mod TypeLists
+pub mod Chains

@@ -1,5 +1,8 @@
+pub mod CoreEntries
+pub mod CoreTexts
 pub mod CoreTypes
+pub mod Encoding
 pub mod Features
 pub mod Limits
-pub mod Shortest
 pub mod SubTypes
+pub mod TypeEntries

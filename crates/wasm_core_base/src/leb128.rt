@@ -1,62 +1,180 @@
-//! Writing numbers in LEB128 (Core Specification, Binary Format, "Values").
+//! Writing numbers in LEB128, each in as few bytes as there can be (Core Specification, Binary Format,
+//! "Values").
 
-ghost use Rattle.std.specs.Prelude.{◌≡◌, ◌≤◌, ◌+◌, ◌%◌, ◌++◌, length, vec_len, vec_capacity, IsOk, OnOk, OnErr};
-ghost use Rattle.wasm_core_base.specs.Shortest.{shortest_u32};
+ghost use Rattle.std.specs.Prelude.{◌≡◌, ◌≤◌, ◌<◌, ◌+◌, ◌^◌, ◌++◌, length, vec_len, vec_capacity};
+ghost use Rattle.wasm_core_base.specs.Encoding.{Appends};
+ghost use Rattle.wasm_spec.specs.Shortest.{unsigned_text, low_bits, magnitude_text, signed_text};
 
 use std::alloc::AllocError;
 
+#[cfg(test)]
+mod tests;
+
 /// The number of bytes that [`write_u32`] appends.
-#[tactic(auto, unfolding(crate::specs::Shortest::shortest_u32, crate::specs::Shortest::shortest_within))]
 pub fn len_u32(n: u32) -> usize
-    ensures { result ≡ length (shortest_u32 n) }
+    ensures { result ≡ length (unsigned_text n) }
+{
+    len_u64(u64::from(n))
+}
+
+/// The number of bytes that [`write_u64`] appends.
+#[tactic(auto, using(wasm_spec::proofs::UnsignedTexts::unsigned_steps))]
+pub fn len_u64(n: u64) -> usize
+    ensures bytes { result ≡ length (unsigned_text n) }
+    ensures few { result ≤ 10 }
+{
+    let mut len = 1;
+    let mut rest = n;
+    'bytes: while rest >= 0x80 {
+        len += 1;
+        rest /= 0x80;
+    }
+    len
+}
+
+/// The number of bytes that [`write_s32`] appends.
+pub fn len_s32(n: i32) -> usize
+    ensures { result ≡ length (signed_text n) }
+{
+    len_s64(i64::from(n))
+}
+
+/// The number of bytes that [`write_s33`] appends.
+pub fn len_s33(n: i64) -> usize
+    ensures { result ≡ length (signed_text n) }
+{
+    len_s64(n)
+}
+
+/// The number of bytes that [`write_s64`] appends.
+pub fn len_s64(n: i64) -> usize
+    ensures bytes { result ≡ length (signed_text n) }
+    ensures few { result ≤ 10 }
+{
+    let (negative, magnitude) = parts(n);
+    len_magnitude(negative, magnitude)
+}
+
+/// Appends a number. Where memory runs out, nothing is appended.
+pub fn write_u32(sink: &mut Vec<u8>, n: u32) -> Result<(), AllocError>
+    ensures { Appends sink.old sink.new result (unsigned_text n) }
+{
+    write_u64(sink, u64::from(n))
+}
+
+/// Appends a number. Where memory runs out, nothing is appended.
+#[tactic(auto, using(wasm_spec::proofs::UnsignedTexts::unsigned_steps))]
+pub fn write_u64(sink: &mut Vec<u8>, n: u64) -> Result<(), AllocError>
+    ensures { Appends sink.old sink.new result (unsigned_text n) }
 {
     if n < 0x80 {
-        1
-    } else if n / 0x80 < 0x80 {
-        2
-    } else if n / 0x80 / 0x80 < 0x80 {
-        3
-    } else if n / 0x80 / 0x80 / 0x80 < 0x80 {
-        4
-    } else {
-        5
+        return Ok(sink.push(n as u8)?);
     }
+    sink.reserve(len_u64(n))?;
+    put_u64(sink, n);
+    Ok(())
 }
 
-// The low seven bits of a number, with the mark that more bytes follow.
-fn front_byte(n: u32) -> u8
-    ensures { result ≡ n % 128 + 128 }
+/// Appends a number. Where memory runs out, nothing is appended.
+pub fn write_s32(sink: &mut Vec<u8>, n: i32) -> Result<(), AllocError>
+    ensures { Appends sink.old sink.new result (signed_text n) }
 {
-    (n % 0x80) as u8 + 0x80
+    write_s64(sink, i64::from(n))
 }
 
-/// Appends a number in as few bytes as there can be. Where memory runs out, nothing is appended.
-#[tactic(auto, unfolding(crate::specs::Shortest::shortest_u32, crate::specs::Shortest::shortest_within))]
-pub fn write_u32(sink: &mut Vec<u8>, n: u32) -> Result<(), AllocError>
-    ensures appended { OnOk result (sink.new.items ≡ sink.old.items ++ shortest_u32 n) }
-    ensures kept { OnErr result (sink.new.items ≡ sink.old.items) }
+/// Appends a number of 33 bits: a heap type or a block type. One that needs more bits is written all the same, as
+/// [`write_s64`] does; no reader of 33 bits then takes it. Where memory runs out, nothing is appended.
+pub fn write_s33(sink: &mut Vec<u8>, n: i64) -> Result<(), AllocError>
+    ensures { Appends sink.old sink.new result (signed_text n) }
+{
+    write_s64(sink, n)
+}
 
-    // It fails only where room was missing, and the capacity never shrinks.
-    ensures succeeds { vec_len sink.old + length (shortest_u32 n) ≤ vec_capacity sink.old → IsOk result }
+/// Appends a number. Where memory runs out, nothing is appended.
+#[tactic(auto, using(wasm_spec::proofs::SignedTexts::signed_steps))]
+pub fn write_s64(sink: &mut Vec<u8>, n: i64) -> Result<(), AllocError>
+    ensures { Appends sink.old sink.new result (signed_text n) }
+{
+    let (negative, magnitude) = parts(n);
+    if magnitude < 0x40 {
+        return Ok(sink.push(low_bits(negative, magnitude))?);
+    }
+    sink.reserve(len_magnitude(negative, magnitude))?;
+    put_magnitude(sink, negative, magnitude);
+    Ok(())
+}
+
+/// Writes a number for which there is room.
+#[tactic(auto, using(wasm_spec::proofs::UnsignedTexts::unsigned_steps))]
+pub fn put_u64(sink: &mut Vec<u8>, n: u64)
+    requires { vec_len sink.old + length (unsigned_text n) ≤ vec_capacity sink.old }
+    ensures written { sink.new.items ≡ sink.old.items ++ unsigned_text n }
     ensures capacity { vec_capacity sink.old ≤ vec_capacity sink.new }
 {
-    let second = n / 0x80;
-    let third = second / 0x80;
-    let fourth = third / 0x80;
-    let first_byte = front_byte(n);
-    if n < 0x80 {
-        return sink.extend_from_slice(&[n as u8]);
+    let mut rest = n;
+    'bytes: while rest >= 0x80 {
+        sink.push_reserved((rest % 0x80 + 0x80) as u8);
+        rest /= 0x80;
     }
-    if second < 0x80 {
-        return sink.extend_from_slice(&[first_byte, second as u8]);
+    sink.push_reserved(rest as u8);
+}
+
+/// Writes a signed number for which there is room.
+pub fn put_s64(sink: &mut Vec<u8>, n: i64)
+    requires { vec_len sink.old + length (signed_text n) ≤ vec_capacity sink.old }
+    ensures written { sink.new.items ≡ sink.old.items ++ signed_text n }
+    ensures capacity { vec_capacity sink.old ≤ vec_capacity sink.new }
+{
+    let (negative, magnitude) = parts(n);
+    put_magnitude(sink, negative, magnitude);
+}
+
+// A number as its sign and m: it is m, or where it is negative -(m + 1).
+fn parts(n: i64) -> (bool, u64)
+    ensures text { magnitude_text result.0 result.1 ≡ signed_text n }
+    ensures below { result.1 < 2 ^ 63 }
+{
+    if n < 0 {
+        (true, (-(n + 1)) as u64)
+    } else {
+        (false, n as u64)
     }
-    if third < 0x80 {
-        return sink.extend_from_slice(&[first_byte, front_byte(second), third as u8]);
+}
+
+// The low seven bits in two's complement.
+fn low_bits(negative: bool, magnitude: u64) -> u8
+    ensures bits { result ≡ low_bits negative magnitude }
+    ensures below { result < 128 }
+{
+    let low = (magnitude % 0x80) as u8;
+    if negative { 0x7f - low } else { low }
+}
+
+#[tactic(auto, using(wasm_spec::proofs::SignedTexts::signed_steps))]
+fn len_magnitude(negative: bool, magnitude: u64) -> usize
+    requires { magnitude < 2 ^ 63 }
+    ensures bytes { result ≡ length (magnitude_text negative magnitude) }
+    ensures few { result ≤ 10 }
+{
+    let mut len = 1;
+    let mut rest = magnitude;
+    'bytes: while rest >= 0x40 {
+        len += 1;
+        rest /= 0x80;
     }
-    let front = [first_byte, front_byte(second), front_byte(third)];
-    if fourth < 0x80 {
-        return sink.extend_from_slice(&[front[0], front[1], front[2], fourth as u8]);
+    len
+}
+
+#[tactic(auto, using(wasm_spec::proofs::SignedTexts::signed_steps))]
+fn put_magnitude(sink: &mut Vec<u8>, negative: bool, magnitude: u64)
+    requires { vec_len sink.old + length (magnitude_text negative magnitude) ≤ vec_capacity sink.old }
+    ensures written { sink.new.items ≡ sink.old.items ++ magnitude_text negative magnitude }
+    ensures capacity { vec_capacity sink.old ≤ vec_capacity sink.new }
+{
+    let mut rest = magnitude;
+    'bytes: while rest >= 0x40 {
+        sink.push_reserved(low_bits(negative, rest) + 0x80);
+        rest /= 0x80;
     }
-    let last = (fourth / 0x80) as u8;
-    sink.extend_from_slice(&[front[0], front[1], front[2], front_byte(fourth), last])
+    sink.push_reserved(low_bits(negative, rest));
 }

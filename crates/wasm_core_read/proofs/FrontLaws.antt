@@ -1,12 +1,13 @@
 -- From a contract by the reading function to the one by the relation.
-use Rattle.std.proofs.Common.{◌≡◌, ℕ, suc, List, [], ◌∷◌, get_or, Fits, w8, take, drop, Option, Some, Result, Ok, Err, sym, ap, subst, ◌∙◌, arith}
+use Rattle.std.proofs.Common.{◌≡◌, ℕ, suc, ℤ, List, [], ◌∷◌, get_or, Fits, w8, take, drop, Option, Some, Result, Ok, Err, sym, ap, subst, ◌∙◌, arith}
 use Rattle.std.proofs.lemmas.List.{take-append-drop}
 use Rattle.wasm_spec.specs.Bytes.{AreBytes}
 use Rattle.wasm_core_read.specs.declared.malformed.Malformed.{Malformed}
 use Rattle.wasm_core_read.specs.Input.{Input, GoesOn}
 use Rattle.wasm_core_read.specs.Laws.{ReadsExactly, Reads}
-use Rattle.wasm_core_read.specs.Reading.{Gives, unsigned_at}
+use Rattle.wasm_core_read.specs.Reading.{Gives, unsigned_at, signed_at}
 use Rattle.wasm_core_read.proofs.Forms.{some_is, parts_are, behind, unsigned_found}
+use Rattle.wasm_core_read.proofs.NumberForms.{signed_found}
 
 -- what a slice holds is bytes
 pub slice_bytes : (bytes : List ℕ) → ((k : ℕ) → Fits w8 (get_or bytes k 0)) → AreBytes bytes
@@ -30,6 +31,9 @@ reads_from IsA a_at law view old new (Err e) are h =
 -- what stands behind a number in bytes is bytes
 pub behind_number : (bits : ℕ) (bytes : List ℕ) (v : ℕ) (rest : List ℕ) → AreBytes bytes → Some (v, rest) ≡ unsigned_at bits bytes → AreBytes rest
 behind_number bits bytes v rest h e = let f = unsigned_found bits bytes v rest h (sym e) in behind bytes f.0 rest h f.1
+
+pub behind_signed : (bits : ℕ) (bytes : List ℕ) (v : ℤ) (rest : List ℕ) → AreBytes bytes → Some (v, rest) ≡ signed_at bits bytes → AreBytes rest
+behind_signed bits bytes v rest h e = let f = signed_found bits bytes v rest h (sym e) in behind bytes f.0 rest h f.1
 
 -- a part of bytes is bytes
 pub dropped : (n : ℕ) (bytes : List ℕ) → AreBytes bytes → AreBytes (drop n bytes)

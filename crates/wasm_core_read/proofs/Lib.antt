@@ -5,5 +5,7 @@ pub mod ListForms
 pub mod ListLaws
 pub mod ModuleForms
 pub mod Names
+pub mod NumberForms
+pub mod SignedLaws
 pub mod TypeForms
 pub mod UnsignedLaws

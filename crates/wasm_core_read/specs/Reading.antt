@@ -1,6 +1,7 @@
 -- Reading the front of a list of bytes, form by form. These functions are means of proof: the laws tie each to its form.
-use Rattle.std.specs.Prelude.{◌≡◌, ℕ, ◌+◌, ◌-◌, ◌*◌, ◌^◌, List, [], ◌∷◌, length, take, drop, Option, Some, None, Result, Ok, Err, nat_lt, nat_le, if◌then◌else◌}
+use Rattle.std.specs.Prelude.{◌≡◌, ℕ, ◌+◌, ◌-◌, ◌*◌, ◌^◌, ℤ, pos, negsuc, List, [], ◌∷◌, length, take, drop, Option, Some, None, Result, Ok, Err, nat_lt, nat_le, if◌then◌else◌}
 use Rattle.std.specs.Str.{is_utf8}
+use Rattle.wasm_spec.specs.Bytes.{low_first}
 use Rattle.wasm_core_read.specs.declared.malformed.Malformed.{Malformed}
 use Rattle.wasm_core_read.specs.Input.{Input, GoesOn, IsWithin}
 
@@ -37,9 +38,33 @@ unsigned_at bits (b ∷ rest) =
     then (if nat_lt b (2 ^ bits) then Some (b, rest) else None)
     else (if nat_lt 7 bits then (unsigned_at (bits - 7) rest >>= λ x. Some (b - 128 + 128 * x.0, x.1)) else None)
 
+-- what the last byte of a signed number of at most so many bits gives: the bits above these are its sign
+unfoldable pub last_signed : ℕ → ℕ → Option ℤ
+last_signed bits b =
+    if nat_lt b 64
+    then (if nat_lt b (2 ^ (bits - 1)) then Some (pos b) else None)
+    else (if nat_lt (127 - b) (2 ^ (bits - 1)) then Some (negsuc (127 - b)) else None)
+
+-- low + unit * z, where low is below unit
+abbrev pub above : ℕ → ℕ → ℤ → ℤ
+above low unit (pos n) = pos (low + n * unit)
+above low unit (negsuc n) = negsuc (n * unit + (unit - 1 - low))
+
+-- a signed number of at most so many bits
+unfoldable pub signed_at : ℕ → List ℕ → Option (ℤ × List ℕ)
+signed_at bits [] = None
+signed_at bits (b ∷ rest) =
+    if nat_lt b 128
+    then (last_signed bits b >>= λ z. Some (z, rest))
+    else (if nat_lt 7 bits then (signed_at (bits - 7) rest >>= λ x. Some (above (b - 128) 128 x.0, x.1)) else None)
+
 -- so many bytes
 unfoldable pub bytes_at : ℕ → List ℕ → Option (List ℕ × List ℕ)
 bytes_at n bytes = if nat_le n (length bytes) then Some (take n bytes, drop n bytes) else None
+
+-- the bits of a floating-point number of so many bytes
+unfoldable pub float_at : ℕ → List ℕ → Option (ℕ × List ℕ)
+float_at len bytes = bytes_at len bytes >>= λ x. Some (low_first x.0, x.1)
 
 unfoldable pub name_at : List ℕ → Option (List ℕ × List ℕ)
 name_at bytes = unsigned_at 32 bytes >>= λ n. bytes_at n.0 n.1 >>= λ x. if is_utf8 x.0 then Some x else None

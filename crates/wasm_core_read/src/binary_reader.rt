@@ -1,14 +1,15 @@
 //! A reader of the front of some bytes.
 
-ghost use Rattle.std.specs.Prelude.{◌≡◌, ℕ, ◌+◌, ◌<◌, ◌^◌, ◌↔◌, length, IsTrue};
+ghost use Rattle.std.specs.Prelude.{◌≡◌, ℕ, ◌+◌, ◌<◌, ◌≤◌, ◌^◌, ◌↔◌, length, IsTrue};
 ghost use Rattle.wasm_core_base.specs.Features.{feature_set};
-ghost use Rattle.wasm_spec.specs.Bytes.{IsOneByte, IsU32, IsBytesOf, IsName};
+ghost use Rattle.wasm_spec.specs.Bytes.{IsOneByte, IsU32, IsU64, IsS32, IsS33, IsS64, IsF32, IsF64, IsBytesOf, IsName};
 ghost use Rattle.wasm_spec.specs.Features.{default_features};
 ghost use Rattle.wasm_core_read.specs.Input.{end};
 ghost use Rattle.wasm_core_read.specs.Laws.{Reads};
-ghost use Rattle.wasm_core_read.specs.Reading.{Gives, byte_at, unsigned_at, bytes_at, name_at};
+ghost use Rattle.wasm_core_read.specs.Reading.{Gives, byte_at, unsigned_at, signed_at, bytes_at, float_at, name_at};
 
 use crate::malformed::Malformed;
+use crate::signed::signed_front;
 use crate::unsigned::unsigned_front;
 use std::marker::Model;
 use wasm_core_base::features::WasmFeatures;
@@ -116,6 +117,7 @@ impl<'a> BinaryReader<'a> {
         self.var_u32()
     }
 
+    #[inline(always)]
     fn var_u32(&mut self) -> Result<u32, Malformed>
         ensures { Gives (λ n. n) self.old self.new result (unsigned_at 32 self.old.rest) }
     {
@@ -129,6 +131,146 @@ impl<'a> BinaryReader<'a> {
                 Ok(value as u32)
             }
         }
+    }
+
+    /// Reads an unsigned number of 64 bits in LEB128, padded or not: at most ten bytes.
+    pub fn read_var_u64(&mut self) -> Result<u64, Malformed>
+        ensures exact { Gives (λ n. n) self.old self.new result (unsigned_at 64 self.old.rest) }
+        ensures reads { Reads IsU64 (λ n. n) self.old self.new result }
+    {
+        // A proof knows the invariant once a field is used.
+        let _ = &self.rest;
+        self.var_u64()
+    }
+
+    #[inline(always)]
+    fn var_u64(&mut self) -> Result<u64, Malformed>
+        ensures { Gives (λ n. n) self.old self.new result (unsigned_at 64 self.old.rest) }
+    {
+        match unsigned_front(self.rest, 64) {
+            None => Err(Malformed {
+                offset: self.position,
+            }),
+            Some((value, rest)) => {
+                self.position += (self.rest.len() - rest.len()) as u64;
+                self.rest = rest;
+                Ok(value)
+            }
+        }
+    }
+
+    /// Reads a signed number of 32 bits in LEB128, padded or not: at most five bytes.
+    pub fn read_var_i32(&mut self) -> Result<i32, Malformed>
+        ensures exact { Gives (λ n. n) self.old self.new result (signed_at 32 self.old.rest) }
+        ensures reads { Reads IsS32 (λ n. n) self.old self.new result }
+    {
+        // A proof knows the invariant once a field is used.
+        let _ = &self.rest;
+        self.var_i32()
+    }
+
+    #[inline(always)]
+    fn var_i32(&mut self) -> Result<i32, Malformed>
+        ensures { Gives (λ n. n) self.old self.new result (signed_at 32 self.old.rest) }
+    {
+        match signed_front(self.rest, 32) {
+            None => Err(Malformed {
+                offset: self.position,
+            }),
+            Some((value, rest)) => {
+                self.position += (self.rest.len() - rest.len()) as u64;
+                self.rest = rest;
+                Ok(value as i32)
+            }
+        }
+    }
+
+    /// Reads a signed number of 33 bits in LEB128, padded or not: at most five bytes.
+    pub fn read_var_s33(&mut self) -> Result<i64, Malformed>
+        ensures exact { Gives (λ n. n) self.old self.new result (signed_at 33 self.old.rest) }
+        ensures reads { Reads IsS33 (λ n. n) self.old self.new result }
+    {
+        // A proof knows the invariant once a field is used.
+        let _ = &self.rest;
+        self.signed(33)
+    }
+
+    /// Reads a signed number of 64 bits in LEB128, padded or not: at most ten bytes.
+    pub fn read_var_i64(&mut self) -> Result<i64, Malformed>
+        ensures exact { Gives (λ n. n) self.old self.new result (signed_at 64 self.old.rest) }
+        ensures reads { Reads IsS64 (λ n. n) self.old self.new result }
+    {
+        // A proof knows the invariant once a field is used.
+        let _ = &self.rest;
+        self.signed(64)
+    }
+
+    #[inline(always)]
+    fn signed(&mut self, bits: u32) -> Result<i64, Malformed>
+        requires some_bits { 0 < bits }
+        requires at_most_64 { bits ≤ 64 }
+        ensures { Gives (λ n. n) self.old self.new result (signed_at bits self.old.rest) }
+    {
+        match signed_front(self.rest, bits) {
+            None => Err(Malformed {
+                offset: self.position,
+            }),
+            Some((value, rest)) => {
+                self.position += (self.rest.len() - rest.len()) as u64;
+                self.rest = rest;
+                Ok(value)
+            }
+        }
+    }
+
+    /// Reads the bits of a floating-point number of 32 bits.
+    pub fn read_f32_bits(&mut self) -> Result<u32, Malformed>
+        ensures exact { Gives (λ n. n) self.old self.new result (float_at 4 self.old.rest) }
+        ensures reads { Reads IsF32 (λ n. n) self.old self.new result }
+    {
+        // A proof knows the invariant once a field is used.
+        let _ = &self.rest;
+        self.f32_bits()
+    }
+
+    #[inline(always)]
+    #[tactic(auto, using(crate::proofs::NumberForms::no_float, crate::proofs::NumberForms::four_bytes))]
+    fn f32_bits(&mut self) -> Result<u32, Malformed>
+        ensures { Gives (λ n. n) self.old self.new result (float_at 4 self.old.rest) }
+    {
+        let [a, b, c, d, rest @ ..] = self.rest else {
+            return Err(Malformed {
+                offset: self.position,
+            });
+        };
+        self.rest = rest;
+        self.position += 4;
+        Ok(u32::from_le_bytes([*a, *b, *c, *d]))
+    }
+
+    /// Reads the bits of a floating-point number of 64 bits.
+    pub fn read_f64_bits(&mut self) -> Result<u64, Malformed>
+        ensures exact { Gives (λ n. n) self.old self.new result (float_at 8 self.old.rest) }
+        ensures reads { Reads IsF64 (λ n. n) self.old self.new result }
+    {
+        // A proof knows the invariant once a field is used.
+        let _ = &self.rest;
+        self.f64_bits()
+    }
+
+    #[inline(always)]
+    #[tactic(auto, using(crate::proofs::NumberForms::no_float, crate::proofs::NumberForms::eight_bytes))]
+    fn f64_bits(&mut self) -> Result<u64, Malformed>
+        ensures { Gives (λ n. n) self.old self.new result (float_at 8 self.old.rest) }
+    {
+        let [a, b, c, d, e, f, g, h, rest @ ..] = self.rest else {
+            return Err(Malformed {
+                offset: self.position,
+            });
+        };
+        self.rest = rest;
+        self.position += 8;
+        Ok(u64::from_le_bytes([*a, *b, *c, *d, *e, *f, *g, *h]))
     }
 
     /// Reads so many bytes.

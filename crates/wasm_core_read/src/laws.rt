@@ -4,9 +4,9 @@
 ghost use Rattle.std.specs.Prelude.{◌≡◌, ◌++◌, [], ◌∷◌, ℕ, List};
 ghost use Rattle.wasm_core_read.specs.Laws.{ReadsExactly, FillsExactly, IsPrefixFree, IsNoModule, IsFrame, IsValTypes, IsFuncTypes, IsIndexes, IsRecGroups, IsBodies};
 ghost use Rattle.wasm_core_read.specs.ModuleReading.{body_at, frame_at, section_at, module_of};
-ghost use Rattle.wasm_core_read.specs.Reading.{byte_at, unsigned_at, bytes_at, name_at};
+ghost use Rattle.wasm_core_read.specs.Reading.{byte_at, unsigned_at, signed_at, bytes_at, float_at, name_at};
 ghost use Rattle.wasm_core_read.specs.TypeReading.{list_at, val_type_at, func_type_at, func_group, rec_group_at};
-ghost use Rattle.wasm_spec.specs.Bytes.{IsOneByte, IsUnsigned, IsBytesOf, IsName};
+ghost use Rattle.wasm_spec.specs.Bytes.{IsOneByte, IsUnsigned, IsSigned, IsBytesOf, IsFloatBits, IsName};
 ghost use Rattle.wasm_spec.specs.Grammar.{header, IsBody, IsSection, IsModule};
 ghost use Rattle.wasm_spec.specs.Syntax.{Section, Custom, TypeSection, FunctionSection, CodeSection};
 ghost use Rattle.wasm_spec.specs.TypeGrammar.{IsValType, IsFuncType, IsRecGroup};
@@ -15,7 +15,9 @@ ghost use Rattle.wasm_spec.specs.TypeGrammar.{IsValType, IsFuncType, IsRecGroup}
 pub fn reads_exactly()
     ensures byte { ReadsExactly IsOneByte byte_at }
     ensures number { (bits : ℕ) → ReadsExactly (IsUnsigned bits) (unsigned_at bits) }
+    ensures signed { (bits : ℕ) → ReadsExactly (IsSigned bits) (signed_at bits) }
     ensures bytes { (n : ℕ) → ReadsExactly (IsBytesOf n) (bytes_at n) }
+    ensures float { (len : ℕ) → ReadsExactly (IsFloatBits len) (float_at len) }
     ensures name { ReadsExactly IsName name_at }
     ensures val_type { ReadsExactly IsValType val_type_at }
     ensures func_type { ReadsExactly IsFuncType func_type_at }
@@ -39,6 +41,8 @@ pub fn reads_lists()
 pub fn prefix_free()
     ensures byte { IsPrefixFree IsOneByte }
     ensures number { (bits : ℕ) → IsPrefixFree (IsUnsigned bits) }
+    ensures signed { (bits : ℕ) → IsPrefixFree (IsSigned bits) }
+    ensures float { (len : ℕ) → IsPrefixFree (IsFloatBits len) }
     ensures name { IsPrefixFree IsName }
     ensures val_type { IsPrefixFree IsValType }
     ensures func_type { IsPrefixFree IsFuncType }

@@ -4,8 +4,9 @@ ghost use Rattle.std.specs.Prelude.{◌≡◌, ◌<◌, ◌≤◌, ◌^◌, nat_
 ghost use Rattle.std.specs.Option.{option_map};
 ghost use Rattle.wasm_core_read.specs.Reading.{unsigned_at};
 
-// Whether a byte has so few bits.
-fn has_bits(byte: u8, bits: u32) -> bool
+/// Whether a byte has so few bits.
+#[inline(always)]
+pub fn has_bits(byte: u8, bits: u32) -> bool
     requires { byte < 128 }
     ensures { result ≡ nat_lt byte (2 ^ bits) }
 {
@@ -13,7 +14,25 @@ fn has_bits(byte: u8, bits: u32) -> bool
 }
 
 /// The number of at most so many bits at the front, and the bytes behind it.
+#[inline(always)]
+#[tactic(auto, unfolding(crate::specs::Reading::unsigned_at))]
 pub fn unsigned_front(bytes: &[u8], bits: u32) -> Option<(u64, &[u8])>
+    requires some_bits { 0 < bits }
+    requires at_most_64 { bits ≤ 64 }
+    ensures read { option_map (λ x. (x.0, x.1.now)) result ≡ unsigned_at bits bytes.now }
+    ensures below { IfSome result (λ x. x.0 < 2 ^ bits) }
+    ensures shorter { IfSome result (λ x. length x.1.now ≤ length bytes.now) }
+{
+    match bytes {
+        [byte, rest @ ..] if *byte < 128 && has_bits(*byte, bits) => {
+            Some((u64::from(*byte), rest))
+        }
+        _ => many_bytes(bytes, bits),
+    }
+}
+
+#[inline(never)]
+fn many_bytes(bytes: &[u8], bits: u32) -> Option<(u64, &[u8])>
     requires some_bits { 0 < bits }
     requires at_most_64 { bits ≤ 64 }
     ensures read { option_map (λ x. (x.0, x.1.now)) result ≡ unsigned_at bits bytes.now }

@@ -1,5 +1,6 @@
 -- What is promised of a module that is generated, and why none is.
 use Rattle.std.specs.Prelude.{◌≡◌, ⊤, ℕ, true, List, []}
+use Rattle.wasm_core.specs.EncodeErrorCases as encoding
 use Rattle.wasm_core.specs.LimitCases as limits
 use Rattle.wasm_core.specs.Limits.{limit}
 use Rattle.wasm_core.specs.Types as core
@@ -26,6 +27,11 @@ told (smith.BadShape part) = Shape part
 told smith.TypeSize = TypeSize
 told smith.Memory = Memory
 told smith.TooLong = Limit limits.Length
+
+-- the error that tells of one of writing
+abbrev pub unwritten : core.EncodeError → GenerateError
+unwritten encoding.Memory = Memory
+unwritten encoding.TooLong = Limit limits.Length
 
 -- What is generated from these bytes for a configuration that was put in order, and is good: what is drawn from them.
 pub record IsGeneratedFrom (c : Config) (seed bytes : List ℕ) : Type 0 where

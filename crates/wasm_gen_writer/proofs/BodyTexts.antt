@@ -5,21 +5,27 @@ use Rattle.wasm_spec.specs.Bytes.{IsByte, AreBytes, IsBytes}
 use Rattle.wasm_spec.specs.Grammar.{IsBody}
 use Rattle.wasm_spec.specs.Types.{ValType}
 use Rattle.wasm_smith.specs.Plain.{IsPlain}
-use Rattle.wasm_gen_writer.specs.Texts.{list_text, run_text, runs_of, body_text, entry_text}
+use Rattle.wasm_spec.specs.Shortest.{list_text}
+use Rattle.wasm_spec.proofs.ListTexts.{framed_length}
+use Rattle.wasm_spec.proofs.UnsignedTexts.{at_most_five}
+use Rattle.wasm_gen_writer.specs.Texts.{run_text, runs_of, body_text, entry_text}
 use Rattle.wasm_gen_writer.specs.Written.{IsUnreachableBody, AreUnreachableBodies}
-use Rattle.wasm_gen_writer.proofs.Forms.{all_append, frame_is, framed_length}
-use Rattle.wasm_gen_writer.proofs.Runs.{runs_are, runs_are_merged, runs_text_is, runs_bytes, runs_length}
+use Rattle.wasm_gen_writer.proofs.Forms.{all_append, frame_is}
+use Rattle.wasm_gen_writer.proofs.RunTexts.{runs_are, runs_are_merged, runs_text_is, runs_bytes, runs_length}
 
 -- the types of few locals, all plain
 abbrev pub AreFewPlain : List (ValType ℕ) → Type 0
 AreFewPlain locals = (length locals ≤ 100) × AllByRecursion IsPlain locals
 
-pub body_length : (locals : List (ValType ℕ)) → length locals ≤ 100 → length (body_text locals) ≤ 607
+pub body_length : (locals : List (ValType ℕ)) → AreFewPlain locals → length (body_text locals) ≤ 607
 unfolding body_text
-body_length locals few = omega (arith, few, runs_length locals, length-append (list_text run_text (runs_of locals)) (0x00 ∷ 0x0b ∷ []))
+body_length locals h = omega (arith, h.0, runs_length locals h.1 (omega (arith, h.0)), length-append (list_text run_text (runs_of locals)) (0x00 ∷ 0x0b ∷ []))
 
-pub entry_length : (locals : List (ValType ℕ)) → length locals ≤ 100 → length (entry_text locals) ≤ 612
-entry_length locals few = omega (arith, body_length locals few, framed_length (body_text locals))
+pub entry_length : (locals : List (ValType ℕ)) → AreFewPlain locals → length (entry_text locals) ≤ 612
+unfolding entry_text
+entry_length locals h =
+    let most = body_length locals h in
+    omega (arith, most, framed_length (body_text locals), at_most_five (length (body_text locals)) (omega (arith, most)))
 
 body_bytes : (locals : List (ValType ℕ)) → AreFewPlain locals → AreBytes (body_text locals)
 unfolding body_text
@@ -27,7 +33,8 @@ body_bytes locals h =
     all_append IsByte (list_text run_text (runs_of locals)) (0x00 ∷ 0x0b ∷ []) (runs_bytes locals h.1 (omega (arith, h.0))) (omega arith, (omega arith, tt))
 
 pub entry_is : (locals : List (ValType ℕ)) → AreFewPlain locals → IsBody (entry_text locals) (body_text locals)
-entry_is locals h = frame_is IsBytes (body_text locals) (body_text locals) (body_bytes locals h, refl) (omega (arith, body_length locals h.0))
+unfolding entry_text
+entry_is locals h = frame_is IsBytes (body_text locals) (body_text locals) (body_bytes locals h, refl) (omega (arith, body_length locals h))
 
 body_is : (locals : List (ValType ℕ)) → AreFewPlain locals → IsUnreachableBody locals (body_text locals)
 unfolding body_text

@@ -1,14 +1,14 @@
 -- Lists and frames of texts.
 use Rattle.std.proofs.Common.{◌≡◌, ℕ, zero, suc, ◌+◌, ◌*◌, ◌^◌, ◌<◌, ◌≤◌, List, [], ◌∷◌, ◌++◌, length, map, Some, refl, sym, subst, ap, arith, length-append}
-use Rattle.std.specs.List.{AllByRecursion, slice_get}
+use Rattle.std.specs.List.{AllByRecursion, flat_map, slice_get}
 use Rattle.std.specs.Option.{unwrap_or}
 use Rattle.std.proofs.lemmas.List.{length-map, map-id}
 use Rattle.wasm_spec.specs.Bytes.{IsByte, AreBytes, IsU32, IsItems, IsList, IsFramed}
 use Rattle.wasm_spec.specs.Grammar.{IsContent, IsSection, section_id}
 use Rattle.wasm_spec.specs.Syntax.{Section}
-use Rattle.wasm_core.specs.Shortest.{shortest_u32}
-use Rattle.wasm_gen_writer.specs.Texts.{texts, list_text, framed_text, section_text}
-use Rattle.wasm_gen_writer.proofs.Numbers.{number_length, number_spells, number_bytes}
+use Rattle.wasm_spec.specs.Shortest.{unsigned_text, list_text, framed_text, section_text}
+use Rattle.wasm_spec.proofs.UnsignedTexts.{at_most_five}
+use Rattle.wasm_gen_writer.proofs.Numbers.{number_spells, number_bytes}
 
 -- ---- what holds of each
 
@@ -36,18 +36,17 @@ all_at P (y ∷ ys) (suc i) x h e = all_at P ys i x h.1 e
 -- ---- the grammar
 
 items_are : {A B : Type 0} (IsA : List ℕ → A → Type 0) (text : B → List ℕ) (view : B → A) (P : B → Type 0) → ((x : B) → P x → IsA (text x) (view x))
-    → (xs : List B) → AllByRecursion P xs → IsItems IsA (texts text xs) (map view xs)
-unfolding texts
+    → (xs : List B) → AllByRecursion P xs → IsItems IsA (flat_map text xs) (map view xs)
 items_are IsA text view P law [] h = refl
-items_are IsA text view P law (x ∷ xs) h = (text x, texts text xs, refl, law x h.0, items_are IsA text view P law xs h.1)
+items_are IsA text view P law (x ∷ xs) h = (text x, flat_map text xs, refl, law x h.0, items_are IsA text view P law xs h.1)
 
 -- a list, whose items have a view
 pub views_are : {A B : Type 0} (IsA : List ℕ → A → Type 0) (text : B → List ℕ) (view : B → A) (P : B → Type 0) → ((x : B) → P x → IsA (text x) (view x))
     → (xs : List B) → AllByRecursion P xs → length xs < 2 ^ 32 → IsList IsA (list_text text xs) (map view xs)
 unfolding list_text
 views_are IsA text view P law xs h few =
-    let counted = subst (λ n. IsU32 (shortest_u32 (length xs)) n) (sym (length-map xs view)) (number_spells (length xs) few) in
-    (shortest_u32 (length xs), texts text xs, refl, counted, items_are IsA text view P law xs h)
+    let counted = subst (λ n. IsU32 (unsigned_text (length xs)) n) (sym (length-map xs view)) (number_spells (length xs) few) in
+    (unsigned_text (length xs), flat_map text xs, refl, counted, items_are IsA text view P law xs h)
 
 -- a list of the items themselves
 pub list_is : {A : Type 0} (IsA : List ℕ → A → Type 0) (text : A → List ℕ) (P : A → Type 0) → ((x : A) → P x → IsA (text x) x)
@@ -57,22 +56,21 @@ list_is IsA text P law xs h few =
 
 pub frame_is : {A : Type 0} (IsA : List ℕ → A → Type 0) (content : List ℕ) (x : A) → IsA content x → length content < 2 ^ 32 → IsFramed IsA (framed_text content) x
 unfolding framed_text
-frame_is IsA content x h few = (shortest_u32 (length content), content, refl, number_spells (length content) few, h)
+frame_is IsA content x h few = (unsigned_text (length content), content, refl, number_spells (length content) few, h)
 
 pub section_is : (content : List ℕ) (section : Section) → IsContent content section → length content < 2 ^ 32 → IsSection (section_text (section_id section) content) section
 unfolding section_text
 section_is content section h few = (framed_text content, refl, frame_is IsContent content section h few)
 
-texts_bytes : {A : Type 0} (text : A → List ℕ) (P : A → Type 0) → ((x : A) → P x → AreBytes (text x)) → (xs : List A) → AllByRecursion P xs → AreBytes (texts text xs)
-unfolding texts
+texts_bytes : {A : Type 0} (text : A → List ℕ) (P : A → Type 0) → ((x : A) → P x → AreBytes (text x)) → (xs : List A) → AllByRecursion P xs → AreBytes (flat_map text xs)
 texts_bytes text P law [] h = tt
-texts_bytes text P law (x ∷ xs) h = all_append IsByte (text x) (texts text xs) (law x h.0) (texts_bytes text P law xs h.1)
+texts_bytes text P law (x ∷ xs) h = all_append IsByte (text x) (flat_map text xs) (law x h.0) (texts_bytes text P law xs h.1)
 
 pub list_bytes : {A : Type 0} (text : A → List ℕ) (P : A → Type 0) → ((x : A) → P x → AreBytes (text x))
     → (xs : List A) → AllByRecursion P xs → length xs < 2 ^ 32 → AreBytes (list_text text xs)
 unfolding list_text
 list_bytes text P law xs h few =
-    all_append IsByte (shortest_u32 (length xs)) (texts text xs) (number_bytes (length xs) few) (texts_bytes text P law xs h)
+    all_append IsByte (unsigned_text (length xs)) (flat_map text xs) (number_bytes (length xs) few) (texts_bytes text P law xs h)
 
 -- ---- lengths
 
@@ -80,18 +78,13 @@ one_more : (most n : ℕ) → most + most * n ≡ most * suc n
 one_more most n = omega arith
 
 texts_length : {A : Type 0} (text : A → List ℕ) (P : A → Type 0) (most : ℕ) → ((x : A) → P x → length (text x) ≤ most)
-    → (xs : List A) → AllByRecursion P xs → length (texts text xs) ≤ most * length xs
-unfolding texts
+    → (xs : List A) → AllByRecursion P xs → length (flat_map text xs) ≤ most * length xs
 texts_length text P most law [] h = omega arith
 texts_length text P most law (x ∷ xs) h =
-    omega (arith, length-append (text x) (texts text xs), law x h.0, texts_length text P most law xs h.1, one_more most (length xs))
+    omega (arith, length-append (text x) (flat_map text xs), law x h.0, texts_length text P most law xs h.1, one_more most (length xs))
 
 pub list_length : {A : Type 0} (text : A → List ℕ) (P : A → Type 0) (most : ℕ) → ((x : A) → P x → length (text x) ≤ most)
-    → (xs : List A) → AllByRecursion P xs → length (list_text text xs) ≤ 5 + most * length xs
+    → (xs : List A) → AllByRecursion P xs → length xs < 2 ^ 32 → length (list_text text xs) ≤ 5 + most * length xs
 unfolding list_text
-list_length text P most law xs h =
-    omega (arith, length-append (shortest_u32 (length xs)) (texts text xs), number_length (length xs), texts_length text P most law xs h)
-
-pub framed_length : (content : List ℕ) → length (framed_text content) ≤ 5 + length content
-unfolding framed_text
-framed_length content = omega (arith, length-append (shortest_u32 (length content)) content, number_length (length content))
+list_length text P most law xs h few =
+    omega (arith, length-append (unsigned_text (length xs)) (flat_map text xs), at_most_five (length xs) few, texts_length text P most law xs h)

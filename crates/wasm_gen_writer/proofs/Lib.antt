@@ -3,7 +3,7 @@ mod Forms
 mod Generated
 mod Judged
 mod Numbers
-mod Runs
+mod RunTexts
 mod SectionTexts
 mod TypeTexts
 pub mod Validity

@@ -5,9 +5,12 @@ use Rattle.wasm_spec.specs.TypeGrammar.{heap_code, IsValType}
 use Rattle.wasm_spec.specs.Types.{AbstractHeapType, Func, Extern, Any, None, NoExtern, NoFunc, Eq, Struct, Array, I31, Exn, NoExn, Cont, NoCont, Abstract, Concrete, ValType, I32, I64, F32, F64, V128, Ref}
 use Rattle.wasm_core.specs.TypeReading.{look_up, val_type_codes}
 use Rattle.wasm_smith.specs.Plain.{IsPlain}
-use Rattle.wasm_gen_writer.specs.Texts.{val_code, val_text}
+use Rattle.wasm_spec.specs.Bytes.{AreBytes}
+use Rattle.wasm_spec.specs.TypeTexts.{heap_text, ref_text, val_text}
+use Rattle.wasm_gen_writer.specs.Texts.{val_code}
 
 pub value_is : (type : ValType ℕ) → IsPlain type → IsValType (val_text type) type
+unfolding val_text ref_text heap_text
 value_is I32 h = refl
 value_is I64 h = refl
 value_is F32 h = refl
@@ -27,6 +30,9 @@ value_length text V128 h = ap length h
 value_length text (Ref nullable (Abstract heap)) h = ap length h.1
 value_length text (Ref nullable (Concrete index)) h = absurd h.1
 
+pub plain_length : (type : ValType ℕ) → IsPlain type → length (val_text type) ≡ 1
+plain_length type h = value_length (val_text type) type (value_is type h)
+
 heap_is_byte : (heap : AbstractHeapType) → heap_code heap < 256
 heap_is_byte NoCont = omega arith
 heap_is_byte NoExn = omega arith
@@ -43,15 +49,17 @@ heap_is_byte Array = omega arith
 heap_is_byte Exn = omega arith
 heap_is_byte Cont = omega arith
 
-pub code_is_byte : (type : ValType ℕ) → val_code type < 256
-code_is_byte I32 = omega arith
-code_is_byte I64 = omega arith
-code_is_byte F32 = omega arith
-code_is_byte F64 = omega arith
-code_is_byte V128 = omega arith
-code_is_byte (Ref true (Abstract heap)) = heap_is_byte heap
-code_is_byte (Ref true (Concrete index)) = omega arith
-code_is_byte (Ref false heap) = omega arith
+-- the byte of a plain type is all of its text
+pub value_bytes : (type : ValType ℕ) → IsPlain type → AreBytes (val_text type)
+unfolding val_text ref_text heap_text
+value_bytes I32 h = (omega arith, tt)
+value_bytes I64 h = (omega arith, tt)
+value_bytes F32 h = (omega arith, tt)
+value_bytes F64 h = (omega arith, tt)
+value_bytes V128 h = (omega arith, tt)
+value_bytes (Ref true (Abstract heap)) h = (heap_is_byte heap, tt)
+value_bytes (Ref false (Abstract heap)) h = absurd cc
+value_bytes (Ref nullable (Concrete index)) h = absurd h
 
 heap_found : (heap : AbstractHeapType) → look_up val_type_codes (heap_code heap) ≡ Some (Ref true (Abstract heap))
 heap_found NoCont = refl

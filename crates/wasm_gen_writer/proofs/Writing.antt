@@ -1,64 +1,130 @@
--- Texts one behind the other, as loops write them.
-use Rattle.std.proofs.Common.{◌≡◌, ◌≢◌, ℕ, zero, suc, ◌+◌, ◌<◌, ◌≤◌, List, [], ◌∷◌, ◌++◌, length, map, Result, Ok, Err, get_or, drop, refl, sym, ap, ◌∙◌, arith, append_assoc, length-append, add-one, inl, inr}
-use Rattle.std.specs.Bool.{if◌then◌else◌}
-use Rattle.std.specs.List.{AllByRecursion}
-use Rattle.std.specs.Result.{OnOk, is_ok}
-use Rattle.std.proofs.lemmas.Bool.{cases_eq}
-use Rattle.std.proofs.lemmas.List.{append-nil, drop_all, drop_more, get_or_default, length-map, nil_from_length}
+-- Runs, bodies and entries, as loops measure and write them.
+use Rattle.std.proofs.Common.{◌≡◌, ◌≢◌, ◌↔◌, ℕ, zero, suc, true, false, eqb, ◌+◌, ◌<◌, ◌≤◌, ◌^◌, List, [], ◌∷◌, ◌++◌, length, map, get_or, Vec, Option, None, Some, Result, Err, IfNone, refl, sym, ap, ◌∙◌, arith, append_assoc, length-append}
+use Rattle.std.proofs.lemmas.Bool.{eqb-true}
+use Rattle.std.proofs.lemmas.List.{append-nil}
+use Rattle.std.specs.List.{AllByRecursion, flat_map}
 use Rattle.wasm_spec.specs.Bodies.{Run}
+use Rattle.wasm_spec.specs.Shortest.{unsigned_text, list_text, framed_text, section_text}
 use Rattle.wasm_spec.specs.Types.{ValType}
 use Rattle.wasm_core.specs.CoreTypes.{val_type}
+use Rattle.wasm_core.specs.EncodeErrorCases as errors
+use Rattle.wasm_core.specs.Encoding.{Measures}
 use Rattle.wasm_core.specs.Types as core
-use Rattle.wasm_core.specs.ValTypeCases.{I32}
-use Rattle.wasm_core.specs.Shortest.{shortest_u32}
-use Rattle.wasm_gen_writer.specs.Texts.{texts, list_text, val_code, run_text, runs_from, runs_of, body_text}
-use Rattle.wasm_gen_writer.proofs.Runs.{run_joins, run_ends}
+use Rattle.wasm_core.proofs.WritingLaws.{list_mapped}
+use Rattle.wasm_gen_writer.specs.Texts.{val_code, run_text, runs_from, runs_of, body_text, entry_text, text_unless_empty}
+use Rattle.wasm_gen_writer.specs.Measured.{MeasuresBody}
+use Rattle.wasm_gen_writer.proofs.RunTexts.{run_joins, run_ends}
 
--- a text in parts
-pub ruleset parts = (append_assoc, length-append)
+-- ---- the first run
 
--- what is appended where nothing fails
-pub appended : {T E : Type 0} (r : Result T E) (new a b : List ℕ) → new ≡ (if is_ok r then a else b) → OnOk r (new ≡ a)
-appended (Ok x) new a b e = e
-appended (Err x) new a b e = tt
+-- the runs of so many locals of a type, and these behind them
+abbrev pub runs_before : ℕ → core.ValType → List core.ValType → List Run
+runs_before count kind rest = runs_from count (val_type kind) (map val_type rest)
 
--- ---- lists, whose items have a view
+pub runs_begin : (locals others : List core.ValType) (first : core.ValType) → locals ≡ first ∷ others → runs_before 1 first others ≡ runs_of (map val_type locals)
+unfolding runs_of
+runs_begin locals others first e = rw e refl
 
--- an item is written
-pub writes_view : {A B : Type 0} (text : B → List ℕ) (view : A → B) (xs : List A) (i : ℕ) (x : A) (old new : List ℕ) → i < length xs → x ≡ get_or xs i x
-    → new ≡ old ++ text (view x) → new ++ texts text (map view (drop (i + 1) xs)) ≡ old ++ texts text (map view (drop i xs))
-unfolding texts
-writes_view text view xs i x old new h e added = rw (drop_more xs i x h, ← e, added, append_assoc) refl
+pub next_joins : (count : ℕ) (kind next : core.ValType) (rest behind : List core.ValType) → rest ≡ next ∷ behind → val_code (val_type next) ≡ val_code (val_type kind)
+    → runs_before (count + 1) kind behind ≡ runs_before count kind rest
+next_joins count kind next rest behind e same = rw e (sym (run_joins count (val_type kind) (val_type next) (map val_type behind) same))
 
--- all items are written
-pub all_views : {A B : Type 0} (text : B → List ℕ) (view : A → B) (xs : List A) (i : ℕ) (front : List ℕ) → length xs ≤ i → front ++ texts text (map view (drop i xs)) ≡ front
-unfolding texts
-all_views text view xs i front h = rw (drop_all i xs h) (append-nil front)
+pub next_ends : (count : ℕ) (kind next : core.ValType) (rest behind : List core.ValType) → rest ≡ next ∷ behind → val_code (val_type next) ≢ val_code (val_type kind)
+    → runs_before count kind rest ≡ record { count = count; type = val_type kind } ∷ runs_of (map val_type rest)
+unfolding runs_of
+next_ends count kind next rest behind e differ = rw e (run_ends count (val_type kind) (val_type next) (map val_type behind) differ)
 
--- the number of items is written
-pub begins_views : {A B : Type 0} (text : B → List ℕ) (view : A → B) (xs : List A) (front : List ℕ)
-    → (front ++ shortest_u32 (length xs)) ++ texts text (map view xs) ≡ front ++ list_text text (map view xs)
-unfolding list_text
-begins_views text view xs front = rw (length-map xs view, append_assoc) refl
+pub last_run : (count : ℕ) (kind : core.ValType) (rest : List core.ValType) → rest ≡ [] → runs_before count kind rest ≡ record { count = count; type = val_type kind } ∷ runs_of (map val_type rest)
+unfolding runs_from runs_of
+last_run count kind rest e = rw e refl
 
--- ---- lists of the items themselves
+pub no_runs : (locals : List core.ValType) → locals ≡ [] → runs_of (map val_type locals) ≡ []
+unfolding runs_of
+no_runs locals e = rw e refl
 
-pub writes_item : {A : Type 0} (text : A → List ℕ) (xs : List A) (i : ℕ) (x : A) (old new : List ℕ) → i < length xs → x ≡ get_or xs i x
-    → new ≡ old ++ text x → new ++ texts text (drop (i + 1) xs) ≡ old ++ texts text (drop i xs)
-unfolding texts
-writes_item text xs i x old new h e added = rw (drop_more xs i x h, ← e, added, append_assoc) refl
+-- ---- one run behind the other
 
-pub all_items : {A : Type 0} (text : A → List ℕ) (xs : List A) (i : ℕ) (front : List ℕ) → length xs ≤ i → front ++ texts text (drop i xs) ≡ front
-unfolding texts
-all_items text xs i front h = rw (drop_all i xs h) (append-nil front)
+pub next_text : (runs others : List Run) (run : Run) (front : List ℕ) → runs ≡ run ∷ others → (front ++ run_text run) ++ flat_map run_text others ≡ front ++ flat_map run_text runs
+next_text runs others run front e = rw (e, append_assoc) refl
 
-pub begins_items : {A : Type 0} (text : A → List ℕ) (xs : List A) (front : List ℕ) → (front ++ shortest_u32 (length xs)) ++ texts text xs ≡ front ++ list_text text xs
-unfolding list_text
-begins_items text xs front = rw append_assoc refl
+pub next_length : (runs others : List Run) (run : Run) → runs ≡ run ∷ others → length (flat_map run_text runs) ≡ length (run_text run) + length (flat_map run_text others)
+next_length runs others run e = rw e (length-append (run_text run) (flat_map run_text others))
 
--- an item that is copied
-pub here : {A : Type 0} (xs : List A) (i : ℕ) (d : A) → i < length xs → get_or xs i d ≡ get_or xs i (get_or xs i d)
-here xs i d h = get_or_default xs i d (get_or xs i d) h
+-- ---- bodies and entries
+
+pub body_length_is : (locals : List (ValType ℕ)) → length (body_text locals) ≡ length (flat_map run_text (runs_of locals)) + length (unsigned_text (length (runs_of locals))) + 2
+unfolding body_text list_text
+body_length_is locals = omega (
+  arith,
+  length-append (unsigned_text (length (runs_of locals)) ++ flat_map run_text (runs_of locals)) (0x00 ∷ 0x0b ∷ []),
+  length-append (unsigned_text (length (runs_of locals))) (flat_map run_text (runs_of locals)),
+)
+
+pub entry_length_is : (locals : List (ValType ℕ)) → length (entry_text locals) ≡ length (body_text locals) + length (unsigned_text (length (body_text locals)))
+unfolding entry_text framed_text
+entry_length_is locals = omega (arith, length-append (unsigned_text (length (body_text locals))) (body_text locals))
+
+body_parts : (locals : List (ValType ℕ)) → unsigned_text (length (runs_of locals)) ++ (flat_map run_text (runs_of locals) ++ (0x00 ∷ 0x0b ∷ [])) ≡ body_text locals
+unfolding body_text list_text
+body_parts locals = sym (append_assoc (unsigned_text (length (runs_of locals))) (flat_map run_text (runs_of locals)) (0x00 ∷ 0x0b ∷ []))
+
+one_list : (front a b c d e : List ℕ) → ((((front ++ a) ++ b) ++ c) ++ d) ++ e ≡ front ++ (a ++ (b ++ (c ++ (d ++ e))))
+one_list front a b c d e = simp append_assoc
+
+pub entry_parts : (locals : List (ValType ℕ)) (old : List ℕ)
+    → ((((old ++ unsigned_text (length (body_text locals))) ++ unsigned_text (length (runs_of locals))) ++ flat_map run_text (runs_of locals)) ++ 0x00 ∷ []) ++ 0x0b ∷ []
+    ≡ old ++ entry_text locals
+unfolding entry_text framed_text
+entry_parts locals old =
+    one_list old (unsigned_text (length (body_text locals))) (unsigned_text (length (runs_of locals))) (flat_map run_text (runs_of locals)) (0x00 ∷ []) (0x0b ∷ [])
+    ∙ ap (λ l. old ++ (unsigned_text (length (body_text locals)) ++ l)) (body_parts locals)
+
+-- a body that is not measured is too long, as a part of it is
+pub refused : (locals : List (ValType ℕ)) (e : core.EncodeError) (n : ℕ) → Measures (Err e) n n → n ≤ length (body_text locals) → MeasuresBody locals (Err e)
+refused locals errors.Memory n h within = absurd h
+refused locals errors.TooLong n h within = omega (arith, h, within)
+
+abbrev refusal : (A : Type 0) → core.EncodeError → Result A core.EncodeError
+refusal A e = Err e
+
+-- what is not written, though it is short, wants memory
+pub memory_alone : {A : Type 0} (e : core.EncodeError) (n : ℕ) → ((refusal A e ≡ refusal A errors.TooLong) ↔ (2 ^ 32 ≤ n)) → n < 2 ^ 32 → e ≡ errors.Memory
+memory_alone errors.Memory n h short = refl
+memory_alone errors.TooLong n h short = absurd (omega (arith, h.0 refl, short))
+
+pub always : {A : Type 0} (o : Option A) (P : Type 0) → P → IfNone o P
+always None P p = p
+always (Some x) P p = tt
+
+pub bodies_mapped : {Z : Type 0} (locals : List (Vec core.ValType Z))
+    → list_text (λ ls. entry_text (map val_type ls.items)) locals ≡ list_text entry_text (map (λ ls. map val_type ls.items) locals)
+bodies_mapped locals = list_mapped entry_text (λ ls. map val_type ls.items) locals
+
+-- ---- sections
+
+pub some_items : {A : Type 0} (items : List A) (n id : ℕ) (content front : List ℕ) → length items ≡ n → eqb n 0 ≡ false
+    → front ++ id ∷ framed_text content ≡ front ++ text_unless_empty items (section_text id content)
+unfolding section_text
+some_items [] zero id content front e test = absurd cc
+some_items [] (suc n) id content front e test = absurd (omega (arith, e))
+some_items (item ∷ items) n id content front e test = refl
+
+pub no_items : {A : Type 0} (items : List A) (n : ℕ) (text front : List ℕ) → length items ≡ n → eqb n 0 ≡ true → front ≡ front ++ text_unless_empty items text
+no_items [] n text front e test = sym (append-nil front)
+no_items (item ∷ items) n text front e test = absurd (omega (arith, e, eqb-true n 0 test))
+
+-- the function section and the code section
+pub two_sections : {A : Type 0} (items : List A) (n : ℕ) (funcs code front : List ℕ) → length items ≡ n → eqb n 0 ≡ false
+    → (front ++ 3 ∷ framed_text funcs) ++ 10 ∷ framed_text code ≡ front ++ (text_unless_empty items (section_text 3 funcs) ++ text_unless_empty items (section_text 10 code))
+unfolding section_text
+two_sections [] zero funcs code front e test = absurd cc
+two_sections [] (suc n) funcs code front e test = absurd (omega (arith, e))
+two_sections (item ∷ items) n funcs code front e test = append_assoc front (3 ∷ framed_text funcs) (10 ∷ framed_text code)
+
+pub no_sections : {A : Type 0} (items : List A) (n : ℕ) (funcs code front : List ℕ) → length items ≡ n → eqb n 0 ≡ true
+    → front ≡ front ++ (text_unless_empty items funcs ++ text_unless_empty items code)
+no_sections [] n funcs code front e test = sym (append-nil front)
+no_sections (item ∷ items) n funcs code front e test = absurd (omega (arith, e, eqb-true n 0 test))
 
 -- what holds of each holds of the one at a place
 pub holds_at : {A B : Type 0} (P : B → Type 0) (view : A → B) (xs : List A) (i : ℕ) (x : A) → AllByRecursion P (map view xs) → i < length xs → x ≡ get_or xs i x → P (view x)
@@ -66,66 +132,8 @@ holds_at P view [] i x h within e = absurd (omega (arith, within))
 holds_at P view (y ∷ ys) zero x h within e = rw e h.0
 holds_at P view (y ∷ ys) (suc i) x h within e = holds_at P view ys i x h.1 (omega (arith, within)) e
 
-pub ruleset list_steps = (all_views, begins_views, all_items, begins_items)
+pub ruleset run_steps = (runs_begin, no_runs)
 
--- ---- runs
+pub ruleset body_steps = (next_text, next_length, body_length_is)
 
--- the runs of so many locals of a type, and those from a place on
-abbrev pub runs_at : ℕ → core.ValType → List core.ValType → ℕ → List Run
-runs_at count kind xs i = runs_from count (val_type kind) (map val_type (drop i xs))
-
-pub runs_begin : (locals others : List core.ValType) (first : core.ValType) → locals ≡ first ∷ others → runs_of (map val_type locals) ≡ runs_at 1 first others 0
-unfolding runs_of
-runs_begin locals others first e = rw e refl
-
-pub next_joins : (count : ℕ) (kind : core.ValType) (xs : List core.ValType) (i : ℕ) → i < length xs → val_code (val_type (get_or xs i I32)) ≡ val_code (val_type kind)
-    → runs_at count kind xs i ≡ runs_at (count + 1) kind xs (i + 1)
-next_joins count kind xs i h e =
-    rw (drop_more xs i I32 h) (run_joins count (val_type kind) (val_type (get_or xs i I32)) (map val_type (drop (i + 1) xs)) e)
-
-pub next_ends : (count : ℕ) (kind : core.ValType) (xs : List core.ValType) (i : ℕ) → i < length xs → val_code (val_type (get_or xs i I32)) ≢ val_code (val_type kind)
-    → runs_at count kind xs i ≡ record { count = count; type = val_type kind } ∷ runs_at 1 (get_or xs i I32) xs (i + 1)
-next_ends count kind xs i h d =
-    rw (drop_more xs i I32 h) (run_ends count (val_type kind) (val_type (get_or xs i I32)) (map val_type (drop (i + 1) xs)) d)
-
-pub last_run : (count : ℕ) (kind : core.ValType) (xs : List core.ValType) (i : ℕ) → length xs ≤ i
-    → runs_at count kind xs i ≡ record { count = count; type = val_type kind } ∷ []
-unfolding runs_from
-last_run count kind xs i h = rw (drop_all i xs h) refl
-
--- how many runs there are does not hang on how long the first one is
-same_many : (a b : ℕ) (type : ValType ℕ) (others : List (ValType ℕ)) → length (runs_from a type others) ≡ length (runs_from b type others)
-unfolding runs_from
-same_many a b type [] = refl
-same_many a b type (next ∷ others) = elim (cases_eq (val_code next) (val_code type)) [
-  | inl e ↦ rw (run_joins a type next others e, run_joins b type next others e) (same_many (a + 1) (b + 1) type others)
-  | inr d ↦ rw (run_ends a type next others d, run_ends b type next others d) refl
-]
-
-pub many_join : (kind : core.ValType) (xs : List core.ValType) (i : ℕ) → i < length xs → val_code (val_type (get_or xs i I32)) ≡ val_code (val_type kind)
-    → length (runs_at 1 kind xs i) ≡ length (runs_at 1 kind xs (i + 1))
-many_join kind xs i h e = ap length (next_joins 1 kind xs i h e) ∙ same_many (1 + 1) 1 (val_type kind) (map val_type (drop (i + 1) xs))
-
--- a run is written, and then those behind it
-pub run_text_parts : (run : Run) (runs : List Run) (old : List ℕ) → (old ++ run_text run) ++ texts run_text runs ≡ old ++ texts run_text (run ∷ runs)
-unfolding texts
-run_text_parts run runs old = rw append_assoc refl
-
-pub last_text : (run : Run) (old : List ℕ) → old ++ texts run_text (run ∷ []) ≡ old ++ run_text run
-unfolding texts
-last_text run old = ap (λ l. old ++ l) (append-nil (run_text run))
-
-pub no_locals : (locals : List core.ValType) → length locals ≡ 0 → runs_of (map val_type locals) ≡ []
-unfolding runs_of
-no_locals locals e = rw (nil_from_length locals e) refl
-
-pub no_text : (old : List ℕ) → old ++ texts run_text [] ≡ old
-unfolding texts
-no_text old = append-nil old
-
-pub body_parts : (locals : List (ValType ℕ)) (old : List ℕ)
-    → ((old ++ shortest_u32 (length (runs_of locals))) ++ texts run_text (runs_of locals)) ++ 0x00 ∷ 0x0b ∷ [] ≡ old ++ body_text locals
-unfolding list_text body_text
-body_parts locals old = simp append_assoc refl
-
-pub ruleset run_steps = (runs_begin, no_locals)
+pub ruleset entry_steps = (entry_length_is, body_length_is, entry_parts)

@@ -1,2 +1,3 @@
+pub mod Measured
 pub mod Texts
 pub mod Written

@@ -1,27 +1,12 @@
--- The shortest text of a made module: each number is in as few bytes as there can be, and neighbouring locals of one type are one run.
-use Rattle.std.specs.Prelude.{ℕ, ◌+◌, true, false, List, [], ◌∷◌, ◌++◌, length, nat_eq, if◌then◌else◌}
-use Rattle.wasm_core.specs.Shortest.{shortest_u32}
+-- The text of a made module: each number is in as few bytes as there can be, and neighbouring locals of one type are one run.
+use Rattle.std.specs.Prelude.{ℕ, ◌+◌, true, false, List, [], ◌∷◌, ◌++◌, nat_eq, if◌then◌else◌}
 use Rattle.wasm_spec.specs.Bodies.{Run}
 use Rattle.wasm_spec.specs.Grammar.{header}
+use Rattle.wasm_spec.specs.Shortest.{unsigned_text, list_text, framed_text, section_text}
 use Rattle.wasm_spec.specs.TypeGrammar.{heap_code}
-use Rattle.wasm_spec.specs.Types.{ValType, I32, I64, F32, F64, V128, Ref, Abstract, Concrete, FuncType, CompositeType, FuncComposite, StructComposite, ArrayComposite, ContComposite, SubType}
+use Rattle.wasm_spec.specs.TypeTexts.{val_text, sub_text}
+use Rattle.wasm_spec.specs.Types.{ValType, I32, I64, F32, F64, V128, Ref, Abstract, Concrete}
 use Rattle.wasm_smith.specs.Made.{Made}
-
--- one text behind the other
-unfoldable pub texts : {A : Type 0} → (A → List ℕ) → List A → List ℕ
-texts text [] = []
-texts text (x ∷ xs) = text x ++ texts text xs
-
--- how many items, and their texts
-unfoldable pub list_text : {A : Type 0} → (A → List ℕ) → List A → List ℕ
-list_text text xs = shortest_u32 (length xs) ++ texts text xs
-
--- the size of a content, and the content
-unfoldable pub framed_text : List ℕ → List ℕ
-framed_text content = shortest_u32 (length content) ++ content
-
-unfoldable pub section_text : ℕ → List ℕ → List ℕ
-section_text id content = id ∷ framed_text content
 
 -- the byte that a value type is, or begins with where it is written out
 abbrev pub val_code : ValType ℕ → ℕ
@@ -34,24 +19,8 @@ val_code (Ref true (Abstract heap)) = heap_code heap
 val_code (Ref true (Concrete index)) = 0x63
 val_code (Ref false heap) = 0x64
 
-abbrev pub val_text : ValType ℕ → List ℕ
-val_text type = val_code type ∷ []
-
-unfoldable pub func_text : FuncType ℕ → List ℕ
-func_text type = 0x60 ∷ (list_text val_text type.params ++ list_text val_text type.results)
-
--- Types other than those of functions are not made yet, and have no text.
-abbrev pub composite_text : CompositeType ℕ → List ℕ
-composite_text (FuncComposite type) = func_text type
-composite_text (StructComposite fields) = []
-composite_text (ArrayComposite field) = []
-composite_text (ContComposite function) = []
-
-abbrev pub type_text : SubType ℕ → List ℕ
-type_text type = composite_text type.composite_type
-
-abbrev pub run_text : Run → List ℕ
-run_text run = shortest_u32 run.count ++ val_text run.type
+unfoldable pub run_text : Run → List ℕ
+run_text run = unsigned_text run.count ++ val_text run.type
 
 -- the runs of so many locals of a type, and these behind them
 unfoldable pub runs_from : ℕ → ValType ℕ → List (ValType ℕ) → List Run
@@ -71,7 +40,7 @@ unfoldable pub body_text : List (ValType ℕ) → List ℕ
 body_text locals = list_text run_text (runs_of locals) ++ 0x00 ∷ 0x0b ∷ []
 
 -- the same as an entry of a code section
-abbrev pub entry_text : List (ValType ℕ) → List ℕ
+unfoldable pub entry_text : List (ValType ℕ) → List ℕ
 entry_text locals = framed_text (body_text locals)
 
 -- the text, where there are some items
@@ -81,6 +50,6 @@ text_unless_empty (item ∷ items) text = text
 
 abbrev pub module_text : Made → List ℕ
 module_text m = header
-    ++ (text_unless_empty m.types (section_text 1 (list_text type_text m.types))
-    ++ (text_unless_empty m.funcs (section_text 3 (list_text shortest_u32 m.funcs))
+    ++ (text_unless_empty m.types (section_text 1 (list_text sub_text m.types))
+    ++ (text_unless_empty m.funcs (section_text 3 (list_text unsigned_text m.funcs))
     ++ text_unless_empty m.funcs (section_text 10 (list_text entry_text m.locals))))

@@ -1,13 +1,17 @@
-//! The bodies of functions (Core Specification, Binary Format, Modules, "Code Section").
+//! The bodies of functions, none of which goes on (Core Specification, Binary Format, Modules, "Code Section").
 
-ghost use Rattle.std.specs.Prelude.{◌≡◌, ◌≤◌, ◌++◌, length, map, OnOk};
+ghost use Rattle.std.specs.Prelude.{◌≡◌, ◌≤◌, ◌<◌, ◌^◌, ◌+◌, ◌++◌, length, map, vec_len, vec_capacity};
+ghost use Rattle.std.specs.List.{AllByRecursion, flat_map};
 ghost use Rattle.wasm_core.specs.CoreTypes.{val_type};
-ghost use Rattle.wasm_gen_writer.specs.Texts.{val_text, run_text, runs_of, texts, body_text, entry_text};
+ghost use Rattle.wasm_core.specs.Encoding.{Measures};
+ghost use Rattle.wasm_gen_writer.specs.Measured.{MeasuresBody};
+ghost use Rattle.wasm_gen_writer.specs.Texts.{run_text, runs_of, body_text, entry_text};
+ghost use Rattle.wasm_spec.specs.Shortest.{list_text};
 
-use crate::sections::write_framed;
-use crate::val_types::code_of;
-use std::alloc::AllocError;
-use wasm_core::leb128::write_u32;
+use crate::runs::split_run;
+use wasm_core::encode_error::EncodeError;
+use wasm_core::leb128::{len_u64, put_u64};
+use wasm_core::text::{Text, add_sizes};
 use wasm_core::types::ValType;
 
 /// The operator that never goes on.
@@ -16,79 +20,93 @@ const UNREACHABLE: u8 = 0x00;
 /// The operator that ends a body.
 const END: u8 = 0x0b;
 
-// How many runs the locals are.
-#[tactic(auto, using(crate::proofs::Writing::run_steps), unfolding(crate::specs::Texts::runs_of))]
-fn count_runs(locals: &[ValType]) -> u32
-    requires { length locals.now ≤ 100 }
-    ensures { result ≡ length (runs_of (map val_type locals.now)) }
+/// How many runs a body's locals are, and how many bytes the body.
+#[derive(Drop)]
+struct BodySize {
+    runs: u64,
+    bytes: u64,
+}
+
+#[tactic(auto, using(crate::proofs::Writing::body_steps))]
+fn measure(locals: &[ValType]) -> Result<BodySize, EncodeError>
+    ensures { MeasuresBody (map val_type locals.now) result }
 {
-    let Some((first, others)) = locals.split_first() else {
-        return 0;
-    };
-    let mut kind = *first;
-    let mut runs = 1;
-    for local in others {
-        if code_of(*local) != code_of(kind) {
-            kind = *local;
-            runs += 1;
-        }
+    let mut runs = 0;
+    let mut bytes = 0;
+    let mut rest = locals;
+    while let Some((run, behind)) = split_run(rest) {
+        runs += 1;
+        bytes = add_sizes(bytes, run.size()?)?;
+        rest = behind;
     }
-    runs
+    bytes = add_sizes(bytes, len_u64(runs) as u64 + 2)?;
+    Ok(BodySize { runs, bytes })
 }
 
-fn write_run(sink: &mut Vec<u8>, count: u32, kind: ValType) -> Result<(), AllocError>
-    ensures { OnOk result (sink.new.items ≡ sink.old.items ++ run_text (record { count = count; type = val_type kind })) }
+#[tactic(auto, using(crate::proofs::Writing::body_steps))]
+fn put_runs(locals: &[ValType], sink: &mut Vec<u8>)
+    requires { vec_len sink.old + length (flat_map run_text (runs_of (map val_type locals.now))) ≤ vec_capacity sink.old }
+    ensures written { sink.new.items ≡ sink.old.items ++ flat_map run_text (runs_of (map val_type locals.now)) }
+    ensures capacity { vec_capacity sink.old ≤ vec_capacity sink.new }
 {
-    write_u32(sink, count)?;
-    sink.push(code_of(kind))?;
-    Ok(())
-}
-
-// Appends the runs of the locals: neighbours of one type are one run.
-#[tactic(auto, using(crate::proofs::Writing::run_steps), unfolding(crate::specs::Texts::runs_of))]
-fn write_runs(sink: &mut Vec<u8>, locals: &[ValType]) -> Result<(), AllocError>
-    requires { length locals.now ≤ 100 }
-    ensures { OnOk result (sink.new.items ≡ sink.old.items ++ texts run_text (runs_of (map val_type locals.now))) }
-{
-    let Some((first, others)) = locals.split_first() else {
-        return Ok(());
-    };
-    let mut kind = *first;
-    let mut count = 1;
-    for local in others {
-        if code_of(*local) == code_of(kind) {
-            count += 1;
-        } else {
-            write_run(sink, count, kind)?;
-            kind = *local;
-            count = 1;
-        }
+    let mut rest = locals;
+    while let Some((run, behind)) = split_run(rest) {
+        run.put(sink);
+        rest = behind;
     }
-    write_run(sink, count, kind)
 }
 
-// Appends a body without its size.
-fn write_body(sink: &mut Vec<u8>, locals: &[ValType]) -> Result<(), AllocError>
-    requires { length locals.now ≤ 100 }
-    ensures { OnOk result (sink.new.items ≡ sink.old.items ++ body_text (map val_type locals.now)) }
+#[tactic(auto, using(wasm_spec::proofs::ListTexts::framed_steps), unfolding(crate::specs::Texts::entry_text))]
+fn entry_size(locals: &[ValType]) -> Result<u64, EncodeError>
+    ensures { Measures result (length (entry_text (map val_type locals.now))) (length (entry_text (map val_type locals.now))) }
 {
-    write_u32(sink, count_runs(locals))?;
-    write_runs(sink, locals)?;
-    sink.extend_from_slice(&[UNREACHABLE, END])
+    let body = measure(locals)?;
+    add_sizes(body.bytes, len_u64(body.bytes) as u64)
 }
 
-/// Appends an entry of the code section. The scratch is emptied first: it keeps its memory from one entry to the next.
-pub fn write_entry(
-    sink: &mut Vec<u8>,
-    scratch: &mut Vec<u8>,
-    locals: &[ValType],
-) -> Result<(), AllocError>
-    requires { length locals.now ≤ 100 }
-    ensures { OnOk result (sink.new.items ≡ sink.old.items ++ entry_text (map val_type locals.now)) }
+// Writes an entry of the code section, for which there is room.
+#[tactic(auto, using(crate::proofs::Writing::entry_steps))]
+fn put_entry(locals: &[ValType], sink: &mut Vec<u8>)
+    requires short { length (body_text (map val_type locals.now)) < 2 ^ 32 }
+    requires room { vec_len sink.old + length (entry_text (map val_type locals.now)) ≤ vec_capacity sink.old }
+    ensures written { sink.new.items ≡ sink.old.items ++ entry_text (map val_type locals.now) }
+    ensures capacity { vec_capacity sink.old ≤ vec_capacity sink.new }
 {
-    scratch.clear();
-    write_body(scratch, locals)?;
-    write_framed(sink, scratch)
+    // A short body is measured.
+    let Ok(body) = measure(locals) else {
+        return;
+    };
+    put_u64(sink, body.bytes);
+    put_u64(sink, body.runs);
+    put_runs(locals, sink);
+    sink.push_reserved(UNREACHABLE);
+    sink.push_reserved(END);
+}
+
+/// The number of bytes of a list of entries.
+#[tactic(auto, using(wasm_spec::proofs::ListTexts::list_steps), unfolding(wasm_spec::specs::Shortest::list_text))]
+pub fn bodies_size(locals: &[Vec<ValType>]) -> Result<u64, EncodeError>
+    ensures { let text = list_text (λ ls. entry_text (map val_type ls.items)) locals.now in Measures result (length text) (length text) }
+{
+    let mut total = len_u64(locals.len() as u64) as u64;
+    for body in locals {
+        total = add_sizes(total, entry_size(body)?)?;
+    }
+    Ok(total)
+}
+
+/// Writes a list of entries, for which there is room.
+#[tactic(auto, using(wasm_spec::proofs::ListTexts::list_steps), unfolding(wasm_spec::specs::Shortest::list_text))]
+pub fn put_bodies(locals: &[Vec<ValType>], sink: &mut Vec<u8>)
+    requires short { AllByRecursion (λ ls. length (body_text ls) < 2 ^ 32) (map (λ ls. map val_type ls.items) locals.now) }
+    requires room { vec_len sink.old + length (list_text (λ ls. entry_text (map val_type ls.items)) locals.now) ≤ vec_capacity sink.old }
+    ensures written { sink.new.items ≡ sink.old.items ++ list_text (λ ls. entry_text (map val_type ls.items)) locals.now }
+    ensures capacity { vec_capacity sink.old ≤ vec_capacity sink.new }
+{
+    put_u64(sink, locals.len() as u64);
+    for body in locals {
+        put_entry(body, sink);
+    }
 }
 
 #[cfg(test)]
@@ -98,15 +116,9 @@ mod tests {
 
     #[test]
     fn neighbours_of_one_type_are_a_run(rt: HostRuntime) -> Result<(), Fail> {
-        let mut sink = Vec::new(rt.alloc());
-        let mut scratch = Vec::new(rt.alloc());
-        write_entry(
-            &mut sink,
-            &mut scratch,
-            &[ValType::I32, ValType::I32, ValType::F64],
-        )?;
-        write_entry(&mut sink, &mut scratch, &[])?;
-        assert!(rt; sink.as_slice() == [7, 2, 2, 0x7f, 1, 0x7c, 0, 0x0b, 3, 0, 0, 0x0b].as_slice());
+        let locals = [ValType::I32, ValType::I32, ValType::F64];
+        assert_eq!(rt; entry_size(&locals), Ok(8));
+        assert_eq!(rt; entry_size(&[]), Ok(4));
         Ok(())
     }
 }

@@ -5,6 +5,6 @@ mod bodies;
 pub mod encode;
 pub mod laws;
 pub mod limits;
+mod runs;
 mod sections;
-mod val_types;
 pub mod writer;

@@ -1,120 +1,209 @@
-//! Sections and what they hold (Core Specification, Binary Format, "Modules").
+//! The sections of a made module, as they are written (Core Specification, Binary Format, "Modules").
 
-ghost use Rattle.std.specs.Prelude.{◌≡◌, ◌<◌, ◌≤◌, ◌^◌, ◌++◌, length, map, OnOk};
-ghost use Rattle.std.specs.List.{AllByRecursion};
-ghost use Rattle.wasm_core.specs.CoreTypes.{val_type};
-ghost use Rattle.wasm_core.specs.Shortest.{shortest_u32};
-ghost use Rattle.wasm_core.specs.SubTypes.{sub_type};
-ghost use Rattle.wasm_gen_writer.specs.Texts.{list_text, framed_text, section_text, val_text, func_text, type_text, entry_text};
-ghost use Rattle.wasm_smith.specs.Bounds.{IsSmall};
-ghost use Rattle.wasm_spec.specs.Limits.{Types, Functions, most};
+ghost use Rattle.std.specs.Prelude.{length};
+ghost use Rattle.wasm_gen_writer.specs.Texts.{entry_text};
+ghost use Rattle.wasm_spec.specs.Shortest.{unsigned_text, list_text, framed_text};
+ghost use Rattle.wasm_spec.specs.TypeTexts.{sub_text};
 
-use crate::bodies::write_entry;
-use crate::val_types::code_of;
-use std::alloc::{AllocError, Global};
-use wasm_core::leb128::write_u32;
-use wasm_core::types::{CompositeType, FuncType, SubType, ValType};
+use crate::bodies::{bodies_size, put_bodies};
+use std::marker::Model;
+use wasm_core::encode::{Encode, Section};
+use wasm_core::encode_error::EncodeError;
+use wasm_core::text::{Text, encode_framed, framed_len, list_size, put_list};
+use wasm_core::types::{SubType, ValType};
 
-/// Appends a content behind its size.
-#[tactic(auto, using(crate::proofs::Writing::parts), unfolding(crate::specs::Texts::framed_text))]
-pub fn write_framed(sink: &mut Vec<u8>, content: &[u8]) -> Result<(), AllocError>
-    requires { length content.now < 2 ^ 32 }
-    ensures { OnOk result (sink.new.items ≡ sink.old.items ++ framed_text content.now) }
-{
-    write_u32(sink, content.len() as u32)?;
-    sink.extend_from_slice(content)
+/// The type section: each type is a group by itself.
+#[derive(Drop)]
+pub struct MadeTypes<'a> {
+    types: &'a [SubType],
 }
 
-/// Appends a section.
-#[tactic(auto, using(crate::proofs::Writing::parts), unfolding(crate::specs::Texts::section_text))]
-pub fn write_section(sink: &mut Vec<u8>, id: u8, content: &[u8]) -> Result<(), AllocError>
-    requires { length content.now < 2 ^ 32 }
-    ensures { OnOk result (sink.new.items ≡ sink.old.items ++ section_text id content.now) }
-{
-    sink.push(id)?;
-    write_framed(sink, content)
+impl<'a> Model for MadeTypes<'a> {
+    ghost use Rattle.std.specs.Prelude.{ℕ, List, map};
+    ghost use Rattle.wasm_core.specs.SubTypes.{sub_type};
+    ghost use Rattle.wasm_spec.specs.Types as spec;
+
+    ghost Value = { List (spec.SubType ℕ) };
+
+    ghost view = { λ s. map sub_type s.types.now };
 }
 
-#[tactic(auto, using(crate::proofs::Writing::list_steps))]
-fn write_val_types(sink: &mut Vec<u8>, types: &[ValType]) -> Result<(), AllocError>
-    requires { length types.now < 2 ^ 32 }
-    ensures { OnOk result (sink.new.items ≡ sink.old.items ++ list_text val_text (map val_type types.now)) }
-{
-    write_u32(sink, types.len() as u32)?;
-    for value in types {
-        sink.push(code_of(*value))?;
-    }
-    Ok(())
-}
+impl<'a> MadeTypes<'a> {
+    ghost use Rattle.std.specs.Prelude.{◌≡◌, map};
+    ghost use Rattle.wasm_core.specs.SubTypes.{sub_type};
 
-const FUNC: u8 = 0x60;
-
-#[tactic(auto, using(crate::proofs::Writing::parts), unfolding(crate::specs::Texts::func_text))]
-fn write_func_type(sink: &mut Vec<u8>, func: &FuncType) -> Result<(), AllocError>
-    requires params { length func.now.params ≤ 20 }
-    requires results { length func.now.results ≤ 20 }
-    ensures { OnOk result (sink.new.items ≡ sink.old.items ++ func_text func.now) }
-{
-    sink.push(FUNC)?;
-    write_val_types(sink, func.params())?;
-    write_val_types(sink, func.results())
-}
-
-// Types other than those of functions are not made yet.
-fn write_type(sink: &mut Vec<u8>, ty: &SubType) -> Result<(), AllocError>
-    requires { IsSmall (sub_type ty.now) }
-    ensures { OnOk result (sink.new.items ≡ sink.old.items ++ type_text (sub_type ty.now)) }
-{
-    match &ty.composite_type {
-        CompositeType::Func(func) => write_func_type(sink, func),
-        CompositeType::Array(_) | CompositeType::Struct(_) | CompositeType::Cont(_) => Ok(()),
+    /// The section of these types.
+    pub fn new(types: &'a [SubType]) -> Self
+        ensures { result ≡ map sub_type types.now }
+    {
+        MadeTypes { types }
     }
 }
 
-/// Appends what a type section holds.
-#[tactic(auto, using(crate::proofs::Writing::list_steps))]
-pub fn write_types(sink: &mut Vec<u8>, types: &[SubType]) -> Result<(), AllocError>
-    requires few { length types.now ≤ most Types }
-    requires small { AllByRecursion IsSmall (map sub_type types.now) }
-    ensures { OnOk result (sink.new.items ≡ sink.old.items ++ list_text type_text (map sub_type types.now)) }
-{
-    write_u32(sink, types.len() as u32)?;
-    for ty in types {
-        write_type(sink, ty)?;
+impl<'a> Text for MadeTypes<'a> {
+    ghost text = { list_text sub_text };
+
+    #[tactic(auto, using(wasm_core::proofs::WritingLaws::sub_types))]
+    fn size(&self) -> Result<u64, EncodeError> {
+        list_size(self.types)
     }
-    Ok(())
+
+    #[tactic(auto, using(wasm_core::proofs::WritingLaws::sub_types))]
+    fn put(&self, sink: &mut Vec<u8>) {
+        put_list(self.types, sink);
+    }
 }
 
-/// Appends what a function section holds.
-#[tactic(auto, using(crate::proofs::Writing::list_steps))]
-pub fn write_funcs(sink: &mut Vec<u8>, funcs: &[u32]) -> Result<(), AllocError>
-    requires { length funcs.now ≤ most Functions }
-    ensures { OnOk result (sink.new.items ≡ sink.old.items ++ list_text shortest_u32 funcs.now) }
-{
-    write_u32(sink, funcs.len() as u32)?;
-    for index in funcs {
-        write_u32(sink, *index)?;
+impl<'a> Encode for MadeTypes<'a> {
+    ghost text = { λ types. framed_text (list_text sub_text types) };
+
+    ghost longest = { λ types. length (list_text sub_text types) };
+
+    fn encode(&self, sink: &mut Vec<u8>) -> Result<(), EncodeError> {
+        encode_framed(self, sink)
     }
-    Ok(())
+
+    fn encoded_len(&self) -> Result<u64, EncodeError> {
+        framed_len(self)
+    }
 }
 
-/// Appends what a code section holds.
-#[tactic(auto, using(crate::proofs::Writing::list_steps))]
-pub fn write_code(
-    alloc: Global,
-    sink: &mut Vec<u8>,
-    locals: &[Vec<ValType>],
-) -> Result<(), AllocError>
-    requires many { length locals.now ≤ most Functions }
-    requires few { AllByRecursion (λ ls. length ls ≤ 100) (map (λ ls. map val_type ls.items) locals.now) }
-    ensures { OnOk result (sink.new.items ≡ sink.old.items ++ list_text entry_text (map (λ ls. map val_type ls.items) locals.now)) }
-{
-    let mut scratch = Vec::new(alloc);
-    write_u32(sink, locals.len() as u32)?;
-    for types in locals {
-        write_entry(sink, &mut scratch, types)?;
+impl<'a> Section for MadeTypes<'a> {
+    ghost number = { λ _. 1 };
+
+    fn id(&self) -> u8 {
+        1
     }
-    Ok(())
+}
+
+/// The function section: the index of each function's type.
+#[derive(Drop)]
+pub struct MadeFunctions<'a> {
+    funcs: &'a [u32],
+}
+
+impl<'a> Model for MadeFunctions<'a> {
+    ghost use Rattle.std.specs.Prelude.{ℕ, List};
+
+    ghost Value = { List ℕ };
+
+    ghost view = { λ s. s.funcs.now };
+}
+
+impl<'a> MadeFunctions<'a> {
+    ghost use Rattle.std.specs.Prelude.{◌≡◌};
+
+    /// The section of these indexes.
+    pub fn new(funcs: &'a [u32]) -> Self
+        ensures { result ≡ funcs.now }
+    {
+        MadeFunctions { funcs }
+    }
+}
+
+impl<'a> Text for MadeFunctions<'a> {
+    ghost text = { list_text unsigned_text };
+
+    fn size(&self) -> Result<u64, EncodeError> {
+        list_size(self.funcs)
+    }
+
+    fn put(&self, sink: &mut Vec<u8>) {
+        put_list(self.funcs, sink);
+    }
+}
+
+impl<'a> Encode for MadeFunctions<'a> {
+    ghost text = { λ funcs. framed_text (list_text unsigned_text funcs) };
+
+    ghost longest = { λ funcs. length (list_text unsigned_text funcs) };
+
+    fn encode(&self, sink: &mut Vec<u8>) -> Result<(), EncodeError> {
+        encode_framed(self, sink)
+    }
+
+    fn encoded_len(&self) -> Result<u64, EncodeError> {
+        framed_len(self)
+    }
+}
+
+impl<'a> Section for MadeFunctions<'a> {
+    ghost number = { λ _. 3 };
+
+    fn id(&self) -> u8 {
+        3
+    }
+}
+
+/// The code section: a body for the locals of each function, none of which is too long to be measured.
+#[derive(Drop)]
+pub struct MadeBodies<'a> {
+    locals: &'a [Vec<ValType>],
+}
+
+impl<'a> Model for MadeBodies<'a> {
+    ghost use Rattle.std.specs.Prelude.{ℕ, ◌<◌, ◌^◌, List, length, map};
+    ghost use Rattle.std.specs.List.{AllByRecursion};
+    ghost use Rattle.wasm_core.specs.CoreTypes.{val_type};
+    ghost use Rattle.wasm_gen_writer.specs.Texts.{body_text};
+    ghost use Rattle.wasm_spec.specs.Types as spec;
+
+    ghost Value = { List (List (spec.ValType ℕ)) };
+
+    ghost view = { λ s. map (λ ls. map val_type ls.items) s.locals.now };
+
+    ghost invariant = { λ s. AllByRecursion (λ ls. length (body_text ls) < 2 ^ 32) (map (λ ls. map val_type ls.items) s.locals.now) };
+}
+
+impl<'a> MadeBodies<'a> {
+    ghost use Rattle.std.specs.Prelude.{◌≡◌, ◌<◌, ◌^◌, length, map};
+    ghost use Rattle.std.specs.List.{AllByRecursion};
+    ghost use Rattle.wasm_core.specs.CoreTypes.{val_type};
+    ghost use Rattle.wasm_gen_writer.specs.Texts.{body_text};
+
+    /// The section of bodies with these locals.
+    pub fn new(locals: &'a [Vec<ValType>]) -> Self
+        requires { AllByRecursion (λ ls. length (body_text ls) < 2 ^ 32) (map (λ ls. map val_type ls.items) locals.now) }
+        ensures { result ≡ map (λ ls. map val_type ls.items) locals.now }
+    {
+        MadeBodies { locals }
+    }
+}
+
+impl<'a> Text for MadeBodies<'a> {
+    ghost text = { list_text entry_text };
+
+    #[tactic(auto, using(crate::proofs::Writing::bodies_mapped))]
+    fn size(&self) -> Result<u64, EncodeError> {
+        bodies_size(self.locals)
+    }
+
+    #[tactic(auto, using(crate::proofs::Writing::bodies_mapped))]
+    fn put(&self, sink: &mut Vec<u8>) {
+        put_bodies(self.locals, sink);
+    }
+}
+
+impl<'a> Encode for MadeBodies<'a> {
+    ghost text = { λ locals. framed_text (list_text entry_text locals) };
+
+    ghost longest = { λ locals. length (list_text entry_text locals) };
+
+    fn encode(&self, sink: &mut Vec<u8>) -> Result<(), EncodeError> {
+        encode_framed(self, sink)
+    }
+
+    fn encoded_len(&self) -> Result<u64, EncodeError> {
+        framed_len(self)
+    }
+}
+
+impl<'a> Section for MadeBodies<'a> {
+    ghost number = { λ _. 10 };
+
+    fn id(&self) -> u8 {
+        10
+    }
 }
 
 #[cfg(test)]
@@ -125,9 +214,8 @@ mod tests {
     #[test]
     fn indexes_behind_their_number(rt: HostRuntime) -> Result<(), Fail> {
         let mut sink = Vec::new(rt.alloc());
-        write_funcs(&mut sink, &[0, 300])?;
-        write_section(&mut sink, 1, &[2])?;
-        assert!(rt; sink.as_slice() == [2, 0, 0xac, 2, 1, 1, 2].as_slice());
+        MadeFunctions::new(&[0, 300]).encode(&mut sink)?;
+        assert!(rt; sink.as_slice() == [4, 2, 0, 0xac, 2].as_slice());
         Ok(())
     }
 }

@@ -1,7 +1,7 @@
 -- Bytes, numbers, names, lists and frames: what the forms of the binary format are made of. A text of a value is a list of bytes that
 -- encodes it; a frame is the size of a content, and the content.
--- Core Specification 3.0, Binary Format: "Conventions" (grammar, lists), "Values" (bytes, integers, names) and "Modules" (sections).
-use Rattle.std.specs.Prelude.{◌≡◌, ℕ, ◌+◌, ◌-◌, ◌*◌, ◌^◌, ◌<◌, ◌≤◌, List, [], ◌∷◌, ◌++◌, length}
+-- Core Specification 3.0, Binary Format: "Conventions" (grammar, lists), "Values" (bytes, integers, floating-point, names) and "Modules" (sections).
+use Rattle.std.specs.Prelude.{◌≡◌, ℕ, ◌+◌, ◌-◌, ◌*◌, ◌^◌, ◌<◌, ◌≤◌, ◌⊎◌, ℤ, pos, ◌+ℤ◌, ◌*ℤ◌, List, [], ◌∷◌, ◌++◌, length}
 use Rattle.std.specs.List.{AllByRecursion}
 use Rattle.std.specs.Str.{IsUtf8}
 
@@ -34,6 +34,48 @@ IsUnsigned bits (b ∷ c ∷ bs) n = (2 ^ 7 ≤ b) × IsByte b × (7 < bits) × 
 
 abbrev pub IsU32 : List ℕ → ℕ → Type 0
 IsU32 text n = IsUnsigned 32 text n
+
+abbrev pub IsU64 : List ℕ → ℕ → Type 0
+IsU64 text n = IsUnsigned 64 text n
+
+-- The last byte of a signed number of at most so many bits. One below 2 ^ 6 is the number itself, which is below 2 ^ (bits - 1). One
+-- from 2 ^ 6 on, below 2 ^ 7, is 2 ^ 7 more than the number, which is -2 ^ (bits - 1) or above.
+abbrev pub IsLastSigned : ℕ → ℕ → ℤ → Type 0
+IsLastSigned bits b z =
+    ((b < 2 ^ 6) × (b < 2 ^ (bits - 1)) × (z ≡ pos b))
+    ⊎ ((2 ^ 6 ≤ b) × (b < 2 ^ 7) × (2 ^ 7 ≤ b + 2 ^ (bits - 1)) × (z +ℤ pos (2 ^ 7) ≡ pos b))
+
+-- A signed number of at most so many bits in LEB128, in two's complement (Values, "Integers"). A byte of 2 ^ 7 or more stands only where
+-- more than seven bits are left; it gives its low seven bits, and the bytes behind it are a signed number of at most bits - 7 bits. So
+-- the unused bits of the last byte are all its sign.
+abbrev pub IsSigned : ℕ → List ℕ → ℤ → Type 0
+IsSigned bits [] z = ⊥
+IsSigned bits (b ∷ []) z = IsLastSigned bits b z
+IsSigned bits (b ∷ c ∷ bs) z = (2 ^ 7 ≤ b) × IsByte b × (7 < bits) × (m : ℤ) × (z ≡ (pos (2 ^ 7) *ℤ m) +ℤ pos (b - 2 ^ 7)) × IsSigned (bits - 7) (c ∷ bs) m
+
+abbrev pub IsS32 : List ℕ → ℤ → Type 0
+IsS32 text z = IsSigned 32 text z
+
+abbrev pub IsS33 : List ℕ → ℤ → Type 0
+IsS33 text z = IsSigned 33 text z
+
+abbrev pub IsS64 : List ℕ → ℤ → Type 0
+IsS64 text z = IsSigned 64 text z
+
+-- the number whose bytes these are, the lowest first
+abbrev pub low_first : List ℕ → ℕ
+low_first [] = 0
+low_first (b ∷ bs) = b + 2 ^ 8 * low_first bs
+
+-- The bits of a floating-point number, as a number: so many bytes, the lowest first (Values, "Floating-Point").
+abbrev pub IsFloatBits : ℕ → List ℕ → ℕ → Type 0
+IsFloatBits len text bits = AreBytes text × (length text ≡ len) × (bits ≡ low_first text)
+
+abbrev pub IsF32 : List ℕ → ℕ → Type 0
+IsF32 text bits = IsFloatBits 4 text bits
+
+abbrev pub IsF64 : List ℕ → ℕ → Type 0
+IsF64 text bits = IsFloatBits 8 text bits
 
 -- One item behind the other, with nothing between and nothing behind.
 abbrev pub IsItems : {A : Type 0} → (List ℕ → A → Type 0) → List ℕ → List A → Type 0

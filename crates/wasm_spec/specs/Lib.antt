@@ -5,8 +5,10 @@ pub mod Gates
 pub mod Grammar
 pub mod Limits
 pub mod Operators
+pub mod Shortest
 pub mod Spaces
 pub mod Syntax
 pub mod TypeGrammar
+pub mod TypeTexts
 pub mod Types
 pub mod Validity

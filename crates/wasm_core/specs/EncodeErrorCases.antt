@@ -1,0 +1,2 @@
+-- The cases of refusals of writing, under the name of this crate.
+pub use Rattle.wasm_core_base.specs.declared.encode_error.EncodeError.TheVariants.{Memory, TooLong}

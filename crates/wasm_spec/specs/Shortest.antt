@@ -1,0 +1,45 @@
+-- The texts that an encoder writes: of each number the shortest, and with them lists, frames and sections. They are functions, beside the
+-- relations that say which bytes are a text of which value; laws tie those of numbers to them. Core Specification 3.0, Binary Format,
+-- "Values" (integers), "Conventions" (lists) and "Modules" (sections).
+use Rattle.std.specs.Prelude.{ℕ, zero, suc, ◌+◌, ◌-◌, ◌/◌, ◌%◌, ℤ, pos, negsuc, Bool, true, false, List, [], ◌∷◌, ◌++◌, length, nat_lt, if◌then◌else◌}
+use Rattle.std.specs.List.{flat_map}
+
+-- the bytes of a number, of which there are at most as many as more says, and one
+unfoldable pub unsigned_bytes : ℕ → ℕ → List ℕ
+unsigned_bytes zero n = n ∷ []
+unsigned_bytes (suc more) n = if nat_lt n 128 then n ∷ [] else ((n % 128 + 128) ∷ unsigned_bytes more (n / 128))
+
+-- An unsigned number: seven bits a byte, the lowest first, and 128 added to each byte but the last.
+unfoldable pub unsigned_text : ℕ → List ℕ
+unsigned_text n = unsigned_bytes n n
+
+-- The low seven bits, in two's complement, of the number m, or where it is negative of -(m + 1).
+abbrev pub low_bits : Bool → ℕ → ℕ
+low_bits negative m = if negative then 127 - m % 128 else m % 128
+
+-- the bytes of such a number, of which there are at most as many as more says, and one
+unfoldable pub signed_bytes : ℕ → Bool → ℕ → List ℕ
+signed_bytes zero negative m = low_bits negative m ∷ []
+signed_bytes (suc more) negative m = if nat_lt m 64 then low_bits negative m ∷ [] else ((low_bits negative m + 128) ∷ signed_bytes more negative (m / 128))
+
+-- the bytes of the number m, or where it is negative of -(m + 1)
+unfoldable pub magnitude_text : Bool → ℕ → List ℕ
+magnitude_text negative m = signed_bytes m negative m
+
+-- A signed number: seven bits of its two's complement a byte, the lowest first, and 128 added to each byte but the last, whose bit of 64
+-- is the sign.
+abbrev pub signed_text : ℤ → List ℕ
+signed_text (pos n) = magnitude_text false n
+signed_text (negsuc n) = magnitude_text true n
+
+-- a list: the number of its items, and their texts
+unfoldable pub list_text : {A : Type 0} → (A → List ℕ) → List A → List ℕ
+list_text text items = unsigned_text (length items) ++ flat_map text items
+
+-- a frame: the size of a content, and the content
+unfoldable pub framed_text : List ℕ → List ℕ
+framed_text content = unsigned_text (length content) ++ content
+
+-- a section: its id, and its content in a frame
+unfoldable pub section_text : ℕ → List ℕ → List ℕ
+section_text id content = id ∷ framed_text content

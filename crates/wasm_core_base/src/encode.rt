@@ -19,7 +19,7 @@ pub trait Encode {
     fn encode(&self, sink: &mut Vec<u8>) -> Result<(), EncodeError>
         ensures { Encodes sink.old sink.new result (text self.now) (longest self.now) };
 
-    /// The number of bytes that [`Encode::encode`] appends. It takes no memory.
+    /// The number of bytes that [`Encode::encode`] appends: a text is a frame at most, so below 2^33. It takes no memory.
     ///
     /// # Errors
     /// `TooLong` exactly where `encode` answers it.

@@ -55,7 +55,10 @@ fn u32_is_read_back(rt: &impl Abort, alloc: Global, number: u32) -> Result<(), F
     write_u32(&mut sink, number)?;
     let mut reader = BinaryReader::new(&sink, 0);
     let read = reader.read_var_u32()?;
-    assert!(rt; read == number && sink.len() == len_u32(number) && reader.eof(), "{number}");
+    assert!(rt;
+        read == number && sink.len() == len_u32(number) && reader.eof(),
+        "{number}"
+    );
     Ok(())
 }
 
@@ -64,7 +67,10 @@ fn u64_is_read_back(rt: &impl Abort, alloc: Global, number: u64) -> Result<(), F
     write_u64(&mut sink, number)?;
     let mut reader = BinaryReader::new(&sink, 0);
     let read = reader.read_var_u64()?;
-    assert!(rt; read == number && sink.len() == len_u64(number) && reader.eof(), "{number}");
+    assert!(rt;
+        read == number && sink.len() == len_u64(number) && reader.eof(),
+        "{number}"
+    );
     Ok(())
 }
 
@@ -73,7 +79,10 @@ fn s32_is_read_back(rt: &impl Abort, alloc: Global, number: i32) -> Result<(), F
     write_s32(&mut sink, number)?;
     let mut reader = BinaryReader::new(&sink, 0);
     let read = reader.read_var_i32()?;
-    assert!(rt; read == number && sink.len() == len_s32(number) && reader.eof(), "{number}");
+    assert!(rt;
+        read == number && sink.len() == len_s32(number) && reader.eof(),
+        "{number}"
+    );
     Ok(())
 }
 
@@ -93,7 +102,10 @@ fn s64_is_read_back(rt: &impl Abort, alloc: Global, number: i64) -> Result<(), F
     write_s64(&mut sink, number)?;
     let mut reader = BinaryReader::new(&sink, 0);
     let read = reader.read_var_i64()?;
-    assert!(rt; read == number && sink.len() == len_s64(number) && reader.eof(), "{number}");
+    assert!(rt;
+        read == number && sink.len() == len_s64(number) && reader.eof(),
+        "{number}"
+    );
     Ok(())
 }
 

@@ -3,7 +3,9 @@
 # (`rustc -O`), and of encoding a type section of 1,000,000 function types. The library's loops are those of `crates/wasm_core_bench`, a
 # static library that the Rust program is linked with.
 set -eu
-. "$(dirname "$0")/setup.sh"
+cd "$(dirname "$0")/.."
+folder=$(mktemp -d)
+trap 'rm -rf "$folder"' EXIT
 library=$(pwd)/crates/wasm_core_bench
 (cd "$library" && rt lib > /dev/null 2>&1)
 rustc --edition 2024 -O bench/leb128/main.rs -o "$folder/leb128" -L "$library/out" -l static=wasm_core_bench

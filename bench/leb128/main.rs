@@ -5,7 +5,7 @@ use std::time::Instant;
 
 unsafe extern "C" {
     fn wasm_core_bench_read_u32(bytes: *const u8, len: usize, count: usize) -> u64;
-    fn wasm_core_bench_read_s64(bytes: *const u8, len: usize, count: usize) -> i64;
+    fn wasm_core_bench_read_s64(bytes: *const u8, len: usize, count: usize) -> u64;
     fn wasm_core_bench_write_u32(numbers: *const u32, len: usize, rounds: usize) -> usize;
     fn wasm_core_bench_write_s64(numbers: *const i64, len: usize, rounds: usize) -> usize;
     fn wasm_core_bench_encode_types(count: usize, rounds: usize) -> usize;
@@ -114,6 +114,55 @@ fn tell(what: &str, form: &str, ours: f64, rust: f64, slow: &mut bool) {
     *slow |= ours < 250.0;
 }
 
+// The loops over a kind of numbers, ours and those in Rust. Sums wrap.
+struct Kind<T> {
+    read: unsafe extern "C" fn(*const u8, usize, usize) -> u64,
+    write: unsafe extern "C" fn(*const T, usize, usize) -> usize,
+    next: fn(&[u8], &mut usize) -> Option<T>,
+    push: fn(&mut Vec<u8>, T),
+    widen: fn(T) -> u64,
+}
+
+const U32: Kind<u32> =
+    Kind { read: wasm_core_bench_read_u32, write: wasm_core_bench_write_u32, next: next_u32, push: push_u32, widen: u64::from };
+const S64: Kind<i64> =
+    Kind { read: wasm_core_bench_read_s64, write: wasm_core_bench_write_s64, next: next_s64, push: push_s64, widen: |n| n as u64 };
+
+fn pushed<T: Copy>(numbers: &[T], kind: &Kind<T>) -> Vec<u8> {
+    let mut bytes = Vec::new();
+    numbers.iter().for_each(|n| (kind.push)(&mut bytes, *n));
+    bytes
+}
+
+// Times reading of the numbers, and writing of the first of them.
+fn compare<T: Copy>(what: &str, form: &str, numbers: &[T], kind: &Kind<T>, slow: &mut bool) {
+    let bytes = pushed(numbers, kind);
+    let wanted = numbers.iter().fold(0u64, |sum, n| sum.wrapping_add((kind.widen)(*n)));
+    let ours = rate(bytes.len(), || {
+        assert_eq!(unsafe { (kind.read)(bytes.as_ptr(), bytes.len(), numbers.len()) }, wanted);
+    });
+    let rust = rate(bytes.len(), || {
+        let mut place = 0;
+        let sum = numbers.iter().fold(0u64, |sum, _| sum.wrapping_add((kind.widen)((kind.next)(&bytes, &mut place).unwrap())));
+        assert_eq!(sum, wanted);
+    });
+    tell(&format!("read {what}"), form, ours, rust, slow);
+    let some = &numbers[..1 << 16];
+    let len = pushed(some, kind).len();
+    let ours = rate(len * 100, || {
+        assert_eq!(unsafe { (kind.write)(some.as_ptr(), some.len(), 100) }, len * 100);
+    });
+    let rust = rate(len * 100, || {
+        let mut sink = Vec::new();
+        for _ in 0..100 {
+            sink.clear();
+            some.iter().for_each(|n| (kind.push)(&mut sink, *n));
+            black_box(&sink);
+        }
+    });
+    tell(&format!("write {what}"), form, ours, rust, slow);
+}
+
 fn main() {
     let mut state = 7u64;
     let mut random = move || {
@@ -124,72 +173,11 @@ fn main() {
     let mut slow = false;
     for (form, mask) in [("short", 0x3f), ("long", u32::MAX)] {
         let numbers: Vec<u32> = (0..count).map(|_| random() as u32 & mask).collect();
-        let mut bytes = Vec::new();
-        numbers.iter().for_each(|n| push_u32(&mut bytes, *n));
-        let wanted: u64 = numbers.iter().map(|n| u64::from(*n)).fold(0, u64::wrapping_add);
-        let ours = rate(bytes.len(), || {
-            let sum = unsafe { wasm_core_bench_read_u32(bytes.as_ptr(), bytes.len(), count) };
-            assert_eq!(sum, wanted);
-        });
-        let rust = rate(bytes.len(), || {
-            let mut place = 0;
-            let mut sum = 0u64;
-            for _ in 0..count {
-                sum = sum.wrapping_add(u64::from(next_u32(&bytes, &mut place).unwrap()));
-            }
-            assert_eq!(sum, wanted);
-        });
-        tell("read u32", form, ours, rust, &mut slow);
-        let some = &numbers[..1 << 16];
-        let mut bytes = Vec::new();
-        some.iter().for_each(|n| push_u32(&mut bytes, *n));
-        let len = bytes.len();
-        let ours = rate(len * 100, || {
-            assert_eq!(unsafe { wasm_core_bench_write_u32(some.as_ptr(), some.len(), 100) }, len * 100);
-        });
-        let rust = rate(len * 100, || {
-            let mut sink = Vec::new();
-            for _ in 0..100 {
-                sink.clear();
-                some.iter().for_each(|n| push_u32(&mut sink, *n));
-                black_box(&sink);
-            }
-        });
-        tell("write u32", form, ours, rust, &mut slow);
+        compare("u32", form, &numbers, &U32, &mut slow);
     }
     for (form, shift) in [("short", 58), ("long", 0)] {
         let numbers: Vec<i64> = (0..count / 4).map(|_| (random() << 16 ^ random()) as i64 >> shift).collect();
-        let mut bytes = Vec::new();
-        numbers.iter().for_each(|n| push_s64(&mut bytes, *n));
-        let wanted = numbers.iter().copied().fold(0, i64::wrapping_add);
-        let ours = rate(bytes.len(), || {
-            assert_eq!(unsafe { wasm_core_bench_read_s64(bytes.as_ptr(), bytes.len(), numbers.len()) }, wanted);
-        });
-        let rust = rate(bytes.len(), || {
-            let mut place = 0;
-            let mut sum = 0i64;
-            for _ in 0..numbers.len() {
-                sum = sum.wrapping_add(next_s64(&bytes, &mut place).unwrap());
-            }
-            assert_eq!(sum, wanted);
-        });
-        tell("read s64", form, ours, rust, &mut slow);
-        let some = &numbers[..1 << 16];
-        let mut bytes = Vec::new();
-        some.iter().for_each(|n| push_s64(&mut bytes, *n));
-        let len = bytes.len();
-        let ours = rate(len * 100, || {
-            assert_eq!(unsafe { wasm_core_bench_write_s64(some.as_ptr(), some.len(), 100) }, len * 100);
-        });
-        let rust = rate(len * 100, || {
-            let mut sink = Vec::new();
-            for _ in 0..100 {
-                sink.clear();
-                some.iter().for_each(|n| push_s64(&mut sink, *n));
-                black_box(&sink);
-            }
-        });
-        tell("write s64", form, ours, rust, &mut slow);
+        compare("s64", form, &numbers, &S64, &mut slow);
     }
     let types = |rounds| {
         let begin = Instant::now();

@@ -1,8 +1,9 @@
 //! The type section, as it is built and written (Core Specification, Binary Format, Modules, "Type Section").
 
 ghost use Rattle.std.specs.Prelude.{◌≡◌, ◌↔◌, ◌+◌, ◌≤◌, ◌<◌, ◌^◌, [], ◌∷◌, ◌++◌, true, List, length, map, Err, IfOk, IfErr, IsTrue};
+ghost use Rattle.std.specs.List.{flat_map};
 ghost use Rattle.wasm_core_base.specs.CoreEntries.{type_entry, type_entry_text};
-ghost use Rattle.wasm_core_base.specs.Encoding.{TellsItem};
+ghost use Rattle.wasm_core_base.specs.Encoding.{Measures, TellsItem};
 ghost use Rattle.wasm_core_base.specs.SubTypes.{sub_type};
 ghost use Rattle.wasm_core_base.specs.TypeEntries as spec;
 ghost use Rattle.wasm_core_base.specs.TypeEntries.{entry_text, entries_text};
@@ -11,6 +12,7 @@ ghost use Rattle.wasm_spec.specs.Types.{FuncComposite};
 
 use crate::encode::{Encode, Section};
 use crate::encode_error::EncodeError;
+use crate::leb128::len_u64;
 use crate::text::{Text, add_sizes, encode_framed, framed_len, item_len, list_size, put_list};
 use crate::type_entries::{TypeEntry, TypeGroup};
 use crate::types::{CompositeType, FuncType, SubType};
@@ -52,18 +54,23 @@ const GROUP: u8 = 0x4e;
 #[derive(Debug, Drop)]
 pub struct TypeSection {
     entries: Vec<TypeEntry>,
+    // The length of the entries' texts, one behind the other, so that writing need not measure them.
+    size: Result<u64, EncodeError>,
 }
 
 impl Model for TypeSection {
     ghost use Rattle.std.specs.Prelude.{◌<◌, ◌^◌, List, length, map};
+    ghost use Rattle.std.specs.List.{flat_map};
     ghost use Rattle.wasm_core_base.specs.CoreEntries.{type_entry};
+    ghost use Rattle.wasm_core_base.specs.Encoding.{Measures};
     ghost use Rattle.wasm_core_base.specs.TypeEntries as spec;
+    ghost use Rattle.wasm_core_base.specs.TypeEntries.{entry_text};
 
     ghost Value = { List spec.TypeEntry };
 
     ghost view = { λ s. map type_entry s.entries.items };
 
-    ghost invariant = { λ s. length s.entries.items < 2 ^ 32 };
+    ghost invariant = { λ s. (length s.entries.items < 2 ^ 32) × Measures s.size (length (flat_map entry_text (map type_entry s.entries.items))) (length (flat_map entry_text (map type_entry s.entries.items))) };
 }
 
 impl TypeSection {
@@ -76,6 +83,7 @@ impl TypeSection {
     {
         TypeSection {
             entries: Vec::new(alloc),
+            size: Ok(0),
         }
     }
 
@@ -97,6 +105,7 @@ impl TypeSection {
     ///
     /// # Errors
     /// `TooLong` exactly where there are 4,294,967,295 entries, and else `Memory`.
+    #[tactic(auto, using(wasm_spec::proofs::ListTexts::sizes), unfolding(crate::specs::CoreEntries::type_entry_text))]
     pub fn push(&mut self, entry: TypeEntry) -> Result<(), EncodeError>
         ensures added { IfOk result (λ _. self.new ≡ self.old ++ type_entry entry ∷ []) }
         ensures kept { IfErr result (λ _. self.new ≡ self.old) }
@@ -105,8 +114,18 @@ impl TypeSection {
         if self.entries.len() >= 4_294_967_295 {
             return Err(EncodeError::TooLong);
         }
+        let size = self.size_with(&entry);
         self.entries.push(entry)?;
+        self.size = size;
         Ok(())
+    }
+
+    // The length of the entries' texts and of one behind them.
+    #[tactic(auto, using(wasm_spec::proofs::ListTexts::sizes))]
+    fn size_with(&self, entry: &TypeEntry) -> Result<u64, EncodeError>
+        ensures { Measures result (length (flat_map entry_text self.now ++ type_entry_text entry.now)) (length (flat_map entry_text self.now ++ type_entry_text entry.now)) }
+    {
+        add_sizes(self.size?, entry.size()?)
     }
 
     /// Adds a final function type without supertypes, by itself.
@@ -201,9 +220,9 @@ impl TypeSection {
 impl Text for TypeSection {
     ghost text = { entries_text };
 
-    #[tactic(auto, using(crate::proofs::EntryLists::steps))]
+    #[tactic(auto, using(wasm_spec::proofs::ListTexts::sizes))]
     fn size(&self) -> Result<u64, EncodeError> {
-        list_size(&self.entries)
+        add_sizes(len_u64(self.entries.len() as u64) as u64, self.size?)
     }
 
     #[tactic(auto, using(crate::proofs::EntryLists::steps))]

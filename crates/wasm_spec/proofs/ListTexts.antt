@@ -1,6 +1,6 @@
 -- Texts one behind the other, as a loop writes them.
 use Rattle.std.proofs.Common.{◌≡◌, ℕ, zero, suc, ◌+◌, ◌<◌, ◌≤◌, List, [], ◌∷◌, ◌++◌, length, get_or, drop, refl, sym, ap, ◌∙◌, arith, append_assoc, length-append, add-one}
-use Rattle.std.proofs.lemmas.List.{append-nil}
+use Rattle.std.proofs.lemmas.List.{append-nil, length-map}
 use Rattle.std.proofs.Math.Seq.{drop-cons}
 use Rattle.wasm_spec.specs.Shortest.{unsigned_text, list_text, framed_text}
 use Rattle.std.specs.List.{flat_map}
@@ -26,6 +26,17 @@ pub all_written : {A : Type 0} (text : A → List ℕ) (xs : List A) (i : ℕ) (
 all_written text xs i front p = rw (nothing_left text xs i p) (append-nil front)
 
 pub ruleset list_steps = (writes_item, length_of_rest, nothing_left, all_written, append_assoc, length-append)
+
+pub list_length : {A : Type 0} (text : A → List ℕ) (xs : List A) → length (list_text text xs) ≡ length (unsigned_text (length xs)) + length (flat_map text xs)
+unfolding list_text
+list_length text xs = length-append (unsigned_text (length xs)) (flat_map text xs)
+
+-- the texts of items and of one behind them
+pub one_more : {A : Type 0} (text : A → List ℕ) (xs : List A) (x : A) → flat_map text (xs ++ x ∷ []) ≡ flat_map text xs ++ text x
+one_more text [] x = append-nil (text x)
+one_more text (y ∷ ys) x = ap (λ (l : List ℕ). text y ++ l) (one_more text ys x) ∙ (simp append_assoc)
+
+pub ruleset sizes = (list_length, one_more, length-append, length-map)
 
 pub framed_length : (content : List ℕ) → length (framed_text content) ≡ length content + length (unsigned_text (length content))
 unfolding framed_text

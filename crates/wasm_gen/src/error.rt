@@ -2,9 +2,7 @@
 
 ghost use Rattle.std.specs.Prelude.{◌≡◌};
 ghost use Rattle.wasm_gen.specs.Generate.{told, unwritten};
-ghost use Rattle.wasm_gen.specs.declared.error.GenerateError.TheVariants.{Memory};
 
-use std::alloc::AllocError;
 use thiserror::Error;
 use wasm_core::encode_error::EncodeError;
 use wasm_core::limits::Limit;
@@ -60,14 +58,6 @@ impl From<EncodeError> for GenerateError {
             EncodeError::Memory => GenerateError::Memory,
             EncodeError::TooLong => GenerateError::Limit(Limit::Length),
         }
-    }
-}
-
-impl From<AllocError> for GenerateError {
-    ghost from_gives = { λ _ given. given ≡ Memory };
-
-    fn from(_error: AllocError) -> GenerateError {
-        GenerateError::Memory
     }
 }
 

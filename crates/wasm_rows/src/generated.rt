@@ -1,13 +1,12 @@
 //! Seeds, and the modules that are made of them.
 
 use crate::modules::{HEADER, joined};
+use crate::round_trip::refusal_of_made;
 use std::alloc::{AllocError, Global};
 use std::test::Fail;
 use wasm_core::limits::Limit;
 use wasm_gen::error::GenerateError;
 use wasm_gen::generate::generate;
-use wasm_gen::judge::{ErrorKind, ValidatorId};
-use wasm_gen::session::Session;
 use wasm_gen::smith::{Config, plain_config};
 
 // Seeds, each with the sections that are made of it.
@@ -35,23 +34,6 @@ const ROWS: [(&[u8], &[u8]); 4] = [
         ],
     ),
 ];
-
-// Why a new session with the features of the configuration refuses what is made of the seed, if it does.
-fn refusal_of_made(
-    alloc: Global,
-    config: &Config,
-    seed: &[u8],
-) -> Result<Option<ErrorKind>, GenerateError> {
-    let bytes = generate(alloc, config, seed)?;
-    let mut sanitized = *config;
-    sanitized.sanitize();
-    let mut session = Session::new(sanitized.features(), ValidatorId::new(0));
-    match session.check(alloc, &bytes) {
-        Ok(_types) => Ok(None),
-        Err(e) if e.kind == ErrorKind::Memory => Err(GenerateError::Memory),
-        Err(e) => Ok(Some(e.kind)),
-    }
-}
 
 // Whether no module is made, for this reason.
 fn is_refused(alloc: Global, config: &Config, seed: &[u8], e: GenerateError) -> bool {

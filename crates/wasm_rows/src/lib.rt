@@ -1,4 +1,4 @@
-//! Tests that cross crates: worked modules, judged through public calls alone.
+//! What crosses crates: what is generated is accepted, and tests on worked modules, judged through public calls alone.
 #![tactic(auto)]
 
 #[cfg(test)]
@@ -25,6 +25,7 @@ mod modules;
 mod numbers;
 #[cfg(test)]
 mod reader;
+pub mod round_trip;
 #[cfg(test)]
 mod seeds;
 #[cfg(test)]

@@ -1,0 +1,43 @@
+-- What is generated is accepted.
+use Rattle.std.proofs.Common.{◌≡◌, ℕ, false, List, [], ◌∷◌, Err, refl}
+use Rattle.wasm_spec.specs.Features.{Features}
+use Rattle.wasm_spec.specs.Types.{SubType, ValType}
+use Rattle.wasm_spec.specs.Validity.{IsSupported}
+use Rattle.wasmparser.specs.Judging.{IsAccepted, IsJudged}
+use Rattle.wasmparser.specs.Types.{Error, Memory}
+use Rattle.wasm_smith.specs.Config.{AreFeaturesOf}
+use Rattle.wasm_smith.specs.Generating.{module_at}
+use Rattle.wasm_smith.specs.Made.{Made}
+use Rattle.wasm_smith.specs.Types.{Config}
+use Rattle.wasm_gen.specs.Generate.{IsGeneratedFrom}
+use Rattle.wasm_gen.specs.History.{History}
+use Rattle.wasm_gen.specs.Session.{Checks}
+use Rattle.wasm_gen_writer.specs.Written.{sections_with}
+
+-- a made module has sections of supported kinds alone
+of_lists : (types : List (SubType ℕ)) (funcs : List ℕ) (locals : List (List (ValType ℕ))) (bodies : List (List ℕ))
+    → IsSupported (sections_with (record { types = types; funcs = funcs; locals = locals }) bodies)
+of_lists [] [] locals bodies = tt
+of_lists [] (index ∷ funcs) locals bodies = tt
+of_lists (type ∷ types) [] locals bodies = tt
+of_lists (type ∷ types) (index ∷ funcs) locals bodies = tt
+
+supported : (m : Made) (bodies : List (List ℕ)) → IsSupported (sections_with m bodies)
+supported m bodies = of_lists m.types m.funcs m.locals bodies
+
+-- what is generated is a module of supported sections, which is valid under the features of the configuration
+accepted : (c : Config) (seed bytes : List ℕ) (features : Features) (g : IsGeneratedFrom c seed bytes) → AreFeaturesOf c features
+    → IsAccepted features bytes (sections_with (module_at c seed).0 g.generated.bodies)
+accepted c seed bytes features g are = record {
+  reads = g.generated.reads;
+  supported = supported (module_at c seed).0 g.generated.bodies;
+  valid = g.generated.valid features are;
+}
+
+-- a new session with these features refuses it for want of memory alone
+pub memory_alone : (c : Config) (seed bytes read : List ℕ) (features : Features) (id : ℕ) (old new : History) (e : Error) → IsGeneratedFrom c seed bytes
+    → read ≡ bytes → AreFeaturesOf c features → old ≡ record { features = features; id = id; has_failed = false } → Checks old read (Err e) new
+    → e.kind ≡ Memory
+memory_alone c seed bytes read features id old new e made same are is checks =
+    let judged : IsJudged features bytes (Err e) = (rw (is, same) at checks).judged refl in
+    judged.complete (sections_with (module_at c seed).0 made.generated.bodies) (accepted c seed bytes features made are)

@@ -6,9 +6,9 @@ use Rattle.std.proofs.lemmas.Option.{cond_some}
 use Rattle.std.proofs.lemmas.List.{append_cancel_right, append-nil, length-append, take-append-drop, length-take}
 use Rattle.std.proofs.Math.Seq.{take-append_seam, drop-append_seam}
 use Rattle.wasm_spec.specs.Bytes.{AreBytes, IsBytesOf, IsOneByte, IsUnsigned, IsU32, IsName}
-use Rattle.wasm_spec.specs.Grammar.{IsBody}
+use Rattle.wasm_spec.specs.ModuleParts.{IsBody}
 use Rattle.wasm_core_read.specs.Laws.{ReadsExactly, FillsExactly, IsPrefixFree}
-use Rattle.wasm_core_read.specs.ModuleReading.{body_at}
+use Rattle.wasm_core_read.specs.PartReading.{body_at}
 use Rattle.wasm_core_read.specs.Reading.{◌>>=◌, byte_at, unsigned_at, bytes_at, name_at, filled}
 use Rattle.wasm_core_read.proofs.Names.{utf8, utf8_from}
 

@@ -1,4 +1,7 @@
 pub mod BytesLaws
+pub mod ConstantForms
+pub mod ContentForms
+pub mod ExternalForms
 pub mod Forms
 pub mod FrontLaws
 pub mod ListForms
@@ -6,6 +9,8 @@ pub mod ListLaws
 pub mod ModuleForms
 pub mod Names
 pub mod NumberForms
+pub mod PartForms
 pub mod SignedLaws
 pub mod TypeForms
 pub mod UnsignedLaws
+pub mod WayForms

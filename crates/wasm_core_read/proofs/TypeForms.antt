@@ -1,33 +1,65 @@
 -- Types are read as their forms say.
-use Rattle.std.proofs.Common.{◌≡◌, ℕ, Bool, true, List, [], ◌∷◌, ◌++◌, Option, Some, refl, sym, ap, subst, ◌∙◌, append_assoc, inl, inr}
+use Rattle.std.proofs.Common.{◌≡◌, ◌≢◌, ℕ, ◌<◌, ◌≤◌, ℤ, pos, negsuc, ◌⊎◌, Bool, true, false, List, [], ◌∷◌, ◌++◌, Option, Some, None, refl, sym, ap, subst, inl, inr, arith}
 use Rattle.std.proofs.lemmas.Bool.Decides.{eqb_tells}
-use Rattle.wasm_spec.specs.Bytes.{AreBytes, IsList}
-use Rattle.wasm_spec.specs.TypeGrammar.{heap_code, IsValType, IsFuncType, IsCompositeType, IsRecGroup}
-use Rattle.wasm_spec.specs.Types.{AbstractHeapType, HeapType, Abstract, Concrete, ValType, I32, I64, F32, F64, V128, Ref, FuncType, CompositeType, FuncComposite, StructComposite, ArrayComposite, ContComposite, SubType, RecGroup, Single}
+use Rattle.std.proofs.lemmas.Int.{ints}
+use Rattle.wasm_spec.specs.Bytes.{AreBytes, IsU32, IsSigned, IsPair, IsList}
+use Rattle.wasm_spec.specs.TypeGrammar.{heap_code, sub_code, IsHeapIndex, IsHeapType, IsReference, IsRefType, IsValType, IsResultType, IsStorageType, IsMutability, IsFieldType, IsFuncType, IsCompositeType, IsSubType, IsRecGroup}
+use Rattle.wasm_spec.specs.Types.{AbstractHeapType, HeapType, Abstract, Concrete, RefType, ValType, I32, I64, F32, F64, V128, Ref, StorageType, I8, I16, Val, FieldType, FuncType, CompositeType, FuncComposite, StructComposite, ArrayComposite, ContComposite, SubType, RecGroup, Single, Group}
 use Rattle.wasm_spec.specs.Types as types
 use Rattle.wasm_core_read.specs.Laws.{ReadsExactly}
-use Rattle.wasm_core_read.specs.Reading.{◌>>=◌}
-use Rattle.wasm_core_read.specs.TypeReading.{list_at, look_up, val_type_codes, val_type_at, func_type_at, func_group, rec_group_at}
-use Rattle.wasm_core_read.proofs.Forms.{bind_some, some_is, joined, behind, Found}
+use Rattle.wasm_core_read.specs.Reading.{◌>>=◌, unsigned_at, signed_at, seen_at, pair_at, behind_code, bare_code, no_code}
+use Rattle.wasm_core_read.specs.TypeReading.{list_at, look_up, heap_codes, index_of, heap_index_at, heap_with, heap_type_at, val_type_codes, short_type, val_type_from, val_type_at, reference_of, ref_type_from, ref_type_at, storage_type_at, mutability_at, field_type_at, signature_at, func_type_at, composite_from, composite_type_at, final_type, below_at, sub_from, sub_type_at, rec_group_at}
+use Rattle.wasm_core_read.proofs.Forms.{bind_some, some_is, Found, reads_unsigned}
 use Rattle.wasm_core_read.proofs.ListForms.{reads_list}
+use Rattle.wasm_core_read.proofs.NumberForms.{reads_signed, signed_again}
+use Rattle.wasm_core_read.proofs.WayForms.{Finds, FindsBehind, Announced, seen, reads_seen, reads_pair, none, bare, coded, announced, past_code, past_bare, announced_seen}
 
--- each entry of a table is a value type beside its byte
-abbrev HasCodes : List (ℕ × ValType ℕ) → Type 0
-HasCodes [] = Unit {0}
-HasCodes ((code, type) ∷ others) = IsValType (code ∷ []) type × HasCodes others
+-- ---- tables of bytes
 
-looked_up : (table : List (ℕ × ValType ℕ)) (b : ℕ) (type : ValType ℕ) → HasCodes table → look_up table b ≡ Some type → IsValType (b ∷ []) type
-looked_up [] b type codes e = absurd cc
-looked_up ((code, x) ∷ others) b type codes e =
+-- something holds of each entry
+abbrev Each : {A : Type 0} → (ℕ → A → Type 0) → List (ℕ × A) → Type 0
+Each P [] = Unit {0}
+Each P ((code, x) ∷ others) = P code x × Each P others
+
+looked_up : {A : Type 0} (P : ℕ → A → Type 0) (table : List (ℕ × A)) (b : ℕ) (x : A) → Each P table → look_up table b ≡ Some x → P b x
+looked_up P [] b x each e = absurd cc
+looked_up P ((code, y) ∷ others) b x each e =
     elim (eqb_tells b code) [
-      | inl (u, same) ↦ subst (λ (n : ℕ). IsValType (n ∷ []) type) (sym same) (subst (λ t. IsValType (code ∷ []) t) (some_is x type (rw u at e)) codes.0)
-      | inr (u, other) ↦ looked_up others b type codes.1 (rw u at e)
+      | inl (t, same) ↦ subst (λ (n : ℕ). P n x) (sym same) (subst (λ z. P code z) (some_is y x (rw t at e)) each.0)
+      | inr (t, other) ↦ looked_up P others b x each.1 (rw t at e)
     ]
 
-val_codes : HasCodes val_type_codes
-val_codes = (refl, (refl, (refl, (refl, (refl, ((refl, refl), ((refl, refl), ((refl, refl), ((refl, refl), ((refl, refl), ((refl, refl), ((refl, refl), ((refl, refl), ((refl, refl), ((refl, refl), ((refl, refl), ((refl, refl), ((refl, refl), ((refl, refl), tt)))))))))))))))))))
+missed : {A : Type 0} (table : List (ℕ × A)) (b : ℕ) → Each (λ code x. b ≢ code) table → look_up table b ≡ None
+missed [] b each = refl
+missed ((code, y) ∷ others) b each =
+    elim (eqb_tells b code) [
+      | inl (t, same) ↦ absurd (each.0 same)
+      | inr (t, other) ↦ rw t (missed others b each.1)
+    ]
 
-own_heap : (heap : AbstractHeapType) → look_up val_type_codes (heap_code heap) ≡ Some (Ref true (Abstract heap))
+-- ---- heap types
+
+-- an index that a signed number is
+is_index : (z : ℤ) (index : ℕ) → index_of z ≡ Some index → z ≡ pos index
+is_index (pos n) index e = ap pos (some_is n index e)
+is_index (negsuc n) index e = absurd cc
+
+heap_index_found : Finds IsHeapIndex heap_index_at
+unfolding heap_index_at
+heap_index_found bytes v rest are e =
+    let z = bind_some (signed_at 33 bytes) (λ z. index_of z.0 >>= λ index. Some (index, z.1)) (v, rest) e in
+    let i = bind_some (index_of z.0.0) (λ index. Some (index, z.0.1)) (v, rest) z.2 in
+    let f = (reads_signed 33).found bytes z.0.0 z.0.1 are z.1 in
+    subst (λ (x : ℕ × List ℕ). Found IsHeapIndex bytes x.0 x.1) (some_is (i.0, z.0.1) (v, rest) i.2) (f.0, f.1, subst (λ (y : ℤ). IsSigned 33 f.0 y) (is_index z.0.0 i.0 i.1) f.2)
+
+pub reads_heap_index : ReadsExactly IsHeapIndex heap_index_at
+unfolding heap_index_at
+reads_heap_index = record { found = heap_index_found; again = λ text v rest h. rw (signed_again 33 text (pos v) rest h) refl }
+
+own_codes : Each (λ code heap. code ≡ heap_code heap) heap_codes
+own_codes = (refl, (refl, (refl, (refl, (refl, (refl, (refl, (refl, (refl, (refl, (refl, (refl, (refl, (refl, tt))))))))))))))
+
+own_heap : (heap : AbstractHeapType) → look_up heap_codes (heap_code heap) ≡ Some heap
 own_heap types.Func = refl
 own_heap types.Extern = refl
 own_heap types.Any = refl
@@ -43,12 +75,80 @@ own_heap types.NoExn = refl
 own_heap types.Cont = refl
 own_heap types.NoCont = refl
 
-val_type_found : (bytes : List ℕ) (type : ValType ℕ) (rest : List ℕ) → AreBytes bytes → val_type_at bytes ≡ Some (type, rest) → Found IsValType bytes type rest
+heap_found : (b : ℕ) (bs : List ℕ) (o : Option AbstractHeapType) (v : HeapType ℕ) (rest : List ℕ) → AreBytes (b ∷ bs) → look_up heap_codes b ≡ o → heap_with o (b ∷ bs) bs ≡ Some (v, rest) → Found IsHeapType (b ∷ bs) v rest
+heap_found b bs (Some heap) v rest are l e =
+    subst (λ x. Found IsHeapType (b ∷ bs) x.0 x.1) (some_is (Abstract heap, bs) (v, rest) e)
+    (b ∷ [], refl, ap (λ (n : ℕ). n ∷ []) (looked_up (λ code x. code ≡ heap_code x) heap_codes b heap own_codes l))
+heap_found b bs None v rest are l e = seen IsHeapType IsHeapIndex heap_index_at (λ index. Concrete index) heap_index_found (λ text index h. h) (b ∷ bs) v rest are e
+
+heap_type_found : Finds IsHeapType heap_type_at
+unfolding heap_type_at
+heap_type_found [] v rest are e = absurd cc
+heap_type_found (b ∷ bs) v rest are e = heap_found b bs (look_up heap_codes b) v rest are refl e
+
+-- The first byte of an index is below 64, or from 128 on: it is no byte of an abstract heap type.
+first_of_index : (b : ℕ) (bs : List ℕ) (index : ℕ) → IsHeapIndex (b ∷ bs) index → (b < 64) ⊎ (128 ≤ b)
+first_of_index b [] index (inl h) = inl h.0
+first_of_index b [] index (inr h) = absurd (omega (arith, ints, h.1, h.3))
+first_of_index b (c ∷ cs) index h = inr h.0
+
+no_heap : (b : ℕ) → (b < 64) ⊎ (128 ≤ b) → look_up heap_codes b ≡ None
+no_heap b (inl low) = missed heap_codes b (omega (arith, low), (omega (arith, low), (omega (arith, low), (omega (arith, low), (omega (arith, low), (omega (arith, low), (omega (arith, low), (omega (arith, low), (omega (arith, low), (omega (arith, low), (omega (arith, low), (omega (arith, low), (omega (arith, low), (omega (arith, low), tt))))))))))))))
+no_heap b (inr high) = missed heap_codes b (omega (arith, high), (omega (arith, high), (omega (arith, high), (omega (arith, high), (omega (arith, high), (omega (arith, high), (omega (arith, high), (omega (arith, high), (omega (arith, high), (omega (arith, high), (omega (arith, high), (omega (arith, high), (omega (arith, high), (omega (arith, high), tt))))))))))))))
+
+index_again : (text : List ℕ) (index : ℕ) (rest : List ℕ) → IsHeapIndex text index → heap_type_at (text ++ rest) ≡ Some (Concrete index, rest)
+unfolding heap_type_at
+index_again [] index rest h = absurd h
+index_again (b ∷ bs) index rest h = rw (no_heap b (first_of_index b bs index h), reads_heap_index.again (b ∷ bs) index rest h) refl
+
+heap_type_again : (text : List ℕ) (v : HeapType ℕ) (rest : List ℕ) → IsHeapType text v → heap_type_at (text ++ rest) ≡ Some (v, rest)
+unfolding heap_type_at
+heap_type_again text (Abstract heap) rest h = rw (h, own_heap heap) refl
+heap_type_again text (Concrete index) rest h = index_again text index rest h
+
+pub reads_heap_type : ReadsExactly IsHeapType heap_type_at
+reads_heap_type = record { found = heap_type_found; again = heap_type_again }
+
+-- ---- value and reference types
+
+val_codes : Each (λ code type. IsValType (code ∷ []) type) val_type_codes
+val_codes = (refl, (refl, (refl, (refl, (refl, (inr refl, (inr refl, (inr refl, (inr refl, (inr refl, (inr refl, (inr refl, (inr refl, (inr refl, (inr refl, (inr refl, (inr refl, (inr refl, (inr refl, tt)))))))))))))))))))
+
+short_found : FindsBehind (Announced IsValType) short_type
+short_found code bytes v rest are e =
+    let a = bind_some (look_up val_type_codes code) (λ x. Some (x, bytes)) (v, rest) e in
+    subst (λ x. Found (Announced IsValType code) bytes x.0 x.1) (some_is (a.0, bytes) (v, rest) a.2) ([], refl, looked_up (λ c t. IsValType (c ∷ []) t) val_type_codes code a.0 val_codes a.1)
+
+val_from_found : FindsBehind (Announced IsValType) val_type_from
+val_from_found = coded (Announced IsValType) 0x63 (seen_at (λ heap. Ref true heap) heap_type_at) (behind_code 0x64 (seen_at (λ heap. Ref false heap) heap_type_at) short_type)
+    (seen (Announced IsValType 0x63) IsHeapType heap_type_at (λ heap. Ref true heap) heap_type_found (λ text heap h. inl (text, refl, h)))
+    (coded (Announced IsValType) 0x64 (seen_at (λ heap. Ref false heap) heap_type_at) short_type
+    (seen (Announced IsValType 0x64) IsHeapType heap_type_at (λ heap. Ref false heap) heap_type_found (λ text heap h. (text, refl, h)))
+    short_found)
+
+own_reference : (heap : AbstractHeapType) (rest : List ℕ) → val_type_at (heap_code heap ∷ rest) ≡ Some (Ref true (Abstract heap), rest)
 unfolding val_type_at
-val_type_found [] type rest are e = absurd cc
-val_type_found (b ∷ bs) type rest are e =
-    let a = bind_some (look_up val_type_codes b) (λ x. Some (x, bs)) (type, rest) e in
-    subst (λ x. Found IsValType (b ∷ bs) x.0 x.1) (some_is (a.0, bs) (type, rest) a.2) (b ∷ [], refl, looked_up val_type_codes b a.0 val_codes a.1)
+own_reference types.Func rest = refl
+own_reference types.Extern rest = refl
+own_reference types.Any rest = refl
+own_reference types.None rest = refl
+own_reference types.NoExtern rest = refl
+own_reference types.NoFunc rest = refl
+own_reference types.Eq rest = refl
+own_reference types.Struct rest = refl
+own_reference types.Array rest = refl
+own_reference types.I31 rest = refl
+own_reference types.Exn rest = refl
+own_reference types.NoExn rest = refl
+own_reference types.Cont rest = refl
+own_reference types.NoCont rest = refl
+
+reference_again : (text : List ℕ) (nullable : Bool) (heap : HeapType ℕ) (rest : List ℕ) → IsReference nullable text heap → val_type_at (text ++ rest) ≡ Some (Ref nullable heap, rest)
+unfolding val_type_at
+reference_again text true heap rest (inl h) = rw (h.1, heap_type_again h.0 heap rest h.2) refl
+reference_again text true (Abstract heap) rest (inr h) = rw h (own_reference heap rest)
+reference_again text true (Concrete index) rest (inr h) = absurd h
+reference_again text false heap rest h = rw (h.1, heap_type_again h.0 heap rest h.2) refl
 
 val_type_again : (text : List ℕ) (type : ValType ℕ) (rest : List ℕ) → IsValType text type → val_type_at (text ++ rest) ≡ Some (type, rest)
 unfolding val_type_at
@@ -57,61 +157,185 @@ val_type_again text I64 rest h = rw h refl
 val_type_again text F32 rest h = rw h refl
 val_type_again text F64 rest h = rw h refl
 val_type_again text V128 rest h = rw h refl
-val_type_again text (Ref nullable (Abstract heap)) rest h = rw (h.0, h.1, own_heap heap) refl
-val_type_again text (Ref nullable (Concrete index)) rest h = absurd h.1
+val_type_again text (Ref nullable heap) rest h = reference_again text nullable heap rest h
 
 pub reads_val_type : ReadsExactly IsValType val_type_at
-reads_val_type = record { found = val_type_found; again = val_type_again }
+unfolding val_type_at
+reads_val_type = record { found = announced IsValType val_type_from val_from_found; again = val_type_again }
 
-abbrev val_types_at : List ℕ → Option (List (ValType ℕ) × List ℕ)
-val_types_at bytes = list_at val_type_at bytes
+is_reference : (type : ValType ℕ) (reference : RefType ℕ) (text : List ℕ) → reference_of type ≡ Some reference → IsValType text type → IsRefType text reference
+is_reference (Ref nullable heap) reference text e h = subst (λ r. IsRefType text r) (some_is (record { nullable = nullable; heap_type = heap }) reference e) h
+is_reference I32 reference text e h = absurd cc
+is_reference I64 reference text e h = absurd cc
+is_reference F32 reference text e h = absurd cc
+is_reference F64 reference text e h = absurd cc
+is_reference V128 reference text e h = absurd cc
 
-reads_val_types : ReadsExactly (IsList IsValType) val_types_at
-reads_val_types = reads_list IsValType val_type_at reads_val_type
+pub ref_from_found : FindsBehind (Announced IsRefType) ref_type_from
+ref_from_found code bytes v rest are e =
+    let t = bind_some (val_type_from code bytes) (λ type. reference_of type.0 >>= λ reference. Some (reference, type.1)) (v, rest) e in
+    let r = bind_some (reference_of t.0.0) (λ reference. Some (reference, t.0.1)) (v, rest) t.2 in
+    let f = val_from_found code bytes t.0.0 t.0.1 are t.1 in
+    subst (λ x. Found (Announced IsRefType code) bytes x.0 x.1) (some_is (r.0, t.0.1) (v, rest) r.2) (f.0, f.1, is_reference t.0.0 r.0 (code ∷ f.0) r.1 f.2)
 
-func_type_found : (bytes : List ℕ) (type : FuncType ℕ) (rest : List ℕ) → AreBytes bytes → func_type_at bytes ≡ Some (type, rest) → Found IsFuncType bytes type rest
-unfolding func_type_at
-func_type_found [] type rest are e = absurd cc
-func_type_found (b ∷ bs) type rest are e =
-    elim (eqb_tells b 0x60) [
-      | inl (u, same) ↦
-          let p = bind_some (val_types_at bs) (λ params. val_types_at params.1 >>= λ results. Some (record { params = params.0; results = results.0 }, results.1)) (type, rest) (rw u at e) in
-          let r = bind_some (val_types_at p.0.1) (λ results. Some (record { params = p.0.0; results = results.0 }, results.1)) (type, rest) p.2 in
-          let params = reads_val_types.found bs p.0.0 p.0.1 are.1 p.1 in
-          let results = reads_val_types.found p.0.1 r.0.0 r.0.1 (behind bs params.0 p.0.1 are.1 params.1) r.1 in
-          let both : b ∷ bs ≡ (0x60 ∷ (params.0 ++ results.0)) ++ r.0.1 = rw same (ap (λ (l : List ℕ). 0x60 ∷ l) (joined bs params.0 p.0.1 results.0 r.0.1 params.1 results.1)) in
-          subst (λ x. Found IsFuncType (b ∷ bs) x.0 x.1) (some_is (record { params = p.0.0; results = r.0.0 }, r.0.1) (type, rest) r.2)
-          (0x60 ∷ (params.0 ++ results.0), both, (params.0, results.0, refl, params.2, results.2))
-      | inr (u, other) ↦ let f = rw u at e in absurd cc
-    ]
+of_val_type : (bytes : List ℕ) (nullable : Bool) (heap : HeapType ℕ) (rest : List ℕ) → val_type_at bytes ≡ Some (Ref nullable heap, rest) → ref_type_at bytes ≡ Some (record { nullable = nullable; heap_type = heap }, rest)
+unfolding val_type_at ref_type_at
+of_val_type [] nullable heap rest e = absurd cc
+of_val_type (b ∷ bs) nullable heap rest e = rw e refl
 
-func_type_again : (text : List ℕ) (type : FuncType ℕ) (rest : List ℕ) → IsFuncType text type → func_type_at (text ++ rest) ≡ Some (type, rest)
-unfolding func_type_at
-func_type_again text type rest h =
-    let split : text ++ rest ≡ 0x60 ∷ (h.0 ++ (h.1 ++ rest)) = rw h.2 (ap (λ (l : List ℕ). 0x60 ∷ l) (append_assoc h.0 h.1 rest)) in
-    ap func_type_at split ∙ rw (reads_val_types.again h.0 type.params (h.1 ++ rest) h.3, reads_val_types.again h.1 type.results rest h.4) refl
+pub reads_ref_type : ReadsExactly IsRefType ref_type_at
+unfolding ref_type_at
+reads_ref_type = record {
+  found = announced IsRefType ref_type_from ref_from_found;
+  again = λ text v rest h. of_val_type (text ++ rest) v.nullable v.heap_type rest (reference_again text v.nullable v.heap_type rest h);
+}
+
+-- ---- fields
+
+packed_found : FindsBehind (Announced IsStorageType) (bare_code 0x78 I8 (bare_code 0x77 I16 (λ code. seen_at (λ type. Val type) (val_type_from code))))
+packed_found = bare (Announced IsStorageType) 0x78 I8 (bare_code 0x77 I16 (λ code. seen_at (λ type. Val type) (val_type_from code))) refl
+    (bare (Announced IsStorageType) 0x77 I16 (λ code. seen_at (λ type. Val type) (val_type_from code)) refl
+    (λ code. seen (Announced IsStorageType code) (Announced IsValType code) (val_type_from code) (λ type. Val type) (val_from_found code) (λ text type h. h)))
+
+value_again : (text : List ℕ) (type : ValType ℕ) (rest : List ℕ) → IsValType text type → storage_type_at (text ++ rest) ≡ Some (Val type, rest)
+unfolding storage_type_at val_type_at
+value_again text type rest h =
+    past_bare 0x78 I8 (bare_code 0x77 I16 (λ code. seen_at (λ t. Val t) (val_type_from code))) (λ bytes. refl) (text ++ rest) (Val type, rest)
+    (past_bare 0x77 I16 (λ code. seen_at (λ t. Val t) (val_type_from code)) (λ bytes. refl) (text ++ rest) (Val type, rest)
+    (announced_seen (λ t. Val t) val_type_from (text ++ rest) type rest (val_type_again text type rest h)))
+
+storage_again : (text : List ℕ) (type : StorageType ℕ) (rest : List ℕ) → IsStorageType text type → storage_type_at (text ++ rest) ≡ Some (type, rest)
+unfolding storage_type_at
+storage_again text I8 rest h = rw h refl
+storage_again text I16 rest h = rw h refl
+storage_again text (Val type) rest h = value_again text type rest h
+
+pub reads_storage_type : ReadsExactly IsStorageType storage_type_at
+unfolding storage_type_at
+reads_storage_type = record { found = announced IsStorageType _ packed_found; again = storage_again }
+
+mutability_again : (text : List ℕ) (v : Bool) (rest : List ℕ) → IsMutability text v → mutability_at (text ++ rest) ≡ Some (v, rest)
+unfolding mutability_at
+mutability_again text false rest h = rw h refl
+mutability_again text true rest h = rw h refl
+
+pub reads_mutability : ReadsExactly IsMutability mutability_at
+unfolding mutability_at
+reads_mutability = record {
+  found = announced IsMutability _ (bare (Announced IsMutability) 0x00 false (bare_code 0x01 true no_code) refl (bare (Announced IsMutability) 0x01 true no_code refl (none (Announced IsMutability))));
+  again = mutability_again;
+}
+
+pub reads_field_type : ReadsExactly IsFieldType field_type_at
+unfolding field_type_at
+reads_field_type =
+    reads_seen (IsPair IsStorageType IsMutability) (pair_at storage_type_at mutability_at) (λ x. record { element_type = x.0; mutable = x.1 }) (λ field. (field.element_type, field.mutable)) (λ x. refl) (λ field. refl)
+    (reads_pair IsStorageType storage_type_at IsMutability mutability_at reads_storage_type reads_mutability)
+
+-- ---- function and composite types
+
+abbrev IsSignature : List ℕ → FuncType ℕ → Type 0
+IsSignature text type = IsPair IsResultType IsResultType text (type.params, type.results)
+
+reads_result_type : ReadsExactly IsResultType (list_at val_type_at)
+reads_result_type = reads_list IsValType val_type_at reads_val_type
+
+reads_signature : ReadsExactly IsSignature signature_at
+unfolding signature_at
+reads_signature =
+    reads_seen (IsPair IsResultType IsResultType) (pair_at (list_at val_type_at) (list_at val_type_at)) (λ x. record { params = x.0; results = x.1 }) (λ type. (type.params, type.results)) (λ x. refl) (λ type. refl)
+    (reads_pair IsResultType (list_at val_type_at) IsResultType (list_at val_type_at) reads_result_type reads_result_type)
 
 pub reads_func_type : ReadsExactly IsFuncType func_type_at
-reads_func_type = record { found = func_type_found; again = func_type_again }
+unfolding func_type_at
+reads_func_type = record {
+  found = announced IsFuncType (behind_code 0x60 signature_at no_code) (coded (Announced IsFuncType) 0x60 signature_at no_code signature_found (none (Announced IsFuncType)));
+  again = λ text v rest h. rw (h.1, reads_signature.again h.0 v rest h.2) refl;
+}
+  where
+    signature_found : Finds (Announced IsFuncType 0x60) signature_at
+    signature_found bytes v rest are e = let f = reads_signature.found bytes v rest are e in (f.0, f.1, (f.0, refl, f.2))
 
-rec_group_found : (bytes : List ℕ) (group : RecGroup ℕ) (rest : List ℕ) → AreBytes bytes → rec_group_at bytes ≡ Some (group, rest) → Found IsRecGroup bytes group rest
-unfolding rec_group_at
-rec_group_found bytes group rest are e =
-    let t = bind_some (func_type_at bytes) (λ type. Some (func_group type.0, type.1)) (group, rest) e in
-    let f = func_type_found bytes t.0.0 t.0.1 are t.1 in
-    subst (λ x. Found IsRecGroup bytes x.0 x.1) (some_is (func_group t.0.0, t.0.1) (group, rest) t.2) (f.0, f.1, (refl, refl, f.2))
+reads_fields : ReadsExactly (IsList IsFieldType) (list_at field_type_at)
+reads_fields = reads_list IsFieldType field_type_at reads_field_type
 
--- a final sub type without supertypes, read as a group of one
-composite_again : (text : List ℕ) (final : Bool) (supertypes : List ℕ) (type : CompositeType ℕ) (rest : List ℕ) → final ≡ true → supertypes ≡ [] → IsCompositeType text type
-    → rec_group_at (text ++ rest) ≡ Some (Single (record { is_final = final; supertypes = supertypes; composite_type = type }), rest)
-unfolding rec_group_at
-composite_again text final supertypes (FuncComposite type) rest f s h = rw (func_type_again text type rest h, f, s) refl
-composite_again text final supertypes (StructComposite fields) rest f s h = absurd h
-composite_again text final supertypes (ArrayComposite field) rest f s h = absurd h
-composite_again text final supertypes (ContComposite function) rest f s h = absurd h
+composite_found : FindsBehind (Announced IsCompositeType) composite_from
+composite_found = coded (Announced IsCompositeType) 0x60 (seen_at (λ type. FuncComposite type) signature_at) _
+    (seen (Announced IsCompositeType 0x60) IsSignature signature_at (λ type. FuncComposite type) reads_signature.found (λ text type h. (text, refl, h)))
+    (coded (Announced IsCompositeType) 0x5f (seen_at (λ fields. StructComposite fields) (list_at field_type_at)) _
+    (seen (Announced IsCompositeType 0x5f) (IsList IsFieldType) (list_at field_type_at) (λ fields. StructComposite fields) reads_fields.found (λ text fields h. (text, refl, h)))
+    (coded (Announced IsCompositeType) 0x5e (seen_at (λ field. ArrayComposite field) field_type_at) _
+    (seen (Announced IsCompositeType 0x5e) IsFieldType field_type_at (λ field. ArrayComposite field) reads_field_type.found (λ text field h. (text, refl, h)))
+    (coded (Announced IsCompositeType) 0x5d (seen_at (λ function. ContComposite function) heap_index_at) no_code
+    (seen (Announced IsCompositeType 0x5d) IsHeapIndex heap_index_at (λ function. ContComposite function) heap_index_found (λ text function h. (text, refl, h)))
+    (none (Announced IsCompositeType)))))
 
-rec_group_again : (text : List ℕ) (group : RecGroup ℕ) (rest : List ℕ) → IsRecGroup text group → rec_group_at (text ++ rest) ≡ Some (group, rest)
-rec_group_again text (Single type) rest h = composite_again text type.is_final type.supertypes type.composite_type rest h.0 h.1 h.2
+composite_again : (text : List ℕ) (type : CompositeType ℕ) (rest : List ℕ) → IsCompositeType text type → composite_type_at (text ++ rest) ≡ Some (type, rest)
+unfolding composite_type_at
+composite_again text (FuncComposite type) rest h = rw (h.1, reads_signature.again h.0 type rest h.2) refl
+composite_again text (StructComposite fields) rest h = rw (h.1, reads_fields.again h.0 fields rest h.2) refl
+composite_again text (ArrayComposite field) rest h = rw (h.1, reads_field_type.again h.0 field rest h.2) refl
+composite_again text (ContComposite function) rest h = rw (h.1, reads_heap_index.again h.0 function rest h.2) refl
+
+pub reads_composite_type : ReadsExactly IsCompositeType composite_type_at
+unfolding composite_type_at
+reads_composite_type = record { found = announced IsCompositeType composite_from composite_found; again = composite_again }
+
+-- ---- sub types and groups
+
+abbrev IsBelow : List ℕ → List ℕ × CompositeType ℕ → Type 0
+IsBelow text x = IsPair (IsList IsU32) IsCompositeType text x
+
+reads_below : ReadsExactly IsBelow (pair_at (list_at (unsigned_at 32)) composite_type_at)
+reads_below = reads_pair (IsList IsU32) (list_at (unsigned_at 32)) IsCompositeType composite_type_at (reads_list IsU32 (unsigned_at 32) (reads_unsigned 32)) reads_composite_type
+
+alone_found : FindsBehind (Announced IsSubType) (λ code. seen_at final_type (composite_from code))
+alone_found code = seen (Announced IsSubType code) (Announced IsCompositeType code) (composite_from code) final_type (composite_found code) (λ text type h. inr (refl, refl, h))
+
+sub_found : FindsBehind (Announced IsSubType) sub_from
+sub_found = coded (Announced IsSubType) 0x50 (below_at false) _
+    (seen (Announced IsSubType 0x50) IsBelow (pair_at (list_at (unsigned_at 32)) composite_type_at) (λ x. record { is_final = false; supertypes = x.0; composite_type = x.1 }) reads_below.found (λ text x h. inl (text, refl, h)))
+    (coded (Announced IsSubType) 0x4f (below_at true) _
+    (seen (Announced IsSubType 0x4f) IsBelow (pair_at (list_at (unsigned_at 32)) composite_type_at) (λ x. record { is_final = true; supertypes = x.0; composite_type = x.1 }) reads_below.found (λ text x h. inl (text, refl, h)))
+    alone_found)
+
+alone_again : (text : List ℕ) (final : Bool) (supertypes : List ℕ) (type : CompositeType ℕ) (rest : List ℕ) → final ≡ true → supertypes ≡ [] → IsCompositeType text type
+    → sub_type_at (text ++ rest) ≡ Some (record { is_final = final; supertypes = supertypes; composite_type = type }, rest)
+unfolding sub_type_at composite_type_at
+alone_again text final supertypes type rest f s h = rw (f, s)
+    (past_code 0x50 (below_at false) (behind_code 0x4f (below_at true) (λ code. seen_at final_type (composite_from code))) (λ bytes. refl) (text ++ rest) (final_type type, rest)
+    (past_code 0x4f (below_at true) (λ code. seen_at final_type (composite_from code)) (λ bytes. refl) (text ++ rest) (final_type type, rest)
+    (announced_seen final_type composite_from (text ++ rest) type rest (composite_again text type rest h))))
+
+written_again : (text others : List ℕ) (final : Bool) (supertypes : List ℕ) (type : CompositeType ℕ) (rest : List ℕ) → text ≡ sub_code final ∷ others → IsBelow others (supertypes, type)
+    → sub_type_at (text ++ rest) ≡ Some (record { is_final = final; supertypes = supertypes; composite_type = type }, rest)
+unfolding sub_type_at
+written_again text others true supertypes type rest e h = rw (e, reads_below.again others (supertypes, type) rest h) refl
+written_again text others false supertypes type rest e h = rw (e, reads_below.again others (supertypes, type) rest h) refl
+
+sub_again : (text : List ℕ) (type : SubType ℕ) (rest : List ℕ) → IsSubType text type → sub_type_at (text ++ rest) ≡ Some (type, rest)
+sub_again text type rest (inl h) = written_again text h.0 type.is_final type.supertypes type.composite_type rest h.1 h.2
+sub_again text type rest (inr h) = alone_again text type.is_final type.supertypes type.composite_type rest h.0 h.1 h.2
+
+pub reads_sub_type : ReadsExactly IsSubType sub_type_at
+unfolding sub_type_at
+reads_sub_type = record { found = announced IsSubType sub_from sub_found; again = sub_again }
+
+reads_sub_types : ReadsExactly (IsList IsSubType) (list_at sub_type_at)
+reads_sub_types = reads_list IsSubType sub_type_at reads_sub_type
+
+group_found : FindsBehind (Announced IsRecGroup) (behind_code 0x4e (seen_at (λ group. Group group) (list_at sub_type_at)) (λ code. seen_at (λ type. Single type) (sub_from code)))
+group_found = coded (Announced IsRecGroup) 0x4e (seen_at (λ group. Group group) (list_at sub_type_at)) _
+    (seen (Announced IsRecGroup 0x4e) (IsList IsSubType) (list_at sub_type_at) (λ group. Group group) reads_sub_types.found (λ text group h. (text, refl, h)))
+    (λ code. seen (Announced IsRecGroup code) (Announced IsSubType code) (sub_from code) (λ type. Single type) (sub_found code) (λ text type h. h))
+
+group_again : (text : List ℕ) (group : RecGroup ℕ) (rest : List ℕ) → IsRecGroup text group → rec_group_at (text ++ rest) ≡ Some (group, rest)
+unfolding rec_group_at sub_type_at
+group_again text (Single type) rest h =
+    past_code 0x4e (seen_at (λ group. Group group) (list_at sub_type_at)) (λ code. seen_at (λ t. Single t) (sub_from code)) (λ bytes. refl) (text ++ rest) (Single type, rest)
+    (announced_seen (λ t. Single t) sub_from (text ++ rest) type rest (sub_again text type rest h))
+group_again text (Group group) rest h = rw (h.1, reads_sub_types.again h.0 group rest h.2) refl
 
 pub reads_rec_group : ReadsExactly IsRecGroup rec_group_at
-reads_rec_group = record { found = rec_group_found; again = rec_group_again }
+unfolding rec_group_at
+reads_rec_group = record { found = announced IsRecGroup _ group_found; again = group_again }

@@ -1,7 +1,8 @@
 -- What it is for reading to be that of a form.
-use Rattle.std.specs.Prelude.{◌≡◌, ℕ, List, ◌∷◌, ◌++◌, Option, Some, Result, Ok, Err}
+use Rattle.std.specs.Prelude.{◌≡◌, ℕ, Bool, List, ◌∷◌, ◌++◌, Option, Some, Result, Ok, Err}
 use Rattle.wasm_spec.specs.Bytes.{AreBytes, IsBytes, IsU32, IsList, IsFramed}
-use Rattle.wasm_spec.specs.Grammar.{section_id, IsBody, IsContent, IsModule}
+use Rattle.wasm_spec.specs.Grammar.{section_id, IsContent, IsModule}
+use Rattle.wasm_spec.specs.ModuleParts.{IsBody}
 use Rattle.wasm_spec.specs.Syntax.{Section}
 use Rattle.wasm_spec.specs.TypeGrammar.{IsValType, IsFuncType, IsRecGroup}
 use Rattle.wasm_spec.specs.Types.{ValType, FuncType, RecGroup}
@@ -44,13 +45,13 @@ abbrev pub Reads : {X A : Type 0} → (List ℕ → A → Type 0) → (X → A) 
 Reads IsA view old new (Ok x) = IsRead IsA old new (view x)
 Reads IsA view old new (Err e) = IsRefused IsA old e.offset × (new ≡ old)
 
--- The bytes are a text of no module.
-abbrev pub IsNoModule : List ℕ → Type 0
-IsNoModule text = (sections : List Section) → ¬ (IsModule text sections)
+-- The bytes are a text of no module, where compact imports are on or not.
+abbrev pub IsNoModule : Bool → List ℕ → Type 0
+IsNoModule compact text = (sections : List Section) → ¬ (IsModule compact text sections)
 
 -- the bytes are the content of the section, whose id is this one
-abbrev pub IsContentOf : ℕ → List ℕ → Section → Type 0
-IsContentOf id text section = IsContent text section × (section_id section ≡ id)
+abbrev pub IsContentOf : Bool → ℕ → List ℕ → Section → Type 0
+IsContentOf compact id text section = IsContent compact text section × (section_id section ≡ id)
 
 -- the id of a section, and its content in a frame, whatever the content
 abbrev pub IsFrame : List ℕ → ℕ × List ℕ → Type 0

@@ -1,5 +1,5 @@
 -- Reading the front of a list of bytes, form by form. These functions are means of proof: the laws tie each to its form.
-use Rattle.std.specs.Prelude.{◌≡◌, ℕ, ◌+◌, ◌-◌, ◌*◌, ◌^◌, ℤ, pos, negsuc, List, [], ◌∷◌, length, take, drop, Option, Some, None, Result, Ok, Err, nat_lt, nat_le, if◌then◌else◌}
+use Rattle.std.specs.Prelude.{◌≡◌, ℕ, Bool, true, false, ◌==◌, ◌+◌, ◌-◌, ◌*◌, ◌^◌, ℤ, pos, negsuc, List, [], ◌∷◌, length, take, drop, Option, Some, None, Result, Ok, Err, nat_lt, nat_le, if◌then◌else◌}
 use Rattle.std.specs.Str.{is_utf8}
 use Rattle.wasm_spec.specs.Bytes.{low_first}
 use Rattle.wasm_core_read.specs.declared.malformed.Malformed.{Malformed}
@@ -25,6 +25,10 @@ Answers view old new (Err e) read = (read ≡ None) × GoesOn old new × IsWithi
 abbrev pub AnswersAll : {X Y : Type 0} → (X → Y) → Input → Result X Malformed → Option Y → Type 0
 AnswersAll view old (Ok x) read = read ≡ Some (view x)
 AnswersAll view old (Err e) read = (read ≡ None) × IsWithin old e.offset
+
+-- A way of reading: what the front of the bytes gives, and the rest.
+abbrev pub ReadingOf : Type 0 → Type 0
+ReadingOf A = List ℕ → Option (A × List ℕ)
 
 unfoldable pub byte_at : List ℕ → Option (ℕ × List ℕ)
 byte_at [] = None
@@ -68,6 +72,46 @@ float_at len bytes = bytes_at len bytes >>= λ x. Some (low_first x.0, x.1)
 
 unfoldable pub name_at : List ℕ → Option (List ℕ × List ℕ)
 name_at bytes = unsigned_at 32 bytes >>= λ n. bytes_at n.0 n.1 >>= λ x. if is_utf8 x.0 then Some x else None
+
+-- ---- ways of reading that are made of others
+
+-- what is read, as another value
+abbrev pub seen_at : {A B : Type 0} → (A → B) → ReadingOf A → ReadingOf B
+seen_at view a_at bytes = a_at bytes >>= λ a. Some (view a.0, a.1)
+
+-- what is read where it passes a test
+abbrev pub tested_at : {A : Type 0} → (A → Bool) → ReadingOf A → ReadingOf A
+tested_at test a_at bytes = a_at bytes >>= λ a. if test a.0 then Some a else None
+
+-- one form behind the other
+abbrev pub pair_at : {A B : Type 0} → ReadingOf A → ReadingOf B → ReadingOf (A × B)
+pair_at a_at b_at bytes = a_at bytes >>= λ a. b_at a.1 >>= λ b. Some ((a.0, b.0), b.1)
+
+-- a part that may be absent
+abbrev pub optional_at : {A : Type 0} → Bool → ReadingOf A → ReadingOf (Option A)
+optional_at false a_at bytes = Some (None, bytes)
+optional_at true a_at bytes = seen_at (λ a. Some a) a_at bytes
+
+-- behind a byte, what it announces
+abbrev pub announced_at : {A : Type 0} → (ℕ → ReadingOf A) → ReadingOf A
+announced_at form [] = None
+announced_at form (b ∷ rest) = form b rest
+
+-- behind a u32, what it announces
+abbrev pub numbered_at : {A : Type 0} → (ℕ → ReadingOf A) → ReadingOf A
+numbered_at form bytes = unsigned_at 32 bytes >>= λ n. form n.0 n.1
+
+-- what stands behind this code, where the code is this one, else what stands behind others
+abbrev pub behind_code : {A : Type 0} → ℕ → ReadingOf A → (ℕ → ReadingOf A) → ℕ → ReadingOf A
+behind_code wanted a_at others code rest = if code == wanted then a_at rest else others code rest
+
+-- a code behind which nothing stands
+abbrev pub bare_code : {A : Type 0} → ℕ → A → (ℕ → ReadingOf A) → ℕ → ReadingOf A
+bare_code wanted x others code rest = if code == wanted then Some (x, rest) else others code rest
+
+-- no code is left
+abbrev pub no_code : {A : Type 0} → ℕ → ReadingOf A
+no_code code rest = None
 
 -- what is read where that is all of the bytes
 abbrev pub filled : {A : Type 0} → Option (A × List ℕ) → Option A

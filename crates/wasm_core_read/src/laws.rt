@@ -1,15 +1,21 @@
 //! Laws of the reading functions that the contracts of this crate cite, and of the grammar. The
 //! functions do nothing: their contracts are theorems.
 
-ghost use Rattle.std.specs.Prelude.{◌≡◌, ◌++◌, [], ◌∷◌, ℕ, List};
+ghost use Rattle.std.specs.Prelude.{◌≡◌, ◌↔◌, ◌++◌, [], ◌∷◌, true, false, ℕ, Bool, List, Option, None};
 ghost use Rattle.wasm_core_read.specs.Laws.{ReadsExactly, FillsExactly, IsPrefixFree, IsNoModule, IsFrame, IsValTypes, IsFuncTypes, IsIndexes, IsRecGroups, IsBodies};
-ghost use Rattle.wasm_core_read.specs.ModuleReading.{body_at, frame_at, section_at, module_of};
+ghost use Rattle.wasm_core_read.specs.ConstantReading.{operator_at, expression_at};
+ghost use Rattle.wasm_core_read.specs.ModuleReading.{frame_at, section_at, module_of};
+ghost use Rattle.wasm_core_read.specs.PartReading.{body_at, import_at, table_at, global_at, export_at, element_at, data_at};
 ghost use Rattle.wasm_core_read.specs.Reading.{byte_at, unsigned_at, signed_at, bytes_at, float_at, name_at};
-ghost use Rattle.wasm_core_read.specs.TypeReading.{list_at, val_type_at, func_type_at, func_group, rec_group_at};
+ghost use Rattle.wasm_core_read.specs.TypeReading.{list_at, heap_type_at, ref_type_at, val_type_at, storage_type_at, field_type_at, func_type_at, composite_type_at, sub_type_at, rec_group_at, limits_at, table_type_at, global_type_at, tag_type_at, external_kind_at, external_type_at};
 ghost use Rattle.wasm_spec.specs.Bytes.{IsOneByte, IsUnsigned, IsSigned, IsBytesOf, IsFloatBits, IsName};
-ghost use Rattle.wasm_spec.specs.Grammar.{header, IsBody, IsSection, IsModule};
-ghost use Rattle.wasm_spec.specs.Syntax.{Section, Custom, TypeSection, FunctionSection, CodeSection};
-ghost use Rattle.wasm_spec.specs.TypeGrammar.{IsValType, IsFuncType, IsRecGroup};
+ghost use Rattle.wasm_spec.specs.ConstantGrammar.{IsConstantOperator, IsConstantExpression};
+ghost use Rattle.wasm_spec.specs.Grammar.{header, IsSection, IsModule};
+ghost use Rattle.wasm_spec.specs.ModuleParts.{IsImport, IsTable, IsGlobal, IsExport, IsElementSegment, IsDataSegment, IsBody};
+ghost use Rattle.wasm_spec.specs.Features.{Features, CompactImports, has};
+ghost use Rattle.wasm_spec.specs.Syntax.{ImportEntry, Import, Section, Custom, TypeSection, FunctionSection, CodeSection};
+ghost use Rattle.wasm_spec.specs.TypeGrammar.{IsHeapType, IsRefType, IsValType, IsStorageType, IsFieldType, IsFuncType, IsCompositeType, IsSubType, IsRecGroup, IsLimits, IsTableType, IsGlobalType, IsTagType, IsExternalKind, IsExternalType};
+ghost use Rattle.wasm_spec.specs.Types.{ExternalType, Single, FuncComposite};
 
 /// What is read from bytes is a text of the form, and each text of it is read, whatever follows it.
 pub fn reads_exactly()
@@ -19,13 +25,33 @@ pub fn reads_exactly()
     ensures bytes { (n : ℕ) → ReadsExactly (IsBytesOf n) (bytes_at n) }
     ensures float { (len : ℕ) → ReadsExactly (IsFloatBits len) (float_at len) }
     ensures name { ReadsExactly IsName name_at }
+    ensures heap_type { ReadsExactly IsHeapType heap_type_at }
+    ensures ref_type { ReadsExactly IsRefType ref_type_at }
     ensures val_type { ReadsExactly IsValType val_type_at }
+    ensures storage_type { ReadsExactly IsStorageType storage_type_at }
+    ensures field_type { ReadsExactly IsFieldType field_type_at }
     ensures func_type { ReadsExactly IsFuncType func_type_at }
+    ensures composite_type { ReadsExactly IsCompositeType composite_type_at }
+    ensures sub_type { ReadsExactly IsSubType sub_type_at }
     ensures rec_group { ReadsExactly IsRecGroup rec_group_at }
+    ensures limits { ReadsExactly IsLimits limits_at }
+    ensures table_type { ReadsExactly IsTableType table_type_at }
+    ensures global_type { ReadsExactly IsGlobalType global_type_at }
+    ensures tag_type { ReadsExactly IsTagType tag_type_at }
+    ensures external_kind { ReadsExactly IsExternalKind external_kind_at }
+    ensures external_type { ReadsExactly IsExternalType external_type_at }
+    ensures operator { ReadsExactly IsConstantOperator operator_at }
+    ensures expression { ReadsExactly IsConstantExpression expression_at }
+    ensures table { ReadsExactly IsTable table_at }
+    ensures global { ReadsExactly IsGlobal global_at }
+    ensures export { ReadsExactly IsExport export_at }
+    ensures element_segment { ReadsExactly IsElementSegment element_at }
+    ensures data_segment { ReadsExactly IsDataSegment data_at }
     ensures body { ReadsExactly IsBody body_at }
     ensures frame { ReadsExactly IsFrame frame_at }
-    ensures section { ReadsExactly IsSection section_at }
-    ensures sections { FillsExactly IsModule module_of }
+    ensures import { (compact : Bool) → ReadsExactly (IsImport compact) (import_at compact) }
+    ensures section { (compact : Bool) → ReadsExactly (IsSection compact) (section_at compact) }
+    ensures sections { (compact : Bool) → FillsExactly (IsModule compact) (module_of compact) }
 {}
 
 /// What is read of a list is a list of what is read of its items.
@@ -44,66 +70,90 @@ pub fn prefix_free()
     ensures signed { (bits : ℕ) → IsPrefixFree (IsSigned bits) }
     ensures float { (len : ℕ) → IsPrefixFree (IsFloatBits len) }
     ensures name { IsPrefixFree IsName }
+    ensures heap_type { IsPrefixFree IsHeapType }
+    ensures ref_type { IsPrefixFree IsRefType }
     ensures val_type { IsPrefixFree IsValType }
+    ensures storage_type { IsPrefixFree IsStorageType }
+    ensures field_type { IsPrefixFree IsFieldType }
     ensures func_type { IsPrefixFree IsFuncType }
+    ensures composite_type { IsPrefixFree IsCompositeType }
+    ensures sub_type { IsPrefixFree IsSubType }
     ensures rec_group { IsPrefixFree IsRecGroup }
+    ensures limits { IsPrefixFree IsLimits }
+    ensures table_type { IsPrefixFree IsTableType }
+    ensures global_type { IsPrefixFree IsGlobalType }
+    ensures tag_type { IsPrefixFree IsTagType }
+    ensures external_kind { IsPrefixFree IsExternalKind }
+    ensures external_type { IsPrefixFree IsExternalType }
+    ensures operator { IsPrefixFree IsConstantOperator }
+    ensures expression { IsPrefixFree IsConstantExpression }
+    ensures table { IsPrefixFree IsTable }
+    ensures global { IsPrefixFree IsGlobal }
+    ensures export { IsPrefixFree IsExport }
+    ensures element_segment { IsPrefixFree IsElementSegment }
+    ensures data_segment { IsPrefixFree IsDataSegment }
     ensures body { IsPrefixFree IsBody }
     ensures frame { IsPrefixFree IsFrame }
-    ensures section { IsPrefixFree IsSection }
+    ensures import { (compact : Bool) → IsPrefixFree (IsImport compact) }
+    ensures section { (compact : Bool) → IsPrefixFree (IsSection compact) }
 {}
 
 /// Bytes are a text of at most one module.
 pub fn one_module()
-    ensures { (text : List ℕ) (a b : List Section) → IsModule text a → IsModule text b → a ≡ b }
+    ensures { (compact : Bool) (text : List ℕ) (a b : List Section) → IsModule compact text a → IsModule compact text b → a ≡ b }
+{}
+
+/// Of the features only compact imports decide how bytes read. Where these are off, what reads is read so where they are on, too: a single
+/// import is no group.
+pub fn read_under_features()
+    ensures same { (f g : Features) (text : List ℕ) (sections : List Section) → has f CompactImports ≡ has g CompactImports → IsModule (has f CompactImports) text sections → IsModule (has g CompactImports) text sections }
+    ensures single { (compact : Bool) (text origin name : List ℕ) (type : ExternalType ℕ) → IsImport compact text (Import origin name type) ↔ IsImport false text (Import origin name type) }
+    ensures no_group { (text : List ℕ) (origin name : List ℕ) (type : ExternalType ℕ) (entry : ImportEntry) → IsImport false text (Import origin name type) → IsImport true text entry → entry ≡ Import origin name type }
 {}
 
 /// Bytes that are a text of no module, worked out by hand.
 pub fn no_module()
-    ensures nothing { IsNoModule [] }
-    ensures cut_header { IsNoModule (0x00 ∷ 0x61 ∷ 0x73 ∷ 0x6d ∷ 0x01 ∷ 0x00 ∷ 0x00 ∷ []) }
-    ensures version { IsNoModule (0x00 ∷ 0x61 ∷ 0x73 ∷ 0x6d ∷ 0x02 ∷ 0x00 ∷ 0x00 ∷ 0x00 ∷ []) }
+    ensures nothing { (compact : Bool) → IsNoModule compact [] }
+    ensures cut_header { (compact : Bool) → IsNoModule compact (0x00 ∷ 0x61 ∷ 0x73 ∷ 0x6d ∷ 0x01 ∷ 0x00 ∷ 0x00 ∷ []) }
+    ensures version { (compact : Bool) → IsNoModule compact (0x00 ∷ 0x61 ∷ 0x73 ∷ 0x6d ∷ 0x02 ∷ 0x00 ∷ 0x00 ∷ 0x00 ∷ []) }
 
     // A section of another id, one without a name, one whose size goes past the end, a name that goes past its frame.
-    ensures another_id { IsNoModule (header ++ (0x0e ∷ 0x01 ∷ 0x00 ∷ [])) }
-    ensures no_name { IsNoModule (header ++ (0x00 ∷ 0x00 ∷ [])) }
-    ensures long_size { IsNoModule (header ++ (0x00 ∷ 0x02 ∷ 0x01 ∷ 0x61 ∷ []) ++ (0x00 ∷ 0x02 ∷ 0x01 ∷ [])) }
-    ensures long_name { IsNoModule (header ++ (0x00 ∷ 0x01 ∷ 0x01 ∷ [])) }
+    ensures another_id { (compact : Bool) → IsNoModule compact (header ++ (0x0e ∷ 0x01 ∷ 0x00 ∷ [])) }
+    ensures no_name { (compact : Bool) → IsNoModule compact (header ++ (0x00 ∷ 0x00 ∷ [])) }
+    ensures long_size { (compact : Bool) → IsNoModule compact (header ++ (0x00 ∷ 0x02 ∷ 0x01 ∷ 0x61 ∷ []) ++ (0x00 ∷ 0x02 ∷ 0x01 ∷ [])) }
+    ensures long_name { (compact : Bool) → IsNoModule compact (header ++ (0x00 ∷ 0x01 ∷ 0x01 ∷ [])) }
 
     // Names that aren't UTF-8: a byte that begins nothing, an overlong form, a surrogate, past the last character.
-    ensures no_text { IsNoModule (header ++ (0x00 ∷ 0x02 ∷ 0x01 ∷ 0xff ∷ [])) }
-    ensures overlong { IsNoModule (header ++ (0x00 ∷ 0x03 ∷ 0x02 ∷ 0xc0 ∷ 0x80 ∷ [])) }
-    ensures surrogate { IsNoModule (header ++ (0x00 ∷ 0x04 ∷ 0x03 ∷ 0xed ∷ 0xa0 ∷ 0x80 ∷ [])) }
-    ensures past_the_last { IsNoModule (header ++ (0x00 ∷ 0x05 ∷ 0x04 ∷ 0xf4 ∷ 0x90 ∷ 0x80 ∷ 0x80 ∷ [])) }
+    ensures no_text { (compact : Bool) → IsNoModule compact (header ++ (0x00 ∷ 0x02 ∷ 0x01 ∷ 0xff ∷ [])) }
+    ensures overlong { (compact : Bool) → IsNoModule compact (header ++ (0x00 ∷ 0x03 ∷ 0x02 ∷ 0xc0 ∷ 0x80 ∷ [])) }
+    ensures surrogate { (compact : Bool) → IsNoModule compact (header ++ (0x00 ∷ 0x04 ∷ 0x03 ∷ 0xed ∷ 0xa0 ∷ 0x80 ∷ [])) }
+    ensures past_the_last { (compact : Bool) → IsNoModule compact (header ++ (0x00 ∷ 0x05 ∷ 0x04 ∷ 0xf4 ∷ 0x90 ∷ 0x80 ∷ 0x80 ∷ [])) }
 
     // Sections out of order, one twice.
-    ensures functions_first { IsNoModule (header ++ (0x03 ∷ 0x02 ∷ 0x01 ∷ 0x00 ∷ []) ++ (0x01 ∷ 0x04 ∷ 0x01 ∷ 0x60 ∷ 0x00 ∷ 0x00 ∷ []) ++ (0x0a ∷ 0x05 ∷ 0x01 ∷ 0x03 ∷ 0x00 ∷ 0x00 ∷ 0x0b ∷ [])) }
-    ensures types_twice { IsNoModule (header ++ (0x01 ∷ 0x04 ∷ 0x01 ∷ 0x60 ∷ 0x00 ∷ 0x00 ∷ []) ++ (0x01 ∷ 0x04 ∷ 0x01 ∷ 0x60 ∷ 0x00 ∷ 0x00 ∷ [])) }
+    ensures functions_first { (compact : Bool) → IsNoModule compact (header ++ (0x03 ∷ 0x02 ∷ 0x01 ∷ 0x00 ∷ []) ++ (0x01 ∷ 0x04 ∷ 0x01 ∷ 0x60 ∷ 0x00 ∷ 0x00 ∷ []) ++ (0x0a ∷ 0x05 ∷ 0x01 ∷ 0x03 ∷ 0x00 ∷ 0x00 ∷ 0x0b ∷ [])) }
+    ensures types_twice { (compact : Bool) → IsNoModule compact (header ++ (0x01 ∷ 0x04 ∷ 0x01 ∷ 0x60 ∷ 0x00 ∷ 0x00 ∷ []) ++ (0x01 ∷ 0x04 ∷ 0x01 ∷ 0x60 ∷ 0x00 ∷ 0x00 ∷ [])) }
 
     // A function without a body, a body without a function, one body too many.
-    ensures no_code { IsNoModule (header ++ (0x01 ∷ 0x04 ∷ 0x01 ∷ 0x60 ∷ 0x00 ∷ 0x00 ∷ []) ++ (0x03 ∷ 0x02 ∷ 0x01 ∷ 0x00 ∷ [])) }
-    ensures no_functions { IsNoModule (header ++ (0x0a ∷ 0x04 ∷ 0x01 ∷ 0x02 ∷ 0x00 ∷ 0x0b ∷ [])) }
-    ensures body_too_many { IsNoModule (header ++ (0x01 ∷ 0x04 ∷ 0x01 ∷ 0x60 ∷ 0x00 ∷ 0x00 ∷ []) ++ (0x03 ∷ 0x02 ∷ 0x01 ∷ 0x00 ∷ []) ++ (0x0a ∷ 0x07 ∷ 0x02 ∷ 0x02 ∷ 0x00 ∷ 0x0b ∷ 0x02 ∷ 0x00 ∷ 0x0b ∷ [])) }
+    ensures no_code { (compact : Bool) → IsNoModule compact (header ++ (0x01 ∷ 0x04 ∷ 0x01 ∷ 0x60 ∷ 0x00 ∷ 0x00 ∷ []) ++ (0x03 ∷ 0x02 ∷ 0x01 ∷ 0x00 ∷ [])) }
+    ensures no_functions { (compact : Bool) → IsNoModule compact (header ++ (0x0a ∷ 0x04 ∷ 0x01 ∷ 0x02 ∷ 0x00 ∷ 0x0b ∷ [])) }
+    ensures body_too_many { (compact : Bool) → IsNoModule compact (header ++ (0x01 ∷ 0x04 ∷ 0x01 ∷ 0x60 ∷ 0x00 ∷ 0x00 ∷ []) ++ (0x03 ∷ 0x02 ∷ 0x01 ∷ 0x00 ∷ []) ++ (0x0a ∷ 0x07 ∷ 0x02 ∷ 0x02 ∷ 0x00 ∷ 0x0b ∷ 0x02 ∷ 0x00 ∷ 0x0b ∷ [])) }
 
     // A count of six bytes, a byte behind the types, a type that goes past its frame.
-    ensures long_count { IsNoModule (header ++ (0x01 ∷ 0x09 ∷ 0x81 ∷ 0x80 ∷ 0x80 ∷ 0x80 ∷ 0x80 ∷ 0x00 ∷ 0x60 ∷ 0x00 ∷ 0x00 ∷ [])) }
-    ensures byte_behind { IsNoModule (header ++ (0x01 ∷ 0x05 ∷ 0x01 ∷ 0x60 ∷ 0x00 ∷ 0x00 ∷ 0x00 ∷ [])) }
-    ensures short_types { IsNoModule (header ++ (0x01 ∷ 0x03 ∷ 0x01 ∷ 0x60 ∷ 0x00 ∷ [])) }
-
-    // No cases of the grammar yet: a structure, and a group that is written out.
-    ensures structure { IsNoModule (header ++ (0x01 ∷ 0x03 ∷ 0x01 ∷ 0x5f ∷ 0x00 ∷ [])) }
-    ensures written_group { IsNoModule (header ++ (0x01 ∷ 0x03 ∷ 0x01 ∷ 0x4e ∷ 0x00 ∷ [])) }
+    ensures long_count { (compact : Bool) → IsNoModule compact (header ++ (0x01 ∷ 0x09 ∷ 0x81 ∷ 0x80 ∷ 0x80 ∷ 0x80 ∷ 0x80 ∷ 0x00 ∷ 0x60 ∷ 0x00 ∷ 0x00 ∷ [])) }
+    ensures byte_behind { (compact : Bool) → IsNoModule compact (header ++ (0x01 ∷ 0x05 ∷ 0x01 ∷ 0x60 ∷ 0x00 ∷ 0x00 ∷ 0x00 ∷ [])) }
+    ensures short_types { (compact : Bool) → IsNoModule compact (header ++ (0x01 ∷ 0x03 ∷ 0x01 ∷ 0x60 ∷ 0x00 ∷ [])) }
 {}
 
 /// Names of two, three and four bytes a character.
 pub fn wide_names()
-    ensures { IsModule (header ++ (0x00 ∷ 0x0a ∷ 0x09 ∷ 0xc3 ∷ 0xa9 ∷ 0xe2 ∷ 0x82 ∷ 0xac ∷ 0xf4 ∷ 0x8f ∷ 0xbf ∷ 0xbf ∷ []))
+    ensures { (compact : Bool) → IsModule compact (header ++ (0x00 ∷ 0x0a ∷ 0x09 ∷ 0xc3 ∷ 0xa9 ∷ 0xe2 ∷ 0x82 ∷ 0xac ∷ 0xf4 ∷ 0x8f ∷ 0xbf ∷ 0xbf ∷ []))
         (Custom (0xc3 ∷ 0xa9 ∷ 0xe2 ∷ 0x82 ∷ 0xac ∷ 0xf4 ∷ 0x8f ∷ 0xbf ∷ 0xbf ∷ []) [] ∷ []) }
 {}
 
 /// A module of a type, a function and its body; numbers of five bytes where one would do.
 pub fn modules_read()
-    ensures three { IsModule (header ++ (0x01 ∷ 0x04 ∷ 0x01 ∷ 0x60 ∷ 0x00 ∷ 0x00 ∷ []) ++ (0x03 ∷ 0x02 ∷ 0x01 ∷ 0x00 ∷ []) ++ (0x0a ∷ 0x05 ∷ 0x01 ∷ 0x03 ∷ 0x00 ∷ 0x00 ∷ 0x0b ∷ []))
-        (TypeSection (func_group (record { params = []; results = [] }) ∷ []) ∷ FunctionSection (0 ∷ []) ∷ CodeSection ((0x00 ∷ 0x00 ∷ 0x0b ∷ []) ∷ []) ∷ []) }
-    ensures padded { IsModule (header ++ (0x01 ∷ 0x08 ∷ 0x81 ∷ 0x80 ∷ 0x80 ∷ 0x80 ∷ 0x00 ∷ 0x60 ∷ 0x00 ∷ 0x00 ∷ []))
-        (TypeSection (func_group (record { params = []; results = [] }) ∷ []) ∷ []) }
+    ensures three { (compact : Bool) → IsModule compact (header ++ (0x01 ∷ 0x04 ∷ 0x01 ∷ 0x60 ∷ 0x00 ∷ 0x00 ∷ []) ++ (0x03 ∷ 0x02 ∷ 0x01 ∷ 0x00 ∷ []) ++ (0x0a ∷ 0x05 ∷ 0x01 ∷ 0x03 ∷ 0x00 ∷ 0x00 ∷ 0x0b ∷ []))
+        (TypeSection (Single (record { is_final = true; supertypes = []; composite_type = FuncComposite (record { params = []; results = [] }) }) ∷ []) ∷ FunctionSection (0 ∷ []) ∷ CodeSection ((0x00 ∷ 0x00 ∷ 0x0b ∷ []) ∷ []) ∷ []) }
+    ensures padded { (compact : Bool) → IsModule compact (header ++ (0x01 ∷ 0x08 ∷ 0x81 ∷ 0x80 ∷ 0x80 ∷ 0x80 ∷ 0x00 ∷ 0x60 ∷ 0x00 ∷ 0x00 ∷ []))
+        (TypeSection (Single (record { is_final = true; supertypes = []; composite_type = FuncComposite (record { params = []; results = [] }) }) ∷ []) ∷ []) }
 {}

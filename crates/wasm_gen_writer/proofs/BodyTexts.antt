@@ -2,7 +2,7 @@
 use Rattle.std.proofs.Common.{ℕ, ◌≤◌, List, [], ◌∷◌, length, map, refl, arith, length-append}
 use Rattle.std.specs.List.{AllByRecursion}
 use Rattle.wasm_spec.specs.Bytes.{IsByte, AreBytes, IsBytes}
-use Rattle.wasm_spec.specs.Grammar.{IsBody}
+use Rattle.wasm_spec.specs.ModuleParts.{IsBody}
 use Rattle.wasm_spec.specs.Types.{ValType}
 use Rattle.wasm_smith.specs.Plain.{IsPlain}
 use Rattle.wasm_spec.specs.Shortest.{list_text}

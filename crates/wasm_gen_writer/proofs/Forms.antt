@@ -1,5 +1,5 @@
 -- Lists and frames of texts.
-use Rattle.std.proofs.Common.{◌≡◌, ℕ, zero, suc, ◌+◌, ◌*◌, ◌^◌, ◌<◌, ◌≤◌, List, [], ◌∷◌, ◌++◌, length, map, Some, refl, sym, subst, ap, arith, length-append}
+use Rattle.std.proofs.Common.{◌≡◌, ℕ, zero, suc, ◌+◌, ◌*◌, ◌^◌, ◌<◌, ◌≤◌, Bool, List, [], ◌∷◌, ◌++◌, length, map, Some, refl, sym, subst, ap, arith, length-append}
 use Rattle.std.specs.List.{AllByRecursion, flat_map, slice_get}
 use Rattle.std.specs.Option.{unwrap_or}
 use Rattle.std.proofs.lemmas.List.{length-map, map-id}
@@ -58,9 +58,9 @@ pub frame_is : {A : Type 0} (IsA : List ℕ → A → Type 0) (content : List �
 unfolding framed_text
 frame_is IsA content x h few = (unsigned_text (length content), content, refl, number_spells (length content) few, h)
 
-pub section_is : (content : List ℕ) (section : Section) → IsContent content section → length content < 2 ^ 32 → IsSection (section_text (section_id section) content) section
+pub section_is : (compact : Bool) (content : List ℕ) (section : Section) → IsContent compact content section → length content < 2 ^ 32 → IsSection compact (section_text (section_id section) content) section
 unfolding section_text
-section_is content section h few = (framed_text content, refl, frame_is IsContent content section h few)
+section_is compact content section h few = (framed_text content, refl, frame_is (IsContent compact) content section h few)
 
 texts_bytes : {A : Type 0} (text : A → List ℕ) (P : A → Type 0) → ((x : A) → P x → AreBytes (text x)) → (xs : List A) → AllByRecursion P xs → AreBytes (flat_map text xs)
 texts_bytes text P law [] h = tt

@@ -12,7 +12,7 @@ use Rattle.wasm_smith.specs.Types.{Config}
 use Rattle.wasm_smith.specs.Validity.{IsValidByIndex}
 use Rattle.wasm_gen_writer.specs.Texts.{body_text, module_text}
 use Rattle.wasm_gen_writer.specs.Written.{sections_with, IsGenerated}
-use Rattle.wasm_gen_writer.proofs.SectionTexts.{bodies_written, module_reads}
+use Rattle.wasm_gen_writer.proofs.SectionTexts.{bodies_written, is_supported, module_reads}
 use Rattle.wasm_gen_writer.proofs.Validity.{is_valid}
 
 pub all_fit : (xs : List ℕ) → ((i : ℕ) → Fits w32 (get_or xs i 0)) → AllByRecursion (λ index. index < 2 ^ 32) xs
@@ -27,7 +27,8 @@ is_generated c m bytes b plain pairs indexes few_types few_funcs v e =
     record {
       bodies = map body_text m.locals;
       unreachable = written;
-      reads = subst (λ l. IsModule l (sections_with m (map body_text m.locals))) (sym e) (module_reads c m b plain pairs indexes few_types few_funcs);
+      reads = λ compact. subst (λ l. IsModule compact l (sections_with m (map body_text m.locals))) (sym e) (module_reads c m b plain pairs indexes few_types few_funcs compact);
+      supported = is_supported m (map body_text m.locals) plain;
       valid = λ features h. is_valid c m features (map body_text m.locals) b few_types few_funcs (v features h) written;
       within = b;
       shortest = e;

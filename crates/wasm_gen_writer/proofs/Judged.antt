@@ -58,18 +58,18 @@ few_runs (run ∷ runs) some = omega (
   length-replicate run.count run.type,
 )
 
-run_length : (text : List ℕ) (run : Run) → IsRun text run → length text ≤ 6
+run_length : (text : List ℕ) (run : Run) → IsRun text run → length text ≤ 7
 run_length text run h =
     omega (arith, ap length h.2, length-append h.0 h.1, padded_length h.0 run.count h.3, value_length h.1 run.type h.4)
 
-runs_length : (text : List ℕ) (runs : List Run) → IsItems IsRun text runs → length text ≤ 6 * length runs
+runs_length : (text : List ℕ) (runs : List Run) → IsItems IsRun text runs → length text ≤ 7 * length runs
 runs_length text [] h = omega (arith, ap length h)
 runs_length text (run ∷ runs) h =
     omega (arith, ap length h.2, length-append h.0 h.1, run_length h.0 run h.3, runs_length h.1 runs h.4)
 
 -- ---- bodies
 
-body_length : (locals : List (ValType ℕ)) (body : List ℕ) → length locals ≤ 100 → IsUnreachableBody locals body → length body ≤ 607
+body_length : (locals : List (ValType ℕ)) (body : List ℕ) → length locals ≤ 100 → IsUnreachableBody locals body → length body ≤ 707
 body_length locals body few b =
     let l = b.declared in
     omega (
@@ -86,7 +86,7 @@ body_length locals body few b =
     )
 
 pub bodies_length : (locals : List (List (ValType ℕ))) (bodies : List (List ℕ)) → AllByRecursion (λ ls. length ls ≤ 100) locals → AreUnreachableBodies locals bodies
-    → AllByRecursion (λ body. length body ≤ 607) bodies
+    → AllByRecursion (λ body. length body ≤ 707) bodies
 bodies_length [] [] few h = tt
 bodies_length [] (body ∷ bodies) few h = absurd h
 bodies_length (locals ∷ others) [] few h = absurd h

@@ -14,7 +14,7 @@ use Rattle.wasm_gen_writer.specs.Texts.{val_code, run_text, runs_from, runs_of}
 use Rattle.wasm_gen_writer.specs.Written.{AreMerged}
 use Rattle.wasm_gen_writer.proofs.Forms.{all_append, list_is, list_bytes, list_length}
 use Rattle.wasm_gen_writer.proofs.Numbers.{number_spells, number_bytes}
-use Rattle.wasm_gen_writer.proofs.Values.{same_type, value_is, value_bytes, plain_length}
+use Rattle.wasm_gen_writer.proofs.Values.{same_type, local_is, value_bytes, plain_length}
 
 -- ---- a run goes on or ends
 
@@ -111,7 +111,7 @@ plain_runs (first ∷ others) h few = plain_from 1 first others h.0 h.1 (omega (
 
 run_is : (run : Run) → IsPlainRun run → IsRun (run_text run) run
 unfolding run_text
-run_is run h = (unsigned_text run.count, val_text run.type, refl, number_spells run.count h.0, value_is run.type h.1)
+run_is run h = (unsigned_text run.count, val_text run.type, refl, number_spells run.count h.0, local_is run.type h.1)
 
 pub runs_text_is : (locals : List (ValType ℕ)) → AllByRecursion IsPlain locals → length locals < 2 ^ 32 → IsList IsRun (list_text run_text (runs_of locals)) (runs_of locals)
 runs_text_is locals h few = list_is IsRun run_text IsPlainRun run_is (runs_of locals) (plain_runs locals h few) (omega (arith, few, few_runs locals))

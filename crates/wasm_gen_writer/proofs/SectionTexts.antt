@@ -1,11 +1,13 @@
 -- The text of a made module reads as its sections.
-use Rattle.std.proofs.Common.{◌≡◌, ℕ, ◌<◌, ◌≤◌, ◌^◌, List, [], ◌∷◌, ◌++◌, length, map, refl, sym, subst, ap, ◌∙◌, arith, append_assoc}
-use Rattle.std.specs.List.{AllByRecursion}
+use Rattle.std.proofs.Common.{◌≡◌, ℕ, ◌<◌, ◌≤◌, ◌^◌, Bool, true, List, [], ◌∷◌, ◌++◌, length, map, refl, sym, subst, ap, ◌∙◌, arith, append_assoc}
+use Rattle.std.specs.List.{AllByRecursion, list_all}
 use Rattle.std.proofs.lemmas.List.{append-nil, length-map, nil_from_length}
 use Rattle.wasm_spec.specs.Bytes.{IsU32, IsItems}
-use Rattle.wasm_spec.specs.Grammar.{IsBody, IsSection, IsModule, AreOrdered}
+use Rattle.wasm_spec.specs.Grammar.{IsSection, IsModule, AreOrdered}
 use Rattle.wasm_spec.specs.Limits.{Types, Functions, most}
-use Rattle.wasm_spec.specs.Syntax.{Section, TypeSection, FunctionSection, CodeSection, functions_of, bodies_of}
+use Rattle.wasm_spec.specs.ModuleParts.{IsBody}
+use Rattle.wasm_spec.specs.Supported.{is_supported_group, IsSupported}
+use Rattle.wasm_spec.specs.Syntax.{Section, TypeSection, FunctionSection, CodeSection, functions_of, bodies_of, data_counts_of}
 use Rattle.wasm_spec.specs.TypeGrammar.{IsRecGroup}
 use Rattle.wasm_spec.specs.Types.{ValType, SubType, Single}
 use Rattle.wasm_spec.specs.Shortest.{unsigned_text, list_text, section_text}
@@ -20,7 +22,7 @@ use Rattle.wasm_gen_writer.specs.Written.{AreUnreachableBodies, unless_empty, se
 use Rattle.wasm_gen_writer.proofs.BodyTexts.{AreFewPlain, bodies_are_written, body_length, entry_is, entry_length}
 use Rattle.wasm_gen_writer.proofs.Forms.{all_are, both, list_is, views_are, list_length, section_is}
 use Rattle.wasm_gen_writer.proofs.Numbers.{number_spells}
-use Rattle.wasm_gen_writer.proofs.TypeTexts.{IsSmallPlain, type_is, type_length}
+use Rattle.wasm_gen_writer.proofs.TypeTexts.{IsSmallPlain, type_is, type_length, type_supported}
 
 -- ---- what the sections have
 
@@ -48,6 +50,29 @@ in_order [] (f ∷ fs) bodies = (omega arith, (omega arith, tt))
 in_order (t ∷ ts) [] bodies = (omega arith, tt)
 in_order (t ∷ ts) (f ∷ fs) bodies = (omega arith, (omega arith, (omega arith, tt)))
 
+-- no number of data segments is stated
+no_data_counts : (P : ℕ → Type 0) (types : List (SubType ℕ)) (funcs : List ℕ) (bodies : List (List ℕ)) → AllByRecursion P (data_counts_of (sections types funcs bodies))
+no_data_counts P [] [] bodies = tt
+no_data_counts P [] (f ∷ fs) bodies = tt
+no_data_counts P (t ∷ ts) [] bodies = tt
+no_data_counts P (t ∷ ts) (f ∷ fs) bodies = tt
+
+-- ---- what is supported
+
+groups_supported : (types : List (SubType ℕ)) → AllByRecursion IsPlainFunction types → list_all is_supported_group (map Single types) ≡ true
+groups_supported [] h = refl
+groups_supported (type ∷ types) h = rw (type_supported type h.0) (groups_supported types h.1)
+
+lists_supported : (types : List (SubType ℕ)) (funcs : List ℕ) (bodies : List (List ℕ)) → AllByRecursion IsPlainFunction types → IsSupported (sections types funcs bodies)
+lists_supported [] [] bodies h = refl
+lists_supported [] (f ∷ fs) bodies h = refl
+lists_supported (t ∷ ts) [] bodies h = rw (groups_supported (t ∷ ts) h) refl
+lists_supported (t ∷ ts) (f ∷ fs) bodies h = rw (groups_supported (t ∷ ts) h) refl
+
+-- a made module of plain types is supported
+pub is_supported : (m : Made) (bodies : List (List ℕ)) → IsPlainModule m → IsSupported (sections_with m bodies)
+is_supported m bodies plain = lists_supported m.types m.funcs bodies plain.types
+
 -- ---- the contents
 
 types_length : (types : List (SubType ℕ)) → AllByRecursion IsSmallPlain types → length types ≤ most Types → length (list_text sub_text types) < 2 ^ 32
@@ -59,27 +84,27 @@ short_funcs funcs h few = omega (arith, few, list_length unsigned_text (λ index
 code_length : (locals : List (List (ValType ℕ))) → AllByRecursion AreFewPlain locals → length locals ≤ most Functions → length (list_text entry_text locals) < 2 ^ 32
 code_length locals h few = omega (arith, few, list_length entry_text AreFewPlain 612 entry_length locals h (omega (arith, few)))
 
-types_are : (types : List (SubType ℕ)) → AllByRecursion IsSmallPlain types → length types ≤ most Types
-    → IsSection (section_text 1 (list_text sub_text types)) (TypeSection (map Single types))
-types_are types plain few = section_is (list_text sub_text types) (TypeSection (map Single types))
+types_are : (compact : Bool) (types : List (SubType ℕ)) → AllByRecursion IsSmallPlain types → length types ≤ most Types
+    → IsSection compact (section_text 1 (list_text sub_text types)) (TypeSection (map Single types))
+types_are compact types plain few = section_is compact (list_text sub_text types) (TypeSection (map Single types))
     (views_are IsRecGroup sub_text Single IsSmallPlain type_is types plain (omega (arith, few))) (types_length types plain few)
 
-funcs_are : (funcs : List ℕ) → AllByRecursion (λ index. index < 2 ^ 32) funcs → length funcs ≤ most Functions
-    → IsSection (section_text 3 (list_text unsigned_text funcs)) (FunctionSection funcs)
-funcs_are funcs h few = section_is (list_text unsigned_text funcs) (FunctionSection funcs)
+funcs_are : (compact : Bool) (funcs : List ℕ) → AllByRecursion (λ index. index < 2 ^ 32) funcs → length funcs ≤ most Functions
+    → IsSection compact (section_text 3 (list_text unsigned_text funcs)) (FunctionSection funcs)
+funcs_are compact funcs h few = section_is compact (list_text unsigned_text funcs) (FunctionSection funcs)
     (list_is IsU32 unsigned_text (λ index. index < 2 ^ 32) number_spells funcs h (omega (arith, few))) (short_funcs funcs h few)
 
-code_is : (locals : List (List (ValType ℕ))) → AllByRecursion AreFewPlain locals → length locals ≤ most Functions
-    → IsSection (section_text 10 (list_text entry_text locals)) (CodeSection (map body_text locals))
-code_is locals plain few = section_is (list_text entry_text locals) (CodeSection (map body_text locals))
+code_is : (compact : Bool) (locals : List (List (ValType ℕ))) → AllByRecursion AreFewPlain locals → length locals ≤ most Functions
+    → IsSection compact (section_text 10 (list_text entry_text locals)) (CodeSection (map body_text locals))
+code_is compact locals plain few = section_is compact (list_text entry_text locals) (CodeSection (map body_text locals))
     (views_are IsBody entry_text body_text AreFewPlain entry_is locals plain (omega (arith, few))) (code_length locals plain few)
 
 -- ---- one section behind the other
 
-unless_empty_is : {A : Type 0} (items : List A) (text : List ℕ) (section : Section) → IsSection text section
-    → IsItems IsSection (text_unless_empty items text) (unless_empty items section)
-unless_empty_is [] text section h = refl
-unless_empty_is (item ∷ items) text section h = (text, [], sym (append-nil text), h, refl)
+unless_empty_is : {A : Type 0} (compact : Bool) (items : List A) (text : List ℕ) (section : Section) → IsSection compact text section
+    → IsItems (IsSection compact) (text_unless_empty items text) (unless_empty items section)
+unless_empty_is compact [] text section h = refl
+unless_empty_is compact (item ∷ items) text section h = (text, [], sym (append-nil text), h, refl)
 
 items_append : {A : Type 0} (IsA : List ℕ → A → Type 0) (a b : List ℕ) (xs ys : List A) → IsItems IsA a xs → IsItems IsA b ys → IsItems IsA (a ++ b) (xs ++ ys)
 items_append IsA a b [] ys p q = subst (λ l. IsItems IsA (l ++ b) ys) (sym p) q
@@ -91,23 +116,23 @@ body_of m = text_unless_empty m.types (section_text 1 (list_text sub_text m.type
     ++ (text_unless_empty m.funcs (section_text 3 (list_text unsigned_text m.funcs))
     ++ text_unless_empty m.funcs (section_text 10 (list_text entry_text m.locals)))
 
-body_reads : (m : Made) → IsSection (section_text 1 (list_text sub_text m.types)) (TypeSection (map Single m.types))
-    → IsSection (section_text 3 (list_text unsigned_text m.funcs)) (FunctionSection m.funcs)
-    → IsSection (section_text 10 (list_text entry_text m.locals)) (CodeSection (map body_text m.locals))
-    → IsItems IsSection (body_of m) (sections_with m (map body_text m.locals))
-body_reads m types funcs code =
+body_reads : (compact : Bool) (m : Made) → IsSection compact (section_text 1 (list_text sub_text m.types)) (TypeSection (map Single m.types))
+    → IsSection compact (section_text 3 (list_text unsigned_text m.funcs)) (FunctionSection m.funcs)
+    → IsSection compact (section_text 10 (list_text entry_text m.locals)) (CodeSection (map body_text m.locals))
+    → IsItems (IsSection compact) (body_of m) (sections_with m (map body_text m.locals))
+body_reads compact m types funcs code =
     let a = unless_empty m.types (TypeSection (map Single m.types)) in
     let b = unless_empty m.funcs (FunctionSection m.funcs) in
     let c = unless_empty m.funcs (CodeSection (map body_text m.locals)) in
-    let types-read = unless_empty_is m.types (section_text 1 (list_text sub_text m.types)) (TypeSection (map Single m.types)) types in
-    let funcs-read = unless_empty_is m.funcs (section_text 3 (list_text unsigned_text m.funcs)) (FunctionSection m.funcs) funcs in
-    let code-read = unless_empty_is m.funcs (section_text 10 (list_text entry_text m.locals)) (CodeSection (map body_text m.locals)) code in
-    let behind = items_append IsSection (text_unless_empty m.funcs (section_text 3 (list_text unsigned_text m.funcs)))
+    let types-read = unless_empty_is compact m.types (section_text 1 (list_text sub_text m.types)) (TypeSection (map Single m.types)) types in
+    let funcs-read = unless_empty_is compact m.funcs (section_text 3 (list_text unsigned_text m.funcs)) (FunctionSection m.funcs) funcs in
+    let code-read = unless_empty_is compact m.funcs (section_text 10 (list_text entry_text m.locals)) (CodeSection (map body_text m.locals)) code in
+    let behind = items_append (IsSection compact) (text_unless_empty m.funcs (section_text 3 (list_text unsigned_text m.funcs)))
     (text_unless_empty m.funcs (section_text 10 (list_text entry_text m.locals))) b c funcs-read code-read in
-    let all = items_append IsSection (text_unless_empty m.types (section_text 1 (list_text sub_text m.types)))
+    let all = items_append (IsSection compact) (text_unless_empty m.types (section_text 1 (list_text sub_text m.types)))
     (text_unless_empty m.funcs (section_text 3 (list_text unsigned_text m.funcs)) ++ text_unless_empty m.funcs (section_text 10 (list_text entry_text m.locals)))
     a (b ++ c) types-read behind in
-    subst (λ l. IsItems IsSection (body_of m) l) (sym (append_assoc a b c)) all
+    subst (λ l. IsItems (IsSection compact) (body_of m) l) (sym (append_assoc a b c)) all
 
 -- few locals of plain types
 few_plain : (c : Config) (m : Made) → IsWithinBounds c m → IsPlainModule m → AllByRecursion AreFewPlain m.locals
@@ -116,19 +141,20 @@ few_plain c m b plain = both (λ ls. length ls ≤ 100) (AllByRecursion IsPlain)
 -- the limits on counts, and u32 indexes
 pub module_reads : (c : Config) (m : Made) → IsWithinBounds c m → IsPlainModule m → length m.locals ≡ length m.funcs
     → AllByRecursion (λ index. index < 2 ^ 32) m.funcs → length m.types ≤ most Types → length m.funcs ≤ most Functions
-    → IsModule (module_text m) (sections_with m (map body_text m.locals))
-module_reads c m b plain pairs indexes few_types few_funcs =
+    → (compact : Bool) → IsModule compact (module_text m) (sections_with m (map body_text m.locals))
+module_reads c m b plain pairs indexes few_types few_funcs compact =
     let small_plain : AllByRecursion IsSmallPlain m.types = both IsSmall IsPlainFunction m.types b.small_types plain.types in
     let few_locals : length m.locals ≤ most Functions = omega (arith, pairs, few_funcs) in
     let many : length (map body_text m.locals) ≡ length m.funcs = length-map m.locals body_text ∙ pairs in
     record {
       body = body_of m;
       begins = refl;
-      holds = body_reads m (types_are m.types small_plain few_types) (funcs_are m.funcs indexes few_funcs)
-          (code_is m.locals (few_plain c m b plain) few_locals);
+      holds = body_reads compact m (types_are compact m.types small_plain few_types) (funcs_are compact m.funcs indexes few_funcs)
+          (code_is compact m.locals (few_plain c m b plain) few_locals);
       ordered = in_order m.types m.funcs (map body_text m.locals);
       agreeing = ap length (functions_are m.types m.funcs (map body_text m.locals)) ∙ sym many
           ∙ sym (ap length (bodies_are m.types m.funcs (map body_text m.locals) many));
+      counted = no_data_counts _ m.types m.funcs (map body_text m.locals);
     }
 
 pub bodies_written : (c : Config) (m : Made) → IsWithinBounds c m → IsPlainModule m → AreUnreachableBodies m.locals (map body_text m.locals)

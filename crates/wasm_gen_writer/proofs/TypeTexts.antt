@@ -1,6 +1,7 @@
 -- The texts of types.
-use Rattle.std.proofs.Common.{◌≡◌, ℕ, ◌+◌, ◌*◌, ◌≤◌, Bool, true, List, [], length, refl, arith, length-append}
-use Rattle.std.specs.List.{AllByRecursion}
+use Rattle.std.proofs.Common.{◌≡◌, ℕ, ◌+◌, ◌*◌, ◌≤◌, Bool, true, List, [], ◌∷◌, ◌++◌, length, refl, arith, length-append, inr}
+use Rattle.std.specs.List.{AllByRecursion, list_all}
+use Rattle.wasm_spec.specs.Supported.{is_supported_type, is_supported_sub}
 use Rattle.wasm_spec.specs.TypeGrammar.{IsValType, IsFuncType, IsRecGroup}
 use Rattle.wasm_spec.specs.Types.{ValType, FuncType, CompositeType, FuncComposite, StructComposite, ArrayComposite, ContComposite, SubType, Single}
 use Rattle.wasm_smith.specs.Bounds.{IsSmall}
@@ -8,7 +9,7 @@ use Rattle.wasm_smith.specs.Plain.{IsPlain, IsPlainFunction}
 use Rattle.wasm_spec.specs.Shortest.{list_text}
 use Rattle.wasm_spec.specs.TypeTexts.{val_text, func_text, composite_text, sub_text_of, sub_text}
 use Rattle.wasm_gen_writer.proofs.Forms.{list_is, list_length}
-use Rattle.wasm_gen_writer.proofs.Values.{value_is, plain_length}
+use Rattle.wasm_gen_writer.proofs.Values.{value_is, plain_length, plain_supported}
 
 abbrev pub IsSmallPlain : SubType ℕ → Type 0
 IsSmallPlain type = IsSmall type × IsPlainFunction type
@@ -17,11 +18,15 @@ func_is : (type : FuncType ℕ) → AllByRecursion IsPlain type.params → AllBy
     → IsFuncType (func_text type) type
 unfolding func_text
 func_is type params results few_params few_results = (
-  list_text val_text type.params,
-  list_text val_text type.results,
+  list_text val_text type.params ++ list_text val_text type.results,
   refl,
-  list_is IsValType val_text IsPlain value_is type.params params (omega (arith, few_params)),
-  list_is IsValType val_text IsPlain value_is type.results results (omega (arith, few_results)),
+  (
+    list_text val_text type.params,
+    list_text val_text type.results,
+    refl,
+    list_is IsValType val_text IsPlain value_is type.params params (omega (arith, few_params)),
+    list_is IsValType val_text IsPlain value_is type.results results (omega (arith, few_results)),
+  ),
 )
 
 values_length : (types : List (ValType ℕ)) → AllByRecursion IsPlain types → length types ≤ 20 → length (list_text val_text types) ≤ 5 + 1 * length types
@@ -53,7 +58,7 @@ parts_are : (is_final : Bool) (supertypes : List ℕ) (composite : CompositeType
     → IsRecGroup (text_of is_final supertypes composite) (Single (record { is_final = is_final; supertypes = supertypes; composite_type = composite }))
 unfolding composite_text
 parts_are is_final supertypes (FuncComposite type) h =
-    (h.1.0, h.1.1, rw (alone is_final supertypes (FuncComposite type) h.1.0 h.1.1) (func_is type h.1.2.0 h.1.2.1 h.0.0 h.0.1))
+    inr (h.1.0, h.1.1, rw (alone is_final supertypes (FuncComposite type) h.1.0 h.1.1) (func_is type h.1.2.0 h.1.2.1 h.0.0 h.0.1))
 parts_are is_final supertypes (StructComposite fields) h = absurd h.1.2
 parts_are is_final supertypes (ArrayComposite field) h = absurd h.1.2
 parts_are is_final supertypes (ContComposite function) h = absurd h.1.2
@@ -72,3 +77,19 @@ parts_length is_final supertypes (ContComposite function) h = absurd h.1.2
 
 pub type_length : (type : SubType ℕ) → IsSmallPlain type → length (sub_text type) ≤ 51
 type_length type h = parts_length type.is_final type.supertypes type.composite_type h
+
+-- ---- what is supported
+
+values_supported : (types : List (ValType ℕ)) → AllByRecursion IsPlain types → list_all is_supported_type types ≡ true
+values_supported [] h = refl
+values_supported (type ∷ types) h = rw (plain_supported type h.0) (values_supported types h.1)
+
+parts_supported : (is_final : Bool) (supertypes : List ℕ) (composite : CompositeType ℕ) → IsPlainFunction (record { is_final = is_final; supertypes = supertypes; composite_type = composite })
+    → is_supported_sub (record { is_final = is_final; supertypes = supertypes; composite_type = composite }) ≡ true
+parts_supported is_final supertypes (FuncComposite type) h = rw (h.0, h.1, values_supported type.params h.2.0, values_supported type.results h.2.1) refl
+parts_supported is_final supertypes (StructComposite fields) h = absurd h.2
+parts_supported is_final supertypes (ArrayComposite field) h = absurd h.2
+parts_supported is_final supertypes (ContComposite function) h = absurd h.2
+
+pub type_supported : (type : SubType ℕ) → IsPlainFunction type → is_supported_sub type ≡ true
+type_supported type h = parts_supported type.is_final type.supertypes type.composite_type h

@@ -110,7 +110,7 @@ sizes_kept : (m : Made) (bodies : List (List ℕ)) → length bodies ≡ length 
     → is_passed BodySize (sections_with m bodies) ≡ false
 sizes_kept m bodies many few h =
     ap (λ (l : List (List ℕ)). list_any (λ body. is_past BodySize (length body)) l) (bodies_are m.types m.funcs bodies many)
-    ∙ none_passes (λ (body : List ℕ). is_past BodySize (length body)) (λ body. length body ≤ 607)
+    ∙ none_passes (λ (body : List ℕ). is_past BodySize (length body)) (λ body. length body ≤ 707)
     (λ body p. le-ltb 7654321 (length body) (omega (arith, p))) bodies (bodies_length m.locals bodies few h)
 
 names_kept : (m : Made) (bodies : List (List ℕ)) → is_passed Name (sections_with m bodies) ≡ false

@@ -1,6 +1,8 @@
 -- Texts of value types.
-use Rattle.std.proofs.Common.{◌≡◌, ℕ, ◌<◌, true, false, List, length, Some, refl, sym, ap, ◌∙◌, arith}
+use Rattle.std.proofs.Common.{◌≡◌, ℕ, ◌<◌, ◌≤◌, true, false, List, length, Some, refl, sym, ap, ◌∙◌, arith, inl, inr}
 use Rattle.std.specs.Option.{unwrap_or}
+use Rattle.wasm_spec.specs.Bodies.{IsLocalType}
+use Rattle.wasm_spec.specs.Supported.{is_supported_type}
 use Rattle.wasm_spec.specs.TypeGrammar.{heap_code, IsValType}
 use Rattle.wasm_spec.specs.Types.{AbstractHeapType, Func, Extern, Any, None, NoExtern, NoFunc, Eq, Struct, Array, I31, Exn, NoExn, Cont, NoCont, Abstract, Concrete, ValType, I32, I64, F32, F64, V128, Ref}
 use Rattle.wasm_core.specs.TypeReading.{look_up, val_type_codes}
@@ -16,22 +18,48 @@ value_is I64 h = refl
 value_is F32 h = refl
 value_is F64 h = refl
 value_is V128 h = refl
-value_is (Ref true (Abstract heap)) h = (refl, refl)
+value_is (Ref true (Abstract heap)) h = inr refl
 value_is (Ref false (Abstract heap)) h = absurd cc
 value_is (Ref nullable (Concrete index)) h = absurd h
 
--- each text is one byte
-pub value_length : (text : List ℕ) (type : ValType ℕ) → IsValType text type → length text ≡ 1
-value_length text I32 h = ap length h
-value_length text I64 h = ap length h
-value_length text F32 h = ap length h
-value_length text F64 h = ap length h
-value_length text V128 h = ap length h
-value_length text (Ref nullable (Abstract heap)) h = ap length h.1
-value_length text (Ref nullable (Concrete index)) h = absurd h.1
+pub plain_supported : (type : ValType ℕ) → IsPlain type → is_supported_type type ≡ true
+plain_supported I32 h = refl
+plain_supported I64 h = refl
+plain_supported F32 h = refl
+plain_supported F64 h = refl
+plain_supported V128 h = refl
+plain_supported (Ref true (Abstract heap)) h = refl
+plain_supported (Ref false (Abstract heap)) h = absurd cc
+plain_supported (Ref nullable (Concrete index)) h = absurd h
 
+pub local_is : (type : ValType ℕ) → IsPlain type → IsLocalType (val_text type) type
+local_is type h = (value_is type h, plain_supported type h)
+
+-- each text of a supported type is one byte, or two
+pub value_length : (text : List ℕ) (type : ValType ℕ) → IsLocalType text type → length text ≤ 2
+value_length text I32 h = omega (arith, ap length h.0)
+value_length text I64 h = omega (arith, ap length h.0)
+value_length text F32 h = omega (arith, ap length h.0)
+value_length text F64 h = omega (arith, ap length h.0)
+value_length text V128 h = omega (arith, ap length h.0)
+value_length text (Ref true (Abstract heap)) h = elim h.0 [
+  | inl m ↦ omega (arith, ap length m.1, ap length m.2)
+  | inr e ↦ omega (arith, ap length e)
+]
+value_length text (Ref true (Concrete index)) h = let f = h.1 in absurd cc
+value_length text (Ref false heap) h = let f = h.1 in absurd cc
+
+-- the one that is written is one byte
 pub plain_length : (type : ValType ℕ) → IsPlain type → length (val_text type) ≡ 1
-plain_length type h = value_length (val_text type) type (value_is type h)
+unfolding val_text ref_text heap_text
+plain_length I32 h = refl
+plain_length I64 h = refl
+plain_length F32 h = refl
+plain_length F64 h = refl
+plain_length V128 h = refl
+plain_length (Ref true (Abstract heap)) h = refl
+plain_length (Ref false (Abstract heap)) h = absurd cc
+plain_length (Ref nullable (Concrete index)) h = absurd h
 
 heap_is_byte : (heap : AbstractHeapType) → heap_code heap < 256
 heap_is_byte NoCont = omega arith

@@ -1,10 +1,11 @@
 -- The sections of a made module, and what it means that they are written.
-use Rattle.std.specs.Prelude.{◌≡◌, ◌≢◌, ⊤, ℕ, ◌<◌, List, [], ◌∷◌, ◌++◌, map, replicate}
+use Rattle.std.specs.Prelude.{◌≡◌, ◌≢◌, ⊤, ℕ, Bool, ◌<◌, List, [], ◌∷◌, ◌++◌, map, replicate}
 use Rattle.std.specs.List.{AllZip, flat_map}
 use Rattle.wasm_spec.specs.Bodies.{Run, IsRun}
 use Rattle.wasm_spec.specs.Bytes.{IsList}
 use Rattle.wasm_spec.specs.Features.{Features}
 use Rattle.wasm_spec.specs.Grammar.{IsModule}
+use Rattle.wasm_spec.specs.Supported.{IsSupported}
 use Rattle.wasm_spec.specs.Syntax.{Section, TypeSection, FunctionSection, CodeSection}
 use Rattle.wasm_spec.specs.Types.{ValType, Single}
 use Rattle.wasm_spec.specs.Validity.{IsValid}
@@ -45,12 +46,13 @@ sections_with m bodies =
     ++ unless_empty m.funcs (FunctionSection m.funcs)
     ++ unless_empty m.funcs (CodeSection bodies)
 
--- The bytes read as a made module, whose bodies are `unreachable`: it is valid under the features of the configuration and within its bounds. They
--- are its shortest text.
+-- The bytes read as a made module, whether compact imports are on or not. Its bodies are `unreachable`, it is supported, valid under the features of
+-- the configuration and within its bounds. The bytes are its shortest text.
 pub record IsGenerated (c : Config) (m : Made) (bytes : List ℕ) : Type 0 where
   pub bodies : List (List ℕ)
   pub unreachable : AreUnreachableBodies m.locals bodies
-  pub reads : IsModule bytes (sections_with m bodies)
+  pub reads : (compact : Bool) → IsModule compact bytes (sections_with m bodies)
+  pub supported : IsSupported (sections_with m bodies)
   pub valid : (features : Features) → AreFeaturesOf c features → IsValid features (sections_with m bodies)
   pub within : IsWithinBounds c m
   pub shortest : bytes ≡ module_text m

@@ -1,7 +1,7 @@
 //! Laws of made modules: where layers meet, their contracts cite these. The functions do nothing: their contracts are
 //! theorems.
 
-ghost use Rattle.std.specs.Prelude.{◌≡◌, ◌≤◌, ◌<◌, ◌^◌, ℕ, false, List, [], length, map};
+ghost use Rattle.std.specs.Prelude.{◌≡◌, ◌≤◌, ◌<◌, ◌^◌, ℕ, Bool, false, List, [], length, map};
 ghost use Rattle.std.specs.List.{AllByRecursion};
 ghost use Rattle.wasm_gen_writer.specs.Texts.{body_text, module_text};
 ghost use Rattle.wasm_gen_writer.specs.Written.{AreUnreachableBodies, sections_with};
@@ -13,6 +13,7 @@ ghost use Rattle.wasm_smith.specs.Validity.{IsValidByIndex};
 ghost use Rattle.wasm_spec.specs.Features.{Features};
 ghost use Rattle.wasm_spec.specs.Grammar.{IsModule};
 ghost use Rattle.wasm_spec.specs.Limits.{Limit, Types, Functions, most};
+ghost use Rattle.wasm_spec.specs.Supported.{IsSupported};
 ghost use Rattle.wasm_spec.specs.Validity.{IsValid, is_passed};
 
 /// A made module that is valid by index is valid, whatever the texts of its bodies, unless it has too many types or
@@ -29,12 +30,17 @@ pub fn few_counts()
         → length m.funcs ≤ most Functions → is_passed limit (sections_with m []) ≡ false }
 {}
 
-/// The text of a made module reads as its sections, with bodies of its locals.
+/// The sections of a made module of plain types are supported, whatever the texts of its bodies.
+pub fn supported_sections()
+    ensures { (m : Made) (bodies : List (List ℕ)) → IsPlainModule m → IsSupported (sections_with m bodies) }
+{}
+
+/// The text of a made module reads as its sections, with bodies of its locals, whether compact imports are on or not.
 pub fn shortest_texts()
     ensures bodies { (c : Config) (m : Made) → IsWithinBounds c m → IsPlainModule m
         → AreUnreachableBodies m.locals (map body_text m.locals) }
     ensures reads { (c : Config) (m : Made) → IsWithinBounds c m → IsPlainModule m
         → length m.locals ≡ length m.funcs → AllByRecursion (λ index. index < 2 ^ 32) m.funcs
         → length m.types ≤ most Types → length m.funcs ≤ most Functions
-        → IsModule (module_text m) (sections_with m (map body_text m.locals)) }
+        → (compact : Bool) → IsModule compact (module_text m) (sections_with m (map body_text m.locals)) }
 {}

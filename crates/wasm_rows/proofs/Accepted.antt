@@ -1,36 +1,22 @@
 -- What is generated is accepted.
-use Rattle.std.proofs.Common.{◌≡◌, ℕ, false, List, [], ◌∷◌, Err, refl}
-use Rattle.wasm_spec.specs.Features.{Features}
-use Rattle.wasm_spec.specs.Types.{SubType, ValType}
-use Rattle.wasm_spec.specs.Validity.{IsSupported}
+use Rattle.std.proofs.Common.{◌≡◌, ℕ, false, List, Err, refl}
+use Rattle.wasm_spec.specs.Features.{Features, CompactImports, has}
 use Rattle.wasmparser.specs.Judging.{IsAccepted, IsJudged}
 use Rattle.wasmparser.specs.Types.{Error, Memory}
 use Rattle.wasm_smith.specs.Config.{AreFeaturesOf}
 use Rattle.wasm_smith.specs.Generating.{module_at}
-use Rattle.wasm_smith.specs.Made.{Made}
 use Rattle.wasm_smith.specs.Types.{Config}
 use Rattle.wasm_gen.specs.Generate.{IsGeneratedFrom}
 use Rattle.wasm_gen.specs.History.{History}
 use Rattle.wasm_gen.specs.Session.{Checks}
 use Rattle.wasm_gen_writer.specs.Written.{sections_with}
 
--- a made module has sections of supported kinds alone
-of_lists : (types : List (SubType ℕ)) (funcs : List ℕ) (locals : List (List (ValType ℕ))) (bodies : List (List ℕ))
-    → IsSupported (sections_with (record { types = types; funcs = funcs; locals = locals }) bodies)
-of_lists [] [] locals bodies = tt
-of_lists [] (index ∷ funcs) locals bodies = tt
-of_lists (type ∷ types) [] locals bodies = tt
-of_lists (type ∷ types) (index ∷ funcs) locals bodies = tt
-
-supported : (m : Made) (bodies : List (List ℕ)) → IsSupported (sections_with m bodies)
-supported m bodies = of_lists m.types m.funcs m.locals bodies
-
 -- what is generated is a module of supported sections, which is valid under the features of the configuration
 accepted : (c : Config) (seed bytes : List ℕ) (features : Features) (g : IsGeneratedFrom c seed bytes) → AreFeaturesOf c features
     → IsAccepted features bytes (sections_with (module_at c seed).0 g.generated.bodies)
 accepted c seed bytes features g are = record {
-  reads = g.generated.reads;
-  supported = supported (module_at c seed).0 g.generated.bodies;
+  reads = g.generated.reads (has features CompactImports);
+  supported = g.generated.supported;
   valid = g.generated.valid features are;
 }
 

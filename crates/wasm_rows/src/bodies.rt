@@ -74,6 +74,30 @@ fn locals_keep_their_gates(rt: HostRuntime) -> Result<(), Fail> {
 }
 
 #[test]
+fn locals_have_types_that_are_written_out(rt: HostRuntime) -> Result<(), Fail> {
+    let nothing = func_type(rt.alloc(), 0, 0)?;
+    let all = WasmFeatures::all();
+    let rows: [(&[u8], Option<ErrorKind>); 4] = [
+        (&[0x01, 0x02, 0x63, 0x70, 0x00, 0x0b], None),
+        (&[0x01, 0x02, 0x63, 0x00, 0x00, 0x0b], BROKEN),
+        (&[0x01, 0x02, 0x64, 0x70, 0x00, 0x0b], BROKEN),
+        (&[0x01, 0x02, 0x63], BROKEN),
+    ];
+    for (bytes, expected) in rows {
+        assert_eq!(rt; refusal(&nothing, bytes, all), expected, "{bytes:?}");
+    }
+    assert_eq!(rt;
+        refusal(
+            &nothing,
+            &[0x01, 0x02, 0x63, 0x70, 0x00, 0x0b],
+            all.difference(WasmFeatures::REFERENCE_TYPES)
+        ),
+        BROKEN
+    );
+    Ok(())
+}
+
+#[test]
 fn locals_keep_their_limit(rt: HostRuntime) -> Result<(), Fail> {
     let nothing = func_type(rt.alloc(), 0, 0)?;
     let features = WasmFeatures::default();

@@ -241,26 +241,60 @@ fn custom_sections_stand_anywhere(rt: HostRuntime) -> Result<(), Fail> {
 
 #[test]
 fn other_forms_of_types_do_not_read_yet(rt: HostRuntime) -> Result<(), Fail> {
-    let entries: [&[u8]; 12] = [
-        // A structure, an array, groups, types with supertypes.
+    let entries: [&[u8]; 14] = [
+        // A structure, an array, groups, types that aren't final, with supertypes, or both.
         &[0x5f, 0x00],
         &[0x5e, 0x7f, 0x00],
         &[0x4e, 0x00],
         &[0x4e, 0x01, 0x60, 0x00, 0x00],
         &[0x50, 0x00, 0x60, 0x00, 0x00],
-        &[0x4f, 0x00, 0x60, 0x00, 0x00],
-        // References of two bytes, as a parameter and as a result.
-        &[0x60, 0x01, 0x63, 0x70, 0x00],
+        &[0x4f, 0x01, 0x00, 0x60, 0x00, 0x00],
+        &[0x50, 0x01, 0x00, 0x60, 0x00, 0x00],
+        // A final structure, and what is no type: a final type of a final type.
+        &[0x4f, 0x00, 0x5f, 0x00],
+        &[0x4f, 0x00, 0x4f, 0x00, 0x60, 0x00, 0x00],
+        // References that may not be null, or to a type of the module's own, as a parameter and as a result.
         &[0x60, 0x01, 0x64, 0x70, 0x00],
         &[0x60, 0x01, 0x63, 0x00, 0x00],
         &[0x60, 0x01, 0x64, 0x00, 0x00],
-        &[0x60, 0x00, 0x01, 0x63, 0x6f],
+        &[0x60, 0x00, 0x01, 0x63, 0x00],
         &[0x60, 0x00, 0x01, 0x64, 0x6f],
     ];
     for entry in entries {
         let types = section(rt.alloc(), 1, &[&[0x01], entry])?;
         assert_eq!(rt; refusal_of(rt.alloc(), &[&types])?, MALFORMED, "{entry:?}");
     }
+    Ok(())
+}
+
+#[test]
+fn types_that_are_written_out_read(rt: HostRuntime) -> Result<(), Fail> {
+    let all = WasmFeatures::all();
+    let entries: [&[u8]; 5] = [
+        // Final function types without supertypes, whose number may be padded.
+        &[0x4f, 0x00, 0x60, 0x00, 0x00],
+        &[0x4f, 0x80, 0x00, 0x60, 0x00, 0x00],
+        // References that may be null.
+        &[0x60, 0x01, 0x63, 0x70, 0x00],
+        &[0x60, 0x00, 0x01, 0x63, 0x6f],
+        &[0x4f, 0x00, 0x60, 0x01, 0x63, 0x69, 0x01, 0x7f],
+    ];
+    for entry in entries {
+        let types = section(rt.alloc(), 1, &[&[0x01], entry])?;
+        assert_eq!(rt;
+            refusal_under(rt.alloc(), all, &[&types])?,
+            None,
+            "{entry:?}"
+        );
+    }
+    // They ask for the same flags.
+    let types = section(rt.alloc(), 1, &[&[0x01, 0x60, 0x01, 0x63, 0x70, 0x00]])?;
+    let without = all.difference(WasmFeatures::REFERENCE_TYPES);
+    assert_eq!(rt; refusal_under(rt.alloc(), without, &[&types])?, INVALID);
+    let types = section(rt.alloc(), 1, &[&[0x01, 0x4f, 0x00, 0x60, 0x00, 0x00]])?;
+    let without = all.difference(WasmFeatures::GC);
+    assert_eq!(rt; refusal_under(rt.alloc(), without, &[&types])?, None);
+    assert_eq!(rt; refusal_of(rt.alloc(), &[&types, FUNCTIONS, CODE])?, None);
     Ok(())
 }
 

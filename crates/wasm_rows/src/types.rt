@@ -22,7 +22,7 @@ fn type_of(code: u8) -> Option<ValType> {
 }
 
 #[test]
-fn value_types_are_one_byte(rt: HostRuntime) {
+fn value_types_of_one_byte_read(rt: HostRuntime) {
     for (code, expected) in [
         (0x7f, ValType::I32),
         (0x7e, ValType::I64),
@@ -50,6 +50,33 @@ fn value_types_are_one_byte(rt: HostRuntime) {
         0x00, 0x60, 0x63, 0x64, 0x67, 0x76, 0x77, 0x78, 0x7a, 0x80, 0xff,
     ] {
         assert_eq!(rt; type_of(code), None, "{code:x}");
+    }
+}
+
+#[test]
+fn nullable_references_are_written_out_too(rt: HostRuntime) {
+    for code in [
+        0x75, 0x74, 0x73, 0x72, 0x71, 0x70, 0x6f, 0x6e, 0x6d, 0x6c, 0x6b, 0x6a, 0x69, 0x68,
+    ] {
+        let text = [0x63, code];
+        let written_out = read_val_type(&mut BinaryReader::new(&text, 0)).ok();
+        assert!(rt; written_out.is_some(), "{code:x}");
+        assert_eq!(rt; written_out, type_of(code), "{code:x}");
+    }
+    let texts: [&[u8]; 6] = [
+        &[0x63],
+        &[0x63, 0x7f],
+        &[0x63, 0x63, 0x70],
+        &[0x63, 0xf0, 0x7f],
+        &[0x63, 0x00],
+        &[0x64, 0x70],
+    ];
+    for text in texts {
+        assert_eq!(rt;
+            read_val_type(&mut BinaryReader::new(text, 0)).ok(),
+            None,
+            "{text:?}"
+        );
     }
 }
 

@@ -1,7 +1,11 @@
 pub mod Decoding
 pub mod ListTexts
 pub mod NumberLaws
+pub mod SectionBytes
 pub mod SignedTexts
+pub mod TextBytes
 pub mod Texts
+pub mod TypeBytes
 pub mod TypeDecoding
 pub mod UnsignedTexts
+pub mod WrongTexts

@@ -1,5 +1,5 @@
 -- Small texts that several laws speak of.
-use Rattle.std.proofs.Common.{◌≡◌, ◌<◌, ◌≤◌, ◌^◌, ℕ, Some, List, [], ◌∷◌, ◌++◌, length, refl, arith, ap, length-append}
+use Rattle.std.proofs.Common.{◌≡◌, ◌<◌, ◌≤◌, ◌^◌, ℕ, Bool, Some, List, [], ◌∷◌, ◌++◌, length, refl, arith, ap, length-append}
 use Rattle.wasm_spec.specs.Bodies.{Context, plain, done, all_taken, nothing_known, at_start, IsFunctionBody}
 use Rattle.wasm_spec.specs.Bytes.{IsU32, IsList}
 use Rattle.wasm_spec.specs.Grammar.{section_id, IsContent, IsSection}
@@ -46,8 +46,9 @@ unreachable_body cx type few = record {
 }
 
 -- a section, from the text of its size
-pub section : (size content : List ℕ) (s : Section) → IsU32 size (length content) → IsContent content s → IsSection (section_id s ∷ (size ++ content)) s
-section size content s framed h = (size ++ content, refl, (size, content, refl, framed, h))
+pub section : (compact : Bool) (size content : List ℕ) (s : Section) → IsU32 size (length content) → IsContent compact content s
+    → IsSection compact (section_id s ∷ (size ++ content)) s
+section compact size content s framed h = (size ++ content, refl, (size, content, refl, framed, h))
 
 -- lists of nothing, and of one item
 pub none : {A : Type 0} (IsA : List ℕ → A → Type 0) → IsList IsA (0x00 ∷ []) []
@@ -57,5 +58,5 @@ pub one : {A : Type 0} (IsA : List ℕ → A → Type 0) (text : List ℕ) (item
 one IsA text item e h = (0x01 ∷ [], text, refl, small 1 (omega arith), (text, [], e, h, refl))
 
 -- a function of the first type
-pub function_section : IsSection (0x03 ∷ 0x02 ∷ 0x01 ∷ 0x00 ∷ []) (FunctionSection (0 ∷ []))
-function_section = section (0x02 ∷ []) (0x01 ∷ 0x00 ∷ []) (FunctionSection (0 ∷ [])) (small 2 (omega arith)) (one IsU32 (0x00 ∷ []) 0 refl (small 0 (omega arith)))
+pub function_section : (compact : Bool) → IsSection compact (0x03 ∷ 0x02 ∷ 0x01 ∷ 0x00 ∷ []) (FunctionSection (0 ∷ []))
+function_section compact = section compact (0x02 ∷ []) (0x01 ∷ 0x00 ∷ []) (FunctionSection (0 ∷ [])) (small 2 (omega arith)) (one IsU32 (0x00 ∷ []) 0 refl (small 0 (omega arith)))

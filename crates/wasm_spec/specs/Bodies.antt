@@ -4,11 +4,12 @@
 use Rattle.std.specs.Prelude.{◌≡◌, ◌≢◌, ◌≤◌, ◌+◌, ℕ, Bool, true, false, List, [], ◌∷◌, ◌++◌, length, reverse, sum_by, nat_eq, Option, Some, None, if◌then◌else◌}
 use Rattle.std.specs.List.{AllByRecursion}
 use Rattle.std.specs.Option.{option_and_then}
-use Rattle.wasm_spec.specs.Bytes.{IsU32, IsItems, IsList}
+use Rattle.wasm_spec.specs.Bytes.{IsU32, IsPair, IsItems, IsList}
 use Rattle.wasm_spec.specs.Features.{Features}
 use Rattle.wasm_spec.specs.Gates.{is_allowed}
 use Rattle.wasm_spec.specs.Limits.{Locals, IsPassedBy}
 use Rattle.wasm_spec.specs.Operators.{Operator, Unreachable, End, IsOperator, IsOperators, IsCode}
+use Rattle.wasm_spec.specs.Supported.{is_supported_type}
 use Rattle.wasm_spec.specs.TypeGrammar.{IsValType}
 use Rattle.wasm_spec.specs.Types.{ValType, I32, I64, F32, F64, V128, Ref, FuncType}
 
@@ -99,8 +100,12 @@ pub record Run : Type 0 where
   pub count : ℕ
   pub type : ValType ℕ
 
+-- the types that locals may have so far
+abbrev pub IsLocalType : List ℕ → ValType ℕ → Type 0
+IsLocalType text type = IsValType text type × (is_supported_type type ≡ true)
+
 abbrev pub IsRun : List ℕ → Run → Type 0
-IsRun text run = (number type : List ℕ) × (text ≡ number ++ type) × IsU32 number run.count × IsValType type run.type
+IsRun text run = IsPair IsU32 IsLocalType text (run.count, run.type)
 
 -- how many locals a function has, its parameters counted
 abbrev pub local_count : {R : Type 0} → FuncType R → List Run → ℕ

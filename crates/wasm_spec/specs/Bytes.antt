@@ -1,7 +1,7 @@
 -- Bytes, numbers, names, lists and frames: what the forms of the binary format are made of. A text of a value is a list of bytes that
 -- encodes it; a frame is the size of a content, and the content.
 -- Core Specification 3.0, Binary Format: "Conventions" (grammar, lists), "Values" (bytes, integers, floating-point, names) and "Modules" (sections).
-use Rattle.std.specs.Prelude.{◌≡◌, ℕ, ◌+◌, ◌-◌, ◌*◌, ◌^◌, ◌<◌, ◌≤◌, ◌⊎◌, ℤ, pos, ◌+ℤ◌, ◌*ℤ◌, List, [], ◌∷◌, ◌++◌, length}
+use Rattle.std.specs.Prelude.{◌≡◌, ℕ, ◌+◌, ◌-◌, ◌*◌, ◌^◌, ◌<◌, ◌≤◌, ◌⊎◌, ℤ, pos, ◌+ℤ◌, ◌*ℤ◌, List, [], ◌∷◌, ◌++◌, length, Option, Some, None}
 use Rattle.std.specs.List.{AllByRecursion}
 use Rattle.std.specs.Str.{IsUtf8}
 
@@ -76,6 +76,23 @@ IsF32 text bits = IsFloatBits 4 text bits
 
 abbrev pub IsF64 : List ℕ → ℕ → Type 0
 IsF64 text bits = IsFloatBits 8 text bits
+
+-- One form behind the other, with nothing between.
+abbrev pub IsPair : {A B : Type 0} → (List ℕ → A → Type 0) → (List ℕ → B → Type 0) → List ℕ → A × B → Type 0
+IsPair IsA IsB text both = (first others : List ℕ) × (text ≡ first ++ others) × IsA first both.0 × IsB others both.1
+
+-- A code, which is a single byte, and behind it what it announces.
+abbrev pub IsMarked : {A : Type 0} → ℕ → (List ℕ → A → Type 0) → List ℕ → A → Type 0
+IsMarked code IsA text value = (others : List ℕ) × (text ≡ code ∷ others) × IsA others value
+
+-- The same with a code that is a u32, so that it may be padded.
+abbrev pub IsNumbered : {A : Type 0} → ℕ → (List ℕ → A → Type 0) → List ℕ → A → Type 0
+IsNumbered code IsA text value = (number others : List ℕ) × (text ≡ number ++ others) × IsU32 number code × IsA others value
+
+-- A part that may be absent: what stands before it says whether it is there.
+abbrev pub IsOptional : {A : Type 0} → (List ℕ → A → Type 0) → List ℕ → Option A → Type 0
+IsOptional IsA text None = text ≡ []
+IsOptional IsA text (Some value) = IsA text value
 
 -- One item behind the other, with nothing between and nothing behind.
 abbrev pub IsItems : {A : Type 0} → (List ℕ → A → Type 0) → List ℕ → List A → Type 0

@@ -4,7 +4,7 @@
 use Rattle.std.specs.Prelude.{Bool, true, ◌&&◌, ◌||◌, length, nat_eq, nat_le}
 use Rattle.std.specs.List.{list_all}
 use Rattle.wasm_spec.specs.Features.{Features, has, ReferenceTypes, MultiValue, Simd, Floats, Exceptions, FunctionReferences, Gc, GcTypes, StackSwitching}
-use Rattle.wasm_spec.specs.Types.{AbstractHeapType, Func, Extern, Any, None, NoExtern, NoFunc, Eq, Struct, Array, I31, Exn, NoExn, Cont, NoCont, HeapType, Abstract, Concrete, ValType, I32, I64, F32, F64, V128, Ref, StorageType, I8, I16, Val, FuncType, CompositeType, FuncComposite, StructComposite, ArrayComposite, ContComposite, SubType, RecGroup, Single}
+use Rattle.wasm_spec.specs.Types.{AbstractHeapType, Func, Extern, Any, None, NoExtern, NoFunc, Eq, Struct, Array, I31, Exn, NoExn, Cont, NoCont, HeapType, Abstract, Concrete, ValType, I32, I64, F32, F64, V128, Ref, StorageType, I8, I16, Val, FuncType, CompositeType, FuncComposite, StructComposite, ArrayComposite, ContComposite, SubType, RecGroup, Single, Group}
 
 -- a reference to an abstract heap type, which may be null or not
 abbrev pub is_allowed_abstract : Features → Bool → AbstractHeapType → Bool
@@ -61,6 +61,7 @@ abbrev pub is_allowed_sub : {R : Type 0} → Features → SubType R → Bool
 is_allowed_sub features type =
     (type.is_final && nat_eq (length type.supertypes) 0 || has features Gc) && is_allowed_composite features type.composite_type
 
--- a group that isn't written out asks nothing beyond its type
+-- a group that is written out is a matter of garbage collection, also where it is of one type or of none
 abbrev pub is_allowed_group : {R : Type 0} → Features → RecGroup R → Bool
 is_allowed_group features (Single type) = is_allowed_sub features type
+is_allowed_group features (Group types) = has features Gc && list_all (is_allowed_sub features) types

@@ -1,8 +1,11 @@
--- The grammar of modules: which bytes are a text of which sections. Core Specification 3.0, Binary Format, "Modules".
-use Rattle.std.specs.Prelude.{◌≡◌, ◌<◌, ⊤, ℕ, List, [], ◌∷◌, ◌++◌, length, Option, Some, None}
-use Rattle.wasm_spec.specs.Bytes.{IsBytes, IsU32, IsItems, IsList, IsFramed, IsName}
-use Rattle.wasm_spec.specs.Syntax.{Section, Custom, TypeSection, FunctionSection, CodeSection, functions_of, bodies_of}
-use Rattle.wasm_spec.specs.TypeGrammar.{IsRecGroup}
+-- The grammar of modules: which bytes are a text of which sections. Core Specification 3.0, Binary Format, "Modules". Of the features one
+-- alone decides how bytes read: whether compact imports are on.
+use Rattle.std.specs.Prelude.{◌≡◌, ◌<◌, ⊤, ℕ, Bool, List, [], ◌∷◌, ◌++◌, length, Option, Some, None}
+use Rattle.std.specs.List.{AllByRecursion}
+use Rattle.wasm_spec.specs.Bytes.{IsBytes, IsU32, IsPair, IsMarked, IsItems, IsList, IsFramed, IsName}
+use Rattle.wasm_spec.specs.ModuleParts.{IsImport, IsTable, IsGlobal, IsExport, IsElementSegment, IsBody, IsDataSegment}
+use Rattle.wasm_spec.specs.Syntax.{Section, Custom, TypeSection, ImportSection, FunctionSection, TableSection, MemorySection, TagSection, GlobalSection, ExportSection, StartSection, ElementSection, DataCountSection, CodeSection, DataSection, functions_of, bodies_of, data_of, data_counts_of}
+use Rattle.wasm_spec.specs.TypeGrammar.{IsRecGroup, IsMemoryType, IsTagType}
 
 -- what each module begins with, its preamble: the magic number and the version (Modules, "Modules")
 abbrev pub header : List ℕ
@@ -12,32 +15,56 @@ header = 0x00 ∷ 0x61 ∷ 0x73 ∷ 0x6d ∷ 0x01 ∷ 0x00 ∷ 0x00 ∷ 0x00 ∷
 abbrev pub section_id : Section → ℕ
 section_id (Custom name contents) = 0
 section_id (TypeSection groups) = 1
+section_id (ImportSection imports) = 2
 section_id (FunctionSection indexes) = 3
+section_id (TableSection tables) = 4
+section_id (MemorySection types) = 5
+section_id (GlobalSection globals) = 6
+section_id (ExportSection exports) = 7
+section_id (StartSection function) = 8
+section_id (ElementSection segments) = 9
 section_id (CodeSection bodies) = 10
+section_id (DataSection segments) = 11
+section_id (DataCountSection count) = 12
+section_id (TagSection indexes) = 13
 
--- A function's body is the bytes of its frame; what they say is asked where bodies are judged. (In the standard it is part of the grammar
--- of modules: Modules, "Code Section".)
-abbrev pub IsBody : List ℕ → List ℕ → Type 0
-IsBody text body = IsFramed IsBytes text body
-
--- what stands in the frame of a section (Modules, "Custom Section", "Type Section", "Function Section", "Code Section")
-abbrev pub IsContent : List ℕ → Section → Type 0
-IsContent text (Custom name contents) = (named others : List ℕ) × (text ≡ named ++ others) × IsName named name × IsBytes others contents
-IsContent text (TypeSection groups) = IsList IsRecGroup text groups
-IsContent text (FunctionSection indexes) = IsList IsU32 text indexes
-IsContent text (CodeSection bodies) = IsList IsBody text bodies
+-- what stands in the frame of a section (Modules, "Custom Section", "Type Section", and so on)
+abbrev pub IsContent : Bool → List ℕ → Section → Type 0
+IsContent compact text (Custom name contents) = IsPair IsName IsBytes text (name, contents)
+IsContent compact text (TypeSection groups) = IsList IsRecGroup text groups
+IsContent compact text (ImportSection imports) = IsList (IsImport compact) text imports
+IsContent compact text (FunctionSection indexes) = IsList IsU32 text indexes
+IsContent compact text (TableSection tables) = IsList IsTable text tables
+IsContent compact text (MemorySection types) = IsList IsMemoryType text types
+IsContent compact text (TagSection indexes) = IsList IsTagType text indexes
+IsContent compact text (GlobalSection globals) = IsList IsGlobal text globals
+IsContent compact text (ExportSection exports) = IsList IsExport text exports
+IsContent compact text (StartSection function) = IsU32 text function
+IsContent compact text (ElementSection segments) = IsList IsElementSegment text segments
+IsContent compact text (DataCountSection count) = IsU32 text count
+IsContent compact text (CodeSection bodies) = IsList IsBody text bodies
+IsContent compact text (DataSection segments) = IsList IsDataSegment text segments
 
 -- a section: its id, and its content in a frame (Modules, "Sections")
-abbrev pub IsSection : List ℕ → Section → Type 0
-IsSection text section = (framed : List ℕ) × (text ≡ section_id section ∷ framed) × IsFramed IsContent framed section
+abbrev pub IsSection : Bool → List ℕ → Section → Type 0
+IsSection compact text section = IsMarked (section_id section) (IsFramed (IsContent compact)) text section
 
--- The place of a section in the order of a module (Modules, "Modules"): type 1, import 2, function 3, table 4, memory 5, tag 6, global 7,
--- export 8, start 9, element 10, data count 11, code 12, data 13. These are no ids. A custom section stands anywhere.
+-- The place of a section in the order of a module (Modules, "Modules"). These are no ids. A custom section stands anywhere.
 abbrev pub place_of : Section → Option ℕ
 place_of (Custom name contents) = None
 place_of (TypeSection groups) = Some 1
+place_of (ImportSection imports) = Some 2
 place_of (FunctionSection indexes) = Some 3
+place_of (TableSection tables) = Some 4
+place_of (MemorySection types) = Some 5
+place_of (TagSection indexes) = Some 6
+place_of (GlobalSection globals) = Some 7
+place_of (ExportSection exports) = Some 8
+place_of (StartSection function) = Some 9
+place_of (ElementSection segments) = Some 10
+place_of (DataCountSection count) = Some 11
 place_of (CodeSection bodies) = Some 12
+place_of (DataSection segments) = Some 13
 
 -- a place that a section has comes behind the last one
 abbrev pub IsBehind : ℕ → Option ℕ → Type 0
@@ -58,10 +85,12 @@ abbrev pub AreOrdered : ℕ → List Section → Type 0
 AreOrdered last [] = ⊤
 AreOrdered last (section ∷ sections) = IsBehind last (place_of section) × AreOrdered (last_place last (place_of section)) sections
 
--- a module: the header, and its sections up to the end, in their order, with as many bodies as functions (Modules, "Modules")
-pub record IsModule (text : List ℕ) (sections : List Section) : Type 0 where
+-- A module: the header, and its sections up to the end, in their order, with as many bodies as functions, and where a data count stands, as
+-- many data segments (Modules, "Modules"). A section that is absent has none.
+pub record IsModule (compact : Bool) (text : List ℕ) (sections : List Section) : Type 0 where
   pub body : List ℕ
   pub begins : text ≡ header ++ body
-  pub holds : IsItems IsSection body sections
+  pub holds : IsItems (IsSection compact) body sections
   pub ordered : AreOrdered 0 sections
   pub agreeing : length (functions_of sections) ≡ length (bodies_of sections)
+  pub counted : AllByRecursion (λ count. count ≡ length (data_of sections)) (data_counts_of sections)

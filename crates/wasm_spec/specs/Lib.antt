@@ -1,12 +1,17 @@
 pub mod Bodies
 pub mod Bytes
+pub mod ConstantGrammar
+pub mod Constants
+pub mod Examples
 pub mod Features
 pub mod Gates
 pub mod Grammar
 pub mod Limits
+pub mod ModuleParts
 pub mod Operators
 pub mod Shortest
 pub mod Spaces
+pub mod Supported
 pub mod Syntax
 pub mod TypeGrammar
 pub mod TypeTexts

@@ -1,7 +1,9 @@
 -- What is shown of a module: the sizes of its index spaces, those of data segments, locals, labels and fields aside.
 -- Core Specification 3.0, Structure, Modules, "Indices", and Validation, "Modules".
 use Rattle.std.specs.Prelude.{ℕ, ◌+◌, List, [], ◌∷◌, length}
-use Rattle.wasm_spec.specs.Syntax.{Section, Custom, TypeSection, FunctionSection, CodeSection, types_in}
+use Rattle.std.specs.List.{flat_map}
+use Rattle.wasm_spec.specs.Syntax.{Section, Custom, TypeSection, ImportSection, FunctionSection, TableSection, MemorySection, TagSection, GlobalSection, ExportSection, StartSection, ElementSection, DataCountSection, CodeSection, DataSection, types_in, imported_by}
+use Rattle.wasm_spec.specs.Types.{ExternalType, ExternalKind, FuncKind, TableKind, MemoryKind, GlobalKind, TagKind, kind_of}
 
 -- how many items each index space has (the elements are element segments), and how many exports there are
 pub record Sizes : Type 0 where
@@ -30,12 +32,35 @@ together a b = record {
   exports = a.exports + b.exports;
 }
 
+-- one item of a kind
+abbrev pub one_of : ExternalKind → Sizes
+one_of FuncKind = record no_items { functions = 1 }
+one_of TableKind = record no_items { tables = 1 }
+one_of MemoryKind = record no_items { memories = 1 }
+one_of GlobalKind = record no_items { globals = 1 }
+one_of TagKind = record no_items { tags = 1 }
+
+-- imports of these types: each is an item of the space of its kind
+abbrev pub imported : List (ExternalType ℕ) → Sizes
+imported [] = no_items
+imported (type ∷ types) = together (one_of (kind_of type)) (imported types)
+
 -- what a section adds to each space
 abbrev pub added_by : Section → Sizes
 added_by (Custom name contents) = no_items
 added_by (TypeSection groups) = record no_items { types = length (types_in (TypeSection groups)) }
+added_by (ImportSection imports) = imported (flat_map imported_by imports)
 added_by (FunctionSection indexes) = record no_items { functions = length indexes }
+added_by (TableSection tables) = record no_items { tables = length tables }
+added_by (MemorySection types) = record no_items { memories = length types }
+added_by (TagSection indexes) = record no_items { tags = length indexes }
+added_by (GlobalSection globals) = record no_items { globals = length globals }
+added_by (ExportSection exports) = record no_items { exports = length exports }
+added_by (StartSection function) = no_items
+added_by (ElementSection segments) = record no_items { elements = length segments }
+added_by (DataCountSection count) = no_items
 added_by (CodeSection bodies) = no_items
+added_by (DataSection segments) = no_items
 
 -- what the sections of a module add up to
 abbrev pub sizes_of : List Section → Sizes

@@ -1,9 +1,10 @@
--- The grammar of types, in which references to defined types are type indexes. Core Specification 3.0, Binary Format, "Types".
--- No cases yet: references that are written out (63, 64), and with them concrete heap types; structures, arrays and continuations (5f, 5e,
--- 5d); sub types that aren't final or have supertypes, or say that they are final (50, 4f); groups that are written out (4e).
-use Rattle.std.specs.Prelude.{◌≡◌, ℕ, true, List, [], ◌∷◌, ◌++◌}
-use Rattle.wasm_spec.specs.Bytes.{IsList}
-use Rattle.wasm_spec.specs.Types.{AbstractHeapType, Func, Extern, Any, None, NoExtern, NoFunc, Eq, Struct, Array, I31, Exn, NoExn, Cont, NoCont, HeapType, Abstract, Concrete, ValType, I32, I64, F32, F64, V128, Ref, FuncType, CompositeType, FuncComposite, StructComposite, ArrayComposite, ContComposite, SubType, RecGroup, Single}
+-- The grammar of types, in which references to defined types are type indexes. Core Specification 3.0, Binary Format, "Types". Continuations,
+-- shared memories and pages of other sizes are as in their proposals; that a shared memory has a maximum is a matter of validity.
+use Rattle.std.specs.Prelude.{◌≡◌, ◌⊎◌, ◌+◌, ℕ, pos, Bool, true, false, List, [], ◌∷◌, is_some, if◌then◌else◌}
+use Rattle.wasm_spec.specs.Bytes.{IsU32, IsU64, IsS33, IsPair, IsMarked, IsOptional, IsList}
+use Rattle.wasm_spec.specs.Types.{AbstractHeapType, Func, Extern, Any, None, NoExtern, NoFunc, Eq, Struct, Array, I31, Exn, NoExn, Cont, NoCont, HeapType, Abstract, Concrete, RefType, ValType, I32, I64, F32, F64, V128, Ref, StorageType, I8, I16, Val, FieldType, FuncType, CompositeType, FuncComposite, StructComposite, ArrayComposite, ContComposite, SubType, RecGroup, Single, Group, Limits, MemoryType, TableType, GlobalType, ExternalType, FuncExternal, TableExternal, MemoryExternal, GlobalExternal, TagExternal, ExternalKind, FuncKind, TableKind, MemoryKind, GlobalKind, TagKind, kind_of}
+
+-- ---- heap, reference and value types
 
 -- the byte of an abstract heap type (Types, "Heap Types"; those of continuations are their proposal's)
 abbrev pub heap_code : AbstractHeapType → ℕ
@@ -22,10 +23,27 @@ heap_code Array = 0x6a
 heap_code Exn = 0x69
 heap_code Cont = 0x68
 
+-- The type index of a concrete heap type: a signed number, which is not negative. Whether it names a type is a matter of validity.
+abbrev pub IsHeapIndex : List ℕ → ℕ → Type 0
+IsHeapIndex text index = IsS33 text (pos index)
+
+-- (Types, "Heap Types"); an abstract one is its single byte, which is no signed number that could be padded
+abbrev pub IsHeapType : List ℕ → HeapType ℕ → Type 0
+IsHeapType text (Abstract heap) = text ≡ heap_code heap ∷ []
+IsHeapType text (Concrete index) = IsHeapIndex text index
+
 -- The byte of an abstract heap type, alone, is the nullable reference to it (Types, "Reference Types"). A concrete one has no such byte.
 abbrev pub IsBareHeap : List ℕ → HeapType ℕ → Type 0
 IsBareHeap text (Abstract heap) = text ≡ heap_code heap ∷ []
 IsBareHeap text (Concrete index) = ⊥
+
+-- a reference, which may be null or not (Types, "Reference Types")
+abbrev pub IsReference : Bool → List ℕ → HeapType ℕ → Type 0
+IsReference true text heap = IsMarked 0x63 IsHeapType text heap ⊎ IsBareHeap text heap
+IsReference false text heap = IsMarked 0x64 IsHeapType text heap
+
+abbrev pub IsRefType : List ℕ → RefType ℕ → Type 0
+IsRefType text type = IsReference type.nullable text type.heap_type
 
 -- a value type (Types, "Number Types", "Vector Types", "Reference Types", "Value Types")
 abbrev pub IsValType : List ℕ → ValType ℕ → Type 0
@@ -34,24 +52,108 @@ IsValType text I64 = text ≡ 0x7e ∷ []
 IsValType text F32 = text ≡ 0x7d ∷ []
 IsValType text F64 = text ≡ 0x7c ∷ []
 IsValType text V128 = text ≡ 0x7b ∷ []
-IsValType text (Ref nullable heap) = (nullable ≡ true) × IsBareHeap text heap
+IsValType text (Ref nullable heap) = IsReference nullable text heap
+
+-- (Types, "Result Types")
+abbrev pub IsResultType : List ℕ → List (ValType ℕ) → Type 0
+IsResultType text types = IsList IsValType text types
+
+-- ---- composite and recursive types
+
+-- what a field holds: a packed number or a value (Types, "Composite Types")
+abbrev pub IsStorageType : List ℕ → StorageType ℕ → Type 0
+IsStorageType text I8 = text ≡ 0x78 ∷ []
+IsStorageType text I16 = text ≡ 0x77 ∷ []
+IsStorageType text (Val type) = IsValType text type
+
+-- whether a field or a global can be set, as a single byte (Types, "Composite Types", "Global Types")
+abbrev pub IsMutability : List ℕ → Bool → Type 0
+IsMutability text false = text ≡ 0x00 ∷ []
+IsMutability text true = text ≡ 0x01 ∷ []
+
+abbrev pub IsFieldType : List ℕ → FieldType ℕ → Type 0
+IsFieldType text field = IsPair IsStorageType IsMutability text (field.element_type, field.mutable)
 
 -- a function type: the types of its parameters and of its results (Types, "Composite Types")
 abbrev pub IsFuncType : List ℕ → FuncType ℕ → Type 0
-IsFuncType text type = (params results : List ℕ) × (text ≡ 0x60 ∷ (params ++ results))
-    × IsList IsValType params type.params × IsList IsValType results type.results
+IsFuncType text type = IsMarked 0x60 (IsPair IsResultType IsResultType) text (type.params, type.results)
 
--- (Types, "Composite Types")
+-- (Types, "Composite Types"); a continuation type names its function type as a heap type would
 abbrev pub IsCompositeType : List ℕ → CompositeType ℕ → Type 0
 IsCompositeType text (FuncComposite type) = IsFuncType text type
-IsCompositeType text (StructComposite fields) = ⊥
-IsCompositeType text (ArrayComposite field) = ⊥
-IsCompositeType text (ContComposite function) = ⊥
+IsCompositeType text (StructComposite fields) = IsMarked 0x5f (IsList IsFieldType) text fields
+IsCompositeType text (ArrayComposite field) = IsMarked 0x5e IsFieldType text field
+IsCompositeType text (ContComposite function) = IsMarked 0x5d IsHeapIndex text function
 
--- a composite type alone is a final sub type without supertypes (Types, "Recursive Types")
+-- what a sub type that is written out begins with: whether it is final
+abbrev pub sub_code : Bool → ℕ
+sub_code true = 0x4f
+sub_code false = 0x50
+
+-- Any number of supertypes and a composite type; or a composite type alone, which is final and has no supertypes (Types, "Recursive Types").
 abbrev pub IsSubType : List ℕ → SubType ℕ → Type 0
-IsSubType text type = (type.is_final ≡ true) × (type.supertypes ≡ []) × IsCompositeType text type.composite_type
+IsSubType text type =
+    IsMarked (sub_code type.is_final) (IsPair (IsList IsU32) IsCompositeType) text (type.supertypes, type.composite_type)
+    ⊎ ((type.is_final ≡ true) × (type.supertypes ≡ []) × IsCompositeType text type.composite_type)
 
--- a sub type alone is a group of one (Types, "Recursive Types")
+-- a list of sub types, or a sub type alone (Types, "Recursive Types")
 abbrev pub IsRecGroup : List ℕ → RecGroup ℕ → Type 0
 IsRecGroup text (Single type) = IsSubType text type
+IsRecGroup text (Group types) = IsMarked 0x4e (IsList IsSubType) text types
+
+-- ---- limits, and what is imported
+
+-- what limits begin with: a bit for each part that may be absent, and for what else is said of them
+abbrev pub limits_flags : Limits → ℕ
+limits_flags limits =
+    (if is_some limits.maximum then 0x01 else 0x00) + (if limits.shared then 0x02 else 0x00)
+    + (if limits.is_64 then 0x04 else 0x00) + (if is_some limits.page_size_log2 then 0x08 else 0x00)
+
+-- The flags as a single byte, and the parts that they announce (Types, "Limits"). Both bounds have 64 bits, whatever the flags.
+abbrev pub IsLimits : List ℕ → Limits → Type 0
+IsLimits text limits =
+    IsMarked (limits_flags limits) (IsPair IsU64 (IsPair (IsOptional IsU64) (IsOptional IsU32))) text
+    (limits.minimum, (limits.maximum, limits.page_size_log2))
+
+-- (Types, "Memory Types")
+abbrev pub IsMemoryType : List ℕ → MemoryType → Type 0
+IsMemoryType text type = IsLimits text type
+
+-- a table is never shared, and has no pages
+abbrev pub IsTableLimits : List ℕ → Limits → Type 0
+IsTableLimits text limits = IsLimits text limits × (limits.shared ≡ false) × (is_some limits.page_size_log2 ≡ false)
+
+-- (Types, "Table Types")
+abbrev pub IsTableType : List ℕ → TableType ℕ → Type 0
+IsTableType text type = IsPair IsRefType IsTableLimits text (type.element_type, type.limits)
+
+-- (Types, "Global Types")
+abbrev pub IsGlobalType : List ℕ → GlobalType ℕ → Type 0
+IsGlobalType text type = IsPair IsValType IsMutability text (type.value_type, type.mutable)
+
+-- the type index of a tag's function type (Types, "Tag Types")
+abbrev pub IsTagType : List ℕ → ℕ → Type 0
+IsTagType text function = IsMarked 0x00 IsU32 text function
+
+-- the byte of a kind (Types, "External Types", and Modules, "Export Section")
+abbrev pub kind_code : ExternalKind → ℕ
+kind_code FuncKind = 0x00
+kind_code TableKind = 0x01
+kind_code MemoryKind = 0x02
+kind_code GlobalKind = 0x03
+kind_code TagKind = 0x04
+
+abbrev pub IsExternalKind : List ℕ → ExternalKind → Type 0
+IsExternalKind text kind = text ≡ kind_code kind ∷ []
+
+-- what stands behind the byte of the kind
+abbrev pub IsOfKind : List ℕ → ExternalType ℕ → Type 0
+IsOfKind text (FuncExternal function) = IsU32 text function
+IsOfKind text (TableExternal type) = IsTableType text type
+IsOfKind text (MemoryExternal type) = IsMemoryType text type
+IsOfKind text (GlobalExternal type) = IsGlobalType text type
+IsOfKind text (TagExternal function) = IsTagType text function
+
+-- (Types, "External Types")
+abbrev pub IsExternalType : List ℕ → ExternalType ℕ → Type 0
+IsExternalType text type = IsMarked (kind_code (kind_of type)) IsOfKind text type

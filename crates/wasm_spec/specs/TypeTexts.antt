@@ -1,5 +1,5 @@
--- The texts of types that an encoder writes: the shortest of each, but that a group which is written out stays so. References to defined
--- types are type indexes. Core Specification 3.0, Binary Format, "Types"; continuations are their proposal's.
+-- The texts of types that an encoder writes: the shortest of each. References to defined types are type indexes. Core Specification 3.0, Binary
+-- Format, "Types"; continuations are their proposal's.
 use Rattle.std.specs.Prelude.{ℕ, pos, Bool, true, false, List, [], ◌∷◌, ◌++◌, if◌then◌else◌}
 use Rattle.wasm_spec.specs.Shortest.{unsigned_text, signed_text, list_text}
 use Rattle.wasm_spec.specs.TypeGrammar.{heap_code}
@@ -54,7 +54,6 @@ sub_text_of false indexes composite = 0x50 ∷ (list_text unsigned_text indexes 
 abbrev pub sub_text : SubType ℕ → List ℕ
 sub_text type = sub_text_of type.is_final type.supertypes type.composite_type
 
--- A group that is written out, also where it is of one type: that type alone would spell the same group in fewer bytes (Types, "Recursive
--- Types").
+-- A group that is written out (Types, "Recursive Types"). Of one type it is another entry than that type by itself.
 unfoldable pub group_text : List (SubType ℕ) → List ℕ
 group_text types = 0x4e ∷ list_text sub_text types

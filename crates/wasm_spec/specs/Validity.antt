@@ -1,15 +1,17 @@
--- Which modules are valid. Core Specification 3.0, Validation, "Modules", and appendix "Implementation Limitations".
+-- Which modules are valid, of those that are supported. Core Specification 3.0, Validation, "Modules", and appendix "Implementation Limitations".
+-- The rules and limits of other sections and types aren't here yet: of modules that have such ones nothing here says that they are valid.
 use Rattle.std.specs.Prelude.{◌≡◌, ◌⊎◌, ◌+◌, ◌<◌, ⊤, ℕ, Bool, true, false, List, [], ◌∷◌, ◌++◌, length, nat_lt, Option, Some, None, is_some, MatchOption}
 use Rattle.std.specs.List.{EachIndex, SomeIndex, list_all, list_any, filter_map, flat_map, slice_get}
 use Rattle.std.specs.Option.{option_and_then}
 use Rattle.wasm_spec.specs.Bodies.{Context, IsFunctionBody, HasManyLocals, HasOtherOperator}
 use Rattle.wasm_spec.specs.Bytes.{IsU32, IsItems}
-use Rattle.wasm_spec.specs.Features.{Features}
+use Rattle.wasm_spec.specs.Features.{Features, CompactImports, has}
 use Rattle.wasm_spec.specs.Gates.{is_allowed_group}
 use Rattle.wasm_spec.specs.Grammar.{header, IsSection, IsModule, AreOrdered, last_of}
 use Rattle.wasm_spec.specs.Limits.{Limit, Types, Groups, Imports, Functions, Globals, Tags, Exports, Tables, Memories, ElementSegments, DataSegments, SegmentEntries, Params, Results, Fields, Locals, BodySize, Name, TypeSize, Depth, Length, most, IsPassedBy}
 use Rattle.wasm_spec.specs.Spaces.{sizes_of}
-use Rattle.wasm_spec.specs.Syntax.{Section, Custom, TypeSection, FunctionSection, CodeSection, groups_of, types_of, functions_of, bodies_of}
+use Rattle.wasm_spec.specs.Supported.{IsSupported}
+use Rattle.wasm_spec.specs.Syntax.{Section, Custom, TypeSection, FunctionSection, groups_of, types_of, functions_of, bodies_of}
 use Rattle.wasm_spec.specs.Types.{ValType, FuncType, CompositeType, FuncComposite, StructComposite, ArrayComposite, ContComposite, SubType}
 
 -- ---- function types
@@ -35,15 +37,13 @@ is_past limit n = nat_lt (most limit) n
 -- the name of a custom section
 abbrev pub names_in : Section → List (List ℕ)
 names_in (Custom name contents) = name ∷ []
-names_in (TypeSection groups) = []
-names_in (FunctionSection indexes) = []
-names_in (CodeSection bodies) = []
+names_in _ = []
 
 abbrev pub func_types_of : List Section → List (FuncType ℕ)
 func_types_of sections = filter_map func_type_of (types_of sections)
 
--- Whether some number that the sections state or add up to passes a limit. What only forms without a case have is not counted, and the
--- locals of a function are counted where its body is judged.
+-- Whether some number that the sections state or add up to passes a limit. What only sections and types have that aren't supported is not
+-- counted, and the locals of a function are counted where its body is judged.
 abbrev pub is_passed : Limit → List Section → Bool
 is_passed Types sections = is_past Types (sizes_of sections).types
 is_passed Groups sections = is_past Groups (length (groups_of sections))
@@ -70,12 +70,12 @@ is_passed Length sections = false
 -- ---- rules
 
 -- What a section has to keep behind the sections before it: the types of a type section are allowed, and what a function section names are
--- function types. Custom sections have no rule, and those on bodies stand apart.
+-- function types. Custom sections have no rule, and those on bodies stand apart. The rules of sections that aren't supported are missing, and so
+-- are those on type indexes in types.
 abbrev pub keeps_rule : Features → List Section → Section → Bool
-keeps_rule features before (Custom name contents) = true
 keeps_rule features before (TypeSection groups) = list_all (is_allowed_group features) groups
 keeps_rule features before (FunctionSection indexes) = list_all (λ index. is_some (func_type_at (types_of before) index)) indexes
-keeps_rule features before (CodeSection bodies) = true
+keeps_rule features before _ = true
 
 -- each section keeps its rule behind these and those before it
 abbrev pub KeepRules : Features → List Section → List Section → Type 0
@@ -131,14 +131,14 @@ pub record AreFine (features : Features) (sections : List Section) : Type 0 wher
   pub within_limits : (limit : Limit) → is_passed limit sections ≡ false
   pub rules : KeepRules features [] sections
 
--- Sections that read as a module are those of a valid one under a set of features.
+-- Supported sections that read as a module are those of a valid one under a set of features.
 pub record IsValid (features : Features) (sections : List Section) : Type 0 where
   pub fine : AreFine features sections
   pub bodies : EachBody (IsJudgedBody features) sections
 
 -- ---- the front of a module
 
--- a kind of sections whose entries a limit counts: its id, its place in the order, and how many entries these sections have
+-- a kind of sections whose entries a limit counts: its id, its place in the order, and how many items that the limit counts these sections have
 pub record Counted : Type 0 where
   pub id : ℕ
   pub place : ℕ
@@ -166,39 +166,33 @@ StatesPast limit sections bytes = MatchOption (counted limit sections) ⊥
     (λ c. (last_of 0 sections < c.place) × (number : ℕ) × IsPassedBy limit (c.entries + number) × StatesCount c.id number bytes)
 
 -- The bytes begin with the header and complete sections, in order, that pass a limit, or behind which a section states a number that does,
--- whatever follows.
-pub record BeginsPast (limit : Limit) (bytes : List ℕ) : Type 0 where
+-- whatever follows. The sections are supported.
+pub record BeginsPast (features : Features) (limit : Limit) (bytes : List ℕ) : Type 0 where
   pub sections : List Section
   pub front : List ℕ
   pub rest : List ℕ
   pub begins : bytes ≡ header ++ (front ++ rest)
-  pub holds : IsItems IsSection front sections
+  pub holds : IsItems (IsSection (has features CompactImports)) front sections
   pub ordered : AreOrdered 0 sections
+  pub supported : IsSupported sections
   pub passes : (is_passed limit sections ≡ true) ⊎ StatesPast limit sections rest
 
--- The bytes begin with the header and complete sections, in order, that break a rule, whatever follows.
+-- The bytes begin with the header and complete sections, in order, that break a rule, whatever follows. The
+-- sections are supported.
 pub record BeginsInvalid (features : Features) (bytes : List ℕ) : Type 0 where
   pub sections : List Section
   pub front : List ℕ
   pub rest : List ℕ
   pub begins : bytes ≡ header ++ (front ++ rest)
-  pub holds : IsItems IsSection front sections
+  pub holds : IsItems (IsSection (has features CompactImports)) front sections
   pub ordered : AreOrdered 0 sections
+  pub supported : IsSupported sections
   pub breaks : ¬ (KeepRules features [] sections)
-
--- The sections are of kinds that are supported so far: all that have a case. What has none does not read. This predicate goes out once all
--- sections and types have a case and are supported.
-abbrev pub IsSupported : List Section → Type 0
-IsSupported [] = ⊤
-IsSupported (Custom name contents ∷ sections) = IsSupported sections
-IsSupported (TypeSection groups ∷ sections) = IsSupported sections
-IsSupported (FunctionSection indexes ∷ sections) = IsSupported sections
-IsSupported (CodeSection bodies ∷ sections) = IsSupported sections
 
 -- The bytes read as a module of supported sections, which are fine, and of some body of it something holds.
 pub record HasBody (features : Features) (Holds : FuncType ℕ → List ℕ → Type 0) (bytes : List ℕ) : Type 0 where
   pub sections : List Section
-  pub reads : IsModule bytes sections
+  pub reads : IsModule (has features CompactImports) bytes sections
   pub supported : IsSupported sections
   pub fine : AreFine features sections
   pub some : SomeBody Holds sections

@@ -10,7 +10,7 @@ ghost use Rattle.wasm_spec.specs.Operators.{End};
 ghost use Rattle.wasm_spec.specs.Spaces.{sizes_of, together};
 ghost use Rattle.wasm_spec.specs.Syntax.{Section, Custom, TypeSection, FunctionSection, CodeSection, types_in};
 ghost use Rattle.wasm_spec.specs.TypeGrammar.{IsValType, IsFuncType};
-ghost use Rattle.wasm_spec.specs.Types.{HeapType, Abstract, Func, Extern, Any, None, NoExtern, NoFunc, Eq, Struct, Array, I31, Exn, NoExn, Cont, NoCont, I32, I64, F32, F64, V128, Ref, FuncType, FuncComposite, StructComposite, SubType, RecGroup, Single};
+ghost use Rattle.wasm_spec.specs.Types.{Abstract, Func, Extern, Any, None, NoExtern, NoFunc, Eq, Struct, Array, I31, Exn, NoExn, Cont, NoCont, I32, I64, F32, F64, V128, Ref, FuncType, FuncComposite, StructComposite, SubType, RecGroup, Single};
 ghost use Rattle.wasm_spec.specs.Validity.{is_passed, func_type_at, BeginsInvalid, BeginsPast, StatesPast, KeepRules, IsValid};
 
 /// The default set has exactly the flags that are on by default, no two flags are one bit, and exactly three
@@ -30,17 +30,17 @@ pub fn feature_sets()
 /// Small modules, read by hand.
 pub fn small_modules()
     // The header alone is a module without sections.
-    ensures empty { IsModule (0x00 ∷ 0x61 ∷ 0x73 ∷ 0x6d ∷ 0x01 ∷ 0x00 ∷ 0x00 ∷ 0x00 ∷ []) [] }
+    ensures empty { (compact : Bool) → IsModule compact (0x00 ∷ 0x61 ∷ 0x73 ∷ 0x6d ∷ 0x01 ∷ 0x00 ∷ 0x00 ∷ 0x00 ∷ []) [] }
 
     // A custom section with an empty name and nothing behind it.
-    ensures custom { IsModule (header ++ (0x00 ∷ 0x01 ∷ 0x00 ∷ [])) (Custom [] [] ∷ []) }
+    ensures custom { (compact : Bool) → IsModule compact (header ++ (0x00 ∷ 0x01 ∷ 0x00 ∷ [])) (Custom [] [] ∷ []) }
 
     // The same with its size in two bytes, and a section "a" with the byte 7.
-    ensures padded { IsModule (header ++ (0x00 ∷ 0x81 ∷ 0x00 ∷ 0x00 ∷ 0x00 ∷ 0x03 ∷ 0x01 ∷ 0x61 ∷ 0x07 ∷ []))
+    ensures padded { (compact : Bool) → IsModule compact (header ++ (0x00 ∷ 0x81 ∷ 0x00 ∷ 0x00 ∷ 0x00 ∷ 0x03 ∷ 0x01 ∷ 0x61 ∷ 0x07 ∷ []))
         (Custom [] [] ∷ Custom (0x61 ∷ []) (0x07 ∷ []) ∷ []) }
 
     // One type without parameters and results, a function of it, and its body.
-    ensures functions { IsModule
+    ensures functions { (compact : Bool) → IsModule compact
         (header ++ (0x01 ∷ 0x04 ∷ 0x01 ∷ 0x60 ∷ 0x00 ∷ 0x00 ∷ 0x03 ∷ 0x02 ∷ 0x01 ∷ 0x00 ∷ 0x0a ∷ 0x05 ∷ 0x01 ∷ 0x03 ∷ 0x00 ∷ 0x00 ∷ 0x0b ∷ []))
         (TypeSection (Single (record { is_final = true; supertypes = []; composite_type = FuncComposite (record { params = []; results = [] }) }) ∷ [])
         ∷ FunctionSection (0 ∷ []) ∷ CodeSection ((0x00 ∷ 0x00 ∷ 0x0b ∷ []) ∷ []) ∷ []) }
@@ -54,7 +54,6 @@ pub fn small_types()
     ensures references { IsItems IsValType
         (0x75 ∷ 0x74 ∷ 0x73 ∷ 0x72 ∷ 0x71 ∷ 0x70 ∷ 0x6f ∷ 0x6e ∷ 0x6d ∷ 0x6c ∷ 0x6b ∷ 0x6a ∷ 0x69 ∷ 0x68 ∷ [])
         (map (λ heap. Ref true (Abstract heap)) (NoCont ∷ NoExn ∷ NoFunc ∷ NoExtern ∷ None ∷ Func ∷ Extern ∷ Any ∷ Eq ∷ I31 ∷ Struct ∷ Array ∷ Exn ∷ Cont ∷ [])) }
-    ensures not_null { (text : List ℕ) (heap : HeapType ℕ) → ¬ (IsValType text (Ref false heap)) }
 {}
 
 /// Sections stand in their order, none of them twice, and custom ones anywhere; and each function has a body.
@@ -66,17 +65,17 @@ pub fn order()
     ensures late_types { (groups : List (RecGroup ℕ)) (indexes : List ℕ) → ¬ (AreOrdered 0 (FunctionSection indexes ∷ TypeSection groups ∷ [])) }
     ensures late_functions { (indexes : List ℕ) (bodies : List (List ℕ)) → ¬ (AreOrdered 0 (CodeSection bodies ∷ FunctionSection indexes ∷ [])) }
     ensures twice { (name contents a b : List ℕ) → ¬ (AreOrdered 0 (FunctionSection a ∷ Custom name contents ∷ FunctionSection b ∷ [])) }
-    ensures no_body { (text indexes : List ℕ) (index : ℕ) → ¬ (IsModule text (FunctionSection (index ∷ indexes) ∷ CodeSection [] ∷ [])) }
-    ensures no_function { (text body : List ℕ) → ¬ (IsModule text (CodeSection (body ∷ []) ∷ [])) }
+    ensures no_body { (compact : Bool) (text indexes : List ℕ) (index : ℕ) → ¬ (IsModule compact text (FunctionSection (index ∷ indexes) ∷ CodeSection [] ∷ [])) }
+    ensures no_function { (compact : Bool) (text body : List ℕ) → ¬ (IsModule compact text (CodeSection (body ∷ []) ∷ [])) }
 {}
 
 /// The text of a module is bytes; and what modules show.
 pub fn modules()
-    ensures bytes { (text : List ℕ) (sections : List Section) → IsModule text sections → AreBytes text }
+    ensures bytes { (compact : Bool) (text : List ℕ) (sections : List Section) → IsModule compact text sections → AreBytes text }
 
     // One type, two functions, and their bodies.
-    ensures spaces { (group : RecGroup ℕ) (a b : ℕ) (bodies : List (List ℕ)) (name contents : List ℕ)
-        → sizes_of (Custom name contents ∷ TypeSection (group ∷ []) ∷ FunctionSection (a ∷ b ∷ []) ∷ CodeSection bodies ∷ [])
+    ensures spaces { (type : SubType ℕ) (a b : ℕ) (bodies : List (List ℕ)) (name contents : List ℕ)
+        → sizes_of (Custom name contents ∷ TypeSection (Single type ∷ []) ∷ FunctionSection (a ∷ b ∷ []) ∷ CodeSection bodies ∷ [])
         ≡ record { types = 1; functions = 2; tables = 0; memories = 0; globals = 0; tags = 0; elements = 0; exports = 0 } }
     ensures added { together
         (record { types = 1; functions = 2; tables = 3; memories = 4; globals = 5; tags = 6; elements = 7; exports = 8 })
@@ -158,7 +157,7 @@ pub fn one_function()
 /// What the front of a module decides, whatever follows: 1,000,001 functions are stated, and a function stands before any type.
 pub fn fronts()
     ensures twice { (rest : List ℕ) → ¬ (StatesPast Groups (TypeSection [] ∷ []) rest) }
-    ensures past { (rest : List ℕ) → BeginsPast Functions (header ++ (0x03 ∷ 0x03 ∷ 0xc1 ∷ 0x84 ∷ 0x3d ∷ rest)) }
+    ensures past { (features : Features) (rest : List ℕ) → BeginsPast features Functions (header ++ (0x03 ∷ 0x03 ∷ 0xc1 ∷ 0x84 ∷ 0x3d ∷ rest)) }
     ensures invalid { (features : Features) (rest : List ℕ) → BeginsInvalid features (header ++ (0x03 ∷ 0x02 ∷ 0x01 ∷ 0x00 ∷ rest)) }
 {}
 

@@ -4,6 +4,7 @@
 //! contracts are theorems on the definitions.
 #![tactic(auto)]
 
+pub mod grammar_examples;
 pub mod laws;
 pub mod number_laws;
 pub mod type_text_examples;

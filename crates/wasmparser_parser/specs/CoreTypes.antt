@@ -1,5 +1,6 @@
 -- The types of the code as those of the specification.
 use Rattle.std.specs.Prelude.{ℕ}
+use Rattle.wasm_core.specs.TypeReading.{final_type}
 use Rattle.wasm_spec.specs.Types as spec
 use Rattle.wasmparser_parser.specs.declared.core_types.AbstractHeapType.{AbstractHeapType}
 use Rattle.wasmparser_parser.specs.declared.core_types.AbstractHeapType.TheVariants as heaps
@@ -34,3 +35,7 @@ val_type F32 = spec.F32
 val_type F64 = spec.F64
 val_type V128 = spec.V128
 val_type (Ref r) = spec.Ref r.nullable (heap_type r.heap_type)
+
+-- a final function type without supertypes, by itself
+abbrev pub func_group : spec.FuncType ℕ → spec.RecGroup ℕ
+func_group type = spec.Single (final_type (spec.FuncComposite type))

@@ -1,10 +1,10 @@
 -- Sections of the code as those of the specification.
 use Rattle.std.specs.Prelude.{ℕ, ◌+◌, ◌≤◌, List, length, map}
 use Rattle.wasm_core.specs.Input.{Input, end}
-use Rattle.wasm_core.specs.TypeReading.{func_group}
 use Rattle.wasm_spec.specs.Features.{default_features}
 use Rattle.wasm_spec.specs.Syntax as spec
 use Rattle.wasm_spec.specs.Types.{FuncType}
+use Rattle.wasmparser_parser.specs.CoreTypes.{func_group}
 use Rattle.wasmparser_parser.specs.declared.custom.CustomSectionReader.{CustomSectionReader}
 
 -- a part of an input: its bytes, and the place of the first of them

@@ -2,11 +2,12 @@
 
 ghost use Rattle.std.specs.Prelude.{◌≡◌, ◌↔◌, ◌+◌, map, length, IfOk, IsTrue};
 ghost use Rattle.std.specs.List.{AllByRecursion};
-ghost use Rattle.wasm_core.specs.ModuleReading.{body_at, content_of};
+ghost use Rattle.wasm_core.specs.ModuleReading.{body_at};
 ghost use Rattle.wasm_core.specs.Reading.{Answers};
 ghost use Rattle.wasm_core.specs.TypeReading.{list_at};
 ghost use Rattle.wasmparser_parser.specs.Answers.{AnswersOrFills, AnswersAllOrFills};
 ghost use Rattle.wasmparser_parser.specs.Sections.{IsInside, at_front, code_section};
+ghost use Rattle.wasmparser_parser.specs.SupportedReading.{supported_content};
 
 use crate::error::Error;
 use crate::raw_section::{RawSection, check_end};
@@ -100,12 +101,12 @@ fn read_bodies<'a>(
 }
 
 /// Reads the content of a code section: the bodies, each behind its size (Core Specification, 5.5.13).
-#[tactic(auto, unfolding(wasm_core::specs::ModuleReading::content_of))]
+#[tactic(auto, unfolding(wasm_core::specs::ModuleReading::content_of, crate::specs::SupportedReading::supported_content))]
 pub fn read_code_section<'a>(
     alloc: Global,
     section: &RawSection<'a>,
 ) -> Result<Vec<FunctionBody<'a>>, Error>
-    ensures read { AnswersAllOrFills (λ v. code_section v.items) (at_front section.now.content) result (content_of 10 section.now.content.bytes) }
+    ensures read { AnswersAllOrFills (λ v. code_section v.items) (at_front section.now.content) result (supported_content 10 section.now.content.bytes) }
     ensures inside { IfOk result (λ v. AllByRecursion (IsInside (at_front section.now.content)) v.items) }
 {
     let mut reader = section.reader();

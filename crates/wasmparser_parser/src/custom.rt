@@ -1,9 +1,9 @@
 //! Custom sections.
 
 ghost use Rattle.std.specs.Prelude.{◌≡◌};
-ghost use Rattle.wasm_core.specs.ModuleReading.{content_of};
 ghost use Rattle.wasm_core.specs.Reading.{AnswersAll};
 ghost use Rattle.wasmparser_parser.specs.Sections.{at_front, custom};
+ghost use Rattle.wasmparser_parser.specs.SupportedReading.{supported_content};
 
 use crate::raw_section::RawSection;
 use wasm_core::malformed::Malformed;
@@ -18,11 +18,11 @@ pub struct CustomSectionReader<'a> {
 }
 
 /// Reads the content of a custom section: a name, and any bytes (Core Specification, 5.5.3).
-#[tactic(auto, using(wasm_core::proofs::ReadingLaws::all_bytes), unfolding(wasm_core::specs::ModuleReading::content_of))]
+#[tactic(auto, using(wasm_core::proofs::ReadingLaws::all_bytes), unfolding(wasm_core::specs::ModuleReading::content_of, crate::specs::SupportedReading::supported_content))]
 pub fn read_custom_section<'a>(
     section: &RawSection<'a>,
 ) -> Result<CustomSectionReader<'a>, Malformed>
-    ensures { AnswersAll custom (at_front section.now.content) result (content_of 0 section.now.content.bytes) }
+    ensures { AnswersAll custom (at_front section.now.content) result (supported_content 0 section.now.content.bytes) }
 {
     let mut reader = section.reader();
     let name = reader.read_string()?;

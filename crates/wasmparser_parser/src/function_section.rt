@@ -1,12 +1,12 @@
 //! Function sections.
 
 ghost use Rattle.std.specs.Prelude.{◌≡◌};
-ghost use Rattle.wasm_core.specs.ModuleReading.{content_of};
 ghost use Rattle.wasm_core.specs.Reading.{unsigned_at};
 ghost use Rattle.wasm_core.specs.TypeReading.{list_at};
 ghost use Rattle.wasm_spec.specs.Syntax.{FunctionSection};
 ghost use Rattle.wasmparser_parser.specs.Answers.{AnswersOrFills, AnswersAllOrFills};
 ghost use Rattle.wasmparser_parser.specs.Sections.{at_front};
+ghost use Rattle.wasmparser_parser.specs.SupportedReading.{supported_content};
 
 use crate::error::Error;
 use crate::raw_section::{RawSection, check_end};
@@ -26,9 +26,9 @@ fn read_indexes(alloc: Global, reader: &mut BinaryReader<'_>) -> Result<Vec<u32>
 }
 
 /// Reads the content of a function section: the type index of each function (Core Specification, 5.5.6).
-#[tactic(auto, unfolding(wasm_core::specs::ModuleReading::content_of))]
+#[tactic(auto, unfolding(wasm_core::specs::ModuleReading::content_of, crate::specs::SupportedReading::supported_content))]
 pub fn read_function_section(alloc: Global, section: &RawSection<'_>) -> Result<Vec<u32>, Error>
-    ensures { AnswersAllOrFills (λ v. FunctionSection v.items) (at_front section.now.content) result (content_of 3 section.now.content.bytes) }
+    ensures { AnswersAllOrFills (λ v. FunctionSection v.items) (at_front section.now.content) result (supported_content 3 section.now.content.bytes) }
 {
     let mut reader = section.reader();
     let indexes = read_indexes(alloc, &mut reader)?;

@@ -7,8 +7,7 @@ use Rattle.std.proofs.lemmas.Bool.Decides.{eqb_tells, leb_tells}
 use Rattle.std.proofs.lemmas.List.{append-nil, nil_from_length, length-reverse, length-map}
 use Rattle.std.proofs.lemmas.List.Sums.{sum_by-cons}
 use Rattle.wasm_core.specs.Reading.{◌>>=◌, unsigned_at}
-use Rattle.wasm_core.specs.TypeReading.{val_type_at}
-use Rattle.wasm_core.proofs.ReadingLaws.{bind_some, some_is, joined, behind, unsigned_found, unsigned_again, reads_val_type}
+use Rattle.wasm_core.proofs.ReadingLaws.{bind_some, some_is, joined, behind, unsigned_found, unsigned_again}
 use Rattle.wasm_spec.specs.Bodies.{Context, State, all_taken, nothing_known, Code, done, plain, flat, Judged, is_used_up, IsExactly, at_start, IsBodyOf, Run, IsRun, local_count, IsFunctionBody, HasManyLocals, HasOtherOperator}
 use Rattle.wasm_spec.specs.Operators.{Operator, Unreachable, End, IsOperator, IsOperators}
 use Rattle.wasm_spec.specs.Bytes.{AreBytes, IsU32, IsItems, IsList}
@@ -23,6 +22,8 @@ use Rattle.wasmparser_parser.specs.declared.error.Error.{Error}
 use Rattle.wasmparser_parser.specs.declared.error.ErrorKind.{ErrorKind}
 use Rattle.wasmparser_parser.specs.declared.error.ErrorKind.TheVariants as kinds
 use Rattle.wasmparser_validator.specs.BodyJudging.{IsBodyJudged}
+use Rattle.wasmparser_parser.specs.SupportedReading.{supported_type_at}
+use Rattle.wasmparser_validator.proofs.SupportedLaws.{reads_local_type}
 use Rattle.wasmparser_validator.specs.BodyReading.{BodyJudgement, Fine, Broken, ManyLocals, OtherOperator, end_judgement, judge_code, run_at, with_run, with_count, judge_runs, judge_body, NamesFault, JudgesBody}
 
 -- ---- runs
@@ -30,10 +31,10 @@ use Rattle.wasmparser_validator.specs.BodyReading.{BodyJudgement, Fine, Broken, 
 run_found : (bytes : List ℕ) (run : Run) (rest : List ℕ) → AreBytes bytes → run_at bytes ≡ Some (run, rest) → (text : List ℕ) × (bytes ≡ text ++ rest) × IsRun text run
 unfolding run_at
 run_found bytes run rest are e =
-    let n = bind_some (unsigned_at 32 bytes) (λ n. val_type_at n.1 >>= λ t. Some (record { count = n.0; type = t.0 }, t.1)) (run, rest) e in
-    let t = bind_some (val_type_at n.0.1) (λ t. Some (record { count = n.0.0; type = t.0 }, t.1)) (run, rest) n.2 in
+    let n = bind_some (unsigned_at 32 bytes) (λ n. supported_type_at n.1 >>= λ t. Some (record { count = n.0; type = t.0 }, t.1)) (run, rest) e in
+    let t = bind_some (supported_type_at n.0.1) (λ t. Some (record { count = n.0.0; type = t.0 }, t.1)) (run, rest) n.2 in
     let count = unsigned_found 32 bytes n.0.0 n.0.1 are n.1 in
-    let type = reads_val_type.found n.0.1 t.0.0 t.0.1 (behind bytes count.0 n.0.1 are count.1) t.1 in
+    let type = reads_local_type.found n.0.1 t.0.0 t.0.1 (behind bytes count.0 n.0.1 are count.1) t.1 in
     subst (λ (x : Run × List ℕ). (text : List ℕ) × (bytes ≡ text ++ x.1) × IsRun text x.0) (some_is (record { count = n.0.0; type = t.0.0 }, t.0.1) (run, rest) t.2)
     (count.0 ++ type.0, joined bytes count.0 n.0.1 type.0 t.0.1 count.1 type.1, (count.0, type.0, refl, count.2, type.2))
 
@@ -41,7 +42,7 @@ run_again : (text : List ℕ) (run : Run) (rest : List ℕ) → IsRun text run �
 unfolding run_at
 run_again text run rest h =
     let split : text ++ rest ≡ h.0 ++ (h.1 ++ rest) = rw h.2 (append_assoc h.0 h.1 rest) in
-    ap run_at split ∙ rw (unsigned_again 32 h.0 run.count (h.1 ++ rest) h.3, reads_val_type.again h.1 run.type rest h.4) refl
+    ap run_at split ∙ rw (unsigned_again 32 h.0 run.count (h.1 ++ rest) h.3, reads_local_type.again h.1 run.type rest h.4) refl
 
 -- ---- operators
 

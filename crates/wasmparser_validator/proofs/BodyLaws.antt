@@ -4,12 +4,12 @@ use Rattle.std.proofs.lemmas.Bool.{le-leb, lt-leb}
 use Rattle.std.proofs.lemmas.Bool.Decides.{eqb_tells}
 use Rattle.wasm_core.specs.Input.{Input, GoesOn, IsWithin}
 use Rattle.wasm_core.specs.Reading.{byte_at, unsigned_at}
-use Rattle.wasm_core.specs.TypeReading.{val_type_at}
 use Rattle.wasm_core.proofs.ReadingLaws.{some_is}
 use Rattle.wasm_spec.specs.Bodies.{Run}
 use Rattle.wasm_spec.specs.Features.{Features}
 use Rattle.wasm_spec.specs.Gates.{is_allowed}
 use Rattle.wasm_spec.specs.Types.{ValType}
+use Rattle.wasmparser_parser.specs.SupportedReading.{supported_type_at}
 use Rattle.wasmparser_parser.specs.declared.error.Error.{Error}
 use Rattle.wasm_core.specs.LimitCases as core
 use Rattle.wasmparser_parser.specs.declared.error.ErrorKind.{ErrorKind}
@@ -64,11 +64,11 @@ pub no_count : (bytes : List ℕ) → unsigned_at 32 bytes ≡ None → run_at b
 unfolding run_at
 no_count bytes e = rw e refl
 
-pub no_type : (bytes : List ℕ) (n : ℕ) (mid : List ℕ) → unsigned_at 32 bytes ≡ Some (n, mid) → val_type_at mid ≡ None → run_at bytes ≡ None
+pub no_type : (bytes : List ℕ) (n : ℕ) (mid : List ℕ) → unsigned_at 32 bytes ≡ Some (n, mid) → supported_type_at mid ≡ None → run_at bytes ≡ None
 unfolding run_at
 no_type bytes n mid e h = rw (e, h) refl
 
-pub a_run : (bytes : List ℕ) (n : ℕ) (mid : List ℕ) (type : ValType ℕ) (rest : List ℕ) → unsigned_at 32 bytes ≡ Some (n, mid) → val_type_at mid ≡ Some (type, rest)
+pub a_run : (bytes : List ℕ) (n : ℕ) (mid : List ℕ) (type : ValType ℕ) (rest : List ℕ) → unsigned_at 32 bytes ≡ Some (n, mid) → supported_type_at mid ≡ Some (type, rest)
     → run_at bytes ≡ Some (record { count = n; type = type }, rest)
 unfolding run_at
 a_run bytes n mid type rest e h = rw (e, h) refl

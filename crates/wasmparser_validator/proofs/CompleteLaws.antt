@@ -8,26 +8,29 @@ use Rattle.wasm_spec.specs.Features.{Features}
 use Rattle.wasm_spec.specs.Gates.{is_allowed_group}
 use Rattle.wasm_spec.specs.Grammar.{place_of, AreOrdered}
 use Rattle.wasm_spec.specs.Limits as spec
+use Rattle.wasm_spec.specs.Supported.{is_supported_section, IsSupported}
 use Rattle.wasm_spec.specs.Syntax.{Section, Custom, TypeSection, FunctionSection, CodeSection, members, types_in, functions_in, bodies_in, types_of, functions_of, bodies_of}
 use Rattle.wasm_spec.specs.Validity.{func_type_at, is_past, names_in, KeepRules}
 use Rattle.wasmparser_validator.specs.Sections.{Progress, Judgement, Accepted, Unread, Past, Broken, unless, funcs_in, rule_fault, fault, after, at_last}
+use Rattle.wasmparser_validator.proofs.SupportedLaws.{both_pass}
 use Rattle.wasmparser_validator.proofs.FaultLaws.{chosen, Reaches, funcs_within, singles, snoc, is_behind_from, types_after, functions_after, bodies_after, last_after, functions_reached, bodies_reached}
 
 -- ---- order
 
 -- no functions come behind their place
-no_functions : (last : ℕ) (sections : List Section) → 3 ≤ last → AreOrdered last sections → functions_of sections ≡ []
-no_functions last [] late h = refl
-no_functions last (Custom name contents ∷ sections) late h = no_functions last sections late h.1
-no_functions last (TypeSection groups ∷ sections) late h = absurd (omega (arith, late, h.0))
-no_functions last (FunctionSection indexes ∷ sections) late h = absurd (omega (arith, late, h.0))
-no_functions last (CodeSection bodies ∷ sections) late h = no_functions 12 sections (omega arith) h.1
+no_functions : (last : ℕ) (sections : List Section) → 3 ≤ last → IsSupported sections → AreOrdered last sections → functions_of sections ≡ []
+no_functions last [] late all h = refl
+no_functions last (Custom name contents ∷ sections) late all h = no_functions last sections late all h.1
+no_functions last (TypeSection groups ∷ sections) late all h = absurd (omega (arith, late, h.0))
+no_functions last (FunctionSection indexes ∷ sections) late all h = absurd (omega (arith, late, h.0))
+no_functions last (CodeSection bodies ∷ sections) late all h = no_functions 12 sections (omega arith) all h.1
+no_functions last (section ∷ sections) late all h = absurd cc
 
 -- as many bodies as functions in the end: the bodies so far are no more than the functions
-enough : (p : Progress) (bodies : List (List ℕ)) (sections : List Section) → AreOrdered 12 sections → length p.functions + length (functions_of sections) ≡ length p.bodies + length (bodies ++ bodies_of sections)
+enough : (p : Progress) (bodies : List (List ℕ)) (sections : List Section) → IsSupported sections → AreOrdered 12 sections → length p.functions + length (functions_of sections) ≡ length p.bodies + length (bodies ++ bodies_of sections)
     → ltb (length p.functions) (length p.bodies + length bodies) ≡ false
-enough p bodies sections ordered paired =
-    le-ltb _ _ (omega (arith, paired, length-append bodies (bodies_of sections), ap length (no_functions 12 sections (omega arith) ordered)))
+enough p bodies sections all ordered paired =
+    le-ltb _ _ (omega (arith, paired, length-append bodies (bodies_of sections), ap length (no_functions 12 sections (omega arith) all ordered)))
 
 -- ---- judging a list of sections
 
@@ -42,11 +45,11 @@ judge_reached features p (section ∷ sections) q r = rw r.0 (judge_reached feat
 
 -- ---- no fault of reading
 
-no_unread : (features : Features) (p : Progress) (section : Section) (sections : List Section) → AreOrdered p.last (section ∷ sections)
+no_unread : (features : Features) (p : Progress) (section : Section) (sections : List Section) → IsSupported (section ∷ sections) → AreOrdered p.last (section ∷ sections)
     → length p.functions + length (functions_of (section ∷ sections)) ≡ length p.bodies + length (bodies_of (section ∷ sections)) → rule_fault features p section ≢ Some Unread
-no_unread features p (Custom name contents) sections ordered paired e =
+no_unread features p (Custom name contents) sections all ordered paired e =
     elim (chosen (is_past spec.Name (length name)) (Some (Past spec.Name)) None (Some Unread) e) [ inl (t, f) ↦ absurd cc | inr (t, f) ↦ absurd cc ]
-no_unread features p (TypeSection groups) sections ordered paired e =
+no_unread features p (TypeSection groups) sections all ordered paired e =
     elim (chosen (is_past spec.Groups (length p.types + length groups)) _ _ (Some Unread) e) [
       | inl (t, f) ↦ absurd cc
       | inr (t, f) ↦ elim (chosen (list_any (λ type. is_past spec.Params (length type.params)) (funcs_in groups)) _ _ (Some Unread) f) [
@@ -57,14 +60,15 @@ no_unread features p (TypeSection groups) sections ordered paired e =
         ]
       ]
     ]
-no_unread features p (FunctionSection indexes) sections ordered paired e =
+no_unread features p (FunctionSection indexes) sections all ordered paired e =
     elim (chosen (is_past spec.Functions (length p.functions + length indexes)) _ _ (Some Unread) e) [
       | inl (t, f) ↦ absurd cc
       | inr (t, f) ↦ elim (chosen (list_all (λ index. is_some (func_type_at p.types index)) indexes) None (Some Broken) (Some Unread) f) [ inl (w, i) ↦ absurd cc | inr (w, i) ↦ absurd cc ]
     ]
-no_unread features p (CodeSection bodies) sections ordered paired e =
-    let few = enough p bodies sections ordered.1 paired in
+no_unread features p (CodeSection bodies) sections all ordered paired e =
+    let few = enough p bodies sections all ordered.1 paired in
     elim (chosen (list_any (λ body. is_past spec.BodySize (length body)) bodies) (Some (Past spec.BodySize)) None (Some Unread) (rw few at e)) [ inl (u, g) ↦ absurd cc | inr (u, g) ↦ absurd cc ]
+no_unread features p section sections all ordered paired e = absurd cc
 
 paired_after : (p : Progress) (section : Section) (sections : List Section) → length p.functions + length (functions_of (section ∷ sections)) ≡ length p.bodies + length (bodies_of (section ∷ sections))
     → length (after p section).functions + length (functions_of sections) ≡ length (after p section).bodies + length (bodies_of sections)
@@ -80,26 +84,30 @@ paired_after p section sections paired =
       length-append (bodies_in section) (bodies_of sections),
     )
 
-pub is_read : (features : Features) (p : Progress) (sections : List Section) → AreOrdered p.last sections → length p.functions + length (functions_of sections) ≡ length p.bodies + length (bodies_of sections)
-    → judge_list features p sections ≢ Unread
+pub is_read : (features : Features) (p : Progress) (sections : List Section) → IsSupported sections → AreOrdered p.last sections
+    → length p.functions + length (functions_of sections) ≡ length p.bodies + length (bodies_of sections) → judge_list features p sections ≢ Unread
 unfolding judge_list
-is_read features p [] ordered paired e =
+is_read features p [] all ordered paired e =
     let t : eqb (length p.functions) (length p.bodies) ≡ true = eq-eqb _ _ (omega (arith, paired)) in
     let f : Accepted p ≡ Unread = (rw t at e) in
     absurd cc
-is_read features p (section ∷ sections) ordered paired e =
-    by_fault (rule_fault features p section) refl (is_read features (after p section) sections (subst (λ last. AreOrdered last sections) (sym (last_after p section)) ordered.1) (paired_after p section sections paired))
+is_read features p (section ∷ sections) all ordered paired e =
+    by_fault (rule_fault features p section) refl (is_read features (after p section) sections both.1 (subst (λ last. AreOrdered last sections) (sym (last_after p section)) ordered.1) (paired_after p section sections paired))
   where
+    both : (is_supported_section section ≡ true) × (list_all is_supported_section sections ≡ true)
+    both = both_pass (is_supported_section section) (list_all is_supported_section sections) all
+
     by_fault : (x : Option Judgement) → rule_fault features p section ≡ x → judge_list features (after p section) sections ≢ Unread → ⊥
-    by_fault None f more = more (rw (is_behind_from p.last (place_of section) ordered.0, f) at e)
+    by_fault None f more = more (rw (both.0, is_behind_from p.last (place_of section) ordered.0, f) at e)
     by_fault (Some j) f more =
-        let g : j ≡ Unread = (rw (is_behind_from p.last (place_of section) ordered.0, f) at e) in
-        no_unread features p section sections ordered paired (f ∙ ap (λ x. Some x) g)
+        let g : j ≡ Unread = (rw (both.0, is_behind_from p.last (place_of section) ordered.0, f) at e) in
+        no_unread features p section sections all ordered paired (f ∙ ap (λ x. Some x) g)
 
 -- ---- no fault at all
 
 -- what sections behind those before have to keep
 pub record Meets (features : Features) (p : Progress) (before sections : List Section) : Type 0 where
+  pub supported : IsSupported sections
   pub ordered : AreOrdered p.last sections
   pub rules : KeepRules features before sections
   pub known : p.types ≡ types_of before
@@ -123,7 +131,7 @@ fault_free features p before (Custom name contents) sections m =
     let t = (neither (is_past spec.Name (length name)) _ m.names).0 in
     rw t refl
 fault_free features p before (TypeSection groups) sections m =
-    let t : is_past spec.Groups (length p.types + length groups) ≡ false = le-ltb _ _ (omega (arith, m.types, length-append (flat_map members groups) (types_of sections), singles groups)) in
+    let t : is_past spec.Groups (length p.types + length groups) ≡ false = le-ltb _ _ (omega (arith, m.types, length-append (flat_map members groups) (types_of sections), singles groups (both_pass _ _ m.supported).0)) in
     let u = (none_of (λ type. is_past spec.Params (length type.params)) (funcs_in groups) (flat_map funcs_within sections) m.params).0 in
     let v = (none_of (λ type. is_past spec.Results (length type.results)) (funcs_in groups) (flat_map funcs_within sections) m.results).0 in
     rw (t, u, v, m.rules.0) refl
@@ -132,13 +140,15 @@ fault_free features p before (FunctionSection indexes) sections m =
     let w : list_all (λ index. is_some (func_type_at p.types index)) indexes ≡ true = ap (λ types. list_all (λ index. is_some (func_type_at types index)) indexes) m.known ∙ m.rules.0 in
     rw (t, w) refl
 fault_free features p before (CodeSection bodies) sections m =
-    let few = enough p bodies sections m.ordered.1 m.paired in
+    let few = enough p bodies sections m.supported m.ordered.1 m.paired in
     let u = (none_of (λ body. is_past spec.BodySize (length body)) bodies (bodies_of sections) m.sizes).0 in
     rw (few, u) refl
+fault_free features p before section sections m = refl
 
 next : (features : Features) (p : Progress) (before : List Section) (section : Section) (sections : List Section) → Meets features p before (section ∷ sections)
     → Meets features (after p section) (before ++ section ∷ []) sections
 next features p before section sections m = record {
+  supported = (both_pass (is_supported_section section) (list_all is_supported_section sections) m.supported).1;
   ordered = subst (λ last. AreOrdered last sections) (sym (last_after p section)) m.ordered.1;
   rules = m.rules.1;
   known = types_after p section ∙ ap (λ l. l ++ types_in section) m.known ∙ sym (snoc types_in before section);
@@ -156,7 +166,8 @@ reaches features p before [] m = (p, refl)
 reaches features p before (section ∷ sections) m =
     let more = reaches features (after p section) (before ++ section ∷ []) sections (next features p before section sections m) in
     let f = fault_free features p before section sections m in
-    (more.0, (rw (is_behind_from p.last (place_of section) m.ordered.0, f) refl, more.1))
+    let s = (both_pass (is_supported_section section) (list_all is_supported_section sections) m.supported).0 in
+    (more.0, (rw (s, is_behind_from p.last (place_of section) m.ordered.0, f) refl, more.1))
 
 pub accepts : (features : Features) (p : Progress) (before sections : List Section) → Meets features p before sections → (q : Progress) × (judge_list features p sections ≡ Accepted q)
 accepts features p before sections m =

@@ -14,10 +14,12 @@ use Rattle.wasm_spec.specs.Grammar.{place_of, last_place, last_of, IsBehind, Are
 use Rattle.wasm_spec.specs.Limits as spec
 use Rattle.wasm_spec.specs.Limits.{Limit}
 use Rattle.wasm_spec.specs.Spaces.{sizes_of}
+use Rattle.wasm_spec.specs.Supported.{is_supported_group, is_supported_section, IsSupported}
 use Rattle.wasm_spec.specs.Syntax.{Section, Custom, TypeSection, FunctionSection, CodeSection, members, groups_in, types_in, functions_in, bodies_in, groups_of, types_of, functions_of, bodies_of}
-use Rattle.wasm_spec.specs.Types.{FuncType, SubType, RecGroup, Single}
+use Rattle.wasm_spec.specs.Types.{FuncType, SubType, RecGroup, Single, Group}
 use Rattle.wasm_spec.specs.Validity.{func_type_of, func_type_at, func_types_of, is_past, names_in, is_passed, keeps_rule, KeepRules}
-use Rattle.wasmparser_validator.specs.Sections.{Progress, Judgement, Unread, Past, Broken, funcs_in, rule_fault, fault, after}
+use Rattle.wasmparser_validator.specs.Sections.{Progress, Judgement, Unread, Past, Broken, funcs_in, rule_fault, place_fault, fault, after}
+use Rattle.wasmparser_validator.proofs.SupportedLaws.{both_pass, pass_both, supported_with}
 
 -- ---- tests
 
@@ -41,25 +43,26 @@ pub types_after : (p : Progress) (section : Section) → (after p section).types
 types_after p (Custom name contents) = sym (append-nil p.types)
 types_after p (TypeSection groups) = refl
 types_after p (FunctionSection indexes) = sym (append-nil p.types)
-types_after p (CodeSection bodies) = sym (append-nil p.types)
+types_after p section = sym (append-nil p.types)
 
 pub functions_after : (p : Progress) (section : Section) → (after p section).functions ≡ p.functions ++ functions_in section
 functions_after p (Custom name contents) = sym (append-nil p.functions)
 functions_after p (TypeSection groups) = sym (append-nil p.functions)
 functions_after p (FunctionSection indexes) = refl
-functions_after p (CodeSection bodies) = sym (append-nil p.functions)
+functions_after p section = sym (append-nil p.functions)
 
 pub bodies_after : (p : Progress) (section : Section) → (after p section).bodies ≡ p.bodies ++ bodies_in section
 bodies_after p (Custom name contents) = sym (append-nil p.bodies)
 bodies_after p (TypeSection groups) = sym (append-nil p.bodies)
 bodies_after p (FunctionSection indexes) = sym (append-nil p.bodies)
 bodies_after p (CodeSection bodies) = refl
+bodies_after p section = sym (append-nil p.bodies)
 
 pub last_after : (p : Progress) (section : Section) → (after p section).last ≡ last_place p.last (place_of section)
 last_after p (Custom name contents) = refl
 last_after p (TypeSection groups) = refl
 last_after p (FunctionSection indexes) = refl
-last_after p (CodeSection bodies) = refl
+last_after p section = refl
 
 -- sections without a fault lead from what is known before them to what is known behind them
 abbrev pub Reaches : Features → Progress → List Section → Progress → Type 0
@@ -91,11 +94,18 @@ pub is_behind_from : (last : ℕ) (place : Option ℕ) → IsBehind last place �
 is_behind_from last None h = refl
 is_behind_from last (Some place) h = lt-ltb last place h
 
--- what a section without a fault keeps: its place, and the rest
-pub no_fault : (features : Features) (p : Progress) (section : Section) → fault features p section ≡ None → IsBehind p.last (place_of section) × (rule_fault features p section ≡ None)
+-- what a section without a fault keeps: its place, and the rest; and it is supported
+pub no_fault : (features : Features) (p : Progress) (section : Section) → fault features p section ≡ None
+    → IsBehind p.last (place_of section) × (rule_fault features p section ≡ None) × (is_supported_section section ≡ true)
 no_fault features p section e =
-    let k = kept (is_behind p.last (place_of section)) Unread (rule_fault features p section) e in
-    (behind_from p.last (place_of section) k.0, k.1)
+    let s = kept (is_supported_section section) Unread (place_fault features p section) e in
+    let k = kept (is_behind p.last (place_of section)) Unread (rule_fault features p section) s.1 in
+    (behind_from p.last (place_of section) k.0, k.1, s.0)
+
+pub supported_reached : (features : Features) (p : Progress) (sections : List Section) (q : Progress) → Reaches features p sections q → IsSupported sections
+supported_reached features p [] q r = refl
+supported_reached features p (section ∷ sections) q r =
+    pass_both (is_supported_section section) (list_all is_supported_section sections) (no_fault features p section r.0).2 (supported_reached features (after p section) sections q r.1)
 
 pub ordered_reached : (features : Features) (p : Progress) (sections : List Section) (q : Progress) → Reaches features p sections q → AreOrdered p.last sections
 ordered_reached features p [] q r = tt
@@ -118,7 +128,7 @@ keeps features p before (TypeSection groups) known e =
 keeps features p before (FunctionSection indexes) known e =
     let a = passed (is_past spec.Functions (length p.functions + length indexes)) (Past spec.Functions) _ e in
     ap (λ types. list_all (λ index. is_some (func_type_at types index)) indexes) (sym known) ∙ (kept (list_all (λ index. is_some (func_type_at p.types index)) indexes) Broken None a.1).0
-keeps features p before (CodeSection bodies) known e = refl
+keeps features p before section known e = refl
 
 -- one section more
 pub snoc : {A : Type 0} (inside : Section → List A) (before : List Section) (section : Section) → flat_map inside (before ++ section ∷ []) ≡ flat_map inside before ++ inside section
@@ -137,13 +147,9 @@ some_below [] index e = absurd cc
 some_below (type ∷ types) zero e = omega arith
 some_below (type ∷ types) (suc index) e = omega (arith, some_below types index e)
 
-conj : (a b : Bool) → (a && b) ≡ true → (a ≡ true) × (b ≡ true)
-conj true b e = (refl, e)
-conj false b e = absurd cc
-
 all_below : (types : List (SubType ℕ)) (indexes : List ℕ) → list_all (λ index. is_some (func_type_at types index)) indexes ≡ true → AllByRecursion (λ index. index < length types) indexes
 all_below types [] e = tt
-all_below types (index ∷ indexes) e = let c = conj _ _ e in (some_below types index c.0, all_below types indexes c.1)
+all_below types (index ∷ indexes) e = let c = both_pass _ _ e in (some_below types index c.0, all_below types indexes c.1)
 
 below_more : (a b : ℕ) (indexes more : List ℕ) → a ≤ b → AllByRecursion (λ index. index < a) indexes → AllByRecursion (λ index. index < b) more → AllByRecursion (λ index. index < b) (indexes ++ more)
 below_more a b [] more le h k = k
@@ -164,56 +170,61 @@ named_reached features p (section ∷ sections) q r h = named_reached features (
         let a = passed (is_past spec.Functions (length p.functions + length indexes)) (Past spec.Functions) _ e in
         let b = kept (list_all (λ index. is_some (func_type_at p.types index)) indexes) Broken None a.1 in
         below_more (length p.types) (length p.types) p.functions indexes (omega arith) h (all_below p.types indexes b.0)
-    step (CodeSection bodies) e = h
+    step section e = h
 
 -- ---- limits on sums
 
-pub singles : (groups : List (RecGroup ℕ)) → length (flat_map members groups) ≡ length groups
-singles [] = refl
-singles (Single type ∷ groups) = ap suc (singles groups)
+pub singles : (groups : List (RecGroup ℕ)) → list_all is_supported_group groups ≡ true → length (flat_map members groups) ≡ length groups
+singles [] all = refl
+singles (Single type ∷ groups) all = ap suc (singles groups (both_pass _ _ all).1)
+singles (Group types ∷ groups) all = absurd cc
 
-pub types_count : (sections : List Section) → length (types_of sections) ≡ length (groups_of sections)
-types_count [] = refl
-types_count (section ∷ sections) = omega (arith, length-append (types_in section) (types_of sections), length-append (groups_in section) (groups_of sections), singles (groups_in section), types_count sections)
+types_in_groups : (section : Section) → is_supported_section section ≡ true → length (types_in section) ≡ length (groups_in section)
+types_in_groups (TypeSection groups) s = singles groups s
+types_in_groups section s = refl
 
-pub sizes_types : (sections : List Section) → (sizes_of sections).types ≡ length (types_of sections)
-sizes_types [] = refl
-sizes_types (Custom name contents ∷ sections) = omega (arith, sizes_types sections)
-sizes_types (TypeSection groups ∷ sections) = omega (arith, sizes_types sections, length-append (flat_map members groups) (types_of sections))
-sizes_types (FunctionSection indexes ∷ sections) = omega (arith, sizes_types sections)
-sizes_types (CodeSection bodies ∷ sections) = omega (arith, sizes_types sections)
+pub types_count : (sections : List Section) → IsSupported sections → length (types_of sections) ≡ length (groups_of sections)
+types_count [] all = refl
+types_count (section ∷ sections) all =
+    let both = both_pass (is_supported_section section) (list_all is_supported_section sections) all in
+    omega (arith, length-append (types_in section) (types_of sections), length-append (groups_in section) (groups_of sections), types_in_groups section both.0, types_count sections both.1)
 
-pub sizes_functions : (sections : List Section) → (sizes_of sections).functions ≡ length (functions_of sections)
-sizes_functions [] = refl
-sizes_functions (Custom name contents ∷ sections) = omega (arith, sizes_functions sections)
-sizes_functions (TypeSection groups ∷ sections) = omega (arith, sizes_functions sections)
-sizes_functions (FunctionSection indexes ∷ sections) = omega (arith, sizes_functions sections, length-append indexes (functions_of sections))
-sizes_functions (CodeSection bodies ∷ sections) = omega (arith, sizes_functions sections)
+pub sizes_types : (sections : List Section) → IsSupported sections → (sizes_of sections).types ≡ length (types_of sections)
+sizes_types [] all = refl
+sizes_types (Custom name contents ∷ sections) all = omega (arith, sizes_types sections all)
+sizes_types (TypeSection groups ∷ sections) all = omega (arith, sizes_types sections (both_pass _ _ all).1, length-append (flat_map members groups) (types_of sections))
+sizes_types (FunctionSection indexes ∷ sections) all = omega (arith, sizes_types sections all)
+sizes_types (CodeSection bodies ∷ sections) all = omega (arith, sizes_types sections all)
+sizes_types (section ∷ sections) all = absurd cc
+
+pub sizes_functions : (sections : List Section) → IsSupported sections → (sizes_of sections).functions ≡ length (functions_of sections)
+sizes_functions [] all = refl
+sizes_functions (Custom name contents ∷ sections) all = omega (arith, sizes_functions sections all)
+sizes_functions (TypeSection groups ∷ sections) all = omega (arith, sizes_functions sections (both_pass _ _ all).1)
+sizes_functions (FunctionSection indexes ∷ sections) all = omega (arith, sizes_functions sections all, length-append indexes (functions_of sections))
+sizes_functions (CodeSection bodies ∷ sections) all = omega (arith, sizes_functions sections all)
+sizes_functions (section ∷ sections) all = absurd cc
 
 -- no type section passes the limit on groups, and no function section that on functions
 pub types_bounded : (features : Features) (p : Progress) (sections : List Section) (q : Progress) → Reaches features p sections q → length p.types ≤ 1000000 → length q.types ≤ 1000000
 types_bounded features p [] q r h = omega (arith, h, ap (λ x. length x.types) r)
-types_bounded features p (section ∷ sections) q r h = types_bounded features (after p section) sections q r.1 (step section (no_fault features p section r.0).1)
+types_bounded features p (section ∷ sections) q r h = types_bounded features (after p section) sections q r.1 (step section (no_fault features p section r.0).2 (no_fault features p section r.0).1)
   where
-    step : (section : Section) → rule_fault features p section ≡ None → length (after p section).types ≤ 1000000
-    step (Custom name contents) e = h
-    step (TypeSection groups) e =
+    step : (section : Section) → is_supported_section section ≡ true → rule_fault features p section ≡ None → length (after p section).types ≤ 1000000
+    step (TypeSection groups) s e =
         let a = ltb-false _ _ (passed (is_past spec.Groups (length p.types + length groups)) (Past spec.Groups) _ e).0 in
-        omega (arith, a, length-append p.types (flat_map members groups), singles groups)
-    step (FunctionSection indexes) e = h
-    step (CodeSection bodies) e = h
+        omega (arith, a, length-append p.types (flat_map members groups), singles groups s)
+    step section s e = h
 
 pub functions_bounded : (features : Features) (p : Progress) (sections : List Section) (q : Progress) → Reaches features p sections q → length p.functions ≤ 1000000 → length q.functions ≤ 1000000
 functions_bounded features p [] q r h = omega (arith, h, ap (λ x. length x.functions) r)
 functions_bounded features p (section ∷ sections) q r h = functions_bounded features (after p section) sections q r.1 (step section (no_fault features p section r.0).1)
   where
     step : (section : Section) → rule_fault features p section ≡ None → length (after p section).functions ≤ 1000000
-    step (Custom name contents) e = h
-    step (TypeSection groups) e = h
     step (FunctionSection indexes) e =
         let a = ltb-false _ _ (passed (is_past spec.Functions (length p.functions + length indexes)) (Past spec.Functions) _ e).0 in
         omega (arith, a, length-append p.functions indexes)
-    step (CodeSection bodies) e = h
+    step section e = h
 
 -- ---- limits on single numbers
 
@@ -231,46 +242,38 @@ funcs_by_section [] = refl
 funcs_by_section (section ∷ sections) = filter_map-append func_type_of (types_in section) (types_of sections) ∙ ap (λ l. funcs_within section ++ l) (funcs_by_section sections)
 
 no_params : (features : Features) (p : Progress) (section : Section) → rule_fault features p section ≡ None → list_any (λ type. is_past spec.Params (length type.params)) (funcs_within section) ≡ false
-no_params features p (Custom name contents) e = refl
 no_params features p (TypeSection groups) e =
     let a = passed (is_past spec.Groups (length p.types + length groups)) (Past spec.Groups) _ e in
     (passed (list_any (λ type. is_past spec.Params (length type.params)) (funcs_in groups)) (Past spec.Params) _ a.1).0
-no_params features p (FunctionSection indexes) e = refl
-no_params features p (CodeSection bodies) e = refl
+no_params features p section e = refl
 
 no_results : (features : Features) (p : Progress) (section : Section) → rule_fault features p section ≡ None → list_any (λ type. is_past spec.Results (length type.results)) (funcs_within section) ≡ false
-no_results features p (Custom name contents) e = refl
 no_results features p (TypeSection groups) e =
     let a = passed (is_past spec.Groups (length p.types + length groups)) (Past spec.Groups) _ e in
     let b = passed (list_any (λ type. is_past spec.Params (length type.params)) (funcs_in groups)) (Past spec.Params) _ a.1 in
     (passed (list_any (λ type. is_past spec.Results (length type.results)) (funcs_in groups)) (Past spec.Results) _ b.1).0
-no_results features p (FunctionSection indexes) e = refl
-no_results features p (CodeSection bodies) e = refl
+no_results features p section e = refl
 
 no_sizes : (features : Features) (p : Progress) (section : Section) → rule_fault features p section ≡ None → list_any (λ body. is_past spec.BodySize (length body)) (bodies_in section) ≡ false
-no_sizes features p (Custom name contents) e = refl
-no_sizes features p (TypeSection groups) e = refl
-no_sizes features p (FunctionSection indexes) e = refl
 no_sizes features p (CodeSection bodies) e =
     let a = passed (ltb (length p.functions) (length p.bodies + length bodies)) Unread _ e in
     (passed (list_any (λ body. is_past spec.BodySize (length body)) bodies) (Past spec.BodySize) None a.1).0
+no_sizes features p section e = refl
 
 no_names : (features : Features) (p : Progress) (section : Section) → rule_fault features p section ≡ None → list_any (λ name. is_past spec.Name (length name)) (names_in section) ≡ false
 no_names features p (Custom name contents) e = or_from _ _ (passed (is_past spec.Name (length name)) (Past spec.Name) None e).0 refl
-no_names features p (TypeSection groups) e = refl
-no_names features p (FunctionSection indexes) e = refl
-no_names features p (CodeSection bodies) e = refl
+no_names features p section e = refl
 
 pub no_limit : (features : Features) (p : Progress) (sections : List Section) (q : Progress) → p.types ≡ [] → p.functions ≡ [] → Reaches features p sections q → (limit : Limit) → is_passed limit sections ≡ false
 no_limit features p sections q t f r spec.Types =
     let b = types_bounded features p sections q r (rw t (omega arith)) in
-    le-ltb _ _ (omega (arith, b, sizes_types sections, ap length (types_reached features p sections q r), length-append p.types (types_of sections)))
+    le-ltb _ _ (omega (arith, b, sizes_types sections (supported_reached features p sections q r), ap length (types_reached features p sections q r), length-append p.types (types_of sections)))
 no_limit features p sections q t f r spec.Groups =
     let b = types_bounded features p sections q r (rw t (omega arith)) in
-    le-ltb _ _ (omega (arith, b, types_count sections, ap length (types_reached features p sections q r), length-append p.types (types_of sections)))
+    le-ltb _ _ (omega (arith, b, types_count sections (supported_reached features p sections q r), ap length (types_reached features p sections q r), length-append p.types (types_of sections)))
 no_limit features p sections q t f r spec.Functions =
     let b = functions_bounded features p sections q r (rw f (omega arith)) in
-    le-ltb _ _ (omega (arith, b, sizes_functions sections, ap length (functions_reached features p sections q r), length-append p.functions (functions_of sections)))
+    le-ltb _ _ (omega (arith, b, sizes_functions sections (supported_reached features p sections q r), ap length (functions_reached features p sections q r), length-append p.functions (functions_of sections)))
 no_limit features p sections q t f r spec.Params = ap (list_any (λ type. is_past spec.Params (length type.params))) (funcs_by_section sections) ∙ none_reached (λ type. is_past spec.Params (length type.params)) funcs_within no_params features p sections q r
 no_limit features p sections q t f r spec.Results = ap (list_any (λ type. is_past spec.Results (length type.results))) (funcs_by_section sections) ∙ none_reached (λ type. is_past spec.Results (length type.results)) funcs_within no_results features p sections q r
 no_limit features p sections q t f r spec.BodySize = none_reached (λ body. is_past spec.BodySize (length body)) bodies_in no_sizes features p sections q r
@@ -296,6 +299,7 @@ no_limit features p sections q t f r spec.Length = refl
 pub record Known (p : Progress) (before : List Section) : Type 0 where
   pub types : p.types ≡ types_of before
   pub functions : p.functions ≡ functions_of before
+  pub supported : IsSupported before
 
 is_limit : (a b : Limit) → Past a ≡ Past b → a ≡ b
 is_limit a b e = cc
@@ -321,7 +325,7 @@ past_cause features p before (Custom name contents) limit known e =
 past_cause features p before (TypeSection groups) limit known e =
     elim (chosen (is_past spec.Groups (length p.types + length groups)) _ _ (Some (Past limit)) e) [
       | inl (t, f) ↦ subst (λ l. is_passed l (before ++ TypeSection groups ∷ []) ≡ true) (some_past spec.Groups limit f)
-          (lt-ltb _ _ (omega (arith, ltb-true _ _ t, ap length known.types, types_count before, ap length (snoc groups_in before (TypeSection groups)), length-append (groups_of before) groups)))
+          (lt-ltb _ _ (omega (arith, ltb-true _ _ t, ap length known.types, types_count before known.supported, ap length (snoc groups_in before (TypeSection groups)), length-append (groups_of before) groups)))
       | inr (t, f) ↦ elim (chosen (list_any (λ type. is_past spec.Params (length type.params)) (funcs_in groups)) _ _ (Some (Past limit)) f) [
         | inl (u, g) ↦ subst (λ l. is_passed l (before ++ TypeSection groups ∷ []) ≡ true) (some_past spec.Params limit g)
             (ap (list_any (λ type. is_past spec.Params (length type.params))) (funcs_by_section (before ++ TypeSection groups ∷ [])) ∙ any_last (λ type. is_past spec.Params (length type.params)) funcs_within before (TypeSection groups) u)
@@ -335,7 +339,7 @@ past_cause features p before (TypeSection groups) limit known e =
 past_cause features p before (FunctionSection indexes) limit known e =
     elim (chosen (is_past spec.Functions (length p.functions + length indexes)) _ _ (Some (Past limit)) e) [
       | inl (t, f) ↦ subst (λ l. is_passed l (before ++ FunctionSection indexes ∷ []) ≡ true) (some_past spec.Functions limit f)
-          (lt-ltb _ _ (omega (arith, ltb-true _ _ t, ap length known.functions, sizes_functions (before ++ FunctionSection indexes ∷ []), ap length (snoc functions_in before (FunctionSection indexes)), length-append (functions_of before) indexes)))
+          (lt-ltb _ _ (omega (arith, ltb-true _ _ t, ap length known.functions, sizes_functions (before ++ FunctionSection indexes ∷ []) (supported_with before (FunctionSection indexes) known.supported refl), ap length (snoc functions_in before (FunctionSection indexes)), length-append (functions_of before) indexes)))
       | inr (t, f) ↦ elim (chosen (list_all (λ index. is_some (func_type_at p.types index)) indexes) None (Some Broken) (Some (Past limit)) f) [ inl (w, i) ↦ absurd cc | inr (w, i) ↦ absurd cc ]
     ]
 past_cause features p before (CodeSection bodies) limit known e =
@@ -346,6 +350,7 @@ past_cause features p before (CodeSection bodies) limit known e =
         | inr (u, g) ↦ absurd cc
       ]
     ]
+past_cause features p before section limit known e = absurd cc
 
 -- a rule that is broken
 pub broken_cause : (features : Features) (p : Progress) (before : List Section) (section : Section) → Known p before → rule_fault features p section ≡ Some Broken → keeps_rule features before section ≡ false
@@ -375,6 +380,7 @@ broken_cause features p before (CodeSection bodies) known e =
       | inl (t, f) ↦ absurd cc
       | inr (t, f) ↦ elim (chosen (list_any (λ body. is_past spec.BodySize (length body)) bodies) (Some (Past spec.BodySize)) None (Some Broken) f) [ inl (u, g) ↦ absurd cc | inr (u, g) ↦ absurd cc ]
     ]
+broken_cause features p before section known e = absurd cc
 
 pub last_rule : (features : Features) (before sections : List Section) (section : Section) → KeepRules features before (sections ++ section ∷ []) → keeps_rule features (before ++ sections) section ≡ true
 last_rule features before [] section h = ap (λ l. keeps_rule features l section) (append-nil before) ∙ h.0

@@ -7,4 +7,5 @@ pub mod JudgingLaws
 pub mod RefusalLaws
 pub mod SectionLaws
 pub mod SectionsLaws
+pub mod SupportedLaws
 pub mod VerdictLaws

@@ -8,16 +8,18 @@ use Rattle.wasm_core.specs.ModuleReading.{frame_at, is_behind}
 use Rattle.wasm_core.specs.Reading.{unsigned_at}
 use Rattle.wasm_core.proofs.ReadingLaws.{behind, joined, reads_frame, frame_bytes, unsigned_found}
 use Rattle.wasm_spec.specs.Bytes.{AreBytes, IsU32, IsItems}
-use Rattle.wasm_spec.specs.Features.{Features}
+use Rattle.wasm_spec.specs.Features.{Features, CompactImports, has}
 use Rattle.wasm_spec.specs.Gates.{is_allowed_group}
 use Rattle.wasm_spec.specs.Grammar.{header, place_of, last_place, IsBehind, AreOrdered, IsSection, IsModule}
 use Rattle.wasm_spec.specs.Limits.{Limit, IsPassedBy}
 use Rattle.wasm_spec.specs.Limits as spec
+use Rattle.wasm_spec.specs.Supported.{is_supported_section, IsSupported}
 use Rattle.wasm_spec.specs.Syntax.{Section, Custom, TypeSection, FunctionSection, CodeSection}
 use Rattle.wasm_spec.specs.Validity.{func_type_at, is_past, StatesCount, StatesPast, BeginsPast, BeginsInvalid, AreFine}
-use Rattle.wasmparser_validator.specs.Sections.{Progress, Judgement, Accepted, Unread, Past, Broken, at_first, funcs_in, fault, rule_fault, after, stated, at_last, judge_module}
-use Rattle.wasmparser_validator.proofs.FaultLaws.{Reaches, Known, behind_from, last_after, last_reached, types_reached, functions_reached, bodies_reached, ordered_reached, rules_reached, no_limit, past_cause, broken_cause, last_rule, types_count, sizes_types, sizes_functions, funcs_by_section}
+use Rattle.wasmparser_validator.specs.Sections.{Progress, Judgement, Accepted, Unread, Past, Broken, at_first, funcs_in, fault, rule_fault, place_fault, after, stated, at_last, judge_module}
+use Rattle.wasmparser_validator.proofs.FaultLaws.{Reaches, Known, behind_from, last_after, last_reached, types_reached, functions_reached, bodies_reached, supported_reached, ordered_reached, rules_reached, no_limit, past_cause, broken_cause, last_rule, types_count, sizes_types, sizes_functions, funcs_by_section}
 use Rattle.wasmparser_validator.proofs.CompleteLaws.{accepts, is_read}
+use Rattle.wasmparser_validator.proofs.SupportedLaws.{supported_with, no_data_counts}
 use Rattle.wasmparser_validator.proofs.JudgingLaws.{as_list, module_stop, same_module}
 
 -- ---- faults
@@ -56,17 +58,22 @@ a_fault features p (FunctionSection indexes) j e =
 a_fault features p (CodeSection bodies) j e =
     either (ltb (length p.functions) (length p.bodies + length bodies)) _ _ j (named Unread j tt)
     (either (list_any (λ body. is_past spec.BodySize (length body)) bodies) _ _ j (named (Past spec.BodySize) j tt) (nothing j)) e
+a_fault features p section j e = absurd cc
 
--- a fault of a section that isn't one of reading comes in order
-in_order : (features : Features) (p : Progress) (section : Section) (j : Judgement) → j ≢ Unread → fault features p section ≡ Some j → (is_behind p.last (place_of section) ≡ true) × (rule_fault features p section ≡ Some j)
-in_order features p section j ne e = by_place (is_behind p.last (place_of section)) e
+-- a fault of a section that isn't one of reading comes in order, and the section is supported
+in_order : (features : Features) (p : Progress) (section : Section) (j : Judgement) → j ≢ Unread → fault features p section ≡ Some j
+    → (is_behind p.last (place_of section) ≡ true) × (rule_fault features p section ≡ Some j) × (is_supported_section section ≡ true)
+in_order features p section j ne e =
+    let s = picked (is_supported_section section) (place_fault features p section) e in
+    let b = picked (is_behind p.last (place_of section)) (rule_fault features p section) s.1 in
+    (b.0, b.1, s.0)
   where
     inside : (a b : Judgement) → Some a ≡ Some b → b ≡ a
     inside a b e = cc
 
-    by_place : (b : Bool) → cond b (rule_fault features p section) (Some Unread) ≡ Some j → (b ≡ true) × (rule_fault features p section ≡ Some j)
-    by_place true e = (refl, e)
-    by_place false e = absurd (ne (inside Unread j e))
+    picked : (b : Bool) (x : Option Judgement) → cond b x (Some Unread) ≡ Some j → (b ≡ true) × (x ≡ Some j)
+    picked true x e = (refl, e)
+    picked false x e = absurd (ne (inside Unread j e))
 
 -- what a stated number can come to, and for which limit
 stated_past : (p : Progress) (id : ℕ) (read : Option (ℕ × List ℕ)) (j : Judgement) → j ≢ Unread → stated p id read ≡ j
@@ -91,7 +98,8 @@ stated_past p id (Some x) j ne e = (x.0, x.1, refl, by_id (eqb id 1) (eqb id 3) 
 
 pub record Whole (features : Features) (bytes : List ℕ) (q : Progress) : Type 0 where
   pub sections : List Section
-  pub reads : IsModule bytes sections
+  pub reads : IsModule (has features CompactImports) bytes sections
+  pub supported : IsSupported sections
   pub reaches : Reaches features at_first sections q
   pub paired : length q.functions ≡ length q.bodies
 
@@ -123,7 +131,9 @@ accepted_whole features bytes q are e =
               holds = s.holds;
               ordered = ordered_reached features at_first s.sections q r;
               agreeing = sym (ap length (functions_reached features at_first s.sections q r)) ∙ same ∙ ap length (bodies_reached features at_first s.sections q r);
+              counted = no_data_counts _ s.sections (supported_reached features at_first s.sections q r);
             };
+            supported = supported_reached features at_first s.sections q r;
             reaches = r;
             paired = same;
           }
@@ -145,13 +155,14 @@ ordered_more last (other ∷ sections) section features p q l r b =
     let o = ordered_reached features p (other ∷ sections) q r in
     (subst (λ n. IsBehind n (place_of other)) (sym l) o.0, ordered_more (last_place last (place_of other)) sections section features (after p other) q (ap (λ n. last_place n (place_of other)) l ∙ sym (last_after p other)) r.1 b)
 
-items_more : (front text : List ℕ) (sections : List Section) (section : Section) → IsItems IsSection front sections → IsSection text section → IsItems IsSection (front ++ text) (sections ++ section ∷ [])
-items_more front text [] section h is = (text, [], ap (λ l. l ++ text) h ∙ sym (append-nil text), is, refl)
-items_more front text (other ∷ sections) section h is =
-    (h.0, h.1 ++ text, ap (λ l. l ++ text) h.2 ∙ append_assoc h.0 h.1 text, h.3, items_more h.1 text sections section h.4 is)
+items_more : (compact : Bool) (front text : List ℕ) (sections : List Section) (section : Section) → IsItems (IsSection compact) front sections → IsSection compact text section
+    → IsItems (IsSection compact) (front ++ text) (sections ++ section ∷ [])
+items_more compact front text [] section h is = (text, [], ap (λ l. l ++ text) h ∙ sym (append-nil text), is, refl)
+items_more compact front text (other ∷ sections) section h is =
+    (h.0, h.1 ++ text, ap (λ l. l ++ text) h.2 ∙ append_assoc h.0 h.1 text, h.3, items_more compact h.1 text sections section h.4 is)
 
 known_at : (features : Features) (sections : List Section) (q : Progress) → Reaches features at_first sections q → Known q sections
-known_at features sections q r = record { types = types_reached features at_first sections q r; functions = functions_reached features at_first sections q r }
+known_at features sections q r = record { types = types_reached features at_first sections q r; functions = functions_reached features at_first sections q r; supported = supported_reached features at_first sections q r }
 
 -- a stated number in front of some bytes
 states : (bytes : List ℕ) (id : ℕ) (content others : List ℕ) (n : ℕ) (after : List ℕ) → AreBytes bytes → frame_at bytes ≡ Some ((id, content), others) → unsigned_at 32 content ≡ Some (n, after) → StatesCount id n bytes
@@ -171,7 +182,7 @@ states bytes id content others n after are e f =
       stated = c.2;
     }
 
-pub past_module : (features : Features) (limit : Limit) (bytes : List ℕ) → AreBytes bytes → judge_module features bytes ≡ Past limit → BeginsPast limit bytes
+pub past_module : (features : Features) (limit : Limit) (bytes : List ℕ) → AreBytes bytes → judge_module features bytes ≡ Past limit → BeginsPast features limit bytes
 past_module features limit bytes are e =
     let m = module_stop features bytes (Past limit) are (λ f. cc) e in
     let s = m.1 in
@@ -186,8 +197,9 @@ past_module features limit bytes are e =
               front = s.front ++ f.1;
               rest = f.2;
               begins = m.0 ∙ ap (λ l. header ++ l) (joined (drop 8 bytes) s.front s.rest f.1 f.2 s.begins f.3);
-              holds = items_more s.front f.1 s.sections f.0 s.holds f.4;
+              holds = items_more (has features CompactImports) s.front f.1 s.sections f.0 s.holds f.4;
               ordered = ordered_more 0 s.sections f.0 features at_first s.reached refl s.reaches g.0;
+              supported = supported_with s.sections f.0 known.supported g.2;
               passes = inl (past_cause features s.reached s.sections f.0 limit known g.1);
             }
         | inr n ↦
@@ -198,11 +210,12 @@ past_module features limit bytes are e =
               begins = m.0 ∙ ap (λ l. header ++ l) s.begins;
               holds = s.holds;
               ordered = ordered_reached features at_first s.sections s.reached s.reaches;
+              supported = known.supported;
               passes = inr (elim g.3 [
                 | inl x ↦ subst (λ l. StatesPast l s.sections s.rest) (sym (is_limit limit spec.Groups x.1))
-                    (omega (arith, x.3, last_reached features at_first s.sections s.reached s.reaches), g.0, omega (arith, x.2, types_count s.sections, ap length known.types), states s.rest 1 n.1 n.2 g.0 g.1 rest_are (subst (λ id. frame_at s.rest ≡ Some ((id, n.1), n.2)) x.0 n.3) g.2)
+                    (omega (arith, x.3, last_reached features at_first s.sections s.reached s.reaches), g.0, omega (arith, x.2, types_count s.sections known.supported, ap length known.types), states s.rest 1 n.1 n.2 g.0 g.1 rest_are (subst (λ id. frame_at s.rest ≡ Some ((id, n.1), n.2)) x.0 n.3) g.2)
                 | inr x ↦ subst (λ l. StatesPast l s.sections s.rest) (sym (is_limit limit spec.Functions x.1))
-                    (omega (arith, x.3, last_reached features at_first s.sections s.reached s.reaches), g.0, omega (arith, x.2, sizes_functions s.sections, ap length known.functions), states s.rest 3 n.1 n.2 g.0 g.1 rest_are (subst (λ id. frame_at s.rest ≡ Some ((id, n.1), n.2)) x.0 n.3) g.2)
+                    (omega (arith, x.3, last_reached features at_first s.sections s.reached s.reaches), g.0, omega (arith, x.2, sizes_functions s.sections known.supported, ap length known.functions), states s.rest 3 n.1 n.2 g.0 g.1 rest_are (subst (λ id. frame_at s.rest ≡ Some ((id, n.1), n.2)) x.0 n.3) g.2)
               ]);
             }
       ]
@@ -229,8 +242,9 @@ broken_module features bytes are e =
               front = s.front ++ f.1;
               rest = f.2;
               begins = m.0 ∙ ap (λ l. header ++ l) (joined (drop 8 bytes) s.front s.rest f.1 f.2 s.begins f.3);
-              holds = items_more s.front f.1 s.sections f.0 s.holds f.4;
+              holds = items_more (has features CompactImports) s.front f.1 s.sections f.0 s.holds f.4;
               ordered = ordered_more 0 s.sections f.0 features at_first s.reached refl s.reaches g.0;
+              supported = supported_with s.sections f.0 known.supported g.2;
               breaks = λ h. let x = sym (last_rule features [] s.sections f.0 h) ∙ broken_cause features s.reached s.sections f.0 known g.1 in absurd cc;
             }
         | inr n ↦ let g = stated_past s.reached n.0 (unsigned_at 32 n.1) Broken (λ x. cc) n.4 in elim g.3 [ inl x ↦ let y = x.1 in absurd cc | inr x ↦ let y = x.1 in absurd cc ]
@@ -243,29 +257,31 @@ broken_module features bytes are e =
 
 -- ---- modules that read, and those that are fine
 
-body_bytes : (bytes : List ℕ) (sections : List Section) → AreBytes bytes → (m : IsModule bytes sections) → AreBytes m.body
-body_bytes bytes sections are m = behind bytes header m.body are m.begins
+body_bytes : (compact : Bool) (bytes : List ℕ) (sections : List Section) → AreBytes bytes → (m : IsModule compact bytes sections) → AreBytes m.body
+body_bytes compact bytes sections are m = behind bytes header m.body are m.begins
 
-pub read_module : (features : Features) (bytes : List ℕ) (sections : List Section) → AreBytes bytes → IsModule bytes sections → judge_module features bytes ≢ Unread
-read_module features bytes sections are m e =
-    is_read features at_first sections m.ordered (omega (arith, m.agreeing))
-    (sym (as_list features at_first m.body sections (body_bytes bytes sections are m) m.holds) ∙ sym (same_module features bytes m.body m.begins) ∙ e)
+pub read_module : (compact : Bool) (features : Features) (bytes : List ℕ) (sections : List Section) → AreBytes bytes → IsModule compact bytes sections → IsSupported sections → judge_module features bytes ≢ Unread
+read_module compact features bytes sections are m all e =
+    is_read features at_first sections all m.ordered (omega (arith, m.agreeing))
+    (sym (as_list compact features at_first m.body sections (body_bytes compact bytes sections are m) m.holds all) ∙ sym (same_module features bytes m.body m.begins) ∙ e)
 
 below : (a b : ℕ) → ltb a b ≡ false → b ≤ a
 below a b e = ltb-false a b e
 
-pub fine_module : (features : Features) (bytes : List ℕ) (sections : List Section) → AreBytes bytes → IsModule bytes sections → AreFine features sections → (q : Progress) × (judge_module features bytes ≡ Accepted q)
-fine_module features bytes sections are m fine =
+pub fine_module : (compact : Bool) (features : Features) (bytes : List ℕ) (sections : List Section) → AreBytes bytes → IsModule compact bytes sections → IsSupported sections → AreFine features sections
+    → (q : Progress) × (judge_module features bytes ≡ Accepted q)
+fine_module compact features bytes sections are m all fine =
     let a = accepts features at_first [] sections (record {
+      supported = all;
       ordered = m.ordered;
       rules = fine.rules;
       known = refl;
-      types = omega (arith, below _ _ (fine.within_limits spec.Types), sizes_types sections);
-      functions = omega (arith, below _ _ (fine.within_limits spec.Functions), sizes_functions sections);
+      types = omega (arith, below _ _ (fine.within_limits spec.Types), sizes_types sections all);
+      functions = omega (arith, below _ _ (fine.within_limits spec.Functions), sizes_functions sections all);
       paired = omega (arith, m.agreeing);
       params = ap (list_any (λ type. is_past spec.Params (length type.params))) (sym (funcs_by_section sections)) ∙ fine.within_limits spec.Params;
       results = ap (list_any (λ type. is_past spec.Results (length type.results))) (sym (funcs_by_section sections)) ∙ fine.within_limits spec.Results;
       sizes = fine.within_limits spec.BodySize;
       names = fine.within_limits spec.Name;
     }) in
-    (a.0, same_module features bytes m.body m.begins ∙ as_list features at_first m.body sections (body_bytes bytes sections are m) m.holds ∙ a.1)
+    (a.0, same_module features bytes m.body m.begins ∙ as_list compact features at_first m.body sections (body_bytes compact bytes sections are m) m.holds all ∙ a.1)

@@ -7,33 +7,38 @@ use Rattle.std.proofs.lemmas.Bool.{cases_lt, le-ltb, lt-ltb}
 use Rattle.wasm_core.specs.Input.{IsWithin, end}
 use Rattle.wasm_core.specs.ModuleReading.{content_of}
 use Rattle.wasm_core.specs.Reading.{unsigned_at}
-use Rattle.wasm_core.specs.TypeReading.{list_at, func_group}
-use Rattle.wasm_core.proofs.ReadingLaws.{some_is, content_id, groups_count, functions_count, bodies_count}
+use Rattle.wasm_core.specs.TypeReading.{list_at}
+use Rattle.wasm_core.proofs.ReadingLaws.{some_is}
 use Rattle.wasm_spec.specs.Features.{Features}
 use Rattle.wasm_spec.specs.Gates.{is_allowed_func, is_allowed_group}
 use Rattle.wasm_spec.specs.Limits as spec
+use Rattle.wasm_spec.specs.Grammar.{section_id}
+use Rattle.wasm_spec.specs.Supported.{is_supported_section}
 use Rattle.wasm_spec.specs.Syntax.{Section, Custom, TypeSection, FunctionSection, CodeSection, members}
 use Rattle.wasm_spec.specs.Types.{FuncType, SubType}
 use Rattle.wasm_spec.specs.Validity.{func_type_of, func_type_at, is_past}
 use Rattle.wasmparser_parser.specs.Answers.{IsRefusal}
+use Rattle.wasmparser_parser.specs.CoreTypes.{func_group}
 use Rattle.wasmparser_parser.specs.Sections.{Part, IsInside, at_front, type_section, code_section}
+use Rattle.wasmparser_parser.specs.SupportedReading.{supported_content}
 use Rattle.wasmparser_parser.specs.declared.error.Error.{Error}
 use Rattle.wasmparser_parser.specs.declared.error.ErrorKind.{ErrorKind}
 use Rattle.wasmparser_parser.specs.declared.error.ErrorKind.TheVariants as kinds
 use Rattle.wasmparser_validator.proofs.BodyLaws.{neq-eqb}
-use Rattle.wasmparser_validator.specs.Sections.{Progress, EndsBy, func_sub, Judgement, Unread, Past, Broken, unless, types_fault, fault, after, stated, judge_content, Names, JudgesContent, JudgesTypes}
+use Rattle.wasmparser_validator.proofs.SupportedLaws.{supported_passes, supported_id, supported_groups, supported_functions, supported_bodies}
+use Rattle.wasmparser_validator.specs.Sections.{Progress, EndsBy, func_sub, Judgement, Unread, Past, Broken, unless, types_fault, place_fault, after, stated, judge_content, Names, JudgesContent, JudgesTypes}
 
 -- ---- contents in general
 
-unread : (features : Features) (p : Progress) (id : ℕ) (content : List ℕ) (others : Progress → Judgement) → content_of id content ≡ None
+unread : (features : Features) (p : Progress) (id : ℕ) (content : List ℕ) (others : Progress → Judgement) → supported_content id content ≡ None
     → judge_content features p id content others ≡ stated p id (unsigned_at 32 content)
 unfolding judge_content
 unread features p id content others e = rw e refl
 
-pub one_section : (features : Features) (p : Progress) (id : ℕ) (content : List ℕ) (others : Progress → Judgement) (section : Section) → content_of id content ≡ Some section
-    → judge_content features p id content others ≡ unless (fault features p section) (others (after p section))
+pub one_section : (features : Features) (p : Progress) (id : ℕ) (content : List ℕ) (others : Progress → Judgement) (section : Section) → supported_content id content ≡ Some section
+    → judge_content features p id content others ≡ unless (place_fault features p section) (others (after p section))
 unfolding judge_content
-one_section features p id content others section e = rw e refl
+one_section features p id content others section e = rw (e, supported_passes id content section e) refl
 
 -- the number that stands first
 abbrev pub first : List ℕ → Option ℕ
@@ -55,8 +60,8 @@ stated_none p id content e = rw (first_none (unsigned_at 32 content) e) refl
 
 -- ---- type sections
 
-none_1 : (content : List ℕ) → first content ≡ None → content_of 1 content ≡ None
-unfolding content_of list_at
+none_1 : (content : List ℕ) → first content ≡ None → supported_content 1 content ≡ None
+unfolding supported_content content_of list_at
 none_1 content e = rw (first_none (unsigned_at 32 content) e) refl
 
 pub types_no_count : (features : Features) (p : Progress) (content : List ℕ) (others : Progress → Judgement) → first content ≡ None → judge_content features p 1 content others ≡ Unread
@@ -67,21 +72,19 @@ late_1 p None t = refl
 late_1 p (Some n) t = rw t refl
 
 pub types_late : (features : Features) (p : Progress) (content : List ℕ) (others : Progress → Judgement) → 1 ≤ p.last → judge_content features p 1 content others ≡ Unread
-types_late features p content others late = cases (content_of 1 content) refl
+types_late features p content others late = cases (supported_content 1 content) refl
   where
     t : ltb p.last 1 ≡ false
     t = le-ltb p.last 1 late
 
-    cases : (read : Option Section) → content_of 1 content ≡ read → judge_content features p 1 content others ≡ Unread
+    cases : (read : Option Section) → supported_content 1 content ≡ read → judge_content features p 1 content others ≡ Unread
     cases None e = unread features p 1 content others e ∙ late_1 p (unsigned_at 32 content) t
     cases (Some (TypeSection groups)) e = one_section features p 1 content others (TypeSection groups) e ∙ rw t refl
-    cases (Some (Custom name contents)) e = let i = content_id 1 content (Custom name contents) e in absurd (omega (arith, i))
-    cases (Some (FunctionSection indexes)) e = let i = content_id 1 content (FunctionSection indexes) e in absurd (omega (arith, i))
-    cases (Some (CodeSection bodies)) e = let i = content_id 1 content (CodeSection bodies) e in absurd (omega (arith, i))
+    cases (Some section) e = let i = supported_id 1 content section e in absurd (omega (arith, i))
 
 pub types_many : (features : Features) (p : Progress) (content : List ℕ) (others : Progress → Judgement) (n : ℕ) → p.last < 1 → first content ≡ Some n → 1000000 < length p.types + n
     → judge_content features p 1 content others ≡ Past spec.Groups
-types_many features p content others n early e many = cases (content_of 1 content) refl
+types_many features p content others n early e many = cases (supported_content 1 content) refl
   where
     t : ltb p.last 1 ≡ true
     t = lt-ltb p.last 1 early
@@ -89,18 +92,16 @@ types_many features p content others n early e many = cases (content_of 1 conten
     u : ltb 1000000 (length p.types + n) ≡ true
     u = lt-ltb _ _ many
 
-    cases : (read : Option Section) → content_of 1 content ≡ read → judge_content features p 1 content others ≡ Past spec.Groups
+    cases : (read : Option Section) → supported_content 1 content ≡ read → judge_content features p 1 content others ≡ Past spec.Groups
     cases None f = let s = first_some (unsigned_at 32 content) n e in unread features p 1 content others f ∙ rw (s.1, t, u) refl
     cases (Some (TypeSection groups)) f =
-        let c = groups_count content groups f in
+        let c = supported_groups content groups f in
         let same : length groups ≡ n = same_first content n (length groups) c.0 e c.1 in
         one_section features p 1 content others (TypeSection groups) f ∙ rw (t, same, u) refl
-    cases (Some (Custom name contents)) f = let i = content_id 1 content (Custom name contents) f in absurd (omega (arith, i))
-    cases (Some (FunctionSection indexes)) f = let i = content_id 1 content (FunctionSection indexes) f in absurd (omega (arith, i))
-    cases (Some (CodeSection bodies)) f = let i = content_id 1 content (CodeSection bodies) f in absurd (omega (arith, i))
+    cases (Some section) f = let i = supported_id 1 content section f in absurd (omega (arith, i))
 
 pub types_unread : (features : Features) (p : Progress) (content : List ℕ) (others : Progress → Judgement) (n : ℕ) → p.last < 1 → first content ≡ Some n → length p.types + n ≤ 1000000
-    → content_of 1 content ≡ None → judge_content features p 1 content others ≡ Unread
+    → supported_content 1 content ≡ None → judge_content features p 1 content others ≡ Unread
 types_unread features p content others n early e few f =
     let t : ltb p.last 1 ≡ true = lt-ltb p.last 1 early in
     let u : ltb 1000000 (length p.types + n) ≡ false = le-ltb _ _ few in
@@ -120,17 +121,17 @@ allowed_of features [] = refl
 allowed_of features (type ∷ types) = ap (λ b. is_allowed_func features type && b) (allowed_of features types)
 
 pub types_read : (features : Features) (p : Progress) (content : List ℕ) (others : Progress → Judgement) (n : ℕ) (types : List (FuncType ℕ)) → p.last < 1 → first content ≡ Some n
-    → length p.types + n ≤ 1000000 → content_of 1 content ≡ Some (type_section types)
+    → length p.types + n ≤ 1000000 → supported_content 1 content ≡ Some (type_section types)
     → judge_content features p 1 content others ≡ unless (types_fault features types) (others (record p { last = 1; types = p.types ++ map func_sub types }))
 types_read features p content others n types early e few f =
     let t : ltb p.last 1 ≡ true = lt-ltb p.last 1 early in
-    let c = groups_count content (map func_group types) f in
+    let c = supported_groups content (map func_group types) f in
     let same : length (map func_group types) ≡ n = same_first content n (length (map func_group types)) c.0 e c.1 in
     let u : ltb 1000000 (length p.types + n) ≡ false = le-ltb _ _ few in
     one_section features p 1 content others (type_section types) f ∙ rw (t, same, u, subs_of types, funcs_of types, allowed_of features types) refl
 
 pub types_refused : (features : Features) (p q : Progress) (content : Part) (e : Error) (n : ℕ) (types slice : List (FuncType ℕ)) (offset : ℕ) → p.last < 1 → first content.bytes ≡ Some n
-    → length p.types + n ≤ 1000000 → content_of 1 content.bytes ≡ Some (type_section types) → slice ≡ types → offset ≡ content.position → JudgesTypes features slice offset (Err e)
+    → length p.types + n ≤ 1000000 → supported_content 1 content.bytes ≡ Some (type_section types) → slice ≡ types → offset ≡ content.position → JudgesTypes features slice offset (Err e)
     → JudgesContent features p 1 content (Err e) q
 types_refused features p q content e n types slice offset early k few f same place h =
     let g : types_fault features types ≡ Some h.0 = ap (types_fault features) (sym same) ∙ h.1 in
@@ -139,7 +140,7 @@ types_refused features p q content e n types slice offset early k few f same pla
     (λ others. subst (Names e.kind e.offset) (sym (one others)) h.2, omega (arith, h.3, place))
 
 pub types_accepted : (features : Features) (p : Progress) (content : List ℕ) (n : ℕ) (types slice : List (FuncType ℕ)) (all : List (SubType ℕ)) → p.last < 1 → first content ≡ Some n
-    → length p.types + n ≤ 1000000 → content_of 1 content ≡ Some (type_section types) → slice ≡ types → types_fault features slice ≡ None → all ≡ p.types ++ map func_sub types
+    → length p.types + n ≤ 1000000 → supported_content 1 content ≡ Some (type_section types) → slice ≡ types → types_fault features slice ≡ None → all ≡ p.types ++ map func_sub types
     → (others : Progress → Judgement) → judge_content features p 1 content others ≡ others (record p { last = 1; types = all })
 types_accepted features p content n types slice all early k few f same fine is others =
     let g : types_fault features types ≡ None = ap (types_fault features) (sym same) ∙ fine in
@@ -148,8 +149,8 @@ types_accepted features p content n types slice all early k few f same fine is o
 
 -- ---- function sections
 
-none_3 : (content : List ℕ) → first content ≡ None → content_of 3 content ≡ None
-unfolding content_of list_at
+none_3 : (content : List ℕ) → first content ≡ None → supported_content 3 content ≡ None
+unfolding supported_content content_of list_at
 none_3 content e = rw (first_none (unsigned_at 32 content) e) refl
 
 pub functions_no_count : (features : Features) (p : Progress) (content : List ℕ) (others : Progress → Judgement) → first content ≡ None → judge_content features p 3 content others ≡ Unread
@@ -160,21 +161,19 @@ late_3 p None t = refl
 late_3 p (Some n) t = rw t refl
 
 pub functions_late : (features : Features) (p : Progress) (content : List ℕ) (others : Progress → Judgement) → 3 ≤ p.last → judge_content features p 3 content others ≡ Unread
-functions_late features p content others late = cases (content_of 3 content) refl
+functions_late features p content others late = cases (supported_content 3 content) refl
   where
     t : ltb p.last 3 ≡ false
     t = le-ltb p.last 3 late
 
-    cases : (read : Option Section) → content_of 3 content ≡ read → judge_content features p 3 content others ≡ Unread
+    cases : (read : Option Section) → supported_content 3 content ≡ read → judge_content features p 3 content others ≡ Unread
     cases None e = unread features p 3 content others e ∙ late_3 p (unsigned_at 32 content) t
     cases (Some (FunctionSection indexes)) e = one_section features p 3 content others (FunctionSection indexes) e ∙ rw t refl
-    cases (Some (Custom name contents)) e = let i = content_id 3 content (Custom name contents) e in absurd (omega (arith, i))
-    cases (Some (TypeSection groups)) e = let i = content_id 3 content (TypeSection groups) e in absurd (omega (arith, i))
-    cases (Some (CodeSection bodies)) e = let i = content_id 3 content (CodeSection bodies) e in absurd (omega (arith, i))
+    cases (Some section) e = let i = supported_id 3 content section e in absurd (omega (arith, i))
 
 pub functions_many : (features : Features) (p : Progress) (content : List ℕ) (others : Progress → Judgement) (n : ℕ) → p.last < 3 → first content ≡ Some n → 1000000 < length p.functions + n
     → judge_content features p 3 content others ≡ Past spec.Functions
-functions_many features p content others n early e many = cases (content_of 3 content) refl
+functions_many features p content others n early e many = cases (supported_content 3 content) refl
   where
     t : ltb p.last 3 ≡ true
     t = lt-ltb p.last 3 early
@@ -182,18 +181,16 @@ functions_many features p content others n early e many = cases (content_of 3 co
     u : ltb 1000000 (length p.functions + n) ≡ true
     u = lt-ltb _ _ many
 
-    cases : (read : Option Section) → content_of 3 content ≡ read → judge_content features p 3 content others ≡ Past spec.Functions
+    cases : (read : Option Section) → supported_content 3 content ≡ read → judge_content features p 3 content others ≡ Past spec.Functions
     cases None f = let s = first_some (unsigned_at 32 content) n e in unread features p 3 content others f ∙ rw (s.1, t, u) refl
     cases (Some (FunctionSection indexes)) f =
-        let c = functions_count content indexes f in
+        let c = supported_functions content indexes f in
         let same : length indexes ≡ n = same_first content n (length indexes) c.0 e c.1 in
         one_section features p 3 content others (FunctionSection indexes) f ∙ rw (t, same, u) refl
-    cases (Some (Custom name contents)) f = let i = content_id 3 content (Custom name contents) f in absurd (omega (arith, i))
-    cases (Some (TypeSection groups)) f = let i = content_id 3 content (TypeSection groups) f in absurd (omega (arith, i))
-    cases (Some (CodeSection bodies)) f = let i = content_id 3 content (CodeSection bodies) f in absurd (omega (arith, i))
+    cases (Some section) f = let i = supported_id 3 content section f in absurd (omega (arith, i))
 
 pub functions_unread : (features : Features) (p : Progress) (content : List ℕ) (others : Progress → Judgement) (n : ℕ) → p.last < 3 → first content ≡ Some n → length p.functions + n ≤ 1000000
-    → content_of 3 content ≡ None → judge_content features p 3 content others ≡ Unread
+    → supported_content 3 content ≡ None → judge_content features p 3 content others ≡ Unread
 functions_unread features p content others n early e few f =
     let t : ltb p.last 3 ≡ true = lt-ltb p.last 3 early in
     let u : ltb 1000000 (length p.functions + n) ≡ false = le-ltb _ _ few in
@@ -217,12 +214,12 @@ name_types types [] = refl
 name_types types (index ∷ indexes) = rw (names_type types index, name_types types indexes) refl
 
 pub functions_read : (features : Features) (p : Progress) (content : List ℕ) (others : Progress → Judgement) (n : ℕ) (types : List (FuncType ℕ)) (indexes : List ℕ) (below : Bool) → p.last < 3
-    → first content ≡ Some n → length p.functions + n ≤ 1000000 → content_of 3 content ≡ Some (FunctionSection indexes) → p.types ≡ map func_sub types
+    → first content ≡ Some n → length p.functions + n ≤ 1000000 → supported_content 3 content ≡ Some (FunctionSection indexes) → p.types ≡ map func_sub types
     → list_all (λ index. nat_lt index (length types)) indexes ≡ below
     → judge_content features p 3 content others ≡ cond below (others (record p { last = 3; functions = p.functions ++ indexes })) Broken
 functions_read features p content others n types indexes below early e few f known all =
     let t : ltb p.last 3 ≡ true = lt-ltb p.last 3 early in
-    let c = functions_count content indexes f in
+    let c = supported_functions content indexes f in
     let same : length indexes ≡ n = same_first content n (length indexes) c.0 e c.1 in
     let u : ltb 1000000 (length p.functions + n) ≡ false = le-ltb _ _ few in
     let v : list_all (λ index. is_some (func_type_at p.types index)) indexes ≡ below = ap (λ ts. list_all (λ index. is_some (func_type_at ts index)) indexes) known ∙ name_types types indexes ∙ all in
@@ -233,7 +230,7 @@ functions_read features p content others n types indexes below early e few f kno
     either false = refl
 
 pub functions_accepted : (features : Features) (p : Progress) (content : List ℕ) (n most : ℕ) (types : List (FuncType ℕ)) (indexes slice all : List ℕ) → p.last < 3 → first content ≡ Some n
-    → length p.functions + n ≤ 1000000 → content_of 3 content ≡ Some (FunctionSection indexes) → p.types ≡ map func_sub types → slice ≡ indexes
+    → length p.functions + n ≤ 1000000 → supported_content 3 content ≡ Some (FunctionSection indexes) → p.types ≡ map func_sub types → slice ≡ indexes
     → most ≡ length types → list_all (λ index. nat_lt index most) slice ≡ true → all ≡ p.functions ++ indexes
     → (others : Progress → Judgement) → judge_content features p 3 content others ≡ others (record p { last = 3; functions = all })
 functions_accepted features p content n most types indexes slice all early k few f known same many below is others =
@@ -241,18 +238,18 @@ functions_accepted features p content n most types indexes slice all early k few
     ∙ ap (λ l. others (record p { last = 3; functions = l })) (sym is)
 
 pub functions_refused : (features : Features) (p : Progress) (content : List ℕ) (n most : ℕ) (types : List (FuncType ℕ)) (indexes slice : List ℕ) → p.last < 3 → first content ≡ Some n
-    → length p.functions + n ≤ 1000000 → content_of 3 content ≡ Some (FunctionSection indexes) → p.types ≡ map func_sub types → slice ≡ indexes
+    → length p.functions + n ≤ 1000000 → supported_content 3 content ≡ Some (FunctionSection indexes) → p.types ≡ map func_sub types → slice ≡ indexes
     → most ≡ length types → list_all (λ index. nat_lt index most) slice ≡ false → (others : Progress → Judgement) → judge_content features p 3 content others ≡ Broken
 functions_refused features p content n most types indexes slice early k few f known same many below others =
     functions_read features p content others n types indexes false early k few f known (ap (λ m. list_all (λ index. nat_lt index m) indexes) (sym many) ∙ ap (list_all (λ index. nat_lt index most)) (sym same) ∙ below)
 
 -- ---- code sections
 
-none_10 : (content : List ℕ) → first content ≡ None → content_of 10 content ≡ None
-unfolding content_of list_at
+none_10 : (content : List ℕ) → first content ≡ None → supported_content 10 content ≡ None
+unfolding supported_content content_of list_at
 none_10 content e = rw (first_none (unsigned_at 32 content) e) refl
 
-pub bodies_unread : (features : Features) (p : Progress) (content : List ℕ) (others : Progress → Judgement) → content_of 10 content ≡ None → judge_content features p 10 content others ≡ Unread
+pub bodies_unread : (features : Features) (p : Progress) (content : List ℕ) (others : Progress → Judgement) → supported_content 10 content ≡ None → judge_content features p 10 content others ≡ Unread
 bodies_unread features p content others f = unread features p 10 content others f ∙ nothing (unsigned_at 32 content)
   where
     nothing : (read : Option (ℕ × List ℕ)) → stated p 10 read ≡ Unread
@@ -263,21 +260,19 @@ pub bodies_no_count : (features : Features) (p : Progress) (content : List ℕ) 
 bodies_no_count features p content others e = bodies_unread features p content others (none_10 content e)
 
 pub bodies_late : (features : Features) (p : Progress) (content : List ℕ) (others : Progress → Judgement) → 12 ≤ p.last → judge_content features p 10 content others ≡ Unread
-bodies_late features p content others late = cases (content_of 10 content) refl
+bodies_late features p content others late = cases (supported_content 10 content) refl
   where
     t : ltb p.last 12 ≡ false
     t = le-ltb p.last 12 late
 
-    cases : (read : Option Section) → content_of 10 content ≡ read → judge_content features p 10 content others ≡ Unread
+    cases : (read : Option Section) → supported_content 10 content ≡ read → judge_content features p 10 content others ≡ Unread
     cases None e = bodies_unread features p content others e
     cases (Some (CodeSection bodies)) e = one_section features p 10 content others (CodeSection bodies) e ∙ rw t refl
-    cases (Some (Custom name contents)) e = let i = content_id 10 content (Custom name contents) e in absurd (omega (arith, i))
-    cases (Some (TypeSection groups)) e = let i = content_id 10 content (TypeSection groups) e in absurd (omega (arith, i))
-    cases (Some (FunctionSection indexes)) e = let i = content_id 10 content (FunctionSection indexes) e in absurd (omega (arith, i))
+    cases (Some section) e = let i = supported_id 10 content section e in absurd (omega (arith, i))
 
 pub bodies_many : (features : Features) (p : Progress) (content : List ℕ) (others : Progress → Judgement) (n : ℕ) → p.last < 12 → first content ≡ Some n → length p.functions < length p.bodies + n
     → judge_content features p 10 content others ≡ Unread
-bodies_many features p content others n early e many = cases (content_of 10 content) refl
+bodies_many features p content others n early e many = cases (supported_content 10 content) refl
   where
     t : ltb p.last 12 ≡ true
     t = lt-ltb p.last 12 early
@@ -285,27 +280,25 @@ bodies_many features p content others n early e many = cases (content_of 10 cont
     u : ltb (length p.functions) (length p.bodies + n) ≡ true
     u = lt-ltb _ _ many
 
-    cases : (read : Option Section) → content_of 10 content ≡ read → judge_content features p 10 content others ≡ Unread
+    cases : (read : Option Section) → supported_content 10 content ≡ read → judge_content features p 10 content others ≡ Unread
     cases None f = bodies_unread features p content others f
     cases (Some (CodeSection bodies)) f =
-        let c = bodies_count content bodies f in
+        let c = supported_bodies content bodies f in
         let same : length bodies ≡ n = same_first content n (length bodies) c.0 e c.1 in
         one_section features p 10 content others (CodeSection bodies) f ∙ rw (t, same, u) refl
-    cases (Some (Custom name contents)) f = let i = content_id 10 content (Custom name contents) f in absurd (omega (arith, i))
-    cases (Some (TypeSection groups)) f = let i = content_id 10 content (TypeSection groups) f in absurd (omega (arith, i))
-    cases (Some (FunctionSection indexes)) f = let i = content_id 10 content (FunctionSection indexes) f in absurd (omega (arith, i))
+    cases (Some section) f = let i = supported_id 10 content section f in absurd (omega (arith, i))
 
 large : (bodies : List Part) → list_any (λ body. is_past spec.BodySize (length body)) (map (λ body. body.bytes) bodies) ≡ list_any (λ body. is_past spec.BodySize (length body.bytes)) bodies
 large [] = refl
 large (body ∷ bodies) = rw (large bodies) refl
 
 pub bodies_read : (features : Features) (p : Progress) (content : List ℕ) (others : Progress → Judgement) (n : ℕ) (bodies : List Part) (past : Bool) → p.last < 12 → first content ≡ Some n
-    → length p.bodies + n ≤ length p.functions → content_of 10 content ≡ Some (code_section bodies) → list_any (λ body. is_past spec.BodySize (length body.bytes)) bodies ≡ past
+    → length p.bodies + n ≤ length p.functions → supported_content 10 content ≡ Some (code_section bodies) → list_any (λ body. is_past spec.BodySize (length body.bytes)) bodies ≡ past
     → judge_content features p 10 content others ≡ cond past (Past spec.BodySize) (others (record p { last = 12; bodies = p.bodies ++ map (λ body. body.bytes) bodies }))
 bodies_read features p content others n bodies past early e few f all =
     let t : ltb p.last 12 ≡ true = lt-ltb p.last 12 early in
     let texts = map (λ body. body.bytes) bodies in
-    let c = bodies_count content texts f in
+    let c = supported_bodies content texts f in
     let same : length texts ≡ n = same_first content n (length texts) c.0 e c.1 in
     let u : ltb (length p.functions) (length p.bodies + n) ≡ false = le-ltb _ _ few in
     let v : list_any (λ body. is_past spec.BodySize (length body)) texts ≡ past = large bodies ∙ all in
@@ -317,7 +310,7 @@ bodies_read features p content others n bodies past early e few f all =
     either false = refl
 
 pub bodies_accepted : (features : Features) (p : Progress) (content : List ℕ) (n : ℕ) (bodies slice : List Part) (all : List (List ℕ)) → p.last < 12 → first content ≡ Some n
-    → length p.bodies + n ≤ length p.functions → content_of 10 content ≡ Some (code_section bodies) → slice ≡ bodies → list_any (λ body. is_past spec.BodySize (length body.bytes)) slice ≡ false
+    → length p.bodies + n ≤ length p.functions → supported_content 10 content ≡ Some (code_section bodies) → slice ≡ bodies → list_any (λ body. is_past spec.BodySize (length body.bytes)) slice ≡ false
     → all ≡ p.bodies ++ map (λ body. body.bytes) bodies
     → (others : Progress → Judgement) → judge_content features p 10 content others ≡ others (record p { last = 12; bodies = all })
 bodies_accepted features p content n bodies slice all early k few f same small is others =
@@ -325,7 +318,7 @@ bodies_accepted features p content n bodies slice all early k few f same small i
     ∙ ap (λ l. others (record p { last = 12; bodies = l })) (sym is)
 
 pub bodies_refused : (features : Features) (p : Progress) (content : List ℕ) (n : ℕ) (bodies slice : List Part) → p.last < 12 → first content ≡ Some n
-    → length p.bodies + n ≤ length p.functions → content_of 10 content ≡ Some (code_section bodies) → slice ≡ bodies → list_any (λ body. is_past spec.BodySize (length body.bytes)) slice ≡ true
+    → length p.bodies + n ≤ length p.functions → supported_content 10 content ≡ Some (code_section bodies) → slice ≡ bodies → list_any (λ body. is_past spec.BodySize (length body.bytes)) slice ≡ true
     → (others : Progress → Judgement) → judge_content features p 10 content others ≡ Past spec.BodySize
 bodies_refused features p content n bodies slice early k few f same large others =
     bodies_read features p content others n bodies true early k few f (ap (list_any (λ body. is_past spec.BodySize (length body.bytes))) (sym same) ∙ large)
@@ -341,28 +334,38 @@ inside_by content place (part ∷ parts) h a = (omega (arith, h, a.0.to), inside
 
 -- ---- custom sections, and sections of other ids
 
-pub custom_unread : (features : Features) (p : Progress) (content : List ℕ) (others : Progress → Judgement) → content_of 0 content ≡ None → judge_content features p 0 content others ≡ Unread
+pub custom_unread : (features : Features) (p : Progress) (content : List ℕ) (others : Progress → Judgement) → supported_content 0 content ≡ None → judge_content features p 0 content others ≡ Unread
 custom_unread features p content others e = unread features p 0 content others e ∙ nothing (unsigned_at 32 content)
   where
     nothing : (read : Option (ℕ × List ℕ)) → stated p 0 read ≡ Unread
     nothing None = refl
     nothing (Some n) = refl
 
-pub custom_long : (features : Features) (p : Progress) (content name contents : List ℕ) (others : Progress → Judgement) → content_of 0 content ≡ Some (Custom name contents) → 100000 < length name
+pub custom_long : (features : Features) (p : Progress) (content name contents : List ℕ) (others : Progress → Judgement) → supported_content 0 content ≡ Some (Custom name contents) → 100000 < length name
     → judge_content features p 0 content others ≡ Past spec.Name
 custom_long features p content name contents others e long =
     let t : ltb 100000 (length name) ≡ true = lt-ltb _ _ long in
     one_section features p 0 content others (Custom name contents) e ∙ rw t refl
 
-pub custom_fine : (features : Features) (p : Progress) (content name contents : List ℕ) (others : Progress → Judgement) → content_of 0 content ≡ Some (Custom name contents) → length name ≤ 100000
+pub custom_fine : (features : Features) (p : Progress) (content name contents : List ℕ) (others : Progress → Judgement) → supported_content 0 content ≡ Some (Custom name contents) → length name ≤ 100000
     → judge_content features p 0 content others ≡ others p
 custom_fine features p content name contents others e fits =
     let t : ltb 100000 (length name) ≡ false = le-ltb _ _ fits in
     one_section features p 0 content others (Custom name contents) e ∙ rw t refl
 
-none_other : (id : ℕ) (content : List ℕ) → id ≢ 0 → id ≢ 1 → id ≢ 3 → id ≢ 10 → content_of id content ≡ None
-unfolding content_of
-none_other id content a b c d = rw (neq-eqb id 0 a, neq-eqb id 1 b, neq-eqb id 3 c, neq-eqb id 10 d) refl
+none_other : (id : ℕ) (content : List ℕ) → id ≢ 0 → id ≢ 1 → id ≢ 3 → id ≢ 10 → supported_content id content ≡ None
+none_other id content a b c d = cases (supported_content id content) refl
+  where
+    no_section : (section : Section) → is_supported_section section ≡ true → section_id section ≡ id → ⊥
+    no_section (Custom name contents) s i = a (sym i)
+    no_section (TypeSection groups) s i = b (sym i)
+    no_section (FunctionSection indexes) s i = c (sym i)
+    no_section (CodeSection bodies) s i = d (sym i)
+    no_section section s i = absurd cc
+
+    cases : (read : Option Section) → supported_content id content ≡ read → read ≡ None
+    cases None e = refl
+    cases (Some section) e = absurd (no_section section (supported_passes id content section e) (supported_id id content section e))
 
 pub other_id : (features : Features) (p : Progress) (id : ℕ) (content : List ℕ) (others : Progress → Judgement) → id ≢ 0 → id ≢ 1 → id ≢ 3 → id ≢ 10 → judge_content features p id content others ≡ Unread
 other_id features p id content others a b c d = unread features p id content others (none_other id content a b c d) ∙ nothing (unsigned_at 32 content)

@@ -1,11 +1,12 @@
 -- Judging sections one after the other, as a loop does.
 use Rattle.std.proofs.Common.{◌≡◌, ◌≢◌, ℕ, zero, suc, eqb, true, false, ◌<◌, ◌≤◌, List, [], ◌∷◌, length, Option, Some, None, Ok, Err, refl, sym, ap, subst, ◌∙◌, arith}
 use Rattle.std.proofs.lemmas.Bool.{eq-eqb}
-use Rattle.wasm_core.specs.ModuleReading.{content_of, frame_at}
+use Rattle.wasm_core.specs.ModuleReading.{frame_at}
 use Rattle.wasm_core.proofs.ReadingLaws.{frame_shorter}
 use Rattle.wasm_spec.specs.Features.{Features}
 use Rattle.wasm_spec.specs.Syntax.{Section}
 use Rattle.wasmparser_parser.specs.Sections.{Part}
+use Rattle.wasmparser_parser.specs.SupportedReading.{supported_content}
 use Rattle.wasmparser_parser.specs.declared.error.Error.{Error}
 use Rattle.wasmparser_validator.proofs.BodyLaws.{neq-eqb}
 use Rattle.wasmparser_validator.specs.Sections.{Progress, Judgement, Accepted, Unread, unless, fault, after, with_content, judge_content, with_frame, at_last, judge_at, judge_sections, Names, JudgesContent}
@@ -14,7 +15,7 @@ use Rattle.wasmparser_validator.specs.Sections.{Progress, Judgement, Accepted, U
 same_content : (features : Features) (p : Progress) (id : ℕ) (content : List ℕ) (f g : Progress → Judgement) → ((q : Progress) → f q ≡ g q)
     → judge_content features p id content f ≡ judge_content features p id content g
 unfolding judge_content
-same_content features p id content f g h = cases (content_of id content)
+same_content features p id content f g h = cases (supported_content id content)
   where
     cases : (read : Option Section) → with_content features p id content read f ≡ with_content features p id content read g
     cases None = refl

@@ -1,18 +1,19 @@
 -- The whole promise: from what the sections and the bodies are judged to what is answered.
-use Rattle.std.proofs.Common.{◌≡◌, ◌≢◌, ◌⊎◌, inl, inr, ℕ, zero, suc, ◌+◌, ◌<◌, ◌≤◌, Bool, false, List, [], ◌∷◌, map, length, Some, Ok, Err, refl, sym, ap, subst, ◌∙◌, arith, length-append}
-use Rattle.std.specs.List.{AllByRecursion, slice_get}
+use Rattle.std.proofs.Common.{◌≡◌, ◌≢◌, ◌⊎◌, inl, inr, ℕ, zero, suc, ◌+◌, ◌<◌, ◌≤◌, Bool, true, false, List, [], ◌∷◌, map, length, Some, Ok, Err, refl, sym, ap, subst, ◌∙◌, arith, length-append}
+use Rattle.std.specs.List.{AllByRecursion, list_all, slice_get}
 use Rattle.std.proofs.lemmas.List.{length-map}
 use Rattle.wasm_core.specs.LimitCases as limits
 use Rattle.wasm_core.specs.Limits as views
 use Rattle.wasm_core.specs.Types as core
 use Rattle.wasm_core.proofs.ReadingLaws.{module_one, some_is}
 use Rattle.wasm_spec.specs.Bytes.{AreBytes}
-use Rattle.wasm_spec.specs.Features.{Features}
+use Rattle.wasm_spec.specs.Features.{Features, CompactImports, has}
 use Rattle.wasm_spec.specs.Limits as spec
 use Rattle.wasm_spec.specs.Spaces.{Sizes, no_items, together, added_by, sizes_of}
+use Rattle.wasm_spec.specs.Supported.{is_supported_section, IsSupported}
 use Rattle.wasm_spec.specs.Syntax.{Section, Custom, TypeSection, FunctionSection, CodeSection, types_in, functions_in, types_of, functions_of, bodies_of}
 use Rattle.wasm_spec.specs.Types.{ValType, FuncType}
-use Rattle.wasm_spec.specs.Validity.{func_type_at, BodyAt, IsJudgedBody, IsBodyPast, IsOtherBody, IsBrokenBody, IsValid, IsSupported, HasBody}
+use Rattle.wasm_spec.specs.Validity.{func_type_at, BodyAt, IsJudgedBody, IsBodyPast, IsOtherBody, IsBrokenBody, IsValid, HasBody}
 use Rattle.wasmparser_parser.specs.Sections.{Part}
 use Rattle.wasmparser_parser.specs.declared.error.Error.{Error}
 use Rattle.wasmparser_parser.specs.declared.error.ErrorKind.{ErrorKind}
@@ -21,6 +22,7 @@ use Rattle.wasmparser_validator.specs.Bodies.{HasBodyAt, JudgesBodies}
 use Rattle.wasmparser_validator.specs.Judging.{IsNamed, IsJudged}
 use Rattle.wasmparser_validator.specs.Sections.{Progress, Judgement, Accepted, Past, EndsBy, at_first, func_sub, Names, judge_module}
 use Rattle.wasmparser_validator.proofs.FaultLaws.{types_reached, functions_reached, bodies_reached, types_bounded, functions_bounded, named_reached}
+use Rattle.wasmparser_validator.proofs.SupportedLaws.{both_pass}
 use Rattle.wasmparser_validator.proofs.RefusalLaws.{Whole, accepted_whole, fine_whole, past_module, broken_module, read_module, fine_module}
 
 -- ---- what is shown
@@ -28,39 +30,34 @@ use Rattle.wasmparser_validator.proofs.RefusalLaws.{Whole, accepted_whole, fine_
 counts : ℕ → ℕ → Sizes
 counts types functions = record no_items { types = types; functions = functions }
 
-added : (section : Section) → added_by section ≡ counts (length (types_in section)) (length (functions_in section))
+added : (section : Section) → is_supported_section section ≡ true → added_by section ≡ counts (length (types_in section)) (length (functions_in section))
 unfolding counts
-added (Custom name contents) = refl
-added (TypeSection groups) = refl
-added (FunctionSection indexes) = refl
-added (CodeSection bodies) = refl
+added (Custom name contents) s = refl
+added (TypeSection groups) s = refl
+added (FunctionSection indexes) s = refl
+added (CodeSection bodies) s = refl
+added section s = absurd cc
 
 both : (a b c d : ℕ) → together (counts a b) (counts c d) ≡ counts (a + c) (b + d)
 unfolding counts
 both a b c d = refl
 
-sizes_are : (sections : List Section) → sizes_of sections ≡ counts (length (types_of sections)) (length (functions_of sections))
+sizes_are : (sections : List Section) → IsSupported sections → sizes_of sections ≡ counts (length (types_of sections)) (length (functions_of sections))
 unfolding counts
-sizes_are [] = refl
-sizes_are (section ∷ sections) =
-    ap (λ x. together x (sizes_of sections)) (added section) ∙ ap (together (counts (length (types_in section)) (length (functions_in section)))) (sizes_are sections)
+sizes_are [] all = refl
+sizes_are (section ∷ sections) all =
+    let supported = both_pass (is_supported_section section) (list_all is_supported_section sections) all in
+    ap (λ x. together x (sizes_of sections)) (added section supported.0) ∙ ap (together (counts (length (types_in section)) (length (functions_in section)))) (sizes_are sections supported.1)
     ∙ both (length (types_in section)) (length (functions_in section)) (length (types_of sections)) (length (functions_of sections))
     ∙ ap (λ n. counts n (length (functions_in section) + length (functions_of sections))) (sym (length-append (types_in section) (types_of sections)))
     ∙ ap (counts (length (types_of (section ∷ sections)))) (sym (length-append (functions_in section) (functions_of sections)))
 
-pub shows : (shown : Sizes) (types functions : ℕ) (sections : List Section) → shown ≡ record no_items { types = types; functions = functions } → types ≡ length (types_of sections) → functions ≡ length (functions_of sections)
+pub shows : (shown : Sizes) (types functions : ℕ) (sections : List Section) → IsSupported sections → shown ≡ record no_items { types = types; functions = functions } → types ≡ length (types_of sections) → functions ≡ length (functions_of sections)
     → shown ≡ sizes_of sections
 unfolding counts
-shows shown types functions sections is t f = is ∙ ap (λ n. counts n functions) t ∙ ap (counts (length (types_of sections))) f ∙ sym (sizes_are sections)
+shows shown types functions sections all is t f = is ∙ ap (λ n. counts n functions) t ∙ ap (counts (length (types_of sections))) f ∙ sym (sizes_are sections all)
 
 -- ---- bodies
-
-supported : (sections : List Section) → IsSupported sections
-supported [] = tt
-supported (Custom name contents ∷ sections) = supported sections
-supported (TypeSection groups ∷ sections) = supported sections
-supported (FunctionSection indexes ∷ sections) = supported sections
-supported (CodeSection bodies ∷ sections) = supported sections
 
 type_at : (types : List (FuncType ℕ)) (index : ℕ) (type : FuncType ℕ) → slice_get types index ≡ Some type → func_type_at (map func_sub types) index ≡ Some type
 type_at [] index type e = absurd cc
@@ -118,7 +115,7 @@ judged_yes features bytes types functions bodies last shown n m are e judged is 
         w.sections,
         record {
           reads = w.reads;
-          supported = supported w.sections;
+          supported = w.supported;
           valid = record {
             fine = fine_whole features w.sections _ w.reaches;
             bodies = λ place lt.
@@ -126,7 +123,7 @@ judged_yes features bytes types functions bodies last shown n m are e judged is 
                 in_sections (IsJudgedBody features) types functions bodies w.sections place j.0 j.1 k j.2 (λ is_below. (j.3 is_below).right);
           };
         },
-        shows shown n m w.sections is (t ∙ sym (length-map types func_sub) ∙ ap length k.types_are) (f ∙ ap length k.functions_are),
+        shows shown n m w.sections w.supported is (t ∙ sym (length-map types func_sub) ∙ ap length k.types_are) (f ∙ ap length k.functions_are),
       );
       complete = λ sections h. tt;
       malformed = tt;
@@ -170,8 +167,8 @@ no_locals features bytes are e = elim (past_module features spec.Locals bytes ar
 pub judged_no : (features : Features) (bytes : List ℕ) (e : Error) → AreBytes bytes → Names e.kind e.offset (judge_module features bytes) → e.offset ≤ length bytes → IsJudged features bytes (Err e)
 judged_no features bytes e are named place = record {
   right = tt;
-  complete = λ sections m. let a = fine_module features bytes sections are m.reads m.valid.fine in only_memory e.kind e.offset (judge_module features bytes) a.0 a.1 named;
-  malformed = λ k sections m s. read_module features bytes sections are m (subst (λ kind. Names kind e.offset (judge_module features bytes)) k named);
+  complete = λ sections m. let a = fine_module (has features CompactImports) features bytes sections are m.reads m.supported m.valid.fine in only_memory e.kind e.offset (judge_module features bytes) a.0 a.1 named;
+  malformed = λ k sections m s. read_module (has features CompactImports) features bytes sections are m s (subst (λ kind. Names kind e.offset (judge_module features bytes)) k named);
   invalid = λ k. broken_module features bytes are (subst (λ kind. Names kind e.offset (judge_module features bytes)) k named);
   limit = λ l other k. past_module features (views.limit l) bytes are (subst (λ kind. Names kind e.offset (judge_module features bytes)) k named);
   locals = λ k. absurd (no_locals features bytes are (subst (λ kind. Names kind e.offset (judge_module features bytes)) k named));
@@ -232,14 +229,14 @@ refused_body features bytes types functions bodies last e place are accepted ins
     let some : (Holds : FuncType ℕ → List ℕ → Type 0) → Holds j.0 j.1.bytes → HasBody features Holds bytes = λ Holds holds. record {
       sections = w.sections;
       reads = w.reads;
-      supported = supported w.sections;
+      supported = w.supported;
       fine = fine;
       some = (refused.0, lt, in_sections Holds types functions bodies w.sections refused.0 j.0 j.1 k j.2 holds);
     } in
     record {
       right = tt;
       complete = λ sections h.
-          let same : sections ≡ w.sections = module_one bytes sections w.sections h.reads w.reads in
+          let same : sections ≡ w.sections = module_one (has features CompactImports) bytes sections w.sections h.reads w.reads in
           let valid = subst (IsValid features) same h.valid in
           let there = valid.bodies refused.0 lt in
           let here = in_sections (λ type body. Unit {0}) types functions bodies w.sections refused.0 j.0 j.1 k j.2 tt in

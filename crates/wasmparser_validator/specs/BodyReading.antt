@@ -2,12 +2,12 @@
 use Rattle.std.specs.Prelude.{◌≡◌, ◌≤◌, ◌+◌, ◌&&◌, ℕ, zero, suc, Bool, true, List, [], ◌∷◌, length, Option, Some, None, Result, Ok, Err, nat_le, ◌==◌, if◌then◌else◌}
 use Rattle.wasm_core.specs.Input.{Input, GoesOn, IsWithin}
 use Rattle.wasm_core.specs.Reading.{◌>>=◌, unsigned_at}
-use Rattle.wasm_core.specs.TypeReading.{val_type_at}
 use Rattle.wasm_core.specs.LimitCases as core
 use Rattle.wasm_spec.specs.Bodies.{Run}
 use Rattle.wasm_spec.specs.Features.{Features}
 use Rattle.wasm_spec.specs.Gates.{is_allowed}
 use Rattle.wasm_spec.specs.Limits.{Locals, most}
+use Rattle.wasmparser_parser.specs.SupportedReading.{supported_type_at}
 use Rattle.wasmparser_parser.specs.declared.error.Error.{Error}
 use Rattle.wasmparser_parser.specs.declared.error.ErrorKind.{ErrorKind}
 use Rattle.wasmparser_parser.specs.declared.error.ErrorKind.TheVariants as kinds
@@ -19,7 +19,7 @@ pub data BodyJudgement : Type 0 where
   OtherOperator : BodyJudgement
 
 unfoldable pub run_at : List ℕ → Option (Run × List ℕ)
-run_at bytes = unsigned_at 32 bytes >>= λ n. val_type_at n.1 >>= λ t. Some (record { count = n.0; type = t.0 }, t.1)
+run_at bytes = unsigned_at 32 bytes >>= λ n. supported_type_at n.1 >>= λ t. Some (record { count = n.0; type = t.0 }, t.1)
 
 -- behind the end of a body nothing follows, and the results are given
 abbrev pub end_judgement : Bool → List ℕ → BodyJudgement

@@ -3,18 +3,19 @@ use Rattle.std.specs.Prelude.{◌≡◌, ◌≢◌, ◌≤◌, ⊤, ℕ, List, l
 use Rattle.wasm_core.specs.LimitCases as limits
 use Rattle.wasm_core.specs.Limits as core
 use Rattle.wasm_core.specs.Types.{Limit}
-use Rattle.wasm_spec.specs.Features.{Features}
+use Rattle.wasm_spec.specs.Features.{Features, CompactImports, has}
 use Rattle.wasm_spec.specs.Grammar.{IsModule}
 use Rattle.wasm_spec.specs.Spaces.{Sizes, sizes_of}
+use Rattle.wasm_spec.specs.Supported.{IsSupported}
 use Rattle.wasm_spec.specs.Syntax.{Section}
-use Rattle.wasm_spec.specs.Validity.{IsValid, IsSupported, BeginsPast, BeginsInvalid, HasBody, IsBodyPast, IsOtherBody, IsBrokenBody}
+use Rattle.wasm_spec.specs.Validity.{IsValid, BeginsPast, BeginsInvalid, HasBody, IsBodyPast, IsOtherBody, IsBrokenBody}
 use Rattle.wasmparser_parser.specs.declared.error.Error.{Error}
 use Rattle.wasmparser_parser.specs.declared.error.ErrorKind.{ErrorKind}
 use Rattle.wasmparser_parser.specs.declared.error.ErrorKind.TheVariants as kinds
 
 -- the bytes read as a module of supported sections, which is valid under the features
 pub record IsAccepted (features : Features) (bytes : List ℕ) (sections : List Section) : Type 0 where
-  pub reads : IsModule bytes sections
+  pub reads : IsModule (has features CompactImports) bytes sections
   pub supported : IsSupported sections
   pub valid : IsValid features sections
 
@@ -35,12 +36,12 @@ pub record IsJudged (features : Features) (bytes : List ℕ) (verdict : Result S
   -- a module that is to be accepted is refused, if at all, for want of memory; that memory was wanting is left to tests
   pub complete : (sections : List Section) → IsAccepted features bytes sections → IfErr verdict (λ e. e.kind ≡ kinds.Memory)
   -- bytes are malformed only where no supported module reads
-  pub malformed : IfErr verdict (λ e. e.kind ≡ kinds.Malformed → (sections : List Section) → IsModule bytes sections → ¬ (IsSupported sections))
+  pub malformed : IfErr verdict (λ e. e.kind ≡ kinds.Malformed → (sections : List Section) → IsModule (has features CompactImports) bytes sections → ¬ (IsSupported sections))
   -- a module is invalid only where complete sections at the front break a rule that is no limit, no grammar and no matter of bodies
   pub invalid : IfErr verdict (λ e. e.kind ≡ kinds.Invalid → BeginsInvalid features bytes)
   -- a limit is named only where sections at the front pass it, or the next one states a number that does; that of locals only where all
   -- else is fine and the locals of a body pass it
-  pub limit : IfErr verdict (λ e. (l : Limit) → l ≢ limits.Locals → e.kind ≡ kinds.Limit l → BeginsPast (core.limit l) bytes)
+  pub limit : IfErr verdict (λ e. (l : Limit) → l ≢ limits.Locals → e.kind ≡ kinds.Limit l → BeginsPast features (core.limit l) bytes)
   pub locals : IfErr verdict (λ e. e.kind ≡ kinds.Limit limits.Locals → HasBody features (IsBodyPast features) bytes)
   -- bodies are refused only where all else is fine: where a code is no operator's, or the judgement is broken otherwise
   pub operator : IfErr verdict (λ e. e.kind ≡ kinds.Operator → HasBody features (IsOtherBody features) bytes)

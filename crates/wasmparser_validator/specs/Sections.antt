@@ -3,16 +3,18 @@ use Rattle.std.specs.Prelude.{◌≡◌, ◌+◌, ◌≤◌, ℕ, true, zero, su
 use Rattle.std.specs.List.{AllByRecursion, filter_map, flat_map, list_all, list_any, starts_with}
 use Rattle.wasm_core.specs.Input.{Input, end}
 use Rattle.wasm_core.specs.Limits as core
-use Rattle.wasm_core.specs.ModuleReading.{content_of, frame_at, is_behind}
+use Rattle.wasm_core.specs.ModuleReading.{frame_at, is_behind}
 use Rattle.wasm_core.specs.Reading.{unsigned_at}
 use Rattle.wasm_spec.specs.Features.{Features}
 use Rattle.wasm_spec.specs.Gates.{is_allowed_group, is_allowed_func}
-use Rattle.wasm_spec.specs.Grammar.{header, place_of}
+use Rattle.wasm_spec.specs.Grammar.{header, place_of, last_place}
 use Rattle.wasm_spec.specs.Limits as spec
+use Rattle.wasm_spec.specs.Supported.{is_supported_section}
 use Rattle.wasm_spec.specs.Syntax.{Section, Custom, TypeSection, FunctionSection, CodeSection, members}
 use Rattle.wasm_spec.specs.Types.{FuncType, FuncComposite, SubType, RecGroup}
 use Rattle.wasm_spec.specs.Validity.{func_type_of, func_type_at, is_past}
 use Rattle.wasmparser_parser.specs.Sections.{Part}
+use Rattle.wasmparser_parser.specs.SupportedReading.{supported_content}
 use Rattle.wasmparser_parser.specs.declared.error.Error.{Error}
 use Rattle.wasmparser_parser.specs.declared.error.ErrorKind.{ErrorKind}
 use Rattle.wasmparser_parser.specs.declared.error.ErrorKind.TheVariants as kinds
@@ -85,15 +87,22 @@ rule_fault features p (CodeSection bodies) =
     if nat_lt (length p.functions) (length p.bodies + length bodies) then Some Unread
     else if list_any (λ body. is_past spec.BodySize (length body)) bodies then Some (Past spec.BodySize)
     else None
+rule_fault features p _ = None
 
+-- the fault of a section wherever it stands
+abbrev pub place_fault : Features → Progress → Section → Option Judgement
+place_fault features p section = if is_behind p.last (place_of section) then rule_fault features p section else Some Unread
+
+-- the same of a section that need not be supported
 abbrev pub fault : Features → Progress → Section → Option Judgement
-fault features p section = if is_behind p.last (place_of section) then rule_fault features p section else Some Unread
+fault features p section = if is_supported_section section then place_fault features p section else Some Unread
 
 abbrev pub after : Progress → Section → Progress
 after p (Custom name contents) = p
 after p (TypeSection groups) = record p { last = 1; types = p.types ++ flat_map members groups }
 after p (FunctionSection indexes) = record p { last = 3; functions = p.functions ++ indexes }
 after p (CodeSection bodies) = record p { last = 12; bodies = p.bodies ++ bodies }
+after p section = record p { last = last_place p.last (place_of section) }
 
 -- where a content doesn't read: whether its id comes in order, and what the number of entries that it states passes
 abbrev pub stated : Progress → ℕ → Option (ℕ × List ℕ) → Judgement
@@ -107,9 +116,9 @@ abbrev pub with_content : Features → Progress → ℕ → List ℕ → Option 
 with_content features p id content None others = stated p id (unsigned_at 32 content)
 with_content features p id content (Some section) others = unless (fault features p section) (others (after p section))
 
--- a section, and those behind it
+-- a section, where it is supported, and those behind it
 unfoldable pub judge_content : Features → Progress → ℕ → List ℕ → (Progress → Judgement) → Judgement
-judge_content features p id content others = with_content features p id content (content_of id content) others
+judge_content features p id content others = with_content features p id content (supported_content id content) others
 
 abbrev pub with_frame : Features → Progress → Option ((ℕ × List ℕ) × List ℕ) → (Progress → List ℕ → Judgement) → Judgement
 with_frame features p None others = Unread

@@ -1,11 +1,12 @@
 use Rattle.std.proofs.Common.{refl, arith}
 use Rattle.std.specs.Str.{is_utf8, chars}
-use Rattle.wasm_core_read.specs.ModuleReading.{body_at, content_of, frame_at, section_at, sections_at, sections_of, module_of}
+use Rattle.wasm_core_read.specs.ModuleReading.{content_of, frame_at, section_at, sections_at, sections_of, module_of}
+use Rattle.wasm_core_read.specs.PartReading.{body_at}
 use Rattle.wasm_core_read.specs.Reading.{byte_at, unsigned_at, bytes_at, name_at}
-use Rattle.wasm_core_read.specs.TypeReading.{items_at, list_at, val_type_at, func_type_at, rec_group_at}
+use Rattle.wasm_core_read.specs.TypeReading.{items_at, list_at, val_type_at, signature_at, func_type_at, composite_type_at, sub_type_at, rec_group_at}
 use Rattle.wasm_core_read.proofs.ModuleForms.{fills_module}
 use Rattle.wasm_core_read.proofs.laws.wide_names.Goals as goal
 
 pub returns : goal.returns
-unfolding byte_at unsigned_at bytes_at name_at items_at list_at val_type_at func_type_at rec_group_at body_at content_of frame_at section_at sections_at sections_of module_of is_utf8 chars lib.Utf8.encode
-returns c = fills_module.found _ _ (search arith) refl
+unfolding byte_at unsigned_at bytes_at name_at items_at list_at val_type_at signature_at func_type_at composite_type_at sub_type_at rec_group_at body_at content_of frame_at section_at sections_at sections_of module_of is_utf8 chars lib.Utf8.encode
+returns c compact = (fills_module compact).found _ _ (search arith) refl

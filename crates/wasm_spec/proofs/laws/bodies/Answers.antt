@@ -44,7 +44,7 @@ returns-clause-locals c = λ cx. record {
       0x02 ∷ 0x7f ∷ [],
       refl,
       small 1 (omega arith),
-      (0x02 ∷ 0x7f ∷ [], [], refl, (0x02 ∷ [], 0x7f ∷ [], refl, small 2 (omega arith), refl), refl),
+      (0x02 ∷ 0x7f ∷ [], [], refl, (0x02 ∷ [], 0x7f ∷ [], refl, small 2 (omega arith), (refl, refl)), refl),
     );
     allowed = (refl, tt);
     within = λ h. omega (arith, h);

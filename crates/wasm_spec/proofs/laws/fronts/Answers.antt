@@ -1,17 +1,19 @@
 use Rattle.std.proofs.Common.{[], ◌∷◌, inr, refl, arith}
+use Rattle.wasm_spec.specs.Features.{CompactImports, has}
 use Rattle.wasm_spec.specs.Syntax.{FunctionSection}
 use Rattle.wasm_spec.proofs.Texts.{small, function_section}
 use Rattle.wasm_spec.proofs.laws.fronts.Goals as goal
 
 pub returns : goal.returns
 returns c = record {
-  past = λ rest. record {
+  past = λ features rest. record {
     sections = [];
     front = [];
     rest = 0x03 ∷ 0x03 ∷ 0xc1 ∷ 0x84 ∷ 0x3d ∷ rest;
     begins = refl;
     holds = refl;
     ordered = tt;
+    supported = refl;
     passes = inr (
       omega arith,
       1000001,
@@ -33,8 +35,9 @@ returns c = record {
     front = 0x03 ∷ 0x02 ∷ 0x01 ∷ 0x00 ∷ [];
     rest = rest;
     begins = refl;
-    holds = (0x03 ∷ 0x02 ∷ 0x01 ∷ 0x00 ∷ [], [], refl, function_section, refl);
+    holds = (0x03 ∷ 0x02 ∷ 0x01 ∷ 0x00 ∷ [], [], refl, function_section (has features CompactImports), refl);
     ordered = (omega arith, tt);
+    supported = refl;
     breaks = λ k. let f = k.0 in absurd cc;
   };
 }

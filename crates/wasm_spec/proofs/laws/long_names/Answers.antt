@@ -1,6 +1,6 @@
 use Rattle.std.proofs.Common.{◌≡◌, ℕ, Bool, true, false, ◌||◌, List, [], ◌∷◌, ◌++◌, length, arith, refl, ◌∙◌, ap}
 use Rattle.wasm_spec.specs.Limits.{Limit, Name}
-use Rattle.wasm_spec.specs.Syntax.{Section, Custom, TypeSection, FunctionSection, CodeSection}
+use Rattle.wasm_spec.specs.Syntax.{Section, Custom, TypeSection, ImportSection, FunctionSection, TableSection, MemorySection, TagSection, GlobalSection, ExportSection, StartSection, ElementSection, DataCountSection, CodeSection, DataSection}
 use Rattle.wasm_spec.specs.Validity.{is_past, is_passed}
 use Rattle.wasm_spec.proofs.laws.long_names.Goals as goal
 
@@ -17,8 +17,18 @@ anywhere (Custom other others ∷ before) after name contents =
     ap (λ b. is_past Name (length other) || b) (anywhere before after name contents)
     ∙ swapped (is_past Name (length other)) (is_past Name (length name)) (is_passed Name (before ++ after))
 anywhere (TypeSection groups ∷ before) after name contents = anywhere before after name contents
+anywhere (ImportSection imports ∷ before) after name contents = anywhere before after name contents
 anywhere (FunctionSection indexes ∷ before) after name contents = anywhere before after name contents
+anywhere (TableSection tables ∷ before) after name contents = anywhere before after name contents
+anywhere (MemorySection types ∷ before) after name contents = anywhere before after name contents
+anywhere (TagSection indexes ∷ before) after name contents = anywhere before after name contents
+anywhere (GlobalSection globals ∷ before) after name contents = anywhere before after name contents
+anywhere (ExportSection exports ∷ before) after name contents = anywhere before after name contents
+anywhere (StartSection function ∷ before) after name contents = anywhere before after name contents
+anywhere (ElementSection segments ∷ before) after name contents = anywhere before after name contents
+anywhere (DataCountSection count ∷ before) after name contents = anywhere before after name contents
 anywhere (CodeSection bodies ∷ before) after name contents = anywhere before after name contents
+anywhere (DataSection segments ∷ before) after name contents = anywhere before after name contents
 
 pub returns-clause-names : goal.returns-clause-names
 returns-clause-names c = anywhere

@@ -1,11 +1,13 @@
 use Rattle.std.proofs.Common.{◌≡◌, ◌-◌, map}
 use Rattle.wasm_core.proofs.ReadingLaws.{with_front}
 use Rattle.wasm_core.specs.Input.{GoesOn}
-use Rattle.wasm_core.specs.TypeReading.{func_group, items_at, list_at, rec_group_at}
+use Rattle.wasm_core.specs.TypeReading.{items_at, list_at}
+use Rattle.wasmparser_parser.specs.CoreTypes.{func_group}
+use Rattle.wasmparser_parser.specs.SupportedReading.{supported_group_at}
 use Rattle.wasmparser_parser.proofs.type_section.read_rec_groups.Given as goal
 
 abbrev pub invariant-loop : goal.invariant-loop
 invariant-loop l = record {
-  so_far : with_front (map func_group l.types.items) (items_at rec_group_at (l.count - l.counter) l.reader.rest) ≡ list_at rec_group_at l.fn.reader.rest;
+  so_far : with_front (map func_group l.types.items) (items_at supported_group_at (l.count - l.counter) l.reader.rest) ≡ list_at supported_group_at l.fn.reader.rest;
   goes_on : GoesOn l.fn.reader l.reader;
 }

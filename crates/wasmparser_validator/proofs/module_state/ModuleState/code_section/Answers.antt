@@ -2,7 +2,7 @@ use Rattle.std.proofs.Common.{◌∙◌, ap, arith, map, subst, sym}
 use Rattle.std.proofs.lemmas.List.{length-map, map-append}
 use Rattle.std.proofs.lemmas.Result.{err_from_is_err_and}
 use Rattle.std.specs.List.{AllByRecursion}
-use Rattle.wasm_core.specs.ModuleReading.{content_of}
+use Rattle.wasmparser_parser.specs.SupportedReading.{supported_content}
 use Rattle.wasmparser_validator.specs.Sections.{EndsBy, progress}
 use Rattle.wasmparser_validator.proofs.SectionLaws.{bodies_no_count, bodies_late, bodies_many, bodies_unread, bodies_refused, bodies_accepted, all_by, inside_by, refuse, unread_or_memory}
 use Rattle.wasmparser_validator.proofs.module_state.ModuleState.code_section.Goals as goal
@@ -25,7 +25,7 @@ returns-then-len-from-clause-judged c = λ features.
 pub returns-in_err-bodies-clause-judged : goal.returns-in_err-bodies-clause-judged
 returns-in_err-bodies-clause-judged c = λ features.
     let p = err_from_is_err_and c.from_residual-in_err-bodies.result c.from_residual-in_err-bodies.ensures.1 in
-    rw (p.1, p.2) (unread_or_memory features _ (progress c.args.self.now) _ _ _ (content_of 10 c.args.section.now.content.bytes) c.in_err-bodies.ensures.read
+    rw (p.1, p.2) (unread_or_memory features _ (progress c.args.self.now) _ _ _ (supported_content 10 c.args.section.now.content.bytes) c.in_err-bodies.ensures.read
     (λ e others. bodies_unread _ _ _ others e))
 
 pub returns-then-has_large_body-clause-judged : goal.returns-then-has_large_body-clause-judged

@@ -1,6 +1,6 @@
 use Rattle.std.proofs.Common.{arith, refl}
 use Rattle.std.proofs.lemmas.Result.{err_from_is_err_and}
-use Rattle.wasm_core.specs.ModuleReading.{content_of}
+use Rattle.wasmparser_parser.specs.SupportedReading.{supported_content}
 use Rattle.wasmparser_validator.specs.Sections.{progress}
 use Rattle.wasmparser_validator.proofs.SectionLaws.{functions_no_count, functions_late, functions_many, functions_unread, functions_refused, functions_accepted, refuse, unread_or_memory}
 use Rattle.wasmparser_validator.proofs.module_state.ModuleState.function_section.Goals as goal
@@ -23,7 +23,7 @@ returns-then-len-from-gt-MAX_WASM_FUNCTIONS-clause-judged c = λ features.
 pub returns-in_err-indexes-clause-judged : goal.returns-in_err-indexes-clause-judged
 returns-in_err-indexes-clause-judged c = λ features.
     let p = err_from_is_err_and c.from_residual-in_err-indexes.result c.from_residual-in_err-indexes.ensures.1 in
-    rw (p.1, p.2) (unread_or_memory features _ (progress c.args.self.now) _ _ _ (content_of 3 c.args.section.now.content.bytes) c.in_err-indexes.ensures
+    rw (p.1, p.2) (unread_or_memory features _ (progress c.args.self.now) _ _ _ (supported_content 3 c.args.section.now.content.bytes) c.in_err-indexes.ensures
     (λ e others. functions_unread _ _ _ others _ c.if-self-ge-FUNCTION_PLACE.false c.in_ok-count.ensures (omega (arith, c.from.ensures, c.len.ensures, c.if-len-from-gt-MAX_WASM_FUNCTIONS.false)) e))
 
 pub returns-then-not-are_below-clause-judged : goal.returns-then-not-are_below-clause-judged

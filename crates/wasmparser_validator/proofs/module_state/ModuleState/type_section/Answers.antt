@@ -1,7 +1,7 @@
 use Rattle.std.proofs.Common.{◌∙◌, ap, arith, map}
 use Rattle.std.proofs.lemmas.List.{length-map, map-append}
 use Rattle.std.proofs.lemmas.Result.{err_from_is_err_and}
-use Rattle.wasm_core.specs.ModuleReading.{content_of}
+use Rattle.wasmparser_parser.specs.SupportedReading.{supported_content}
 use Rattle.wasmparser_validator.specs.Sections.{func_sub, progress}
 use Rattle.wasmparser_validator.proofs.SectionLaws.{types_no_count, types_late, types_many, types_unread, types_refused, types_accepted, refuse, unread_or_memory}
 use Rattle.wasmparser_validator.proofs.module_state.ModuleState.type_section.Goals as goal
@@ -24,7 +24,7 @@ returns-then-len-from-gt-MAX_WASM_REC_GROUPS-clause-judged c =
 pub returns-in_err-types-clause-judged : goal.returns-in_err-types-clause-judged
 returns-in_err-types-clause-judged c =
     let p = err_from_is_err_and c.from_residual-in_err-types.result c.from_residual-in_err-types.ensures.1 in
-    rw (p.1, p.2) (unread_or_memory _ _ (progress c.args.self.now) _ _ _ (content_of 1 c.args.section.now.content.bytes) c.in_err-types.ensures
+    rw (p.1, p.2) (unread_or_memory _ _ (progress c.args.self.now) _ _ _ (supported_content 1 c.args.section.now.content.bytes) c.in_err-types.ensures
     (λ e others. types_unread _ _ _ others _ c.if-self-ge-TYPE_PLACE.false c.in_ok-count.ensures (omega (arith, c.from.ensures, c.len.ensures, length-map c.args.self.now.types.items func_sub, c.if-len-from-gt-MAX_WASM_REC_GROUPS.false)) e))
 
 pub returns-in_err-check_func_types-clause-judged : goal.returns-in_err-check_func_types-clause-judged

@@ -7,9 +7,6 @@ ghost use Rattle.wasm_spec.specs.Shortest.{unsigned_text, low_bits, magnitude_te
 
 use std::alloc::AllocError;
 
-#[cfg(test)]
-mod tests;
-
 /// The number of bytes that [`write_u32`] appends.
 pub fn len_u32(n: u32) -> usize
     ensures { result ≡ length (unsigned_text n) }

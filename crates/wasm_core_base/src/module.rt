@@ -8,9 +8,6 @@ use crate::encode_error::EncodeError;
 use std::alloc::Global;
 use std::marker::Model;
 
-#[cfg(test)]
-mod tests;
-
 const HEADER: [u8; 8] = [0x00, 0x61, 0x73, 0x6d, 0x01, 0x00, 0x00, 0x00];
 
 /// The bytes of a module so far: the header, and sections.

@@ -19,9 +19,6 @@ use crate::types::{CompositeType, FuncType, SubType};
 use std::alloc::Global;
 use std::marker::Model;
 
-#[cfg(test)]
-mod tests;
-
 impl Text for TypeEntry {
     ghost text = { type_entry_text };
 

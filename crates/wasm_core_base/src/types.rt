@@ -3,9 +3,6 @@
 
 use std::marker::Model;
 
-#[cfg(test)]
-mod tests;
-
 /// A heap type that is no defined type.
 #[derive(Clone, Copy, Debug, PartialEq, Eq, Hash)]
 pub enum AbstractHeapType {

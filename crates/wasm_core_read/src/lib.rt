@@ -4,7 +4,5 @@
 pub mod binary_reader;
 pub mod laws;
 pub mod malformed;
-#[cfg(test)]
-mod number_tests;
 mod signed;
 mod unsigned;

@@ -4,8 +4,6 @@
 
 pub mod device;
 pub mod error;
-#[cfg(test)]
-mod fakes;
 pub mod generate;
 pub mod judge;
 pub mod run;

@@ -18,11 +18,6 @@ use crate::verdict::verdict_text;
 use std::alloc::Global;
 use wasm_smith::config::Config;
 
-#[cfg(test)]
-mod generate_tests;
-#[cfg(test)]
-mod tests;
-
 /// Reads a module, judges it and writes the line of its verdict. Answers whether the verdict is yes.
 ///
 /// After `Write` the session has judged the module. After `Memory` it may have, or have failed for want of memory.

@@ -30,22 +30,3 @@ pub fn status_of(outcomes: &[Outcome]) -> u8
         0
     }
 }
-
-#[cfg(test)]
-mod tests {
-    use super::Outcome::{Fault, No, Refused, Yes};
-    use super::*;
-
-    #[test]
-    fn takes_the_worst_outcome(rt: HostRuntime) {
-        assert_eq!(rt; status_of(&[]), 0);
-        assert_eq!(rt; status_of(&[Yes]), 0);
-        assert_eq!(rt; status_of(&[Yes, Yes, Yes]), 0);
-        assert_eq!(rt; status_of(&[Yes, No]), 1);
-        assert_eq!(rt; status_of(&[Refused, Yes]), 1);
-        assert_eq!(rt; status_of(&[No, Refused]), 1);
-        assert_eq!(rt; status_of(&[Fault]), 2);
-        assert_eq!(rt; status_of(&[Fault, No, Refused, Yes]), 2);
-        assert_eq!(rt; status_of(&[Yes, Refused, No, Fault]), 2);
-    }
-}

@@ -10,9 +10,6 @@ use crate::error::RunError;
 use std::alloc::Global;
 use std::io::ErrorKind;
 
-#[cfg(test)]
-mod tests;
-
 /// The most bytes that an input has.
 pub const MAX_INPUT: usize = 1 << 28;
 

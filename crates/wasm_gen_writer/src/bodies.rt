@@ -108,17 +108,3 @@ pub fn put_bodies(locals: &[Vec<ValType>], sink: &mut Vec<u8>)
         put_entry(body, sink);
     }
 }
-
-#[cfg(test)]
-mod tests {
-    use super::*;
-    use std::test::Fail;
-
-    #[test]
-    fn neighbours_of_one_type_are_a_run(rt: HostRuntime) -> Result<(), Fail> {
-        let locals = [ValType::I32, ValType::I32, ValType::F64];
-        assert_eq!(rt; entry_size(&locals), Ok(8));
-        assert_eq!(rt; entry_size(&[]), Ok(4));
-        Ok(())
-    }
-}

@@ -26,19 +26,3 @@ pub fn passed_limit(made: &Module) -> Option<Limit>
     }
     None
 }
-
-#[cfg(test)]
-mod tests {
-    use super::*;
-    use std::test::Fail;
-    use wasm_smith::plain::plain_config;
-    use wasm_smith::unstructured::Unstructured;
-
-    #[test]
-    fn a_small_module_passes_none(rt: HostRuntime) -> Result<(), Fail> {
-        let mut source = Unstructured::new(&[1, 0, 0, 0, 1]);
-        let made = Module::new(rt.alloc(), plain_config(), &mut source)?;
-        assert!(rt; passed_limit(&made).is_none());
-        Ok(())
-    }
-}

@@ -205,17 +205,3 @@ impl<'a> Section for MadeBodies<'a> {
         10
     }
 }
-
-#[cfg(test)]
-mod tests {
-    use super::*;
-    use std::test::Fail;
-
-    #[test]
-    fn indexes_behind_their_number(rt: HostRuntime) -> Result<(), Fail> {
-        let mut sink = Vec::new(rt.alloc());
-        MadeFunctions::new(&[0, 300]).encode(&mut sink)?;
-        assert!(rt; sink.as_slice() == [4, 2, 0, 0xac, 2].as_slice());
-        Ok(())
-    }
-}

@@ -1,5 +1,6 @@
 //! Custom sections: padding, names and frames.
 
+use crate::checks::equal;
 use crate::modules::{module, new_session, refusal, refusal_of};
 use std::alloc::{AllocError, Global};
 use std::test::Fail;
@@ -10,10 +11,11 @@ const MALFORMED: Option<ErrorKind> = Some(ErrorKind::Malformed);
 
 #[test]
 fn empty_name_reads(rt: HostRuntime) -> Result<(), Fail> {
-    assert_eq!(rt; refusal_of(rt.alloc(), &[&[0x00, 0x01, 0x00]])?, None);
-    assert_eq!(rt;
+    equal(&rt, refusal_of(rt.alloc(), &[&[0x00, 0x01, 0x00]])?, None);
+    equal(
+        &rt,
         refusal_of(rt.alloc(), &[&[0x00, 0x03, 0x00, 0xff, 0x80]])?,
-        None
+        None,
     );
     Ok(())
 }
@@ -22,9 +24,10 @@ fn empty_name_reads(rt: HostRuntime) -> Result<(), Fail> {
 fn many_sections_read(rt: HostRuntime) -> Result<(), Fail> {
     let first: &[u8] = &[0x00, 0x03, 0x01, 0x61, 0x07];
     let second: &[u8] = &[0x00, 0x04, 0x02, 0xc3, 0xa9, 0x00];
-    assert_eq!(rt;
+    equal(
+        &rt,
         refusal_of(rt.alloc(), &[first, second, first, second])?,
-        None
+        None,
     );
     Ok(())
 }
@@ -39,9 +42,10 @@ fn padded_size_reads_within_five_bytes(rt: HostRuntime) -> Result<(), Fail> {
         &[0x82, 0x80, 0x80, 0x80, 0x00],
     ];
     for size in sizes {
-        assert_eq!(rt;
+        equal(
+            &rt,
             refusal_of(rt.alloc(), &[&[0x00], size, &[0x01, 0x61]])?,
-            None
+            None,
         );
     }
     Ok(())
@@ -57,7 +61,7 @@ fn padded_name_length_reads_within_five_bytes(rt: HostRuntime) -> Result<(), Fai
         &[0x00, 0x06, 0x81, 0x80, 0x80, 0x80, 0x00, 0x61],
     ];
     for section in sections {
-        assert_eq!(rt; refusal_of(rt.alloc(), &[section])?, None);
+        equal(&rt, refusal_of(rt.alloc(), &[section])?, None);
     }
     Ok(())
 }
@@ -65,9 +69,9 @@ fn padded_name_length_reads_within_five_bytes(rt: HostRuntime) -> Result<(), Fai
 #[test]
 fn padding_past_five_bytes_does_not_read(rt: HostRuntime) -> Result<(), Fail> {
     let long: &[u8] = &[0x00, 0x82, 0x80, 0x80, 0x80, 0x80, 0x00, 0x01, 0x61];
-    assert_eq!(rt; refusal_of(rt.alloc(), &[long])?, MALFORMED);
+    equal(&rt, refusal_of(rt.alloc(), &[long])?, MALFORMED);
     let long: &[u8] = &[0x00, 0x07, 0x81, 0x80, 0x80, 0x80, 0x80, 0x00, 0x61];
-    assert_eq!(rt; refusal_of(rt.alloc(), &[long])?, MALFORMED);
+    equal(&rt, refusal_of(rt.alloc(), &[long])?, MALFORMED);
     Ok(())
 }
 
@@ -75,9 +79,9 @@ fn padding_past_five_bytes_does_not_read(rt: HostRuntime) -> Result<(), Fail> {
 fn unused_bits_are_zero(rt: HostRuntime) -> Result<(), Fail> {
     for last in [0x10, 0x20, 0x40, 0x7f] {
         let size: &[u8] = &[0x00, 0x82, 0x80, 0x80, 0x80, last, 0x01, 0x61];
-        assert_eq!(rt; refusal_of(rt.alloc(), &[size])?, MALFORMED);
+        equal(&rt, refusal_of(rt.alloc(), &[size])?, MALFORMED);
         let length: &[u8] = &[0x00, 0x06, 0x81, 0x80, 0x80, 0x80, last, 0x61];
-        assert_eq!(rt; refusal_of(rt.alloc(), &[length])?, MALFORMED);
+        equal(&rt, refusal_of(rt.alloc(), &[length])?, MALFORMED);
     }
     Ok(())
 }
@@ -175,16 +179,22 @@ fn section_with_name(alloc: Global, length: usize) -> Result<Vec<u8>, AllocError
 #[test]
 fn long_name_passes_its_limit(rt: HostRuntime) -> Result<(), Fail> {
     let longest = section_with_name(rt.alloc(), 100_000)?;
-    assert_eq!(rt; refusal(rt.alloc(), &mut new_session(), &longest)?, None);
+    equal(
+        &rt,
+        refusal(rt.alloc(), &mut new_session(), &longest)?,
+        None,
+    );
     let longer = section_with_name(rt.alloc(), 100_001)?;
     let mut session = new_session();
-    assert_eq!(rt;
+    equal(
+        &rt,
         refusal(rt.alloc(), &mut session, &longer)?,
-        Some(ErrorKind::Limit(Limit::Name))
+        Some(ErrorKind::Limit(Limit::Name)),
     );
-    assert_eq!(rt;
+    equal(
+        &rt,
         refusal(rt.alloc(), &mut session, &longest)?,
-        Some(ErrorKind::Failed)
+        Some(ErrorKind::Failed),
     );
     Ok(())
 }
@@ -206,6 +216,6 @@ fn cut_modules_read_where_a_section_ends(rt: HostRuntime) -> Result<(), Fail> {
             "{end}"
         );
     }
-    assert_eq!(rt; refusal(rt.alloc(), &mut new_session(), &whole)?, None);
+    equal(&rt, refusal(rt.alloc(), &mut new_session(), &whole)?, None);
     Ok(())
 }

@@ -1,5 +1,6 @@
 //! The limits on types, functions and bodies.
 
+use crate::checks::equal;
 use crate::modules::{module, new_session, number, refusal, refusal_of, repeated, section};
 use std::alloc::{AllocError, Global};
 use std::test::Fail;
@@ -69,9 +70,9 @@ fn parameters_are_locals(rt: HostRuntime) -> Result<(), Fail> {
     let types = func_type(rt.alloc(), 1000, 0)?;
     // 49,000 and 49,001 more.
     let fits: &[u8] = &[0x01, 0xe8, 0xfe, 0x02, 0x7f, 0x0b];
-    assert_eq!(rt; refusal_of_body(rt.alloc(), &types, fits)?, None);
+    equal(&rt, refusal_of_body(rt.alloc(), &types, fits)?, None);
     let past: &[u8] = &[0x01, 0xe9, 0xfe, 0x02, 0x7f, 0x0b];
-    assert_eq!(rt; refusal_of_body(rt.alloc(), &types, past)?, LOCALS);
+    equal(&rt, refusal_of_body(rt.alloc(), &types, past)?, LOCALS);
     Ok(())
 }
 
@@ -101,7 +102,7 @@ fn bodies_keep_their_size(rt: HostRuntime) -> Result<(), Fail> {
     for (zeros, expected) in [(7_654_320, None), (7_654_321, past)] {
         let mut body = repeated(rt.alloc(), zeros, &[0x00])?;
         body.push(0x0b)?;
-        assert_eq!(rt; refusal_of_body(rt.alloc(), TYPES, &body)?, expected);
+        equal(&rt, refusal_of_body(rt.alloc(), TYPES, &body)?, expected);
     }
     Ok(())
 }
@@ -123,7 +124,7 @@ fn is_past_types(refusal: Option<ErrorKind>) -> bool {
 #[test]
 fn types_keep_their_number(rt: HostRuntime) -> Result<(), Fail> {
     let types = many_types(rt.alloc(), 1_000_000)?;
-    assert_eq!(rt; refusal_of(rt.alloc(), &[&types])?, None);
+    equal(&rt, refusal_of(rt.alloc(), &[&types])?, None);
     let types = many_types(rt.alloc(), 1_000_001)?;
     assert!(rt; is_past_types(refusal_of(rt.alloc(), &[&types])?));
     // The number alone passes the limit.
@@ -144,17 +145,19 @@ fn many_functions(alloc: Global, count: usize) -> Result<Vec<u8>, AllocError> {
 #[test]
 fn functions_keep_their_number(rt: HostRuntime) -> Result<(), Fail> {
     let bytes = many_functions(rt.alloc(), 1_000_000)?;
-    assert_eq!(rt; refusal(rt.alloc(), &mut new_session(), &bytes)?, None);
+    equal(&rt, refusal(rt.alloc(), &mut new_session(), &bytes)?, None);
     let bytes = many_functions(rt.alloc(), 1_000_001)?;
-    assert_eq!(rt;
+    equal(
+        &rt,
         refusal(rt.alloc(), &mut new_session(), &bytes)?,
-        Some(ErrorKind::Limit(Limit::Functions))
+        Some(ErrorKind::Limit(Limit::Functions)),
     );
     // The number alone passes the limit.
     let functions = section(rt.alloc(), 3, &[&number(1_000_001)])?;
-    assert_eq!(rt;
+    equal(
+        &rt,
         refusal_of(rt.alloc(), &[TYPES, &functions])?,
-        Some(ErrorKind::Limit(Limit::Functions))
+        Some(ErrorKind::Limit(Limit::Functions)),
     );
     Ok(())
 }

@@ -1,5 +1,6 @@
 //! Type, function and code sections.
 
+use crate::checks::equal;
 use crate::modules::{
     HEADER, joined, module, new_session, refusal, refusal_of, refusal_under, section,
 };
@@ -55,12 +56,12 @@ fn line_of(alloc: Global, parts: &[&[u8]]) -> Result<Vec<u8>, Fail> {
 fn line_counts_types_and_functions(rt: HostRuntime) -> Result<(), Fail> {
     let line = line_of(rt.alloc(), &[TYPES, FUNCTIONS, CODE])?;
     let yes = "yes types=1 functions=1 tables=0 memories=0 globals=0 tags=0 elements=0 exports=0\n";
-    assert_eq!(rt; line.as_slice(), yes.as_bytes());
+    equal(&rt, line.as_slice(), yes.as_bytes());
     let line = line_of(
         rt.alloc(),
         &[TYPES, FUNCTIONS, &[0x0a, 0x03, 0x01, 0x01, 0x00]],
     )?;
-    assert_eq!(rt; line.as_slice(), b"no body\n".as_slice());
+    equal(&rt, line.as_slice(), b"no body\n".as_slice());
     Ok(())
 }
 
@@ -77,15 +78,15 @@ fn view_counts_types_and_functions(rt: HostRuntime) -> Result<(), Fail> {
     let bytes = module(rt.alloc(), &[types, functions, code])?;
     let types = new_session().check(rt.alloc(), &bytes)?;
     let shown = types.as_ref();
-    assert_eq!(rt; shown.core_type_count_in_module(), 3);
-    assert_eq!(rt; shown.function_count(), 5);
-    assert_eq!(rt; shown.table_count(), 0);
-    assert_eq!(rt; shown.memory_count(), 0);
-    assert_eq!(rt; shown.global_count(), 0);
-    assert_eq!(rt; shown.tag_count(), 0);
-    assert_eq!(rt; shown.element_count(), 0);
+    equal(&rt, shown.core_type_count_in_module(), 3);
+    equal(&rt, shown.function_count(), 5);
+    equal(&rt, shown.table_count(), 0);
+    equal(&rt, shown.memory_count(), 0);
+    equal(&rt, shown.global_count(), 0);
+    equal(&rt, shown.tag_count(), 0);
+    equal(&rt, shown.element_count(), 0);
     let exports = shown.core_exports().ok_or("a module shows its exports")?;
-    assert_eq!(rt; exports.count(), 0);
+    equal(&rt, exports.count(), 0);
     Ok(())
 }
 
@@ -115,7 +116,7 @@ fn refused_body_leaves_the_session(rt: HostRuntime) -> Result<(), Fail> {
             "{code:?}"
         );
         assert!(rt; !session.has_failed());
-        assert_eq!(rt; refusal(rt.alloc(), &mut session, &whole)?, None);
+        equal(&rt, refusal(rt.alloc(), &mut session, &whole)?, None);
     }
     Ok(())
 }
@@ -129,11 +130,12 @@ fn other_refusals_fail_the_session(rt: HostRuntime) -> Result<(), Fail> {
     for (parts, expected) in rows {
         let bytes = module(rt.alloc(), parts)?;
         let mut session = new_session();
-        assert_eq!(rt; refusal(rt.alloc(), &mut session, &bytes)?, expected);
+        equal(&rt, refusal(rt.alloc(), &mut session, &bytes)?, expected);
         assert!(rt; session.has_failed());
-        assert_eq!(rt;
+        equal(
+            &rt,
             refusal(rt.alloc(), &mut session, &HEADER)?,
-            Some(ErrorKind::Failed)
+            Some(ErrorKind::Failed),
         );
     }
     Ok(())
@@ -142,11 +144,11 @@ fn other_refusals_fail_the_session(rt: HostRuntime) -> Result<(), Fail> {
 #[test]
 fn padded_size_of_a_type_section_reads(rt: HostRuntime) -> Result<(), Fail> {
     let types: &[u8] = &[0x01, 0x84, 0x80, 0x80, 0x80, 0x00, 0x01, 0x60, 0x00, 0x00];
-    assert_eq!(rt; refusal_of(rt.alloc(), &[types])?, None);
+    equal(&rt, refusal_of(rt.alloc(), &[types])?, None);
     let types: &[u8] = &[
         0x01, 0x84, 0x80, 0x80, 0x80, 0x80, 0x00, 0x01, 0x60, 0x00, 0x00,
     ];
-    assert_eq!(rt; refusal_of(rt.alloc(), &[types])?, MALFORMED);
+    equal(&rt, refusal_of(rt.alloc(), &[types])?, MALFORMED);
     Ok(())
 }
 
@@ -235,7 +237,7 @@ fn custom_sections_stand_anywhere(rt: HostRuntime) -> Result<(), Fail> {
     let parts: &[&[u8]] = &[
         CUSTOM, TYPES, CUSTOM, CUSTOM, FUNCTIONS, CUSTOM, CODE, CUSTOM,
     ];
-    assert_eq!(rt; refusal_of(rt.alloc(), parts)?, None);
+    equal(&rt, refusal_of(rt.alloc(), parts)?, None);
     Ok(())
 }
 
@@ -290,11 +292,15 @@ fn types_that_are_written_out_read(rt: HostRuntime) -> Result<(), Fail> {
     // They ask for the same flags.
     let types = section(rt.alloc(), 1, &[&[0x01, 0x60, 0x01, 0x63, 0x70, 0x00]])?;
     let without = all.difference(WasmFeatures::REFERENCE_TYPES);
-    assert_eq!(rt; refusal_under(rt.alloc(), without, &[&types])?, INVALID);
+    equal(&rt, refusal_under(rt.alloc(), without, &[&types])?, INVALID);
     let types = section(rt.alloc(), 1, &[&[0x01, 0x4f, 0x00, 0x60, 0x00, 0x00]])?;
     let without = all.difference(WasmFeatures::GC);
-    assert_eq!(rt; refusal_under(rt.alloc(), without, &[&types])?, None);
-    assert_eq!(rt; refusal_of(rt.alloc(), &[&types, FUNCTIONS, CODE])?, None);
+    equal(&rt, refusal_under(rt.alloc(), without, &[&types])?, None);
+    equal(
+        &rt,
+        refusal_of(rt.alloc(), &[&types, FUNCTIONS, CODE])?,
+        None,
+    );
     Ok(())
 }
 
@@ -371,11 +377,11 @@ fn several_results_ask_for_a_flag(rt: HostRuntime) -> Result<(), Fail> {
     let two = section(rt.alloc(), 1, &[&[0x01, 0x60, 0x00, 0x02, 0x7f, 0x7f]])?;
     let params = section(rt.alloc(), 1, &[&[0x01, 0x60, 0x02, 0x7f, 0x7f, 0x00]])?;
     for types in [&one, &two, &params] {
-        assert_eq!(rt; refusal_under(rt.alloc(), all, &[types])?, None);
+        equal(&rt, refusal_under(rt.alloc(), all, &[types])?, None);
     }
-    assert_eq!(rt; refusal_under(rt.alloc(), without, &[&one])?, None);
-    assert_eq!(rt; refusal_under(rt.alloc(), without, &[&params])?, None);
-    assert_eq!(rt; refusal_under(rt.alloc(), without, &[&two])?, INVALID);
+    equal(&rt, refusal_under(rt.alloc(), without, &[&one])?, None);
+    equal(&rt, refusal_under(rt.alloc(), without, &[&params])?, None);
+    equal(&rt, refusal_under(rt.alloc(), without, &[&two])?, INVALID);
     Ok(())
 }
 

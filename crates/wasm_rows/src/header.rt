@@ -1,5 +1,6 @@
 //! The header, whole, changed and cut.
 
+use crate::checks::equal;
 use crate::modules::{HEADER, new_session, refusal};
 use std::test::Fail;
 use wasm_gen::judge::ErrorKind;
@@ -9,15 +10,15 @@ fn header_alone_defines_nothing(rt: HostRuntime) -> Result<(), Fail> {
     let mut session = new_session();
     let types = session.check(rt.alloc(), &HEADER)?;
     let shown = types.as_ref();
-    assert_eq!(rt; shown.core_type_count_in_module(), 0);
-    assert_eq!(rt; shown.function_count(), 0);
-    assert_eq!(rt; shown.table_count(), 0);
-    assert_eq!(rt; shown.memory_count(), 0);
-    assert_eq!(rt; shown.global_count(), 0);
-    assert_eq!(rt; shown.tag_count(), 0);
-    assert_eq!(rt; shown.element_count(), 0);
+    equal(&rt, shown.core_type_count_in_module(), 0);
+    equal(&rt, shown.function_count(), 0);
+    equal(&rt, shown.table_count(), 0);
+    equal(&rt, shown.memory_count(), 0);
+    equal(&rt, shown.global_count(), 0);
+    equal(&rt, shown.tag_count(), 0);
+    equal(&rt, shown.element_count(), 0);
     let exports = shown.core_exports().ok_or("a module shows its exports")?;
-    assert_eq!(rt; exports.count(), 0);
+    equal(&rt, exports.count(), 0);
     Ok(())
 }
 
@@ -26,13 +27,15 @@ fn another_version_fails_the_session(rt: HostRuntime) -> Result<(), Fail> {
     let mut session = new_session();
     let mut other = HEADER;
     other[4] = 2;
-    assert_eq!(rt;
+    equal(
+        &rt,
         refusal(rt.alloc(), &mut session, &other)?,
-        Some(ErrorKind::Malformed)
+        Some(ErrorKind::Malformed),
     );
-    assert_eq!(rt;
+    equal(
+        &rt,
         refusal(rt.alloc(), &mut session, &HEADER)?,
-        Some(ErrorKind::Failed)
+        Some(ErrorKind::Failed),
     );
     Ok(())
 }

@@ -1,5 +1,6 @@
 //! What a session holds between modules.
 
+use crate::checks::equal;
 use crate::modules::{HEADER, new_session, refusal};
 use std::test::Fail;
 use wasm_core::features::{Flags, WasmFeatures};
@@ -9,23 +10,25 @@ use wasm_gen::session::Session;
 #[test]
 fn failed_session_waits_for_a_restart(rt: HostRuntime) -> Result<(), Fail> {
     let mut session = new_session();
-    assert_eq!(rt; refusal(rt.alloc(), &mut session, &HEADER)?, None);
+    equal(&rt, refusal(rt.alloc(), &mut session, &HEADER)?, None);
     assert!(rt; !session.has_failed());
-    assert_eq!(rt;
+    equal(
+        &rt,
         refusal(rt.alloc(), &mut session, &[])?,
-        Some(ErrorKind::Malformed)
+        Some(ErrorKind::Malformed),
     );
     assert!(rt; session.has_failed());
     for _turn in 0..3 {
-        assert_eq!(rt;
+        equal(
+            &rt,
             refusal(rt.alloc(), &mut session, &HEADER)?,
-            Some(ErrorKind::Failed)
+            Some(ErrorKind::Failed),
         );
         assert!(rt; session.has_failed());
     }
     session.restart(ValidatorId::new(7));
     assert!(rt; !session.has_failed());
-    assert_eq!(rt; refusal(rt.alloc(), &mut session, &HEADER)?, None);
+    equal(&rt, refusal(rt.alloc(), &mut session, &HEADER)?, None);
     Ok(())
 }
 
@@ -33,16 +36,17 @@ fn failed_session_waits_for_a_restart(rt: HostRuntime) -> Result<(), Fail> {
 fn session_keeps_what_it_was_handed(rt: HostRuntime) -> Result<(), Fail> {
     let features = WasmFeatures::GC.union(WasmFeatures::THREADS);
     let mut session = Session::new(features, ValidatorId::new(3));
-    assert_eq!(rt; session.features(), features);
-    assert_eq!(rt; session.id(), ValidatorId::new(3));
-    assert_eq!(rt;
+    equal(&rt, session.features(), features);
+    equal(&rt, session.id(), ValidatorId::new(3));
+    equal(
+        &rt,
         refusal(rt.alloc(), &mut session, &[])?,
-        Some(ErrorKind::Malformed)
+        Some(ErrorKind::Malformed),
     );
-    assert_eq!(rt; session.id(), ValidatorId::new(3));
+    equal(&rt, session.id(), ValidatorId::new(3));
     session.restart(ValidatorId::new(4));
-    assert_eq!(rt; session.features(), features);
-    assert_eq!(rt; session.id(), ValidatorId::new(4));
+    equal(&rt, session.features(), features);
+    equal(&rt, session.id(), ValidatorId::new(4));
     Ok(())
 }
 

@@ -13,9 +13,6 @@ use wasm_smith_source::unstructured::Unstructured;
 use wasm_smith_types::config::Config;
 use wasm_smith_types::error::Error;
 
-#[cfg(test)]
-mod tests;
-
 /// A module that is made: types, each a group by itself, and functions, each of one of the types and with locals of its
 /// own. Every body is `unreachable`. Contracts see it as its configuration and what it has.
 #[derive(Debug, Drop)]

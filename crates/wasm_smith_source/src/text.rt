@@ -29,28 +29,3 @@ pub fn limited_str<'a>(source: &mut Unstructured<'a>, max: usize) -> &'a str
     source.bytes(text.len()).unwrap();
     text
 }
-
-#[cfg(test)]
-mod tests {
-    use super::*;
-
-    #[test]
-    fn draws_the_longest_text(rt: HostRuntime) {
-        let mut source = Unstructured::new(&[0x61, 0x62, 0x63, 2]);
-        assert_eq!(rt; limited_str(&mut source, 10), "ab");
-        assert_eq!(rt; source.u8(), 0x63);
-        assert!(rt; source.is_empty());
-        let mut source = Unstructured::new(&[0xc3, 0xa9, 0xc3, 3]);
-        assert_eq!(rt; limited_str(&mut source, 10), "\u{e9}");
-        assert_eq!(rt; source.u8(), 0xc3);
-        assert!(rt; source.is_empty());
-        let mut source = Unstructured::new(&[0x61]);
-        assert_eq!(rt; limited_str(&mut source, 10), "");
-        assert_eq!(rt; source.u8(), 0x61);
-        let mut source = Unstructured::new(&[0x61, 0x62, 0x63, 3]);
-        assert_eq!(rt; limited_str(&mut source, 2), "ab");
-        assert_eq!(rt; source.u8(), 0x63);
-        let mut source = Unstructured::new(&[]);
-        assert_eq!(rt; limited_str(&mut source, 10), "");
-    }
-}

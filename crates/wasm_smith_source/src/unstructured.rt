@@ -10,9 +10,6 @@ use crate::number::{big_number, little_number, width};
 use std::marker::Model;
 use std::ops::RangeInclusive;
 
-#[cfg(test)]
-mod tests;
-
 /// A source that draws values from bytes. A draw takes bytes that are left, or none where there is one
 /// possible value. Where too few are left, a number is drawn from those that there are; where none are left,
 /// it is zero or the least of its range, `bool` is false and `ratio` is true. [`bytes`](Unstructured::bytes)

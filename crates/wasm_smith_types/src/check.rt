@@ -7,9 +7,6 @@ ghost use Rattle.wasm_smith_types.specs.Fields.{field_of};
 use crate::config::{Config, DEFAULT_MEMORY32_BYTES, DEFAULT_MEMORY64_BYTES};
 use crate::error::Error;
 
-#[cfg(test)]
-mod tests;
-
 // The largest maximum of a count.
 const LARGEST_COUNT: u32 = 0x8000_0000;
 

@@ -5,9 +5,6 @@ ghost use Rattle.std.specs.List.{AllZip};
 
 use wasm_core::features::{Flags, WasmFeatures};
 
-#[cfg(test)]
-mod tests;
-
 /// The most bytes that a memory of 32-bit addresses has where nothing else is said.
 pub const DEFAULT_MEMORY32_BYTES: u64 = 0x1_0000_0000;
 

@@ -12,9 +12,6 @@ use std::alloc::{AllocError, Global};
 use wasm_core::types::SubType;
 use wasm_smith_types::config::Config;
 
-#[cfg(test)]
-mod tests;
-
 /// A seed from which exactly these groups and functions are made for the configuration, without locals; `None` where
 /// they can't be asked for.
 pub fn witness(

@@ -10,7 +10,7 @@ ghost use Rattle.wasmparser_parser.specs.CoreTypes.{abstract_heap_type, val_type
 ghost use Rattle.wasmparser_parser.specs.SupportedReading.{abstract_heap_at, supported_type_at, supported_signature_at, supported_func_at};
 
 use crate::core_types::{AbstractHeapType, FuncType, HeapType, RefType, ValType};
-use crate::error::{Error, ErrorKind};
+use crate::error::Error;
 use std::alloc::Global;
 use wasm_core::binary_reader::BinaryReader;
 use wasm_core::malformed::Malformed;
@@ -130,10 +130,7 @@ pub fn read_func_type(alloc: Global, reader: &mut BinaryReader<'_>) -> Result<Fu
 {
     let offset = reader.original_position();
     if reader.read_u8()? != FUNC {
-        return Err(Error {
-            offset,
-            kind: ErrorKind::Malformed,
-        });
+        return Err(Malformed { offset }.into());
     }
     read_signature(alloc, reader)
 }

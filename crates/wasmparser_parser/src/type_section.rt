@@ -6,26 +6,17 @@ ghost use Rattle.wasmparser_parser.specs.Answers.{AnswersOrFills, AnswersAllOrFi
 ghost use Rattle.wasmparser_parser.specs.CoreTypes.{func_group};
 ghost use Rattle.wasmparser_parser.specs.Sections.{at_front, type_section};
 ghost use Rattle.wasmparser_parser.specs.SupportedReading.{supported_group_at, supported_content};
-ghost use Rattle.wasmparser_parser.specs.declared.error.ErrorKind.TheVariants as kinds;
 
 use crate::core_type_reader::{FUNC, read_func_type, read_signature};
 use crate::core_types::FuncType;
-use crate::error::{Error, ErrorKind};
+use crate::error::Error;
 use crate::raw_section::{RawSection, check_end};
 use std::alloc::Global;
 use wasm_core::binary_reader::BinaryReader;
+use wasm_core::malformed::Malformed;
 
 // What a final type begins with where its supertypes are written.
 const FINAL: u8 = 0x4f;
-
-fn malformed(offset: u64) -> Error
-    ensures { result ≡ record { offset = offset; kind = kinds.Malformed } }
-{
-    Error {
-        offset,
-        kind: ErrorKind::Malformed,
-    }
-}
 
 // Reads an entry of a type section: a final function type without supertypes, which is a group by itself.
 #[tactic(auto, using(crate::proofs::SupportedReading::group_steps))]
@@ -37,11 +28,11 @@ fn read_rec_group(alloc: Global, reader: &mut BinaryReader<'_>) -> Result<FuncTy
         FUNC => read_signature(alloc, reader),
         FINAL => {
             if reader.read_var_u32()? != 0 {
-                return Err(malformed(offset));
+                return Err(Malformed { offset }.into());
             }
             read_func_type(alloc, reader)
         }
-        _ => Err(malformed(offset)),
+        _ => Err(Malformed { offset }.into()),
     }
 }
 

@@ -2,7 +2,7 @@
 use Rattle.std.proofs.Common.{◌≡◌, ◌≢◌, inl, inr, ℕ, ◌+◌, ◌≤◌, Bool, true, false, ◌||◌, ltb, eqb, List, [], ◌∷◌, ◌++◌, length, Option, Some, None, refl, sym, ap, subst, ◌∙◌, arith, length-append}
 use Rattle.std.specs.Prelude.{is_some}
 use Rattle.std.specs.List.{flat_map, list_all, list_any}
-use Rattle.std.proofs.lemmas.Bool.{eq-eqb, le-ltb}
+use Rattle.std.proofs.lemmas.Bool.{and_parts, eq-eqb, le-ltb}
 use Rattle.std.proofs.lemmas.List.Folds.{list_any-append}
 use Rattle.wasm_spec.specs.Features.{Features}
 use Rattle.wasm_spec.specs.Gates.{is_allowed_group}
@@ -12,7 +12,6 @@ use Rattle.wasm_spec.specs.Supported.{is_supported_section, IsSupported}
 use Rattle.wasm_spec.specs.Syntax.{Section, Custom, TypeSection, FunctionSection, CodeSection, members, types_in, functions_in, bodies_in, types_of, functions_of, bodies_of}
 use Rattle.wasm_spec.specs.Validity.{func_type_at, is_past, names_in, KeepRules}
 use Rattle.wasmparser_validator.specs.Sections.{Progress, Judgement, Accepted, Unread, Past, Broken, unless, funcs_in, rule_fault, fault, after, at_last}
-use Rattle.wasmparser_validator.proofs.SupportedLaws.{both_pass}
 use Rattle.wasmparser_validator.proofs.FaultLaws.{chosen, Reaches, funcs_within, singles, snoc, is_behind_from, types_after, functions_after, bodies_after, last_after, functions_reached, bodies_reached}
 
 -- ---- order
@@ -95,7 +94,7 @@ is_read features p (section ∷ sections) all ordered paired e =
     by_fault (rule_fault features p section) refl (is_read features (after p section) sections both.1 (subst (λ last. AreOrdered last sections) (sym (last_after p section)) ordered.1) (paired_after p section sections paired))
   where
     both : (is_supported_section section ≡ true) × (list_all is_supported_section sections ≡ true)
-    both = both_pass (is_supported_section section) (list_all is_supported_section sections) all
+    both = and_parts (is_supported_section section) (list_all is_supported_section sections) all
 
     by_fault : (x : Option Judgement) → rule_fault features p section ≡ x → judge_list features (after p section) sections ≢ Unread → ⊥
     by_fault None f more = more (rw (both.0, is_behind_from p.last (place_of section) ordered.0, f) at e)
@@ -131,7 +130,7 @@ fault_free features p before (Custom name contents) sections m =
     let t = (neither (is_past spec.Name (length name)) _ m.names).0 in
     rw t refl
 fault_free features p before (TypeSection groups) sections m =
-    let t : is_past spec.Groups (length p.types + length groups) ≡ false = le-ltb _ _ (omega (arith, m.types, length-append (flat_map members groups) (types_of sections), singles groups (both_pass _ _ m.supported).0)) in
+    let t : is_past spec.Groups (length p.types + length groups) ≡ false = le-ltb _ _ (omega (arith, m.types, length-append (flat_map members groups) (types_of sections), singles groups (and_parts _ _ m.supported).0)) in
     let u = (none_of (λ type. is_past spec.Params (length type.params)) (funcs_in groups) (flat_map funcs_within sections) m.params).0 in
     let v = (none_of (λ type. is_past spec.Results (length type.results)) (funcs_in groups) (flat_map funcs_within sections) m.results).0 in
     rw (t, u, v, m.rules.0) refl
@@ -148,7 +147,7 @@ fault_free features p before section sections m = refl
 next : (features : Features) (p : Progress) (before : List Section) (section : Section) (sections : List Section) → Meets features p before (section ∷ sections)
     → Meets features (after p section) (before ++ section ∷ []) sections
 next features p before section sections m = record {
-  supported = (both_pass (is_supported_section section) (list_all is_supported_section sections) m.supported).1;
+  supported = (and_parts (is_supported_section section) (list_all is_supported_section sections) m.supported).1;
   ordered = subst (λ last. AreOrdered last sections) (sym (last_after p section)) m.ordered.1;
   rules = m.rules.1;
   known = types_after p section ∙ ap (λ l. l ++ types_in section) m.known ∙ sym (snoc types_in before section);
@@ -166,7 +165,7 @@ reaches features p before [] m = (p, refl)
 reaches features p before (section ∷ sections) m =
     let more = reaches features (after p section) (before ++ section ∷ []) sections (next features p before section sections m) in
     let f = fault_free features p before section sections m in
-    let s = (both_pass (is_supported_section section) (list_all is_supported_section sections) m.supported).0 in
+    let s = (and_parts (is_supported_section section) (list_all is_supported_section sections) m.supported).0 in
     (more.0, (rw (s, is_behind_from p.last (place_of section) m.ordered.0, f) refl, more.1))
 
 pub accepts : (features : Features) (p : Progress) (before sections : List Section) → Meets features p before sections → (q : Progress) × (judge_list features p sections ≡ Accepted q)

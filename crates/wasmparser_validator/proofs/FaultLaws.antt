@@ -1,8 +1,8 @@
 -- Sections without a fault keep the rules, and a fault is a break of them.
-use Rattle.std.proofs.Common.{◌≡◌, ◌⊎◌, inl, inr, ℕ, zero, suc, ◌+◌, ◌<◌, ◌≤◌, Bool, true, false, ◌&&◌, ◌||◌, cond, ltb, List, [], ◌∷◌, ◌++◌, length, Option, Some, None, refl, sym, ap, subst, ◌∙◌, append_assoc, arith, length-append}
+use Rattle.std.proofs.Common.{◌≡◌, ◌⊎◌, inl, inr, ℕ, zero, suc, ◌+◌, ◌<◌, ◌≤◌, Bool, true, false, ◌||◌, cond, ltb, List, [], ◌∷◌, ◌++◌, length, Option, Some, None, refl, sym, ap, subst, ◌∙◌, append_assoc, arith, length-append}
 use Rattle.std.specs.Prelude.{is_some}
 use Rattle.std.specs.List.{AllByRecursion, filter_map, flat_map, list_all, list_any}
-use Rattle.std.proofs.lemmas.Bool.{le-ltb, lt-ltb, ltb-true, ltb-false, or_from}
+use Rattle.std.proofs.lemmas.Bool.{and_from, and_parts, le-ltb, lt-ltb, ltb-true, ltb-false, or_from}
 use Rattle.std.proofs.lemmas.Grind.{flat_map-append}
 use Rattle.std.proofs.lemmas.List.{append-nil}
 use Rattle.std.proofs.lemmas.List.Elements.{filter_map-append}
@@ -19,7 +19,7 @@ use Rattle.wasm_spec.specs.Syntax.{Section, Custom, TypeSection, FunctionSection
 use Rattle.wasm_spec.specs.Types.{FuncType, SubType, RecGroup, Single, Group}
 use Rattle.wasm_spec.specs.Validity.{func_type_of, func_type_at, func_types_of, is_past, names_in, is_passed, keeps_rule, KeepRules}
 use Rattle.wasmparser_validator.specs.Sections.{Progress, Judgement, Unread, Past, Broken, funcs_in, rule_fault, place_fault, fault, after}
-use Rattle.wasmparser_validator.proofs.SupportedLaws.{both_pass, pass_both, supported_with}
+use Rattle.wasmparser_validator.proofs.SupportedLaws.{supported_with}
 
 -- ---- tests
 
@@ -105,7 +105,7 @@ no_fault features p section e =
 pub supported_reached : (features : Features) (p : Progress) (sections : List Section) (q : Progress) → Reaches features p sections q → IsSupported sections
 supported_reached features p [] q r = refl
 supported_reached features p (section ∷ sections) q r =
-    pass_both (is_supported_section section) (list_all is_supported_section sections) (no_fault features p section r.0).2 (supported_reached features (after p section) sections q r.1)
+    and_from (is_supported_section section) (list_all is_supported_section sections) (no_fault features p section r.0).2 (supported_reached features (after p section) sections q r.1)
 
 pub ordered_reached : (features : Features) (p : Progress) (sections : List Section) (q : Progress) → Reaches features p sections q → AreOrdered p.last sections
 ordered_reached features p [] q r = tt
@@ -149,7 +149,7 @@ some_below (type ∷ types) (suc index) e = omega (arith, some_below types index
 
 all_below : (types : List (SubType ℕ)) (indexes : List ℕ) → list_all (λ index. is_some (func_type_at types index)) indexes ≡ true → AllByRecursion (λ index. index < length types) indexes
 all_below types [] e = tt
-all_below types (index ∷ indexes) e = let c = both_pass _ _ e in (some_below types index c.0, all_below types indexes c.1)
+all_below types (index ∷ indexes) e = let c = and_parts _ _ e in (some_below types index c.0, all_below types indexes c.1)
 
 below_more : (a b : ℕ) (indexes more : List ℕ) → a ≤ b → AllByRecursion (λ index. index < a) indexes → AllByRecursion (λ index. index < b) more → AllByRecursion (λ index. index < b) (indexes ++ more)
 below_more a b [] more le h k = k
@@ -176,7 +176,7 @@ named_reached features p (section ∷ sections) q r h = named_reached features (
 
 pub singles : (groups : List (RecGroup ℕ)) → list_all is_supported_group groups ≡ true → length (flat_map members groups) ≡ length groups
 singles [] all = refl
-singles (Single type ∷ groups) all = ap suc (singles groups (both_pass _ _ all).1)
+singles (Single type ∷ groups) all = ap suc (singles groups (and_parts _ _ all).1)
 singles (Group types ∷ groups) all = absurd cc
 
 types_in_groups : (section : Section) → is_supported_section section ≡ true → length (types_in section) ≡ length (groups_in section)
@@ -186,13 +186,13 @@ types_in_groups section s = refl
 pub types_count : (sections : List Section) → IsSupported sections → length (types_of sections) ≡ length (groups_of sections)
 types_count [] all = refl
 types_count (section ∷ sections) all =
-    let both = both_pass (is_supported_section section) (list_all is_supported_section sections) all in
+    let both = and_parts (is_supported_section section) (list_all is_supported_section sections) all in
     omega (arith, length-append (types_in section) (types_of sections), length-append (groups_in section) (groups_of sections), types_in_groups section both.0, types_count sections both.1)
 
 pub sizes_types : (sections : List Section) → IsSupported sections → (sizes_of sections).types ≡ length (types_of sections)
 sizes_types [] all = refl
 sizes_types (Custom name contents ∷ sections) all = omega (arith, sizes_types sections all)
-sizes_types (TypeSection groups ∷ sections) all = omega (arith, sizes_types sections (both_pass _ _ all).1, length-append (flat_map members groups) (types_of sections))
+sizes_types (TypeSection groups ∷ sections) all = omega (arith, sizes_types sections (and_parts _ _ all).1, length-append (flat_map members groups) (types_of sections))
 sizes_types (FunctionSection indexes ∷ sections) all = omega (arith, sizes_types sections all)
 sizes_types (CodeSection bodies ∷ sections) all = omega (arith, sizes_types sections all)
 sizes_types (section ∷ sections) all = absurd cc
@@ -200,7 +200,7 @@ sizes_types (section ∷ sections) all = absurd cc
 pub sizes_functions : (sections : List Section) → IsSupported sections → (sizes_of sections).functions ≡ length (functions_of sections)
 sizes_functions [] all = refl
 sizes_functions (Custom name contents ∷ sections) all = omega (arith, sizes_functions sections all)
-sizes_functions (TypeSection groups ∷ sections) all = omega (arith, sizes_functions sections (both_pass _ _ all).1)
+sizes_functions (TypeSection groups ∷ sections) all = omega (arith, sizes_functions sections (and_parts _ _ all).1)
 sizes_functions (FunctionSection indexes ∷ sections) all = omega (arith, sizes_functions sections all, length-append indexes (functions_of sections))
 sizes_functions (CodeSection bodies ∷ sections) all = omega (arith, sizes_functions sections all)
 sizes_functions (section ∷ sections) all = absurd cc

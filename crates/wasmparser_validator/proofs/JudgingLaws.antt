@@ -2,6 +2,7 @@
 use Rattle.std.proofs.Common.{◌≡◌, ◌≢◌, ◌⊎◌, inl, inr, ℕ, zero, suc, ◌<◌, Bool, true, false, cond, List, [], ◌∷◌, ◌++◌, length, drop, Option, Some, None, refl, sym, ap, subst, ◌∙◌, arith, length-append}
 use Rattle.std.specs.Prelude.{nat_eq}
 use Rattle.std.specs.List.{list_all, starts_with}
+use Rattle.std.proofs.lemmas.Bool.{and_parts}
 use Rattle.std.proofs.lemmas.Bool.Decides.{Decides-eqb}
 use Rattle.std.proofs.lemmas.Slice.Eq.{starts_is}
 use Rattle.wasm_core.specs.ModuleReading.{frame_at}
@@ -15,7 +16,7 @@ use Rattle.wasm_spec.specs.Syntax.{Section}
 use Rattle.wasmparser_parser.specs.SupportedReading.{supported_content}
 use Rattle.wasmparser_validator.specs.Sections.{Progress, Judgement, Unread, at_first, unless, fault, after, stated, with_content, judge_content, with_frame, at_last, judge_at, judge_sections, judge_module}
 use Rattle.wasmparser_validator.proofs.SectionsLaws.{no_sections, one_frame}
-use Rattle.wasmparser_validator.proofs.SupportedLaws.{both_pass, supported_found, supported_again}
+use Rattle.wasmparser_validator.proofs.SupportedLaws.{supported_found, supported_again}
 use Rattle.wasmparser_validator.proofs.FaultLaws.{Reaches}
 use Rattle.wasmparser_validator.proofs.CompleteLaws.{judge_list}
 
@@ -58,7 +59,7 @@ unfolding judge_list judge_content
 as_list compact features p text [] are h all = no_sections features p text (ap length h)
 as_list compact features p text (section ∷ sections) are h all =
     let both = parts_are h.0 h.1 (subst AreBytes h.2 are) in
-    let supported = both_pass (is_supported_section section) (list_all is_supported_section sections) all in
+    let supported = and_parts (is_supported_section section) (list_all is_supported_section sections) all in
     let f = section_frame compact h.0 section h.1 both.0 h.3 supported.0 in
     let first : frame_at text ≡ Some ((section_id section, f.0), h.1) = ap frame_at h.2 ∙ f.1 in
     let some : 0 < length text = omega (arith, ap length h.2, length-append h.0 h.1, ap length h.3.1) in

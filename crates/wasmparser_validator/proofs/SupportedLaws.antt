@@ -1,18 +1,17 @@
 -- What is supported of types and sections is what reads of them and passes the tests.
-use Rattle.std.proofs.Common.{◌≡◌, ◌≢◌, ℕ, Bool, true, false, cond, ◌&&◌, List, [], ◌∷◌, ◌++◌, length, Option, Some, None, refl, sym, ap, ◌∙◌, arith, inl, inr}
+use Rattle.std.proofs.Common.{◌≡◌, ◌≢◌, ℕ, Bool, true, false, cond, List, [], ◌∷◌, ◌++◌, length, Some, None, refl, sym, ap, ◌∙◌, arith}
 use Rattle.std.specs.List.{AllByRecursion, list_all}
-use Rattle.std.proofs.lemmas.Bool.{ne_eqb}
-use Rattle.std.proofs.lemmas.Bool.Decides.{eqb_tells}
+use Rattle.std.proofs.lemmas.Bool.{and_from, and_parts, ne_eqb}
 use Rattle.std.proofs.lemmas.Option.{cond_some}
 use Rattle.wasm_core.specs.Laws.{ReadsExactly}
 use Rattle.wasm_core.specs.ModuleReading.{content_of}
-use Rattle.wasm_core.specs.Reading.{◌>>=◌, unsigned_at}
+use Rattle.wasm_core.specs.Reading.{unsigned_at}
 use Rattle.wasm_core.specs.TypeReading.{val_type_at}
 use Rattle.wasm_core.proofs.ReadingLaws.{bind_some, content_id, groups_count, functions_count, bodies_count, reads_val_type, reads_tested}
 use Rattle.wasm_spec.specs.Bodies.{IsLocalType}
 use Rattle.wasm_spec.specs.Grammar.{section_id}
 use Rattle.wasm_spec.specs.Supported.{is_supported_type, is_supported_section, IsSupported}
-use Rattle.wasm_spec.specs.Syntax.{Section, Custom, TypeSection, ImportSection, FunctionSection, CodeSection, data_counts_of}
+use Rattle.wasm_spec.specs.Syntax.{Section, Custom, TypeSection, FunctionSection, CodeSection, data_counts_of}
 use Rattle.wasm_spec.specs.TypeGrammar.{IsValType}
 use Rattle.wasm_spec.specs.Types.{RecGroup}
 use Rattle.wasmparser_parser.specs.SupportedReading.{supported_type_at, supported_content}
@@ -77,25 +76,18 @@ supported_bodies content bodies e = bodies_count false content bodies (read_with
 
 -- ---- lists of sections
 
-pub both_pass : (a b : Bool) → (a && b) ≡ true → (a ≡ true) × (b ≡ true)
-both_pass true b e = (refl, e)
-both_pass false b e = absurd cc
-
-pub pass_both : (a b : Bool) → a ≡ true → b ≡ true → (a && b) ≡ true
-pass_both a b e f = rw (e, f) refl
-
 -- one section more
 pub supported_with : (before : List Section) (section : Section) → IsSupported before → is_supported_section section ≡ true → IsSupported (before ++ section ∷ [])
-supported_with [] section all s = pass_both (is_supported_section section) true s refl
+supported_with [] section all s = and_from (is_supported_section section) true s refl
 supported_with (other ∷ before) section all s =
-    let both = both_pass (is_supported_section other) (list_all is_supported_section before) all in
-    pass_both (is_supported_section other) (list_all is_supported_section (before ++ section ∷ [])) both.0 (supported_with before section both.1 s)
+    let both = and_parts (is_supported_section other) (list_all is_supported_section before) all in
+    and_from (is_supported_section other) (list_all is_supported_section (before ++ section ∷ [])) both.0 (supported_with before section both.1 s)
 
 -- sections that are supported state no number of data segments
 pub no_data_counts : (P : ℕ → Type 0) (sections : List Section) → IsSupported sections → AllByRecursion P (data_counts_of sections)
 no_data_counts P [] all = tt
 no_data_counts P (Custom name contents ∷ sections) all = no_data_counts P sections all
-no_data_counts P (TypeSection groups ∷ sections) all = no_data_counts P sections (both_pass _ _ all).1
+no_data_counts P (TypeSection groups ∷ sections) all = no_data_counts P sections (and_parts _ _ all).1
 no_data_counts P (FunctionSection indexes ∷ sections) all = no_data_counts P sections all
 no_data_counts P (CodeSection bodies ∷ sections) all = no_data_counts P sections all
 no_data_counts P (section ∷ sections) all = absurd cc

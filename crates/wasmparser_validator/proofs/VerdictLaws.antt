@@ -1,6 +1,7 @@
 -- The whole promise: from what the sections and the bodies are judged to what is answered.
 use Rattle.std.proofs.Common.{◌≡◌, ◌≢◌, ◌⊎◌, inl, inr, ℕ, zero, suc, ◌+◌, ◌<◌, ◌≤◌, Bool, true, false, List, [], ◌∷◌, map, length, Some, Ok, Err, refl, sym, ap, subst, ◌∙◌, arith, length-append}
 use Rattle.std.specs.List.{AllByRecursion, list_all, slice_get}
+use Rattle.std.proofs.lemmas.Bool.{and_parts}
 use Rattle.std.proofs.lemmas.List.{length-map}
 use Rattle.wasm_core.specs.LimitCases as limits
 use Rattle.wasm_core.specs.Limits as views
@@ -22,7 +23,6 @@ use Rattle.wasmparser_validator.specs.Bodies.{HasBodyAt, JudgesBodies}
 use Rattle.wasmparser_validator.specs.Judging.{IsNamed, IsJudged}
 use Rattle.wasmparser_validator.specs.Sections.{Progress, Judgement, Accepted, Past, EndsBy, at_first, func_sub, Names, judge_module}
 use Rattle.wasmparser_validator.proofs.FaultLaws.{types_reached, functions_reached, bodies_reached, types_bounded, functions_bounded, named_reached}
-use Rattle.wasmparser_validator.proofs.SupportedLaws.{both_pass}
 use Rattle.wasmparser_validator.proofs.RefusalLaws.{Whole, accepted_whole, fine_whole, past_module, broken_module, read_module, fine_module}
 
 -- ---- what is shown
@@ -46,7 +46,7 @@ sizes_are : (sections : List Section) → IsSupported sections → sizes_of sect
 unfolding counts
 sizes_are [] all = refl
 sizes_are (section ∷ sections) all =
-    let supported = both_pass (is_supported_section section) (list_all is_supported_section sections) all in
+    let supported = and_parts (is_supported_section section) (list_all is_supported_section sections) all in
     ap (λ x. together x (sizes_of sections)) (added section supported.0) ∙ ap (together (counts (length (types_in section)) (length (functions_in section)))) (sizes_are sections supported.1)
     ∙ both (length (types_in section)) (length (functions_in section)) (length (types_of sections)) (length (functions_of sections))
     ∙ ap (λ n. counts n (length (functions_in section) + length (functions_of sections))) (sym (length-append (types_in section) (types_of sections)))

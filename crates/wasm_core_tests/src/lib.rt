@@ -1,0 +1,21 @@
+//! Tests of `wasm_core`, through its public calls.
+#![tactic(auto)]
+
+#[cfg(test)]
+mod checks;
+#[cfg(test)]
+mod features;
+#[cfg(test)]
+mod module;
+#[cfg(test)]
+mod numbers;
+#[cfg(test)]
+mod read_numbers;
+#[cfg(test)]
+mod reader;
+#[cfg(test)]
+mod type_section;
+#[cfg(test)]
+mod types;
+#[cfg(test)]
+mod written_numbers;

@@ -1,0 +1,205 @@
+//! Readers and writers that fail as a test asks.
+ghost use Rattle.std.specs.Prelude.{◌≡◌, ◌+◌, IfOk, IfSome, Some};
+ghost use Rattle.std.specs.Option.{option_map};
+ghost use Rattle.wasm_gen.specs.Device.{FailsWrite, Tells};
+
+use std::alloc::{AllocError, Global};
+use std::io;
+use std::io::{Error, ErrorKind, Read};
+use wasm_gen::device::{Sink, Source};
+
+/// What a [`ScriptedReader`] does at one call.
+#[derive(Clone, Copy)]
+pub enum Step {
+    /// It gives this byte.
+    Gives(u8),
+    /// A signal cuts it short.
+    IsInterrupted,
+    /// It fails.
+    Fails,
+    /// It gives nothing, as at the end.
+    Ends,
+}
+
+/// A reader that takes one step of its script at each call, and then another step without end.
+#[derive(Drop)]
+pub struct ScriptedReader<'a> {
+    script: &'a [Step],
+    then: Step,
+}
+
+impl<'a> ScriptedReader<'a> {
+    /// A reader that takes the steps of the script, and from then on this one.
+    pub fn new(script: &'a [Step], then: Step) -> Self {
+        ScriptedReader { script, then }
+    }
+}
+
+impl Read for ScriptedReader<'_> {
+    fn read(&mut self, buffer: &mut [u8]) -> io::Result<usize> {
+        let mut step = self.then;
+        if let Some((first, rest)) = self.script.split_first() {
+            step = *first;
+            self.script = rest;
+        }
+        match step {
+            Step::Gives(byte) => match buffer.first_mut() {
+                Some(first) => {
+                    *first = byte;
+                    Ok(1)
+                }
+                None => Ok(0),
+            },
+            Step::IsInterrupted => Err(Error::from(ErrorKind::Interrupted)),
+            Step::Fails => Err(Error::from(ErrorKind::BrokenPipe)),
+            Step::Ends => Ok(0),
+        }
+    }
+}
+
+/// How many reads there were, and what came of them.
+#[derive(Clone, Copy, Debug, Default, PartialEq, Eq)]
+pub struct Told {
+    /// The reads.
+    pub asked: u64,
+    /// Those of them that failed other than by a signal.
+    pub failed: u64,
+    /// Those of them that gave no byte.
+    pub ended: u64,
+}
+
+impl Told {
+    // The counts after one more read, where there is room for them.
+    fn next(self, failures: u64, ends: u64) -> Option<Told>
+        ensures asked { IfSome result (λ told. told.asked ≡ self.asked + 1) }
+        ensures failed { IfSome result (λ told. told.failed ≡ self.failed + failures) }
+        ensures ended { IfSome result (λ told. told.ended ≡ self.ended + ends) }
+    {
+        Some(Told {
+            asked: self.asked.checked_add(1)?,
+            failed: self.failed.checked_add(failures)?,
+            ended: self.ended.checked_add(ends)?,
+        })
+    }
+}
+
+/// A source that tells all: it gives the bytes of a slice one a call, and may fail where so many are left.
+#[derive(Drop)]
+pub struct TellingReader<'a> {
+    /// The bytes that are left.
+    pub rest: &'a [u8],
+    /// How many are left where it fails.
+    pub fails_with: Option<usize>,
+    /// How it fails there.
+    pub kind: ErrorKind,
+    /// What it was asked.
+    pub told: Option<Told>,
+}
+
+impl TellingReader<'_> {
+    // One more read, which is no longer told where there is no room for it.
+    fn count(&mut self, failures: u64, ends: u64)
+        ensures kept { self.new ≡ record self.old { told = self.new.told } }
+        ensures told { Tells (λ old new. (new.asked ≡ old.asked + 1)
+            × (new.failed ≡ old.failed + failures) × (new.ended ≡ old.ended + ends))
+            self.old.told self.new.told }
+    {
+        self.told = match self.told {
+            Some(told) => told.next(failures, ends),
+            None => None,
+        };
+    }
+}
+
+impl Source for TellingReader<'_> {
+    ghost use Rattle.wasm_gen.specs.Device.{ReadCounts};
+
+    ghost remaining = { λ s. Some s.rest.now };
+
+    ghost reads = { λ s. option_map (λ told.
+        record { asked = told.asked; failed = told.failed; ended = told.ended }) s.told };
+
+    fn read(&mut self, buffer: &mut [u8]) -> io::Result<usize> {
+        if self.fails_with == Some(self.rest.len()) {
+            let failures = u64::from(self.kind != ErrorKind::Interrupted);
+            self.count(failures, 0);
+            return Err(Error::from(self.kind));
+        }
+        match (self.rest.split_first(), buffer.first_mut()) {
+            (Some((byte, rest)), Some(first)) => {
+                *first = *byte;
+                self.rest = rest;
+                self.count(0, 0);
+                Ok(1)
+            }
+            _ => {
+                self.count(0, 1);
+                Ok(0)
+            }
+        }
+    }
+}
+
+/// What a [`NarrowWriter`] does at a call once it is full.
+#[derive(Clone, Copy, Debug)]
+pub enum WhenFull {
+    /// It fails.
+    Fails,
+    /// It takes no byte.
+    TakesNone,
+}
+
+/// A sink that tells all: it takes one byte a call until it is full.
+#[derive(Drop)]
+pub struct NarrowWriter {
+    /// The bytes that it took.
+    pub taken: Vec<u8>,
+    /// How often it failed or took none.
+    pub faults: Option<u64>,
+    room: usize,
+    when_full: WhenFull,
+}
+
+impl NarrowWriter {
+    /// A writer that takes so many bytes.
+    pub fn new(alloc: Global, room: usize, when_full: WhenFull) -> Result<Self, AllocError> {
+        Ok(NarrowWriter {
+            taken: Vec::with_capacity(alloc, room)?,
+            faults: Some(0),
+            room,
+            when_full,
+        })
+    }
+
+    // One more fault, which is no longer told where there is no room for it.
+    fn fail(&mut self) -> io::Result<usize>
+        ensures none { IfOk result (λ n. n ≡ 0) }
+        ensures kept { self.new.taken.items ≡ self.old.taken.items }
+        ensures told { FailsWrite self.old.faults self.new.faults }
+    {
+        self.faults = match self.faults {
+            Some(faults) => faults.checked_add(1),
+            None => None,
+        };
+        match self.when_full {
+            WhenFull::Fails => Err(Error::from(ErrorKind::BrokenPipe)),
+            WhenFull::TakesNone => Ok(0),
+        }
+    }
+}
+
+impl Sink for NarrowWriter {
+    ghost contents = { λ s. Some s.taken.items };
+
+    ghost faults = { λ s. s.faults };
+
+    fn write(&mut self, buffer: &[u8]) -> io::Result<usize> {
+        let Some(byte) = buffer.first() else {
+            return self.fail();
+        };
+        if self.taken.len() < self.room && self.taken.push(*byte).is_ok() {
+            return Ok(1);
+        }
+        self.fail()
+    }
+}

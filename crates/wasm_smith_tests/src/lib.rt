@@ -1,0 +1,17 @@
+//! Tests of `wasm_smith`, through its public calls.
+#![tactic(auto)]
+
+#[cfg(test)]
+mod check;
+#[cfg(test)]
+mod checks;
+#[cfg(test)]
+mod config;
+#[cfg(test)]
+mod errors;
+#[cfg(test)]
+mod module;
+#[cfg(test)]
+mod unstructured;
+#[cfg(test)]
+mod witness;

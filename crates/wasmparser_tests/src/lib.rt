@@ -1,0 +1,11 @@
+//! Tests of `wasmparser`, through its public calls.
+#![tactic(auto)]
+
+#[cfg(test)]
+mod bodies;
+#[cfg(test)]
+mod checks;
+#[cfg(test)]
+mod errors;
+#[cfg(test)]
+mod types;

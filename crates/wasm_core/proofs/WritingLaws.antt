@@ -5,7 +5,7 @@ use Rattle.wasm_spec.proofs.NumberLaws.{unsigned_spelled, positive_spelled, nega
 use Rattle.wasm_core.specs.Reading.{unsigned_at, signed_at}
 use Rattle.wasm_core.proofs.ReadingLaws.{unsigned_again, signed_again}
 -- The lists of views, under the name of this crate.
-pub use Rattle.wasm_core_base.proofs.TypeLists.{list_mapped, val_types, sub_types}
+pub use Rattle.wasm_core_write.proofs.TypeLists.{list_mapped, val_types, sub_types}
 
 -- a number that is written is read back
 pub read_back : (bits n : ℕ) (rest : List ℕ) → n < 2 ^ bits → unsigned_at bits (unsigned_text n ++ rest) ≡ Some (n, rest)

@@ -1,2 +1,2 @@
 -- The cases of refusals of writing, under the name of this crate.
-pub use Rattle.wasm_core_base.specs.declared.encode_error.EncodeError.TheVariants.{Memory, TooLong}
+pub use Rattle.wasm_core_write.specs.declared.encode_error.EncodeError.TheVariants.{Memory, TooLong}

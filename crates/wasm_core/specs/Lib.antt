@@ -7,10 +7,10 @@ pub mod TypeEntries
 pub mod TypeReading
 pub mod Types
 pub mod ValTypeCases
-pub use Rattle.wasm_core_base.specs.CoreTypes
-pub use Rattle.wasm_core_base.specs.Encoding
+pub use Rattle.wasm_core_types.specs.CoreTypes
+pub use Rattle.wasm_core_write.specs.Encoding
 pub use Rattle.wasm_core_base.specs.Features
 pub use Rattle.wasm_core_base.specs.Limits
-pub use Rattle.wasm_core_base.specs.SubTypes
+pub use Rattle.wasm_core_types.specs.SubTypes
 pub use Rattle.wasm_core_read.specs.Input
 pub use Rattle.wasm_core_read.specs.Laws

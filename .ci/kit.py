@@ -1,0 +1,35 @@
+"""The kit's command rt as a module, for the scripts of this repository: its way of checking a crate, and of using the processors."""
+import importlib.machinery
+import importlib.util
+import os
+import shutil
+import sys
+
+sys.dont_write_bytecode = True
+
+
+def load():
+    path = os.path.realpath(shutil.which("rt") or "/opt/rattle/bin/rt")
+    loader = importlib.machinery.SourceFileLoader("rt", path)
+    module = importlib.util.module_from_spec(importlib.util.spec_from_loader("rt", loader))
+    loader.exec_module(module)
+    return module
+
+
+rt = load()
+rtlib = rt.rtlib
+
+
+def crates(top):
+    """Returns the repository's crates, each after those that it stands on."""
+    # (its first call sets a signal's handler, which only the main thread may)
+    rtlib.guarded()
+    os.chdir(top)
+    return sorted(rtlib.crates_below(top), key=lambda it: len(it.below()))
+
+
+def in_order(tasks):
+    """Runs tasks side by side, each after those that it waits for, and returns what each gave. A task is a list of what it waits for, the crate that it
+    works on, and a call that gets what was given and how many jobs it may use."""
+    lines = {it: it.count(rb"\n") for _, it, _ in tasks.values()}
+    return rt.in_lanes({key: (waits, lines[it], rt.need(it), call) for key, (waits, it, call) in tasks.items()})

@@ -1,0 +1,5 @@
+use Rattle.wasm_core_write.proofs.EntryLaws.{parts}
+use Rattle.wasm_core_write.proofs.laws.entry_lengths.Goals as goal
+
+pub returns : goal.returns
+returns c = parts

@@ -1,0 +1,5 @@
+use Rattle.wasm_core_write.proofs.EntryLaws.{same}
+use Rattle.wasm_core_write.proofs.laws.same_entries.Goals as goal
+
+pub returns : goal.returns
+returns c = same

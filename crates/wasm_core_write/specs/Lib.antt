@@ -1,0 +1,4 @@
+pub mod CoreEntries
+pub mod CoreTexts
+pub mod Encoding
+pub mod TypeEntries

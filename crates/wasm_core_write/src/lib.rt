@@ -1,0 +1,12 @@
+//! Writing the binary format: numbers, lists and frames, types, a module's bytes and the type section.
+#![tactic(auto)]
+
+pub mod encode;
+pub mod encode_error;
+pub mod laws;
+pub mod leb128;
+pub mod module;
+pub mod text;
+pub mod type_entries;
+pub mod type_section;
+pub mod type_texts;

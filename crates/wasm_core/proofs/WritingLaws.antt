@@ -2,8 +2,8 @@
 use Rattle.std.proofs.Common.{◌≡◌, ℕ, ◌<◌, ◌-◌, ◌^◌, pos, negsuc, List, ◌++◌, length, Some, ap, ◌∙◌, append_assoc}
 use Rattle.wasm_spec.specs.Shortest.{unsigned_text, signed_text, framed_text}
 use Rattle.wasm_spec.proofs.NumberLaws.{unsigned_spelled, positive_spelled, negative_spelled}
-use Rattle.wasm_core.specs.Reading.{unsigned_at, signed_at}
-use Rattle.wasm_core.proofs.ReadingLaws.{unsigned_again, signed_again}
+use Rattle.wasm_core_read.specs.Reading.{unsigned_at, signed_at}
+use Rattle.wasm_core_read.proofs.ReadingLaws.{unsigned_again, signed_again}
 -- The lists of views, under the name of this crate.
 pub use Rattle.wasm_core_write.proofs.TypeLists.{list_mapped, val_types, sub_types}
 

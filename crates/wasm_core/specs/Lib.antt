@@ -1,8 +1,6 @@
 pub mod CoreTexts
 pub mod EncodeErrorCases
 pub mod LimitCases
-pub mod ModuleReading
-pub mod Reading
 pub mod TypeEntries
 pub mod TypeReading
 pub mod Types
@@ -12,5 +10,3 @@ pub use Rattle.wasm_core_write.specs.Encoding
 pub use Rattle.wasm_core_base.specs.Features
 pub use Rattle.wasm_core_base.specs.Limits
 pub use Rattle.wasm_core_types.specs.SubTypes
-pub use Rattle.wasm_core_read.specs.Input
-pub use Rattle.wasm_core_read.specs.Laws

@@ -1,7 +1,7 @@
 //! Laws that tie the parts together. The functions do nothing: their contracts are theorems.
 
 ghost use Rattle.std.specs.Prelude.{◌≡◌, ◌<◌, ◌-◌, ◌^◌, ◌++◌, ℕ, pos, negsuc, List, Some, length};
-ghost use Rattle.wasm_core.specs.Reading.{unsigned_at, signed_at};
+ghost use Rattle.wasm_core_read.specs.Reading.{unsigned_at, signed_at};
 ghost use Rattle.wasm_core.specs.TypeEntries.{TypeEntry, entries_text};
 ghost use Rattle.wasm_spec.specs.Shortest.{unsigned_text, signed_text, framed_text};
 

@@ -1,5 +1,6 @@
 //! The limits past which a module is refused.
 
+use std::fmt;
 use thiserror::Error;
 
 // The numbers of the limits. A limit is passed by a greater number. The format itself has none of these but the length; the
@@ -71,71 +72,50 @@ pub const MAX_WASM_LENGTH: u64 = 4_294_967_295;
 /// The most types that one judge holds over all of its modules.
 pub const MAX_WASM_TOTAL_TYPES: u64 = 1_048_576;
 
-/// A limit that a module can pass.
+/// A limit that a module can pass. Its text is the name of its case.
 #[derive(Clone, Copy, Debug, PartialEq, Eq, Hash, Error)]
 pub enum Limit {
     /// Types in the index space.
-    #[error("Types")]
     Types,
     /// Entries of the type section.
-    #[error("Groups")]
     Groups,
     /// Entries of the import section.
-    #[error("Imports")]
     Imports,
     /// Functions, imported ones counted.
-    #[error("Functions")]
     Functions,
     /// Globals, imported ones counted.
-    #[error("Globals")]
     Globals,
     /// Tags, imported ones counted.
-    #[error("Tags")]
     Tags,
     /// Exports.
-    #[error("Exports")]
     Exports,
     /// Tables, imported ones counted.
-    #[error("Tables")]
     Tables,
     /// Memories, imported ones counted.
-    #[error("Memories")]
     Memories,
     /// Element segments.
-    #[error("ElementSegments")]
     ElementSegments,
     /// Data segments.
-    #[error("DataSegments")]
     DataSegments,
     /// Items of one element segment.
-    #[error("SegmentEntries")]
     SegmentEntries,
     /// Parameters of a function type.
-    #[error("Params")]
     Params,
     /// Results of a function type.
-    #[error("Results")]
     Results,
     /// Fields of a structure type.
-    #[error("Fields")]
     Fields,
     /// Locals of a function, its parameters counted.
-    #[error("Locals")]
     Locals,
     /// Bytes of a function body.
-    #[error("BodySize")]
     BodySize,
     /// Bytes of the name of an import, an export or a custom section.
-    #[error("Name")]
     Name,
     /// The size that a module's imports and exports have as a type.
-    #[error("TypeSize")]
     TypeSize,
     /// Supertypes above a type.
-    #[error("Depth")]
     Depth,
     /// What the format can state as a count, a size or a length.
-    #[error("Length")]
     Length,
 }
 
@@ -171,5 +151,11 @@ impl Limit {
             Limit::Depth => MAX_WASM_SUBTYPING_DEPTH,
             Limit::Length => MAX_WASM_LENGTH,
         }
+    }
+}
+
+impl fmt::Display for Limit {
+    fn fmt<W: fmt::Write>(&self, f: &mut fmt::Formatter<W>) -> fmt::Result {
+        fmt::Debug::fmt(self, f)
     }
 }

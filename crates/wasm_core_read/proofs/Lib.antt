@@ -10,6 +10,7 @@ pub mod ModuleForms
 pub mod Names
 pub mod NumberForms
 pub mod PartForms
+pub mod ReadingLaws
 pub mod SignedLaws
 pub mod TypeForms
 pub mod UnsignedLaws

@@ -1,7 +1,7 @@
 //! The entries of a type section that is built.
 
-use wasm_core_types::types::SubType;
 use std::marker::Model;
+use wasm_core_types::types::SubType;
 
 /// The sub types of a group that is written out.
 #[derive(Debug, Drop)]

@@ -15,9 +15,9 @@ use crate::encode_error::EncodeError;
 use crate::leb128::len_u64;
 use crate::text::{Text, add_sizes, encode_framed, framed_len, item_len, list_size, put_list};
 use crate::type_entries::{TypeEntry, TypeGroup};
-use wasm_core_types::types::{CompositeType, FuncType, SubType};
 use std::alloc::Global;
 use std::marker::Model;
+use wasm_core_types::types::{CompositeType, FuncType, SubType};
 
 impl Text for TypeEntry {
     ghost text = { type_entry_text };

@@ -3,8 +3,8 @@ use Rattle.std.proofs.Common.{◌≡◌, ℕ, ◌≤◌, ◌<◌, ◌^◌, List,
 use Rattle.std.specs.Prelude.{IfOk, IfErr, ◌⊎◌, false}
 use Rattle.std.proofs.lemmas.List.{length-map}
 use Rattle.std.proofs.lemmas.Bool.Decides.{eqb_tells}
-use Rattle.wasm_core.specs.Types.{SubType}
-use Rattle.wasm_core.specs.SubTypes.{sub_type}
+use Rattle.wasm_core_types.specs.declared.types.SubType.{SubType}
+use Rattle.wasm_core_types.specs.SubTypes.{sub_type}
 use Rattle.wasm_spec.specs.Types as spec
 use Rattle.wasm_smith_source.specs.Draws.{bool_at}
 use Rattle.wasm_smith_types.specs.Config.{IsGood, NamesBad, fields}

@@ -1,5 +1,5 @@
 -- What is offered, as the code has it, as it is in the specification.
-use Rattle.wasm_core.specs.CoreTypes.{val_type}
+use Rattle.wasm_core_types.specs.CoreTypes.{val_type}
 use Rattle.wasm_smith_module.specs.Generating as spec
 use Rattle.wasm_smith_module.specs.declared.value_types.Kind.{Kind}
 use Rattle.wasm_smith_module.specs.declared.value_types.Kind.TheVariants.{Plain, Reference}

@@ -8,7 +8,7 @@ use crate::steps::{code, funcs, types};
 use crate::value_types::Offers;
 use std::alloc::Global;
 use std::marker::Model;
-use wasm_core::types::{SubType, ValType};
+use wasm_core_types::types::{SubType, ValType};
 use wasm_smith_source::unstructured::Unstructured;
 use wasm_smith_types::config::Config;
 use wasm_smith_types::error::Error;
@@ -25,8 +25,8 @@ pub struct Module {
 
 impl Model for Module {
     ghost use Rattle.std.specs.Prelude.{map};
-    ghost use Rattle.wasm_core.specs.CoreTypes.{val_type};
-    ghost use Rattle.wasm_core.specs.SubTypes.{sub_type};
+    ghost use Rattle.wasm_core_types.specs.CoreTypes.{val_type};
+    ghost use Rattle.wasm_core_types.specs.SubTypes.{sub_type};
     ghost use Rattle.wasm_smith_module.specs.Made.{ModuleValue};
 
     ghost Value = { ModuleValue };
@@ -61,8 +61,8 @@ fn build(alloc: Global, config: Config, source: &mut Unstructured<'_>) -> Result
 
 impl Module {
     ghost use Rattle.std.specs.Prelude.{◌≡◌, map, IfOk, IfErr};
-    ghost use Rattle.wasm_core.specs.CoreTypes.{val_type};
-    ghost use Rattle.wasm_core.specs.SubTypes.{sub_type};
+    ghost use Rattle.wasm_core_types.specs.CoreTypes.{val_type};
+    ghost use Rattle.wasm_core_types.specs.SubTypes.{sub_type};
     ghost use Rattle.wasm_smith_types.specs.Config.{sanitized};
     ghost use Rattle.wasm_smith_module.specs.Generating.{module_at};
     ghost use Rattle.wasm_smith_module.specs.Promise.{IsMadeFor, IsReason, IsBadConfig};

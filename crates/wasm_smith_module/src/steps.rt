@@ -1,8 +1,8 @@
 //! The steps of the generator, in the order in which they draw.
 
 ghost use Rattle.std.specs.Prelude.{◌≡◌, map};
-ghost use Rattle.wasm_core.specs.CoreTypes.{val_type};
-ghost use Rattle.wasm_core.specs.SubTypes.{sub_type};
+ghost use Rattle.wasm_core_types.specs.CoreTypes.{val_type};
+ghost use Rattle.wasm_core_types.specs.SubTypes.{sub_type};
 ghost use Rattle.wasm_smith_module.specs.Generating.{offers, type_at, types_at, funcs_at, code_at};
 ghost use Rattle.wasm_smith_module.specs.Growing.{Draws};
 
@@ -10,7 +10,7 @@ use crate::bounds::{MAX_LOCALS, MAX_PARAMS, max_results};
 use crate::growing::grows;
 use crate::value_types::Offers;
 use std::alloc::{AllocError, Global};
-use wasm_core::types::{CompositeType, FuncType, SubType, ValType};
+use wasm_core_types::types::{CompositeType, FuncType, SubType, ValType};
 use wasm_smith_source::unstructured::Unstructured;
 use wasm_smith_types::config::Config;
 

@@ -1,7 +1,7 @@
 //! The value types that are drawn.
 
 ghost use Rattle.std.specs.Prelude.{◌≡◌, IfOk, map};
-ghost use Rattle.wasm_core.specs.CoreTypes.{val_type};
+ghost use Rattle.wasm_core_types.specs.CoreTypes.{val_type};
 ghost use Rattle.wasm_smith_source.specs.Draws.{IsDrawn};
 ghost use Rattle.wasm_smith_module.specs.Generating.{offers, reference_at, value_at, values_at};
 ghost use Rattle.wasm_smith_module.specs.Growing.{Draws};
@@ -9,7 +9,7 @@ ghost use Rattle.wasm_smith_module.specs.Growing.{Draws};
 use crate::growing::grows;
 use std::alloc::{AllocError, Global};
 use std::marker::Model;
-use wasm_core::types::{AbstractHeapType, HeapType, RefType, ValType};
+use wasm_core_types::types::{AbstractHeapType, HeapType, RefType, ValType};
 use wasm_smith_source::unstructured::Unstructured;
 use wasm_smith_types::config::Config;
 
@@ -31,7 +31,7 @@ pub struct Offers {
 
 impl Model for Offers {
     ghost use Rattle.std.specs.Prelude.{map, length, ◌<◌};
-    ghost use Rattle.wasm_core.specs.CoreTypes.{abstract_heap_type};
+    ghost use Rattle.wasm_core_types.specs.CoreTypes.{abstract_heap_type};
     ghost use Rattle.wasm_smith_module.specs.Generating as generating;
     ghost use Rattle.wasm_smith_module.specs.Offered.{kind};
 

@@ -3,7 +3,7 @@
 ghost use Rattle.std.specs.Prelude.{◌≡◌, ◌≤◌, ◌^◌, ◌<◌, IsTrue};
 ghost use Rattle.std.specs.List.{AllZip};
 
-use wasm_core::features::{Flags, WasmFeatures};
+use wasm_core_base::features::{Flags, WasmFeatures};
 
 /// The most bytes that a memory of 32-bit addresses has where nothing else is said.
 pub const DEFAULT_MEMORY32_BYTES: u64 = 0x1_0000_0000;
@@ -196,7 +196,7 @@ impl Default for Config {
 }
 
 impl Config {
-    ghost use Rattle.wasm_core.specs.Features.{feature_set};
+    ghost use Rattle.wasm_core_base.specs.Features.{feature_set};
     ghost use Rattle.wasm_smith_types.specs.Config.{sanitized, booleans, upper_limits, AreFeaturesOf};
     ghost use Rattle.wasm_smith_types.specs.Rows.{rows_of, switches};
 

@@ -4,8 +4,8 @@ use Rattle.std.specs.Prelude.{IfOk, is_ok}
 use Rattle.std.specs.Int.{bytes_high_first}
 use Rattle.std.proofs.lemmas.List.{append-nil, drop_more, at_drop_all, take_all, length-map}
 use Rattle.std.proofs.lemmas.Bool.{lt-ltb, le-ltb}
-use Rattle.wasm_core.specs.SubTypes.{composite_type, sub_type}
-use Rattle.wasm_core.specs.Types.{SubType}
+use Rattle.wasm_core_types.specs.SubTypes.{composite_type, sub_type}
+use Rattle.wasm_core_types.specs.declared.types.SubType.{SubType}
 use Rattle.wasm_spec.specs.Types.{FuncType}
 use Rattle.wasm_smith_source.specs.Draws.{width}
 use Rattle.wasm_smith_types.specs.declared.config.Config.{Config}

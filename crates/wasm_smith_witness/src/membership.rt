@@ -2,14 +2,14 @@
 
 ghost use Rattle.std.specs.Prelude.{◌≡◌, ◌↔◌, ◌==◌, IsTrue, length, map, nat_lt};
 ghost use Rattle.std.specs.List.{list_all};
-ghost use Rattle.wasm_core.specs.CoreTypes.{abstract_heap_type, val_type, heap_type};
-ghost use Rattle.wasm_core.specs.SubTypes.{composite_type, sub_type};
+ghost use Rattle.wasm_core_types.specs.CoreTypes.{abstract_heap_type, val_type, heap_type};
+ghost use Rattle.wasm_core_types.specs.SubTypes.{composite_type, sub_type};
 ghost use Rattle.wasm_spec.specs.Types as spec;
 ghost use Rattle.wasm_smith_types.specs.Defaults.{least_counts};
 ghost use Rattle.wasm_smith_witness.specs.Family.{IsAskable, IsMember, is_enabled_heap, is_enabled, is_member_function, is_member_composite, is_member_type, is_member_group, types_of};
 ghost use Rattle.wasm_smith_witness.specs.Groups.{group_of};
 
-use wasm_core::types::{
+use wasm_core_types::types::{
     AbstractHeapType, CompositeType, FuncType, HeapType, RefType, SubType, ValType,
 };
 use wasm_smith_module::bounds::{MAX_PARAMS, max_results};

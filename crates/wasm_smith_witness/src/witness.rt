@@ -9,7 +9,7 @@ ghost use Rattle.wasm_smith_witness.specs.Spelling.{Spells};
 use crate::membership::{is_askable, is_member};
 use crate::words::{push_funcs, push_groups};
 use std::alloc::{AllocError, Global};
-use wasm_core::types::SubType;
+use wasm_core_types::types::SubType;
 use wasm_smith_types::config::Config;
 
 /// A seed from which exactly these groups and functions are made for the configuration, without locals; `None` where

@@ -1,13 +1,15 @@
 //! Writes a spelling of a list.
 
 ghost use Rattle.std.specs.Prelude.{◌≡◌, ◌++◌, map, IfOk};
-ghost use Rattle.wasm_core.specs.CoreTypes.{abstract_heap_type, heap_type, val_type};
-ghost use Rattle.wasm_core.specs.SubTypes.{composite_type, sub_type};
+ghost use Rattle.wasm_core_types.specs.CoreTypes.{abstract_heap_type, heap_type, val_type};
+ghost use Rattle.wasm_core_types.specs.SubTypes.{composite_type, sub_type};
 ghost use Rattle.wasm_smith_witness.specs.Groups.{group_of};
 ghost use Rattle.wasm_smith_witness.specs.Words.{place_after_floats, place_after_exceptions, value_place, heap_place, heap_word, value_word, int_word, each_word, list_word, function_word, composite_word, group_word};
 
 use std::alloc::AllocError;
-use wasm_core::types::{AbstractHeapType, CompositeType, FuncType, HeapType, SubType, ValType};
+use wasm_core_types::types::{
+    AbstractHeapType, CompositeType, FuncType, HeapType, SubType, ValType,
+};
 use wasm_smith_module::bounds::{MAX_PARAMS, max_results};
 use wasm_smith_source::number::width;
 use wasm_smith_types::config::Config;

@@ -1,7 +1,7 @@
 -- Parts of an input.
 use Rattle.std.proofs.Common.{List, [], ◌∷◌, ◌++◌, arith}
 use Rattle.std.specs.List.{AllByRecursion}
-use Rattle.wasm_core.specs.Input.{Input, GoesOn}
+use Rattle.wasm_core_read.specs.Input.{Input, GoesOn}
 use Rattle.wasmparser_parser.specs.Sections.{Part, IsInside}
 
 pub all_push : {A : Type 0} (P : A → Type 0) (xs : List A) (x : A) → AllByRecursion P xs → P x → AllByRecursion P (xs ++ x ∷ [])

@@ -5,10 +5,10 @@ use Rattle.std.specs.List.{list_all}
 use Rattle.std.specs.Option.{option_map}
 use Rattle.std.proofs.lemmas.Bool.{ne_eqb}
 use Rattle.std.proofs.lemmas.Bool.Decides.{eqb_tells}
-use Rattle.wasm_core.specs.ModuleReading.{content_of}
-use Rattle.wasm_core.specs.Reading.{◌>>=◌, ReadingOf, byte_at, unsigned_at, tested_at, pair_at, filled}
-use Rattle.wasm_core.specs.TypeReading.{look_up, coded, heap_codes, shorthand, val_type_codes, final_type, items_at, list_at, heap_index_at, heap_type_at, val_type_at, signature_at, func_type_at, field_type_at, composite_type_at, sub_type_at, rec_group_at}
-use Rattle.wasm_core.proofs.ReadingLaws.{some_is}
+use Rattle.wasm_core_read.specs.ModuleReading.{content_of}
+use Rattle.wasm_core_read.specs.Reading.{◌>>=◌, ReadingOf, byte_at, unsigned_at, tested_at, pair_at, filled}
+use Rattle.wasm_core_read.specs.TypeReading.{look_up, coded, heap_codes, shorthand, val_type_codes, final_type, items_at, list_at, heap_index_at, heap_type_at, val_type_at, signature_at, func_type_at, field_type_at, composite_type_at, sub_type_at, rec_group_at}
+use Rattle.wasm_core_read.proofs.ReadingLaws.{some_is}
 use Rattle.wasm_spec.specs.Supported.{is_supported_type, is_supported_func, is_supported_composite, is_supported_sub, is_supported_group, is_supported_section}
 use Rattle.wasm_spec.specs.Syntax.{Section, TypeSection}
 use Rattle.wasm_spec.specs.Types as heaps

@@ -1,6 +1,6 @@
 -- The types of the code as those of the specification.
 use Rattle.std.specs.Prelude.{ℕ}
-use Rattle.wasm_core.specs.TypeReading.{final_type}
+use Rattle.wasm_core_read.specs.TypeReading.{final_type}
 use Rattle.wasm_spec.specs.Types as spec
 use Rattle.wasmparser_parser.specs.declared.core_types.AbstractHeapType.{AbstractHeapType}
 use Rattle.wasmparser_parser.specs.declared.core_types.AbstractHeapType.TheVariants as heaps

@@ -1,6 +1,6 @@
 -- Sections of the code as those of the specification.
 use Rattle.std.specs.Prelude.{ℕ, ◌+◌, ◌≤◌, List, length, map}
-use Rattle.wasm_core.specs.Input.{Input, end}
+use Rattle.wasm_core_read.specs.Input.{Input, end}
 use Rattle.wasm_spec.specs.Features.{default_features}
 use Rattle.wasm_spec.specs.Syntax as spec
 use Rattle.wasm_spec.specs.Types.{FuncType}

@@ -1,9 +1,9 @@
 -- What is read so far of types and sections: what is supported, each as it reads. Bytes of which something else reads are refused as those of
 -- which nothing does.
 use Rattle.std.specs.Prelude.{ℕ, List, false, Option, Some, None, if◌then◌else◌}
-use Rattle.wasm_core.specs.ModuleReading.{content_of}
-use Rattle.wasm_core.specs.Reading.{◌>>=◌, ReadingOf, byte_at, tested_at}
-use Rattle.wasm_core.specs.TypeReading.{look_up, heap_codes, list_at, val_type_at, func_type_at, rec_group_at}
+use Rattle.wasm_core_read.specs.ModuleReading.{content_of}
+use Rattle.wasm_core_read.specs.Reading.{◌>>=◌, ReadingOf, byte_at, tested_at}
+use Rattle.wasm_core_read.specs.TypeReading.{look_up, heap_codes, list_at, val_type_at, func_type_at, rec_group_at}
 use Rattle.wasm_spec.specs.Supported.{is_supported_type, is_supported_func, is_supported_group, is_supported_section}
 use Rattle.wasm_spec.specs.Syntax.{Section}
 use Rattle.wasm_spec.specs.Types.{AbstractHeapType, ValType, FuncType, RecGroup}

@@ -2,9 +2,9 @@
 
 ghost use Rattle.std.specs.Prelude.{◌≡◌, ◌↔◌, ◌+◌, map, length, IfOk, IsTrue};
 ghost use Rattle.std.specs.List.{AllByRecursion};
-ghost use Rattle.wasm_core.specs.ModuleReading.{body_at};
-ghost use Rattle.wasm_core.specs.Reading.{Answers};
-ghost use Rattle.wasm_core.specs.TypeReading.{list_at};
+ghost use Rattle.wasm_core_read.specs.PartReading.{body_at};
+ghost use Rattle.wasm_core_read.specs.Reading.{Answers};
+ghost use Rattle.wasm_core_read.specs.TypeReading.{list_at};
 ghost use Rattle.wasmparser_parser.specs.Answers.{AnswersOrFills, AnswersAllOrFills};
 ghost use Rattle.wasmparser_parser.specs.Sections.{IsInside, at_front, code_section};
 ghost use Rattle.wasmparser_parser.specs.SupportedReading.{supported_content};
@@ -13,8 +13,8 @@ use crate::error::Error;
 use crate::raw_section::{RawSection, check_end};
 use std::alloc::Global;
 use std::marker::Model;
-use wasm_core::binary_reader::BinaryReader;
-use wasm_core::malformed::Malformed;
+use wasm_core_read::binary_reader::BinaryReader;
+use wasm_core_read::malformed::Malformed;
 
 /// The body of a function: its locals and its expression, not yet read. Contracts see it as its bytes and the
 /// place of the first of them in the input.
@@ -72,7 +72,7 @@ impl<'a> FunctionBody<'a> {
 }
 
 // Reads the size of a body, and its bytes.
-#[tactic(auto, using(wasm_core::proofs::ReadingLaws::bytes_length), unfolding(wasm_core::specs::ModuleReading::body_at))]
+#[tactic(auto, using(wasm_core_read::proofs::ReadingLaws::bytes_length), unfolding(wasm_core_read::specs::PartReading::body_at))]
 fn read_body<'a>(reader: &mut BinaryReader<'a>) -> Result<FunctionBody<'a>, Malformed>
     ensures read { Answers (λ b. b.bytes) reader.old reader.new result (body_at reader.old.rest) }
     ensures inside { IfOk result (λ b. IsInside reader.old b) }
@@ -84,7 +84,7 @@ fn read_body<'a>(reader: &mut BinaryReader<'a>) -> Result<FunctionBody<'a>, Malf
     Ok(FunctionBody::new(bytes, position))
 }
 
-#[tactic(auto, using(wasm_core::proofs::ReadingLaws::list_loop), unfolding(wasm_core::specs::TypeReading::list_at))]
+#[tactic(auto, using(wasm_core_read::proofs::ReadingLaws::list_loop), unfolding(wasm_core_read::specs::TypeReading::list_at))]
 fn read_bodies<'a>(
     alloc: Global,
     reader: &mut BinaryReader<'a>,
@@ -101,7 +101,7 @@ fn read_bodies<'a>(
 }
 
 /// Reads the content of a code section: the bodies, each behind its size (Core Specification, 5.5.13).
-#[tactic(auto, unfolding(wasm_core::specs::ModuleReading::content_of, crate::specs::SupportedReading::supported_content))]
+#[tactic(auto, unfolding(wasm_core_read::specs::ModuleReading::content_of, crate::specs::SupportedReading::supported_content))]
 pub fn read_code_section<'a>(
     alloc: Global,
     section: &RawSection<'a>,

@@ -2,8 +2,8 @@
 
 ghost use Rattle.std.specs.Prelude.{◌≡◌, true, map};
 ghost use Rattle.std.specs.Option.{option_map};
-ghost use Rattle.wasm_core.specs.Reading.{Answers};
-ghost use Rattle.wasm_core.specs.TypeReading.{look_up, heap_codes, val_type_codes, list_at};
+ghost use Rattle.wasm_core_read.specs.Reading.{Answers};
+ghost use Rattle.wasm_core_read.specs.TypeReading.{look_up, heap_codes, val_type_codes, list_at};
 ghost use Rattle.wasm_spec.specs.Types.{Abstract, Ref};
 ghost use Rattle.wasmparser_parser.specs.Answers.{AnswersOrFills};
 ghost use Rattle.wasmparser_parser.specs.CoreTypes.{abstract_heap_type, val_type};
@@ -12,8 +12,8 @@ ghost use Rattle.wasmparser_parser.specs.SupportedReading.{abstract_heap_at, sup
 use crate::core_types::{AbstractHeapType, FuncType, HeapType, RefType, ValType};
 use crate::error::Error;
 use std::alloc::Global;
-use wasm_core::binary_reader::BinaryReader;
-use wasm_core::malformed::Malformed;
+use wasm_core_read::binary_reader::BinaryReader;
+use wasm_core_read::malformed::Malformed;
 
 // What a reference that may be null begins with where it is written out.
 const NULLABLE: u8 = 0x63;
@@ -98,7 +98,7 @@ pub fn read_val_type(reader: &mut BinaryReader<'_>) -> Result<ValType, Malformed
 }
 
 /// Reads a list of value types: their number as u32, and the types (Core Specification, 5.1.3).
-#[tactic(auto, using(wasm_core::proofs::ReadingLaws::list_loop), unfolding(wasm_core::specs::TypeReading::list_at))]
+#[tactic(auto, using(wasm_core_read::proofs::ReadingLaws::list_loop), unfolding(wasm_core_read::specs::TypeReading::list_at))]
 pub fn read_val_types(alloc: Global, reader: &mut BinaryReader<'_>) -> Result<Vec<ValType>, Error>
     ensures { AnswersOrFills (λ v. map val_type v.items) reader.old reader.new result (list_at supported_type_at reader.old.rest) }
 {

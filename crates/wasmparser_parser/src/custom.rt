@@ -1,12 +1,12 @@
 //! Custom sections.
 
 ghost use Rattle.std.specs.Prelude.{◌≡◌};
-ghost use Rattle.wasm_core.specs.Reading.{AnswersAll};
+ghost use Rattle.wasm_core_read.specs.Reading.{AnswersAll};
 ghost use Rattle.wasmparser_parser.specs.Sections.{at_front, custom};
 ghost use Rattle.wasmparser_parser.specs.SupportedReading.{supported_content};
 
 use crate::raw_section::RawSection;
-use wasm_core::malformed::Malformed;
+use wasm_core_read::malformed::Malformed;
 
 /// A custom section: parts of the bytes that it was read from.
 #[derive(Clone, Copy, Debug, PartialEq, Eq)]
@@ -18,7 +18,7 @@ pub struct CustomSectionReader<'a> {
 }
 
 /// Reads the content of a custom section: a name, and any bytes (Core Specification, 5.5.3).
-#[tactic(auto, using(wasm_core::proofs::ReadingLaws::all_bytes), unfolding(wasm_core::specs::ModuleReading::content_of, crate::specs::SupportedReading::supported_content))]
+#[tactic(auto, using(wasm_core_read::proofs::ReadingLaws::all_bytes), unfolding(wasm_core_read::specs::ModuleReading::content_of, crate::specs::SupportedReading::supported_content))]
 pub fn read_custom_section<'a>(
     section: &RawSection<'a>,
 ) -> Result<CustomSectionReader<'a>, Malformed>

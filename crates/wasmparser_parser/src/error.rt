@@ -5,8 +5,8 @@ ghost use Rattle.wasmparser_parser.specs.declared.error.ErrorKind.TheVariants as
 
 use std::alloc::{AllocError, AllocFailed};
 use thiserror::Error;
-use wasm_core::limits::Limit;
-use wasm_core::malformed::Malformed;
+use wasm_core_base::limits::Limit;
+use wasm_core_read::malformed::Malformed;
 
 /// Why a module is refused. Its text is the kind in lower case, without the case of a limit.
 #[derive(Clone, Copy, Debug, PartialEq, Eq, Hash, Error)]

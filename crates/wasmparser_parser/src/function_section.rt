@@ -1,8 +1,8 @@
 //! Function sections.
 
 ghost use Rattle.std.specs.Prelude.{◌≡◌};
-ghost use Rattle.wasm_core.specs.Reading.{unsigned_at};
-ghost use Rattle.wasm_core.specs.TypeReading.{list_at};
+ghost use Rattle.wasm_core_read.specs.Reading.{unsigned_at};
+ghost use Rattle.wasm_core_read.specs.TypeReading.{list_at};
 ghost use Rattle.wasm_spec.specs.Syntax.{FunctionSection};
 ghost use Rattle.wasmparser_parser.specs.Answers.{AnswersOrFills, AnswersAllOrFills};
 ghost use Rattle.wasmparser_parser.specs.Sections.{at_front};
@@ -11,9 +11,9 @@ ghost use Rattle.wasmparser_parser.specs.SupportedReading.{supported_content};
 use crate::error::Error;
 use crate::raw_section::{RawSection, check_end};
 use std::alloc::Global;
-use wasm_core::binary_reader::BinaryReader;
+use wasm_core_read::binary_reader::BinaryReader;
 
-#[tactic(auto, using(wasm_core::proofs::ReadingLaws::list_loop), unfolding(wasm_core::specs::TypeReading::list_at))]
+#[tactic(auto, using(wasm_core_read::proofs::ReadingLaws::list_loop), unfolding(wasm_core_read::specs::TypeReading::list_at))]
 fn read_indexes(alloc: Global, reader: &mut BinaryReader<'_>) -> Result<Vec<u32>, Error>
     ensures { AnswersOrFills (λ v. v.items) reader.old reader.new result (list_at (unsigned_at 32) reader.old.rest) }
 {
@@ -26,7 +26,7 @@ fn read_indexes(alloc: Global, reader: &mut BinaryReader<'_>) -> Result<Vec<u32>
 }
 
 /// Reads the content of a function section: the type index of each function (Core Specification, 5.5.6).
-#[tactic(auto, unfolding(wasm_core::specs::ModuleReading::content_of, crate::specs::SupportedReading::supported_content))]
+#[tactic(auto, unfolding(wasm_core_read::specs::ModuleReading::content_of, crate::specs::SupportedReading::supported_content))]
 pub fn read_function_section(alloc: Global, section: &RawSection<'_>) -> Result<Vec<u32>, Error>
     ensures { AnswersAllOrFills (λ v. FunctionSection v.items) (at_front section.now.content) result (supported_content 3 section.now.content.bytes) }
 {

@@ -2,13 +2,13 @@
 
 ghost use Rattle.std.specs.Prelude.{◌≡◌, ◌≢◌, ◌+◌, length, IfOk, IfErr, OnOk, OnErr};
 ghost use Rattle.std.specs.Option.{option_map};
-ghost use Rattle.wasm_core.specs.ModuleReading.{frame_at};
-ghost use Rattle.wasm_core.specs.Reading.{Answers, AnswersAll, unsigned_at};
+ghost use Rattle.wasm_core_read.specs.ModuleReading.{frame_at};
+ghost use Rattle.wasm_core_read.specs.Reading.{Answers, AnswersAll, unsigned_at};
 ghost use Rattle.wasmparser_parser.specs.Sections.{IsInside, at_front};
 
 use std::marker::Model;
-use wasm_core::binary_reader::BinaryReader;
-use wasm_core::malformed::Malformed;
+use wasm_core_read::binary_reader::BinaryReader;
+use wasm_core_read::malformed::Malformed;
 
 /// A section of any id, and the bytes of its content. Contracts see it as its id, these bytes and the place of
 /// the first of them in the input.
@@ -32,7 +32,7 @@ impl<'a> Model for RawSection<'a> {
 
 impl<'a> RawSection<'a> {
     /// Reads a section: its id, the size of its content, and so many bytes (Core Specification, 5.5.2).
-    #[tactic(auto, using(wasm_core::proofs::ReadingLaws::bytes_length), unfolding(wasm_core::specs::ModuleReading::frame_at))]
+    #[tactic(auto, using(wasm_core_read::proofs::ReadingLaws::bytes_length), unfolding(wasm_core_read::specs::ModuleReading::frame_at))]
     pub fn read(reader: &mut BinaryReader<'a>) -> Result<RawSection<'a>, Malformed>
         ensures read { Answers (λ s. (s.id, s.content.bytes)) reader.old reader.new result (frame_at reader.old.rest) }
         ensures inside { IfOk result (λ s. IsInside reader.old s.content) }

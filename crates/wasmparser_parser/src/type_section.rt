@@ -1,7 +1,7 @@
 //! Type sections.
 
 ghost use Rattle.std.specs.Prelude.{◌≡◌, map};
-ghost use Rattle.wasm_core.specs.TypeReading.{list_at};
+ghost use Rattle.wasm_core_read.specs.TypeReading.{list_at};
 ghost use Rattle.wasmparser_parser.specs.Answers.{AnswersOrFills, AnswersAllOrFills};
 ghost use Rattle.wasmparser_parser.specs.CoreTypes.{func_group};
 ghost use Rattle.wasmparser_parser.specs.Sections.{at_front, type_section};
@@ -12,8 +12,8 @@ use crate::core_types::FuncType;
 use crate::error::Error;
 use crate::raw_section::{RawSection, check_end};
 use std::alloc::Global;
-use wasm_core::binary_reader::BinaryReader;
-use wasm_core::malformed::Malformed;
+use wasm_core_read::binary_reader::BinaryReader;
+use wasm_core_read::malformed::Malformed;
 
 // What a final type begins with where its supertypes are written.
 const FINAL: u8 = 0x4f;
@@ -36,7 +36,7 @@ fn read_rec_group(alloc: Global, reader: &mut BinaryReader<'_>) -> Result<FuncTy
     }
 }
 
-#[tactic(auto, using(wasm_core::proofs::ReadingLaws::list_loop), unfolding(wasm_core::specs::TypeReading::list_at))]
+#[tactic(auto, using(wasm_core_read::proofs::ReadingLaws::list_loop), unfolding(wasm_core_read::specs::TypeReading::list_at))]
 fn read_rec_groups(alloc: Global, reader: &mut BinaryReader<'_>) -> Result<Vec<FuncType>, Error>
     ensures { AnswersOrFills (λ v. map func_group v.items) reader.old reader.new result (list_at supported_group_at reader.old.rest) }
 {

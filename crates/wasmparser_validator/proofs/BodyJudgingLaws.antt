@@ -6,8 +6,8 @@ use Rattle.std.proofs.lemmas.Bool.{le-leb, eqb-true}
 use Rattle.std.proofs.lemmas.Bool.Decides.{eqb_tells, leb_tells}
 use Rattle.std.proofs.lemmas.List.{append-nil, nil_from_length, length-reverse, length-map}
 use Rattle.std.proofs.lemmas.List.Sums.{sum_by-cons}
-use Rattle.wasm_core.specs.Reading.{◌>>=◌, unsigned_at}
-use Rattle.wasm_core.proofs.ReadingLaws.{bind_some, some_is, joined, behind, unsigned_found, unsigned_again}
+use Rattle.wasm_core_read.specs.Reading.{◌>>=◌, unsigned_at}
+use Rattle.wasm_core_read.proofs.ReadingLaws.{bind_some, some_is, joined, behind, unsigned_found, unsigned_again}
 use Rattle.wasm_spec.specs.Bodies.{Context, State, all_taken, nothing_known, Code, done, plain, flat, Judged, is_used_up, IsExactly, at_start, IsBodyOf, Run, IsRun, local_count, IsFunctionBody, HasManyLocals, HasOtherOperator}
 use Rattle.wasm_spec.specs.Operators.{Operator, Unreachable, End, IsOperator, IsOperators}
 use Rattle.wasm_spec.specs.Bytes.{AreBytes, IsU32, IsItems, IsList}
@@ -15,9 +15,9 @@ use Rattle.wasm_spec.specs.Features.{Features}
 use Rattle.wasm_spec.specs.Gates.{is_allowed}
 use Rattle.wasm_spec.specs.Limits.{Locals, IsPassedBy}
 use Rattle.wasm_spec.specs.Types.{ValType, FuncType}
-use Rattle.wasm_core.specs.Input.{Input}
-use Rattle.wasm_core.specs.LimitCases as core
-use Rattle.wasm_core.specs.Types.{Limit}
+use Rattle.wasm_core_read.specs.Input.{Input}
+use Rattle.wasm_core_base.specs.declared.limits.Limit.TheVariants as core
+use Rattle.wasm_core_base.specs.declared.limits.Limit.{Limit}
 use Rattle.wasmparser_parser.specs.declared.error.Error.{Error}
 use Rattle.wasmparser_parser.specs.declared.error.ErrorKind.{ErrorKind}
 use Rattle.wasmparser_parser.specs.declared.error.ErrorKind.TheVariants as kinds

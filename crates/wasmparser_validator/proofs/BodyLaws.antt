@@ -2,16 +2,16 @@
 use Rattle.std.proofs.Common.{◌≡◌, ◌≢◌, ℕ, suc, ◌+◌, ◌-◌, ◌<◌, ◌≤◌, Bool, true, false, eqb, leb, List, [], ◌∷◌, length, Some, None, Result, Ok, Err, subst, refl, sym, ap, ◌∙◌, arith, inl, inr}
 use Rattle.std.proofs.lemmas.Bool.{le-leb, lt-leb}
 use Rattle.std.proofs.lemmas.Bool.Decides.{eqb_tells}
-use Rattle.wasm_core.specs.Input.{Input, GoesOn, IsWithin}
-use Rattle.wasm_core.specs.Reading.{byte_at, unsigned_at}
-use Rattle.wasm_core.proofs.ReadingLaws.{some_is}
+use Rattle.wasm_core_read.specs.Input.{Input, GoesOn, IsWithin}
+use Rattle.wasm_core_read.specs.Reading.{byte_at, unsigned_at}
+use Rattle.wasm_core_read.proofs.ReadingLaws.{some_is}
 use Rattle.wasm_spec.specs.Bodies.{Run}
 use Rattle.wasm_spec.specs.Features.{Features}
 use Rattle.wasm_spec.specs.Gates.{is_allowed}
 use Rattle.wasm_spec.specs.Types.{ValType}
 use Rattle.wasmparser_parser.specs.SupportedReading.{supported_type_at}
 use Rattle.wasmparser_parser.specs.declared.error.Error.{Error}
-use Rattle.wasm_core.specs.LimitCases as core
+use Rattle.wasm_core_base.specs.declared.limits.Limit.TheVariants as core
 use Rattle.wasmparser_parser.specs.declared.error.ErrorKind.{ErrorKind}
 use Rattle.wasmparser_parser.specs.declared.error.ErrorKind.TheVariants as kinds
 use Rattle.wasmparser_validator.specs.BodyReading.{NamesFault, JudgesBody, BodyJudgement, Broken, ManyLocals, OtherOperator, end_judgement, judge_code, run_at, with_run, judge_runs, judge_body}

@@ -7,7 +7,7 @@ use Rattle.std.proofs.lemmas.Grind.{flat_map-append}
 use Rattle.std.proofs.lemmas.List.{append-nil}
 use Rattle.std.proofs.lemmas.List.Elements.{filter_map-append}
 use Rattle.std.proofs.lemmas.List.Folds.{list_any-append}
-use Rattle.wasm_core.specs.ModuleReading.{is_behind}
+use Rattle.wasm_core_read.specs.ModuleReading.{is_behind}
 use Rattle.wasm_spec.specs.Features.{Features}
 use Rattle.wasm_spec.specs.Gates.{is_allowed_group}
 use Rattle.wasm_spec.specs.Grammar.{place_of, last_place, last_of, IsBehind, AreOrdered}

@@ -5,9 +5,9 @@ use Rattle.std.specs.List.{list_all, starts_with}
 use Rattle.std.proofs.lemmas.Bool.{and_parts}
 use Rattle.std.proofs.lemmas.Bool.Decides.{Decides-eqb}
 use Rattle.std.proofs.lemmas.Slice.Eq.{starts_is}
-use Rattle.wasm_core.specs.ModuleReading.{frame_at}
-use Rattle.wasm_core.specs.Reading.{unsigned_at}
-use Rattle.wasm_core.proofs.ReadingLaws.{parts_are, joined, behind, reads_frame, frame_bytes, fills_content}
+use Rattle.wasm_core_read.specs.ModuleReading.{frame_at}
+use Rattle.wasm_core_read.specs.Reading.{unsigned_at}
+use Rattle.wasm_core_read.proofs.ReadingLaws.{parts_are, joined, behind, reads_frame, frame_bytes, fills_content}
 use Rattle.wasm_spec.specs.Bytes.{AreBytes, IsU32, IsItems}
 use Rattle.wasm_spec.specs.Features.{Features, CompactImports, has}
 use Rattle.wasm_spec.specs.Grammar.{header, section_id, IsContent, IsSection}

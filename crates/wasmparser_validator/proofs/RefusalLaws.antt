@@ -4,9 +4,9 @@ use Rattle.std.specs.Prelude.{is_some}
 use Rattle.std.specs.List.{list_all, list_any}
 use Rattle.std.proofs.lemmas.Bool.{eqb-true, ltb-false, ltb-true}
 use Rattle.std.proofs.lemmas.List.{append-nil}
-use Rattle.wasm_core.specs.ModuleReading.{frame_at, is_behind}
-use Rattle.wasm_core.specs.Reading.{unsigned_at}
-use Rattle.wasm_core.proofs.ReadingLaws.{behind, joined, reads_frame, frame_bytes, unsigned_found}
+use Rattle.wasm_core_read.specs.ModuleReading.{frame_at, is_behind}
+use Rattle.wasm_core_read.specs.Reading.{unsigned_at}
+use Rattle.wasm_core_read.proofs.ReadingLaws.{behind, joined, reads_frame, frame_bytes, unsigned_found}
 use Rattle.wasm_spec.specs.Bytes.{AreBytes, IsU32, IsItems}
 use Rattle.wasm_spec.specs.Features.{Features, CompactImports, has}
 use Rattle.wasm_spec.specs.Gates.{is_allowed_group}

@@ -4,11 +4,11 @@ use Rattle.std.specs.List.{AllByRecursion, filter_map, flat_map, list_all, list_
 use Rattle.std.specs.Option.{option_map}
 use Rattle.std.specs.Prelude.{is_some, nat_lt}
 use Rattle.std.proofs.lemmas.Bool.{cases_lt, le-ltb, lt-ltb}
-use Rattle.wasm_core.specs.Input.{IsWithin, end}
-use Rattle.wasm_core.specs.ModuleReading.{content_of}
-use Rattle.wasm_core.specs.Reading.{unsigned_at}
-use Rattle.wasm_core.specs.TypeReading.{list_at}
-use Rattle.wasm_core.proofs.ReadingLaws.{some_is}
+use Rattle.wasm_core_read.specs.Input.{IsWithin, end}
+use Rattle.wasm_core_read.specs.ModuleReading.{content_of}
+use Rattle.wasm_core_read.specs.Reading.{unsigned_at}
+use Rattle.wasm_core_read.specs.TypeReading.{list_at}
+use Rattle.wasm_core_read.proofs.ReadingLaws.{some_is}
 use Rattle.wasm_spec.specs.Features.{Features}
 use Rattle.wasm_spec.specs.Gates.{is_allowed_func, is_allowed_group}
 use Rattle.wasm_spec.specs.Limits as spec

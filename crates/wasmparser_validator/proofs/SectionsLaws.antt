@@ -1,8 +1,8 @@
 -- Judging sections one after the other, as a loop does.
 use Rattle.std.proofs.Common.{◌≡◌, ◌≢◌, ℕ, zero, suc, eqb, true, false, ◌<◌, ◌≤◌, List, [], ◌∷◌, length, Option, Some, None, Ok, Err, refl, sym, ap, subst, ◌∙◌, arith}
 use Rattle.std.proofs.lemmas.Bool.{eq-eqb}
-use Rattle.wasm_core.specs.ModuleReading.{frame_at}
-use Rattle.wasm_core.proofs.ReadingLaws.{frame_shorter}
+use Rattle.wasm_core_read.specs.ModuleReading.{frame_at}
+use Rattle.wasm_core_read.proofs.ReadingLaws.{frame_shorter}
 use Rattle.wasm_spec.specs.Features.{Features}
 use Rattle.wasm_spec.specs.Syntax.{Section}
 use Rattle.wasmparser_parser.specs.Sections.{Part}

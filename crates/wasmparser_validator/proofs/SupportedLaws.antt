@@ -3,11 +3,11 @@ use Rattle.std.proofs.Common.{◌≡◌, ◌≢◌, ℕ, Bool, true, false, cond
 use Rattle.std.specs.List.{AllByRecursion, list_all}
 use Rattle.std.proofs.lemmas.Bool.{and_from, and_parts, ne_eqb}
 use Rattle.std.proofs.lemmas.Option.{cond_some}
-use Rattle.wasm_core.specs.Laws.{ReadsExactly}
-use Rattle.wasm_core.specs.ModuleReading.{content_of}
-use Rattle.wasm_core.specs.Reading.{unsigned_at}
-use Rattle.wasm_core.specs.TypeReading.{val_type_at}
-use Rattle.wasm_core.proofs.ReadingLaws.{bind_some, content_id, groups_count, functions_count, bodies_count, reads_val_type, reads_tested}
+use Rattle.wasm_core_read.specs.Laws.{ReadsExactly}
+use Rattle.wasm_core_read.specs.ModuleReading.{content_of}
+use Rattle.wasm_core_read.specs.Reading.{unsigned_at}
+use Rattle.wasm_core_read.specs.TypeReading.{val_type_at}
+use Rattle.wasm_core_read.proofs.ReadingLaws.{bind_some, content_id, groups_count, functions_count, bodies_count, reads_val_type, reads_tested}
 use Rattle.wasm_spec.specs.Bodies.{IsLocalType}
 use Rattle.wasm_spec.specs.Grammar.{section_id}
 use Rattle.wasm_spec.specs.Supported.{is_supported_type, is_supported_section, IsSupported}

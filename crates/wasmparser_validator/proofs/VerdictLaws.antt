@@ -3,10 +3,10 @@ use Rattle.std.proofs.Common.{◌≡◌, ◌≢◌, ◌⊎◌, inl, inr, ℕ, ze
 use Rattle.std.specs.List.{AllByRecursion, list_all, slice_get}
 use Rattle.std.proofs.lemmas.Bool.{and_parts}
 use Rattle.std.proofs.lemmas.List.{length-map}
-use Rattle.wasm_core.specs.LimitCases as limits
-use Rattle.wasm_core.specs.Limits as views
-use Rattle.wasm_core.specs.Types as core
-use Rattle.wasm_core.proofs.ReadingLaws.{module_one, some_is}
+use Rattle.wasm_core_base.specs.declared.limits.Limit.TheVariants as limits
+use Rattle.wasm_core_base.specs.Limits as views
+use Rattle.wasm_core_base.specs.declared.limits.Limit as core
+use Rattle.wasm_core_read.proofs.ReadingLaws.{module_one, some_is}
 use Rattle.wasm_spec.specs.Bytes.{AreBytes}
 use Rattle.wasm_spec.specs.Features.{Features, CompactImports, has}
 use Rattle.wasm_spec.specs.Limits as spec

@@ -1,6 +1,6 @@
 -- What is answered to the bytes of a body.
 use Rattle.std.specs.Prelude.{◌≡◌, ◌≤◌, ◌⊎◌, ◌+◌, ℕ, Bool, List, length, Result, IfErr, IsOk, OnOk}
-use Rattle.wasm_core.specs.LimitCases.{Locals}
+use Rattle.wasm_core_base.specs.declared.limits.Limit.TheVariants.{Locals}
 use Rattle.wasm_spec.specs.Bodies.{Context, IsFunctionBody, HasManyLocals, HasOtherOperator}
 use Rattle.wasm_spec.specs.Features.{Features}
 use Rattle.wasm_spec.specs.Types.{ValType, FuncType}

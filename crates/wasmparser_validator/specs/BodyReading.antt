@@ -1,8 +1,8 @@
 -- Judging a body from its bytes: a means of proof, which laws tie to the rules.
 use Rattle.std.specs.Prelude.{◌≡◌, ◌≤◌, ◌+◌, ◌&&◌, ℕ, zero, suc, Bool, true, List, [], ◌∷◌, length, Option, Some, None, Result, Ok, Err, nat_le, ◌==◌, if◌then◌else◌}
-use Rattle.wasm_core.specs.Input.{Input, GoesOn, IsWithin}
-use Rattle.wasm_core.specs.Reading.{◌>>=◌, unsigned_at}
-use Rattle.wasm_core.specs.LimitCases as core
+use Rattle.wasm_core_read.specs.Input.{Input, GoesOn, IsWithin}
+use Rattle.wasm_core_read.specs.Reading.{◌>>=◌, unsigned_at}
+use Rattle.wasm_core_base.specs.declared.limits.Limit.TheVariants as core
 use Rattle.wasm_spec.specs.Bodies.{Run}
 use Rattle.wasm_spec.specs.Features.{Features}
 use Rattle.wasm_spec.specs.Gates.{is_allowed}

@@ -1,8 +1,8 @@
 -- What a judge answers to any bytes.
 use Rattle.std.specs.Prelude.{◌≡◌, ◌≢◌, ◌≤◌, ⊤, ℕ, List, length, Result, IfOk, IfErr}
-use Rattle.wasm_core.specs.LimitCases as limits
-use Rattle.wasm_core.specs.Limits as core
-use Rattle.wasm_core.specs.Types.{Limit}
+use Rattle.wasm_core_base.specs.declared.limits.Limit.TheVariants as limits
+use Rattle.wasm_core_base.specs.Limits as core
+use Rattle.wasm_core_base.specs.declared.limits.Limit.{Limit}
 use Rattle.wasm_spec.specs.Features.{Features, CompactImports, has}
 use Rattle.wasm_spec.specs.Grammar.{IsModule}
 use Rattle.wasm_spec.specs.Spaces.{Sizes, sizes_of}

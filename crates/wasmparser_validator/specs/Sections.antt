@@ -1,10 +1,10 @@
 -- Judging sections one after the other: a means of proof, which laws tie to the rules.
 use Rattle.std.specs.Prelude.{◌≡◌, ◌+◌, ◌≤◌, ℕ, true, zero, suc, List, [], ◌∷◌, ◌++◌, map, length, drop, nat_eq, nat_lt, ◌==◌, Result, Ok, Err, Option, Some, None, is_some, if◌then◌else◌}
 use Rattle.std.specs.List.{AllByRecursion, filter_map, flat_map, list_all, list_any, starts_with}
-use Rattle.wasm_core.specs.Input.{Input, end}
-use Rattle.wasm_core.specs.Limits as core
-use Rattle.wasm_core.specs.ModuleReading.{frame_at, is_behind}
-use Rattle.wasm_core.specs.Reading.{unsigned_at}
+use Rattle.wasm_core_read.specs.Input.{Input, end}
+use Rattle.wasm_core_base.specs.Limits as core
+use Rattle.wasm_core_read.specs.ModuleReading.{frame_at, is_behind}
+use Rattle.wasm_core_read.specs.Reading.{unsigned_at}
 use Rattle.wasm_spec.specs.Features.{Features}
 use Rattle.wasm_spec.specs.Gates.{is_allowed_group, is_allowed_func}
 use Rattle.wasm_spec.specs.Grammar.{header, place_of, last_place}

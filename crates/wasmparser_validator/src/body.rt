@@ -1,16 +1,16 @@
 //! Judging function bodies.
 
 ghost use Rattle.std.specs.Prelude.{◌≡◌, ◌≤◌, ◌==◌, length};
-ghost use Rattle.wasm_core.specs.Features.{feature_set};
-ghost use Rattle.wasm_core.specs.LimitCases.{Locals};
+ghost use Rattle.wasm_core_base.specs.Features.{feature_set};
+ghost use Rattle.wasm_core_base.specs.declared.limits.Limit.TheVariants.{Locals};
 ghost use Rattle.wasmparser_parser.specs.declared.error.ErrorKind.TheVariants as kinds;
 ghost use Rattle.wasmparser_validator.specs.BodyJudging.{IsBodyJudgedUnder};
 ghost use Rattle.wasmparser_validator.specs.BodyReading.{JudgesBody, JudgesRun, end_judgement, judge_code, judge_runs, judge_body};
 
 use crate::gates::is_allowed;
-use wasm_core::binary_reader::BinaryReader;
-use wasm_core::features::WasmFeatures;
-use wasm_core::limits::{Limit, MAX_WASM_FUNCTION_LOCALS};
+use wasm_core_base::features::WasmFeatures;
+use wasm_core_base::limits::{Limit, MAX_WASM_FUNCTION_LOCALS};
+use wasm_core_read::binary_reader::BinaryReader;
 use wasmparser_parser::code_section::FunctionBody;
 use wasmparser_parser::core_type_reader::read_val_type;
 use wasmparser_parser::core_types::FuncType;

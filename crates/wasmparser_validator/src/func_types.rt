@@ -2,15 +2,15 @@
 
 ghost use Rattle.std.specs.Prelude.{◌≡◌, length};
 ghost use Rattle.std.specs.List.{list_all, list_any};
-ghost use Rattle.wasm_core.specs.Features.{feature_set};
+ghost use Rattle.wasm_core_base.specs.Features.{feature_set};
 ghost use Rattle.wasm_spec.specs.Gates.{is_allowed_func};
 ghost use Rattle.wasm_spec.specs.Limits.{Params, Results};
 ghost use Rattle.wasm_spec.specs.Validity.{is_past};
 ghost use Rattle.wasmparser_validator.specs.Sections.{JudgesTypes};
 
 use crate::gates::is_allowed_func;
-use wasm_core::features::WasmFeatures;
-use wasm_core::limits::{Limit, MAX_WASM_FUNCTION_PARAMS, MAX_WASM_FUNCTION_RETURNS};
+use wasm_core_base::features::WasmFeatures;
+use wasm_core_base::limits::{Limit, MAX_WASM_FUNCTION_PARAMS, MAX_WASM_FUNCTION_RETURNS};
 use wasmparser_parser::core_types::FuncType;
 use wasmparser_parser::error::{Error, ErrorKind};
 

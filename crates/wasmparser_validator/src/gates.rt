@@ -2,11 +2,11 @@
 
 ghost use Rattle.std.specs.Prelude.{◌≡◌, map};
 ghost use Rattle.std.specs.List.{list_all};
-ghost use Rattle.wasm_core.specs.Features.{feature_set};
+ghost use Rattle.wasm_core_base.specs.Features.{feature_set};
 ghost use Rattle.wasm_spec.specs.Gates.{is_allowed, is_allowed_abstract, is_allowed_func};
 ghost use Rattle.wasmparser_parser.specs.CoreTypes.{abstract_heap_type, val_type};
 
-use wasm_core::features::WasmFeatures;
+use wasm_core_base::features::WasmFeatures;
 use wasmparser_parser::core_types::{AbstractHeapType, FuncType, HeapType, ValType};
 
 fn is_allowed_abstract(features: WasmFeatures, nullable: bool, heap_type: AbstractHeapType) -> bool

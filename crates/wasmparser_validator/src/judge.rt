@@ -2,8 +2,8 @@
 
 ghost use Rattle.std.specs.Prelude.{◌≡◌, ◌<◌, length};
 ghost use Rattle.std.specs.List.{AllByRecursion};
-ghost use Rattle.wasm_core.specs.Features.{feature_set};
-ghost use Rattle.wasm_core.specs.Input.{end};
+ghost use Rattle.wasm_core_base.specs.Features.{feature_set};
+ghost use Rattle.wasm_core_read.specs.Input.{end};
 ghost use Rattle.wasmparser_validator.specs.Bodies.{JudgesBodies};
 ghost use Rattle.wasmparser_validator.specs.Judging.{IsJudged};
 ghost use Rattle.wasmparser_validator.specs.Sections.{Judges, at_first, judge_sections, judge_module};
@@ -12,8 +12,8 @@ use crate::body::validate_body;
 use crate::module_state::ModuleState;
 use crate::types::Types;
 use std::alloc::Global;
-use wasm_core::binary_reader::BinaryReader;
-use wasm_core::features::WasmFeatures;
+use wasm_core_base::features::WasmFeatures;
+use wasm_core_read::binary_reader::BinaryReader;
 use wasmparser_parser::code_section::FunctionBody;
 use wasmparser_parser::core_types::FuncType;
 use wasmparser_parser::error::{Error, ErrorKind};

@@ -2,8 +2,8 @@
 
 ghost use Rattle.std.specs.Prelude.{◌≡◌, ◌≤◌, ℕ, [], length, nat_lt, OnOk};
 ghost use Rattle.std.specs.List.{AllByRecursion, list_all, list_any};
-ghost use Rattle.wasm_core.specs.Features.{feature_set};
-ghost use Rattle.wasm_core.specs.Input.{end};
+ghost use Rattle.wasm_core_base.specs.Features.{feature_set};
+ghost use Rattle.wasm_core_read.specs.Input.{end};
 ghost use Rattle.wasm_spec.specs.Features.{Features};
 ghost use Rattle.wasm_spec.specs.Limits.{BodySize};
 ghost use Rattle.wasm_spec.specs.Validity.{is_past};
@@ -12,8 +12,8 @@ ghost use Rattle.wasmparser_validator.specs.Sections.{EndsBy, JudgesContent, at_
 
 use crate::func_types::check_func_types;
 use std::alloc::Global;
-use wasm_core::features::WasmFeatures;
-use wasm_core::limits::{
+use wasm_core_base::features::WasmFeatures;
+use wasm_core_base::limits::{
     Limit, MAX_WASM_FUNCTION_SIZE, MAX_WASM_FUNCTIONS, MAX_WASM_REC_GROUPS, MAX_WASM_STRING_SIZE,
 };
 use wasmparser_parser::code_section::{FunctionBody, read_code_section};

@@ -1,5 +1,5 @@
 use Rattle.std.proofs.Common.{◌≡◌, ◌-◌, map}
-use Rattle.wasm_core.specs.CoreTypes.{val_type}
+use Rattle.wasm_core_types.specs.CoreTypes.{val_type}
 use Rattle.wasm_smith_module.specs.Growing.{times_at}
 use Rattle.wasm_smith_module.specs.Generating.{values_at, code_at}
 use Rattle.wasm_smith_module.proofs.GrowLaws.{with_front}

@@ -1,7 +1,7 @@
 use Rattle.std.proofs.Common.{ap, ◌∙◌}
 use Rattle.std.proofs.lemmas.List.{map_push}
 use Rattle.std.specs.Prelude.{map}
-use Rattle.wasm_core.specs.SubTypes.{sub_type}
+use Rattle.wasm_core_types.specs.SubTypes.{sub_type}
 use Rattle.wasm_smith_module.proofs.GrowLaws.{grow_step, grow_ends}
 use Rattle.wasm_smith_module.proofs.steps.types.Goals as goal
 

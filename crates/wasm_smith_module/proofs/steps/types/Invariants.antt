@@ -1,5 +1,5 @@
 use Rattle.std.proofs.Common.{◌≡◌, ◌-◌, map, vec_len}
-use Rattle.wasm_core.specs.SubTypes.{sub_type}
+use Rattle.wasm_core_types.specs.SubTypes.{sub_type}
 use Rattle.wasm_smith_module.specs.Growing.{grow_at}
 use Rattle.wasm_smith_module.specs.Generating.{offers, type_at, types_at}
 use Rattle.wasm_smith_module.proofs.GrowLaws.{with_front}

@@ -1,7 +1,7 @@
 use Rattle.std.proofs.Common.{◌∙◌, rules, tests}
 use Rattle.std.proofs.lemmas.Iterator.{YieldsList-from_slice}
 use Rattle.std.proofs.lemmas.Iterator.Search.{all_from_yields_List}
-use Rattle.wasm_core.specs.CoreTypes.{val_type}
+use Rattle.wasm_core_types.specs.CoreTypes.{val_type}
 use Rattle.wasm_smith_witness.specs.Family.{is_enabled}
 use Rattle.wasm_smith_witness.proofs.MemberLaws.{all_mapped}
 use Rattle.wasm_smith_witness.proofs.membership.are_enabled.Goals as goal

@@ -1,5 +1,5 @@
 use Rattle.std.proofs.Common.{◌≡◌, ◌++◌, drop, map}
-use Rattle.wasm_core.specs.SubTypes.{sub_type}
+use Rattle.wasm_core_types.specs.SubTypes.{sub_type}
 use Rattle.wasm_smith_witness.specs.Words.{group_word}
 use Rattle.wasm_smith_witness.proofs.words.push_group.Given as goal
 

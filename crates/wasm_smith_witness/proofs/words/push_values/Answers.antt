@@ -1,5 +1,5 @@
 use Rattle.std.proofs.Common.{◌<◌, ◌≤◌, length, arith}
-use Rattle.wasm_core.specs.CoreTypes.{val_type}
+use Rattle.wasm_core_types.specs.CoreTypes.{val_type}
 use Rattle.wasm_smith_witness.proofs.WordLaws.{each_step, list_open, list_full}
 use Rattle.wasm_smith_witness.proofs.words.push_values.Goals as goal
 

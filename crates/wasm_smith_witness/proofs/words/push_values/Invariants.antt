@@ -1,5 +1,5 @@
 use Rattle.std.proofs.Common.{◌≡◌, ◌++◌, drop}
-use Rattle.wasm_core.specs.CoreTypes.{val_type}
+use Rattle.wasm_core_types.specs.CoreTypes.{val_type}
 use Rattle.wasm_smith_witness.specs.Words.{each_word, value_word}
 use Rattle.wasm_smith_witness.proofs.words.push_values.Given as goal
 

@@ -1,7 +1,7 @@
 use Rattle.std.proofs.Common.{subst, sym, arith}
 use Rattle.std.proofs.lemmas.Grind.{common_steps}
 use Rattle.std.specs.List.{AllByRecursion}
-use Rattle.wasm_core.proofs.ReadingLaws.{goes_further, list_loop}
+use Rattle.wasm_core_read.proofs.ReadingLaws.{goes_further, list_loop}
 use Rattle.wasmparser_parser.specs.Sections.{IsInside}
 use Rattle.wasmparser_parser.proofs.PartLaws.{all_push, inside_later}
 use Rattle.wasmparser_parser.proofs.code_section.read_bodies.Goals as goal

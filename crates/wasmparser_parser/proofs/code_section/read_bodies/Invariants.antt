@@ -1,9 +1,9 @@
 use Rattle.std.proofs.Common.{◌≡◌, ◌-◌, map}
 use Rattle.std.specs.List.{AllByRecursion}
-use Rattle.wasm_core.proofs.ReadingLaws.{with_front}
-use Rattle.wasm_core.specs.Input.{GoesOn}
-use Rattle.wasm_core.specs.ModuleReading.{body_at}
-use Rattle.wasm_core.specs.TypeReading.{items_at, list_at}
+use Rattle.wasm_core_read.proofs.ReadingLaws.{with_front}
+use Rattle.wasm_core_read.specs.Input.{GoesOn}
+use Rattle.wasm_core_read.specs.PartReading.{body_at}
+use Rattle.wasm_core_read.specs.TypeReading.{items_at, list_at}
 use Rattle.wasmparser_parser.specs.Sections.{IsInside}
 use Rattle.wasmparser_parser.proofs.code_section.read_bodies.Given as goal
 

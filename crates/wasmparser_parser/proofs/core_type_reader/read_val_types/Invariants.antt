@@ -1,7 +1,7 @@
 use Rattle.std.proofs.Common.{◌≡◌, ◌-◌, map}
-use Rattle.wasm_core.proofs.ReadingLaws.{with_front}
-use Rattle.wasm_core.specs.Input.{GoesOn}
-use Rattle.wasm_core.specs.TypeReading.{items_at, list_at}
+use Rattle.wasm_core_read.proofs.ReadingLaws.{with_front}
+use Rattle.wasm_core_read.specs.Input.{GoesOn}
+use Rattle.wasm_core_read.specs.TypeReading.{items_at, list_at}
 use Rattle.wasmparser_parser.specs.CoreTypes.{val_type}
 use Rattle.wasmparser_parser.specs.SupportedReading.{supported_type_at}
 use Rattle.wasmparser_parser.proofs.core_type_reader.read_val_types.Given as goal

@@ -1,8 +1,8 @@
 use Rattle.std.proofs.Common.{◌≡◌, ◌-◌}
-use Rattle.wasm_core.proofs.ReadingLaws.{with_front}
-use Rattle.wasm_core.specs.Input.{GoesOn}
-use Rattle.wasm_core.specs.Reading.{unsigned_at}
-use Rattle.wasm_core.specs.TypeReading.{items_at, list_at}
+use Rattle.wasm_core_read.proofs.ReadingLaws.{with_front}
+use Rattle.wasm_core_read.specs.Input.{GoesOn}
+use Rattle.wasm_core_read.specs.Reading.{unsigned_at}
+use Rattle.wasm_core_read.specs.TypeReading.{items_at, list_at}
 use Rattle.wasmparser_parser.proofs.function_section.read_indexes.Given as goal
 
 abbrev pub invariant-loop : goal.invariant-loop

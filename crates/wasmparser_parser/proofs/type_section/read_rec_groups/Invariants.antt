@@ -1,7 +1,7 @@
 use Rattle.std.proofs.Common.{◌≡◌, ◌-◌, map}
-use Rattle.wasm_core.proofs.ReadingLaws.{with_front}
-use Rattle.wasm_core.specs.Input.{GoesOn}
-use Rattle.wasm_core.specs.TypeReading.{items_at, list_at}
+use Rattle.wasm_core_read.proofs.ReadingLaws.{with_front}
+use Rattle.wasm_core_read.specs.Input.{GoesOn}
+use Rattle.wasm_core_read.specs.TypeReading.{items_at, list_at}
 use Rattle.wasmparser_parser.specs.CoreTypes.{func_group}
 use Rattle.wasmparser_parser.specs.SupportedReading.{supported_group_at}
 use Rattle.wasmparser_parser.proofs.type_section.read_rec_groups.Given as goal

@@ -1,6 +1,6 @@
 use Rattle.std.proofs.Common.{ap}
 use Rattle.std.proofs.lemmas.Result.{err_from_is_err_and}
-use Rattle.wasm_core.proofs.ReadingLaws.{goes_further}
+use Rattle.wasm_core_read.proofs.ReadingLaws.{goes_further}
 use Rattle.wasmparser_validator.proofs.BodyLaws.{body_unread, many_params, runs_begin, runs_go_on, runs_fail, runs_end, names_broken, names_many, at_start, within_later, judged_later}
 use Rattle.wasmparser_validator.proofs.body.judge_body.Goals as goal
 

@@ -1,6 +1,6 @@
 use Rattle.std.proofs.Common.{◌≡◌, ◌≤◌, ◌-◌}
-use Rattle.wasm_core.specs.Features.{feature_set}
-use Rattle.wasm_core.specs.Input.{GoesOn}
+use Rattle.wasm_core_base.specs.Features.{feature_set}
+use Rattle.wasm_core_read.specs.Input.{GoesOn}
 use Rattle.wasmparser_validator.specs.BodyReading.{judge_runs, judge_body}
 use Rattle.wasmparser_validator.proofs.body.judge_body.Given as goal
 

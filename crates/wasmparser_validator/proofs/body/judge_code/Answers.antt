@@ -1,5 +1,5 @@
 use Rattle.std.proofs.Common.{arith}
-use Rattle.wasm_core.proofs.ReadingLaws.{goes_further}
+use Rattle.wasm_core_read.proofs.ReadingLaws.{goes_further}
 use Rattle.wasmparser_validator.proofs.BodyLaws.{code_unreachable, code_end, code_other, code_unread, code_cut, broken_at, judged_later, within_later}
 use Rattle.wasmparser_validator.proofs.body.judge_code.Goals as goal
 

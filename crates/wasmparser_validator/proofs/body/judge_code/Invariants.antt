@@ -1,5 +1,5 @@
 use Rattle.std.proofs.Common.{◌≡◌, length}
-use Rattle.wasm_core.specs.Input.{GoesOn}
+use Rattle.wasm_core_read.specs.Input.{GoesOn}
 use Rattle.wasmparser_validator.specs.BodyReading.{judge_code}
 use Rattle.wasmparser_validator.proofs.body.judge_code.Given as goal
 

@@ -1,5 +1,5 @@
 use Rattle.std.proofs.Common.{ap, arith}
-use Rattle.wasm_core.proofs.ReadingLaws.{goes_further}
+use Rattle.wasm_core_read.proofs.ReadingLaws.{goes_further}
 use Rattle.wasmparser_validator.proofs.BodyLaws.{no_count, no_type, a_run, run_unread, run_forbidden, run_past, run_fine, names_broken, names_many, at_start}
 use Rattle.wasmparser_validator.proofs.body.judge_run.Goals as goal
 

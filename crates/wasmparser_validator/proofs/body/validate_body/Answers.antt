@@ -1,6 +1,6 @@
 use Rattle.std.proofs.Common.{ap, ◌∙◌}
-use Rattle.wasm_core.specs.Features.{feature_set}
-use Rattle.wasm_core.specs.Input.{Input}
+use Rattle.wasm_core_base.specs.Features.{feature_set}
+use Rattle.wasm_core_read.specs.Input.{Input}
 use Rattle.wasmparser_parser.specs.CoreTypes.{val_type}
 use Rattle.wasmparser_validator.proofs.BodyJudgingLaws.{judged_slices}
 use Rattle.wasmparser_validator.proofs.body.validate_body.Goals as goal

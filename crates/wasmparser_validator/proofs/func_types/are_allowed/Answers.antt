@@ -1,7 +1,7 @@
 use Rattle.std.proofs.Common.{rules, tests}
 use Rattle.std.proofs.lemmas.Iterator.{YieldsList-from_slice}
 use Rattle.std.proofs.lemmas.Iterator.Search.{all_from_yields_List}
-use Rattle.wasm_core.specs.Features.{feature_set}
+use Rattle.wasm_core_base.specs.Features.{feature_set}
 use Rattle.wasm_spec.specs.Gates.{is_allowed_func}
 use Rattle.wasmparser_validator.proofs.func_types.are_allowed.Goals as goal
 

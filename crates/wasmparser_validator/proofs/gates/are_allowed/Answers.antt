@@ -2,7 +2,7 @@ use Rattle.std.proofs.Common.{rules, sym, tests, ◌∙◌}
 use Rattle.std.proofs.lemmas.Iterator.{YieldsList-from_slice}
 use Rattle.std.proofs.lemmas.Iterator.Search.{all_from_yields_List}
 use Rattle.std.proofs.lemmas.List.Folds.{list_all-map}
-use Rattle.wasm_core.specs.Features.{feature_set}
+use Rattle.wasm_core_base.specs.Features.{feature_set}
 use Rattle.wasm_spec.specs.Gates.{is_allowed}
 use Rattle.wasmparser_parser.specs.CoreTypes.{val_type}
 use Rattle.wasmparser_validator.proofs.gates.are_allowed.Goals as goal

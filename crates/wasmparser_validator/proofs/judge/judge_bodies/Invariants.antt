@@ -1,5 +1,5 @@
 use Rattle.std.proofs.Common.{◌<◌, ℕ, Ok}
-use Rattle.wasm_core.specs.Features.{feature_set}
+use Rattle.wasm_core_base.specs.Features.{feature_set}
 use Rattle.wasmparser_validator.specs.Bodies.{JudgedAt}
 use Rattle.wasmparser_validator.proofs.judge.judge_bodies.Given as goal
 

@@ -2,9 +2,9 @@ use Rattle.std.proofs.Common.{ap, arith, refl, subst, sym}
 use Rattle.std.proofs.lemmas.List.{length-map}
 use Rattle.std.proofs.lemmas.Result.{err_from_is_err_and}
 use Rattle.std.specs.List.{AllByRecursion}
-use Rattle.wasm_core.proofs.ReadingLaws.{goes_further, frame_shorter}
-use Rattle.wasm_core.specs.Features.{feature_set}
-use Rattle.wasm_core.specs.Input.{end}
+use Rattle.wasm_core_read.proofs.ReadingLaws.{goes_further, frame_shorter}
+use Rattle.wasm_core_base.specs.Features.{feature_set}
+use Rattle.wasm_core_read.specs.Input.{end}
 use Rattle.wasmparser_validator.specs.Sections.{EndsBy, judge_sections, progress}
 use Rattle.wasmparser_validator.proofs.SectionsLaws.{frame_unread, section_fine, section_refused, sections_apart, sections_paired, not_ended}
 use Rattle.wasmparser_validator.proofs.judge.judge_sections.Goals as goal

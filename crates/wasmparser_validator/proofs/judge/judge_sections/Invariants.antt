@@ -1,7 +1,7 @@
 use Rattle.std.proofs.Common.{◌≡◌, length}
 use Rattle.std.specs.List.{AllByRecursion}
-use Rattle.wasm_core.specs.Features.{feature_set}
-use Rattle.wasm_core.specs.Input.{GoesOn, end}
+use Rattle.wasm_core_base.specs.Features.{feature_set}
+use Rattle.wasm_core_read.specs.Input.{GoesOn, end}
 use Rattle.wasmparser_validator.specs.Sections.{EndsBy, at_first, judge_sections, progress}
 use Rattle.wasmparser_validator.proofs.judge.judge_sections.Given as goal
 

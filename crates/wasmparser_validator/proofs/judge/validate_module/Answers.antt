@@ -1,6 +1,6 @@
 use Rattle.std.proofs.Common.{arith}
 use Rattle.std.proofs.lemmas.Result.{err_from_is_err_and}
-use Rattle.wasm_core.proofs.ReadingLaws.{slice_bytes}
+use Rattle.wasm_core_read.proofs.ReadingLaws.{slice_bytes}
 use Rattle.wasmparser_validator.proofs.VerdictLaws.{judged_yes, judged_no, refused_body, are_named, are_paired, are_few}
 use Rattle.wasmparser_validator.proofs.judge.validate_module.Goals as goal
 

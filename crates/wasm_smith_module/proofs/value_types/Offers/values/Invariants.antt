@@ -1,5 +1,5 @@
 use Rattle.std.proofs.Common.{◌≡◌, ◌-◌, map, vec_len}
-use Rattle.wasm_core.specs.CoreTypes.{val_type}
+use Rattle.wasm_core_types.specs.CoreTypes.{val_type}
 use Rattle.wasm_smith_module.specs.Growing.{grow_at}
 use Rattle.wasm_smith_module.specs.Generating.{value_at, values_at}
 use Rattle.wasm_smith_module.proofs.GrowLaws.{with_front}

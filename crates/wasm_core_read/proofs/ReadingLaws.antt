@@ -1,4 +1,4 @@
--- The reading laws of the parts, under the name of this crate.
+-- The reading laws that the crates above cite, in one place.
 pub use Rattle.wasm_core_read.proofs.BytesLaws.{all_bytes, bytes_length}
 pub use Rattle.wasm_core_read.proofs.Forms.{parts_are, bind_some, some_is, joined, behind}
 pub use Rattle.wasm_core_read.proofs.Forms.{unsigned_found, unsigned_again}

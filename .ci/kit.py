@@ -4,6 +4,7 @@ import importlib.util
 import os
 import shutil
 import sys
+import tempfile
 
 sys.dont_write_bytecode = True
 
@@ -33,3 +34,13 @@ def in_order(tasks):
     works on, and a call that gets what was given and how many jobs it may use."""
     lines = {it: it.count(rb"\n") for _, it, _ in tasks.values()}
     return rt.in_lanes({key: (waits, lines[it], rt.need(it), call) for key, (waits, it, call) in tasks.items()})
+
+
+def build(library, jobs):
+    """Proves and builds a library over what earlier runs kept, and returns whether it is proved. Only what isn't says why."""
+    with tempfile.TemporaryFile("w+", errors="replace") as library.out:
+        is_proved = not library.build_rlib(["--jobs", str(jobs)], anew=False)
+        if not is_proved:
+            library.out.seek(0)
+            print(library.out.read(), file=sys.stderr, end="", flush=True)
+    return is_proved

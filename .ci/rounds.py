@@ -12,19 +12,28 @@ constant, a contract or several functions, is tried alone, just as `rt must-fail
 """
 import collections
 import concurrent.futures
+import glob
+import json
 import os
 import re
+import resource
 import shutil
 import subprocess
+import sys
 import tempfile
 import time
 
+import kit
 from kit import rt, rtlib
 
 # A function: its file, its name and its impl's, the cycle that it shares a proof with, its first and last line, and where its body lies.
 Function = collections.namedtuple("Function", "file owner name cycle first last opens closes")
 # Errors that say nothing of a contract: a proof file names what the edit took away, or what it cites has no proof.
 LOST_NAME = re.compile(r"has no field|is not in scope|has no `|was not admitted")
+
+
+def edits_of(crate):
+    return sorted(glob.glob(f"{crate.folder}/wrong-bodies/*.edit"))
 
 
 def tokens_of(files):
@@ -231,6 +240,11 @@ class Trial:
     def say(self, text):
         print(f"{self.crate.name}: {text}", flush=True)
 
+    def seconds(self):
+        """Returns the seconds since it began, and those that the checks took of processors."""
+        usage = resource.getrusage(resource.RUSAGE_CHILDREN)
+        return f"{time.time() - self.began:.0f} s, {usage.ru_utime + usage.ru_stime:.0f} s of processor"
+
     def run(self):
         whole = rt.checked(self.crate, {}, ["--jobs", str(self.jobs)], self.kept)
         if whole.returncode:
@@ -239,14 +253,14 @@ class Trial:
             return self
         functions = functions_of(self.crate, re.findall(r"(?m)^fn (\S+): proved", whole.stdout))
         edits = [Edit(self.crate, it, functions) for it in self.paths]
-        self.say(f"proved in {time.time() - self.began:.0f} s; {len(edits)} wrong bodies")
+        self.say(f"proved ({self.seconds()}); {len(edits)} wrong bodies")
         alone = [it for it in edits if not it.function] + self.run_rounds([it for it in edits if it.function], functions)
         with concurrent.futures.ThreadPoolExecutor(self.jobs) as pool:
             for edit, (well, text) in zip(alone, pool.map(lambda it: try_alone(self.crate, it.path, self.kept), alone)):
                 self.say(text)
                 self.refused.update({edit.name: text} if well else {})
                 self.let_through += [] if well else [edit.name]
-        self.say(f"{len(self.refused)} of {len(edits)} refused, {len(alone)} of them tried alone; {time.time() - self.began:.0f} s")
+        self.say(f"{len(self.refused)} of {len(edits)} refused, {len(alone)} of them tried alone ({self.seconds()})")
         return self
 
     def run_rounds(self, left, functions):
@@ -262,3 +276,15 @@ class Trial:
             said = f"{len(done)} of {len(picked)} refused, {len(later)} put off, {len(still_open)} to be tried alone"
             self.say(f"a round of {time.time() - since:.0f} s: {said}")
         return alone
+
+
+def main(top, name, kept, jobs, answer):
+    """Tries the wrong bodies of one crate, and leaves in a file what was refused and what was not."""
+    crate = next(it for it in kit.crates(top) if it.name == name)
+    trial = Trial(crate, edits_of(crate), kept, int(jobs)).run()
+    with open(answer, "w") as it:
+        json.dump([trial.refused, trial.let_through], it)
+
+
+if __name__ == "__main__":
+    main(*sys.argv[1:])

@@ -30,11 +30,11 @@ pub fn write_module(alloc: Global, made: &Made) -> Result<Vec<u8>, EncodeError>
 {
     let mut module = Module::new(alloc)?;
     if !made.types().is_empty() {
-        module.section(&MadeTypes::new(made.types()))?;
+        module.push(&MadeTypes::new(made.types()))?;
     }
     if !made.funcs().is_empty() {
-        module.section(&MadeFunctions::new(made.funcs()))?;
-        module.section(&MadeBodies::new(made.locals()))?;
+        module.push(&MadeFunctions::new(made.funcs()))?;
+        module.push(&MadeBodies::new(made.locals()))?;
     }
     Ok(module.finish())
 }

@@ -1,2 +1,3 @@
 mod AskedLaws
 mod GenerateLaws
+mod ReadLaws

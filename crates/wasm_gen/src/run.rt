@@ -1,17 +1,18 @@
 //! The program's commands over a reader and a writer.
 
 ghost use Rattle.std.specs.Prelude.{◌≡◌, ◌≢◌, ◌^◌, ◌⊎◌, IfOk, IfErr, OnOk};
-ghost use Rattle.std.specs.Io.KnownBytes.{Keeps};
+ghost use Rattle.std.specs.Io.KnownBytes.{Appends, Keeps};
 ghost use Rattle.wasm_gen.specs.Device.{FailsOrTires, FailsWrite, ReadsToEnd, ReadsWithin, WritesOn};
-ghost use Rattle.wasm_gen.specs.Run.{WritesVerdict, WritesFront, KeepsOrJudges};
-ghost use Rattle.wasm_gen.specs.RunGenerate.{WritesModule, WritesModuleFront, RefusesSeed};
-ghost use Rattle.wasm_gen.specs.Transfer.{ConsumesMore};
+ghost use Rattle.wasm_gen.specs.Run.{WritesVerdict, WritesFront, KeepsOrJudges, ReachesVerdict};
+ghost use Rattle.wasm_gen.specs.RunGenerate.{MakesBytes, WritesModule, WritesModuleFront, RefusesSeed};
+ghost use Rattle.wasm_gen.specs.Transfer.{AppendsFront, ConsumesMore};
+ghost use Rattle.wasm_gen.specs.Verdict.{verdict_line};
 ghost use Rattle.wasm_gen.specs.declared.error.GenerateError.{GenerateError};
 
 use crate::device::{Sink, Source};
 use crate::error::RunError;
 use crate::generate::generate;
-use crate::judge::ErrorKind;
+use crate::judge::{Error, ErrorKind, Types};
 use crate::session::Session;
 use crate::transfer::{MAX_INPUT, MAX_TURNS, read_whole, write_whole};
 use crate::verdict::verdict_text;
@@ -57,6 +58,35 @@ pub fn run_check<R: Source, W: Sink>(
     ensures features { session.new.features ≡ session.old.features }
     ensures id { session.new.id ≡ session.old.id }
 {
+    let verdict = judge_input(alloc, session, reader)?;
+    write_verdict(alloc, &verdict, writer)?;
+    Ok(verdict.is_ok())
+}
+
+// Reads a module and judges it. Want of memory is no verdict.
+fn judge_input<R: Source>(
+    alloc: Global,
+    session: &mut Session,
+    reader: &mut R,
+) -> Result<Result<Types, Error>, RunError>
+    ensures reached { IfOk result (ReachesVerdict session.old session.new (R.remaining reader.old) (R.remaining reader.new)) }
+
+    ensures kinds { IfErr result (λ e. (e ≡ RunError.Read) ⊎ (e ≡ RunError.TooLong) ⊎ (e ≡ RunError.Memory)) }
+    ensures read { IfErr result (λ e. e ≡ RunError.Read
+        → FailsOrTires (R.reads reader.old) (R.reads reader.new) (2 ^ 29)) }
+    ensures too_long { IfErr result (λ e. e ≡ RunError.TooLong
+        → ConsumesMore (R.remaining reader.old) (R.remaining reader.new) (2 ^ 28)) }
+
+    ensures read_to_end { OnOk result (ReadsToEnd (R.reads reader.old) (R.reads reader.new) (2 ^ 29)) }
+    ensures unfailed_read { IfErr result (λ e. (e ≡ RunError.TooLong) ⊎ (e ≡ RunError.Memory)
+        → ReadsWithin (R.reads reader.old) (R.reads reader.new) (2 ^ 29) ⊎ ReadsToEnd (R.reads reader.old) (R.reads reader.new) (2 ^ 29)) }
+
+    ensures unread { IfErr result (λ e. (e ≡ RunError.Read) ⊎ (e ≡ RunError.TooLong) → session.new ≡ session.old) }
+    ensures memory { IfErr result (λ e. e ≡ RunError.Memory → KeepsOrJudges session.old session.new
+        (R.remaining reader.old) (R.remaining reader.new)) }
+    ensures features { session.new.features ≡ session.old.features }
+    ensures id { session.new.id ≡ session.old.id }
+{
     let bytes = read_whole(alloc, reader, MAX_INPUT, MAX_TURNS)?;
     let verdict = session.check(alloc, &bytes);
     if let Err(e) = &verdict {
@@ -64,12 +94,29 @@ pub fn run_check<R: Source, W: Sink>(
             return Err(RunError::Memory);
         }
     }
-    let is_yes = verdict.is_ok();
-    let Ok(text) = verdict_text(alloc, &verdict) else {
+    Ok(verdict)
+}
+
+// Writes the line of a verdict.
+fn write_verdict<W: Sink>(
+    alloc: Global,
+    verdict: &Result<Types, Error>,
+    writer: &mut W,
+) -> Result<(), RunError>
+    ensures line { OnOk result (Appends (W.contents writer.old) (W.contents writer.new) (verdict_line verdict.now)) }
+    ensures front { IfErr result (λ e. e ≡ RunError.Write
+        → AppendsFront (W.contents writer.old) (W.contents writer.new) (verdict_line verdict.now)) }
+    ensures nothing { IfErr result (λ e. e ≢ RunError.Write → Keeps (W.contents writer.old) (W.contents writer.new)) }
+
+    ensures kinds { IfErr result (λ e. (e ≡ RunError.Memory) ⊎ (e ≡ RunError.Write)) }
+    ensures write { IfErr result (λ e. e ≡ RunError.Write → FailsWrite (W.faults writer.old) (W.faults writer.new)) }
+    ensures written { OnOk result (WritesOn (W.faults writer.old) (W.faults writer.new)) }
+    ensures unfailed { IfErr result (λ e. e ≢ RunError.Write → WritesOn (W.faults writer.old) (W.faults writer.new)) }
+{
+    let Ok(text) = verdict_text(alloc, verdict) else {
         return Err(RunError::Memory);
     };
-    write_whole(writer, text.as_bytes())?;
-    Ok(is_yes)
+    write_whole(writer, text.as_bytes())
 }
 
 /// Reads a seed, makes a module of it and writes its bytes.
@@ -105,7 +152,32 @@ pub fn run_generate<R: Source, W: Sink>(
         → ReadsWithin (R.reads reader.old) (R.reads reader.new) (2 ^ 29) ⊎ ReadsToEnd (R.reads reader.old) (R.reads reader.new) (2 ^ 29)) }
     ensures unfailed_write { IfErr result (λ e. e ≢ RunError.Write → WritesOn (W.faults writer.old) (W.faults writer.new)) }
 {
-    let seed = read_whole(alloc, reader, MAX_INPUT, MAX_TURNS)?;
-    let bytes = generate(alloc, config, &seed)?;
+    let bytes = make_module(alloc, config, reader)?;
     write_whole(writer, &bytes)
+}
+
+// Reads a seed and makes a module of it.
+fn make_module<R: Source>(
+    alloc: Global,
+    config: &Config,
+    reader: &mut R,
+) -> Result<Vec<u8>, RunError>
+    ensures made { IfOk result (λ bytes. MakesBytes config.now (R.remaining reader.old) (R.remaining reader.new) bytes.items) }
+
+    ensures no_write { IfErr result (λ e. e ≢ RunError.Write) }
+    ensures read { IfErr result (λ e. e ≡ RunError.Read
+        → FailsOrTires (R.reads reader.old) (R.reads reader.new) (2 ^ 29)) }
+    ensures too_long { IfErr result (λ e. e ≡ RunError.TooLong
+        → ConsumesMore (R.remaining reader.old) (R.remaining reader.new) (2 ^ 28)) }
+    ensures generate { IfErr result (λ e. (cause : GenerateError) → e ≡ RunError.Generate cause
+        → RefusesSeed config.now (R.remaining reader.old) (R.remaining reader.new) cause) }
+
+    ensures read_to_end { OnOk result (ReadsToEnd (R.reads reader.old) (R.reads reader.new) (2 ^ 29)) }
+    ensures read_before_refusal { IfErr result (λ e. (cause : GenerateError) → e ≡ RunError.Generate cause
+        → ReadsToEnd (R.reads reader.old) (R.reads reader.new) (2 ^ 29)) }
+    ensures unfailed_read { IfErr result (λ e. (e ≡ RunError.TooLong) ⊎ (e ≡ RunError.Memory)
+        → ReadsWithin (R.reads reader.old) (R.reads reader.new) (2 ^ 29) ⊎ ReadsToEnd (R.reads reader.old) (R.reads reader.new) (2 ^ 29)) }
+{
+    let seed = read_whole(alloc, reader, MAX_INPUT, MAX_TURNS)?;
+    Ok(generate(alloc, config, &seed)?)
 }

@@ -1,7 +1,7 @@
 //! The line that tells the verdict on a module.
 
 ghost use Rattle.std.specs.Prelude.{◌≡◌, ◌++◌, IfOk, OnOk, string_bytes, Err};
-ghost use Rattle.wasm_gen.specs.Verdict.{count_text, yes_line, verdict_line};
+ghost use Rattle.wasm_gen.specs.Verdict.{count_text, first_counts, last_counts, yes_line, verdict_line};
 ghost use Rattle.wasmparser.specs.Types.{shown};
 
 use crate::judge::{Error, Types, TypesRef};
@@ -25,43 +25,38 @@ fn push_count(alloc: Global, text: &mut String, label: &str, count: u64) -> Resu
     text.push_str(digits.as_str())
 }
 
+// Adds the first four of a module's counts.
+fn push_first_counts(
+    alloc: Global,
+    text: &mut String,
+    types: TypesRef<'_>,
+) -> Result<(), AllocError>
+    ensures { OnOk result (string_bytes text.new ≡ string_bytes text.old ++ first_counts (shown types.entry)) }
+{
+    let type_count = types.core_type_count_in_module();
+    push_count(alloc, text, " types=", u64::from(type_count))?;
+    let function_count = types.function_count();
+    push_count(alloc, text, " functions=", u64::from(function_count))?;
+    push_count(alloc, text, " tables=", u64::from(types.table_count()))?;
+    push_count(alloc, text, " memories=", u64::from(types.memory_count()))
+}
+
+// Adds the other four.
+fn push_last_counts(alloc: Global, text: &mut String, types: TypesRef<'_>) -> Result<(), AllocError>
+    ensures { OnOk result (string_bytes text.new ≡ string_bytes text.old ++ last_counts (shown types.entry)) }
+{
+    push_count(alloc, text, " globals=", u64::from(types.global_count()))?;
+    push_count(alloc, text, " tags=", u64::from(types.tag_count()))?;
+    push_count(alloc, text, " elements=", u64::from(types.element_count()))?;
+    push_count(alloc, text, " exports=", export_count(types))
+}
+
 fn yes_text(alloc: Global, types: TypesRef<'_>) -> Result<String, AllocError>
     ensures { IfOk result (λ text. string_bytes text ≡ yes_line (shown types.entry)) }
 {
     let mut text = String::from_str(alloc, "yes")?;
-    push_count(
-        alloc,
-        &mut text,
-        " types=",
-        u64::from(types.core_type_count_in_module()),
-    )?;
-    push_count(
-        alloc,
-        &mut text,
-        " functions=",
-        u64::from(types.function_count()),
-    )?;
-    push_count(alloc, &mut text, " tables=", u64::from(types.table_count()))?;
-    push_count(
-        alloc,
-        &mut text,
-        " memories=",
-        u64::from(types.memory_count()),
-    )?;
-    push_count(
-        alloc,
-        &mut text,
-        " globals=",
-        u64::from(types.global_count()),
-    )?;
-    push_count(alloc, &mut text, " tags=", u64::from(types.tag_count()))?;
-    push_count(
-        alloc,
-        &mut text,
-        " elements=",
-        u64::from(types.element_count()),
-    )?;
-    push_count(alloc, &mut text, " exports=", export_count(types))?;
+    push_first_counts(alloc, &mut text, types)?;
+    push_last_counts(alloc, &mut text, types)?;
     text.push_str("\n")?;
     Ok(text)
 }

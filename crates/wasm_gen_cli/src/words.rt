@@ -3,30 +3,57 @@
 use clap::{Arg, ArgAction, ArgMatches, Command, Error};
 use std::alloc::{AllocError, Global};
 
-/// The command line that the program takes.
-pub fn command<'a>(alloc: Global) -> Result<Command<'a>, AllocError> {
-    let files = Arg::new(alloc, "FILE")
+// The files that `check` judges.
+fn files<'a>(alloc: Global) -> Arg<'a> {
+    Arg::new(alloc, "FILE")
         .help("Files with modules")
         .required(true)
         .num_args(1..)
-        .action(ArgAction::Append);
-    let check = Command::new(alloc, "check")
-        .about("Says of each file whether it holds a valid module")
-        .arg(files)?;
-    let seed = Arg::new(alloc, "SEED")
+        .action(ArgAction::Append)
+}
+
+// The file that `generate` takes its seed from.
+fn seed<'a>(alloc: Global) -> Arg<'a> {
+    Arg::new(alloc, "SEED")
         .help("A file with any bytes")
-        .required(true);
-    let generate = Command::new(alloc, "generate")
+        .required(true)
+}
+
+// The command that judges modules.
+fn check<'a>(alloc: Global) -> Result<Command<'a>, AllocError> {
+    Command::new(alloc, "check")
+        .about("Says of each file whether it holds a valid module")
+        .arg(files(alloc))
+}
+
+// The command that makes a module.
+fn generate<'a>(alloc: Global) -> Result<Command<'a>, AllocError> {
+    Command::new(alloc, "generate")
         .about("Makes a module of a seed and writes it to standard output")
-        .arg(seed)?;
-    let program = Command::new(alloc, "wasm_gen")
-        .bin_name("wasm_gen")?
+        .arg(seed(alloc))
+}
+
+// The program with one more command, where that could be made.
+fn add<'a>(
+    program: Command<'a>,
+    command: Result<Command<'a>, AllocError>,
+) -> Result<Command<'a>, AllocError> {
+    program.subcommand(command?)
+}
+
+// The program without its commands.
+fn program<'a>(alloc: Global) -> Result<Command<'a>, AllocError> {
+    Command::new(alloc, "wasm_gen")
         .about("Makes and judges WebAssembly modules")
         .subcommand_required(true)
         .arg_required_else_help(true)
-        .subcommand(generate)?
-        .subcommand(check)?;
-    Ok(program)
+        .bin_name("wasm_gen")
+}
+
+/// The command line that the program takes.
+pub fn command<'a>(alloc: Global) -> Result<Command<'a>, AllocError> {
+    let with_generate = add(program(alloc)?, generate(alloc))?;
+    add(with_generate, check(alloc))
 }
 
 /// What the words ask for.

@@ -1,3 +1,4 @@
 mod AskedLaws
 mod GenerateLaws
 mod ReadLaws
+mod WriteLaws

@@ -1,4 +1,5 @@
 pub mod Asked
+pub mod CheckInputs
 pub mod Device
 pub mod Generate
 pub mod History

@@ -1,5 +1,5 @@
 -- What a run reads, answers and writes.
-use Rattle.std.specs.Prelude.{◌≡◌, ◌≢◌, ◌≤◌, ◌⊎◌, ◌^◌, ℕ, List, length, Bool, Option, Result, is_ok, IfErr}
+use Rattle.std.specs.Prelude.{◌≡◌, ◌≢◌, ◌≤◌, ◌⊎◌, ◌^◌, ℕ, List, length, Bool, Option, Result, is_ok, IfErr, IsErrAnd}
 use Rattle.std.specs.Io.KnownBytes.{Appends}
 use Rattle.wasm_spec.specs.Spaces.{Sizes}
 use Rattle.wasmparser.specs.Types.{Error, Memory}
@@ -20,9 +20,10 @@ pub record ReachesVerdict (old new : History) (unread left : Option (List ℕ)) 
   pub judged : JudgesInput old new unread left verdict
   pub is_verdict : IfErr verdict (λ e. e.kind ≢ Memory)
 
--- the session is as it was, or it answered on the reader's bytes, which were read to their end
-abbrev pub KeepsOrJudges : History → History → Option (List ℕ) → Option (List ℕ) → Type 0
-KeepsOrJudges old new unread left = (new ≡ old) ⊎ ((verdict : Result Sizes Error) × JudgesInput old new unread left verdict)
+-- the session is as it was, or judging the reader's bytes, which were read to their end, ran out of memory
+abbrev pub KeepsOrRunsOut : History → History → Option (List ℕ) → Option (List ℕ) → Type 0
+KeepsOrRunsOut old new unread left =
+    (new ≡ old) ⊎ ((verdict : Result Sizes Error) × JudgesInput old new unread left verdict × IsErrAnd verdict (λ e. e.kind ≡ Memory))
 
 -- the line of the verdict on what was read is written, and nothing else
 pub record WritesVerdict (old new : History) (unread left before after : Option (List ℕ)) (is_yes : Bool) : Type 0 where

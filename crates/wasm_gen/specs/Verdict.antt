@@ -8,19 +8,11 @@ use Rattle.wasmparser.specs.Types.{Error}
 abbrev pub count_text : List ℕ → ℕ → List ℕ
 count_text label n = label ++ decimal n
 
--- the first four of a module's counts
-abbrev pub first_counts : Sizes → List ℕ
-first_counts s = count_text (codes " types=") s.types ++ count_text (codes " functions=") s.functions
-    ++ count_text (codes " tables=") s.tables ++ count_text (codes " memories=") s.memories
-
--- the other four
-abbrev pub last_counts : Sizes → List ℕ
-last_counts s = count_text (codes " globals=") s.globals ++ count_text (codes " tags=") s.tags
-    ++ count_text (codes " elements=") s.elements ++ count_text (codes " exports=") s.exports
-
 -- the line for a valid module
 abbrev pub yes_line : Sizes → List ℕ
-yes_line s = codes "yes" ++ first_counts s ++ last_counts s ++ codes "\n"
+yes_line s = codes "yes" ++ count_text (codes " types=") s.types ++ count_text (codes " functions=") s.functions
+    ++ count_text (codes " tables=") s.tables ++ count_text (codes " memories=") s.memories ++ count_text (codes " globals=") s.globals
+    ++ count_text (codes " tags=") s.tags ++ count_text (codes " elements=") s.elements ++ count_text (codes " exports=") s.exports ++ codes "\n"
 
 -- the line for a verdict
 abbrev pub verdict_line : Result Sizes Error → List ℕ

@@ -2,6 +2,7 @@
 //! readers and writers.
 #![tactic(auto)]
 
+pub mod check_inputs;
 pub mod device;
 pub mod error;
 pub mod generate;

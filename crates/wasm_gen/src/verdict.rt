@@ -1,11 +1,16 @@
 //! The line that tells the verdict on a module.
 
-ghost use Rattle.std.specs.Prelude.{◌≡◌, ◌++◌, IfOk, OnOk, string_bytes, Err};
-ghost use Rattle.wasm_gen.specs.Verdict.{count_text, first_counts, last_counts, yes_line, verdict_line};
+ghost use Rattle.std.specs.Prelude.{◌≡◌, ◌≤◌, ◌+◌, ◌++◌, [], length, vec_len, vec_capacity, Err, IfOk};
+ghost use Rattle.wasm_gen.specs.Verdict.{count_text, yes_line, verdict_line};
 ghost use Rattle.wasmparser.specs.Types.{shown};
 
 use crate::judge::{Error, Types, TypesRef};
+use itoa::Buffer;
 use std::alloc::{AllocError, Global};
+use wasm_core::text::put_bytes;
+
+// More than a line's bytes: a number has at most 20 digits, and there are eight behind labels.
+const ROOM: usize = 300;
 
 // How many exports a module has.
 fn export_count(types: TypesRef<'_>) -> u64
@@ -17,65 +22,67 @@ fn export_count(types: TypesRef<'_>) -> u64
     }
 }
 
-fn push_count(alloc: Global, text: &mut String, label: &str, count: u64) -> Result<(), AllocError>
-    ensures { OnOk result (string_bytes text.new ≡ string_bytes text.old ++ count_text label.now count) }
+// Appends a label and a number, for which there is room.
+fn put_count(line: &mut Vec<u8>, label: &str, count: u64)
+    requires { vec_len line.old + length label.now + 20 ≤ vec_capacity line.old }
+    ensures written { line.new.items ≡ line.old.items ++ count_text label.now count }
+    ensures length { vec_len line.new ≤ vec_len line.old + length label.now + 20 }
+    ensures capacity { vec_capacity line.old ≤ vec_capacity line.new }
 {
-    text.push_str(label)?;
-    let digits = count.to_string(alloc)?;
-    text.push_str(digits.as_str())
+    put_bytes(label.as_bytes(), line);
+    let mut buffer = Buffer::new();
+    put_bytes(buffer.format(count).as_bytes(), line);
 }
 
-// Adds the first four of a module's counts.
-fn push_first_counts(
-    alloc: Global,
-    text: &mut String,
-    types: TypesRef<'_>,
-) -> Result<(), AllocError>
-    ensures { OnOk result (string_bytes text.new ≡ string_bytes text.old ++ first_counts (shown types.entry)) }
+// Writes the line for a valid module.
+fn put_yes(line: &mut Vec<u8>, types: TypesRef<'_>)
+    requires empty { line.old.items ≡ [] }
+    requires room { 300 ≤ vec_capacity line.old }
+    ensures { line.new.items ≡ yes_line (shown types.entry) }
 {
-    let type_count = types.core_type_count_in_module();
-    push_count(alloc, text, " types=", u64::from(type_count))?;
-    let function_count = types.function_count();
-    push_count(alloc, text, " functions=", u64::from(function_count))?;
-    push_count(alloc, text, " tables=", u64::from(types.table_count()))?;
-    push_count(alloc, text, " memories=", u64::from(types.memory_count()))
+    put_bytes(b"yes", line);
+    put_count(
+        line,
+        " types=",
+        u64::from(types.core_type_count_in_module()),
+    );
+    put_count(line, " functions=", u64::from(types.function_count()));
+    put_count(line, " tables=", u64::from(types.table_count()));
+    put_count(line, " memories=", u64::from(types.memory_count()));
+    put_count(line, " globals=", u64::from(types.global_count()));
+    put_count(line, " tags=", u64::from(types.tag_count()));
+    put_count(line, " elements=", u64::from(types.element_count()));
+    put_count(line, " exports=", export_count(types));
+    put_bytes(b"\n", line);
 }
 
-// Adds the other four.
-fn push_last_counts(alloc: Global, text: &mut String, types: TypesRef<'_>) -> Result<(), AllocError>
-    ensures { OnOk result (string_bytes text.new ≡ string_bytes text.old ++ last_counts (shown types.entry)) }
+// Writes the line for a refusal.
+fn put_no(line: &mut Vec<u8>, e: Error)
+    requires empty { line.old.items ≡ [] }
+    requires room { 300 ≤ vec_capacity line.old }
+    ensures { line.new.items ≡ verdict_line (Err e) }
 {
-    push_count(alloc, text, " globals=", u64::from(types.global_count()))?;
-    push_count(alloc, text, " tags=", u64::from(types.tag_count()))?;
-    push_count(alloc, text, " elements=", u64::from(types.element_count()))?;
-    push_count(alloc, text, " exports=", export_count(types))
+    put_bytes(b"no ", line);
+    put_bytes(e.kind.name().as_bytes(), line);
+    put_bytes(b"\n", line);
 }
 
-fn yes_text(alloc: Global, types: TypesRef<'_>) -> Result<String, AllocError>
-    ensures { IfOk result (λ text. string_bytes text ≡ yes_line (shown types.entry)) }
+/// An empty line, with room for any verdict's.
+pub fn empty_line(alloc: Global) -> Result<Vec<u8>, AllocError>
+    ensures empty { IfOk result (λ line. line.items ≡ []) }
+    ensures room { IfOk result (λ line. 300 ≤ vec_capacity line) }
 {
-    let mut text = String::from_str(alloc, "yes")?;
-    push_first_counts(alloc, &mut text, types)?;
-    push_last_counts(alloc, &mut text, types)?;
-    text.push_str("\n")?;
-    Ok(text)
+    Vec::with_capacity(alloc, ROOM)
 }
 
-fn no_text(alloc: Global, e: Error) -> Result<String, AllocError>
-    ensures { IfOk result (λ text. string_bytes text ≡ verdict_line (Err e)) }
-{
-    let mut text = String::from_str(alloc, "no ")?;
-    text.push_str(e.kind.name())?;
-    text.push_str("\n")?;
-    Ok(text)
-}
-
-/// The line for a verdict: `yes` and the sizes of the index spaces, or `no` and the kind of the refusal.
-pub fn verdict_text(alloc: Global, verdict: &Result<Types, Error>) -> Result<String, AllocError>
-    ensures { IfOk result (λ text. string_bytes text ≡ verdict_line verdict.now) }
+/// Writes the line for a verdict: `yes` and the sizes of the index spaces, or `no` and the kind of the refusal. It takes no memory.
+pub fn put_verdict(line: &mut Vec<u8>, verdict: &Result<Types, Error>)
+    requires empty { line.old.items ≡ [] }
+    requires room { 300 ≤ vec_capacity line.old }
+    ensures { line.new.items ≡ verdict_line verdict.now }
 {
     match verdict {
-        Ok(types) => yes_text(alloc, types.as_ref()),
-        Err(e) => no_text(alloc, *e),
+        Ok(types) => put_yes(line, types.as_ref()),
+        Err(e) => put_no(line, *e),
     }
 }

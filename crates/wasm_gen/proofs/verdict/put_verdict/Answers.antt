@@ -1,0 +1,6 @@
+use Rattle.std.proofs.Common.{sym, ap, ◌∙◌}
+use Rattle.wasm_gen.specs.Verdict.{yes_line, verdict_line}
+use Rattle.wasm_gen.proofs.verdict.put_verdict.Goals as goal
+
+pub returns-in-Ok : goal.returns-in-Ok
+returns-in-Ok c = c.put_yes.ensures ∙ ap yes_line c.as_ref.ensures ∙ ap verdict_line (sym c.in-Ok.is)

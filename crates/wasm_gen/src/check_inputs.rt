@@ -1,0 +1,139 @@
+//! Judging many inputs one after the other, as the program does.
+
+ghost use Rattle.std.specs.Prelude.{◌≡◌, ◌≢◌, ◌≤◌, ◌⊎◌, ◌^◌, true, false, length, IfOk, IfErr};
+ghost use Rattle.std.specs.Io.KnownBytes.{Keeps};
+ghost use Rattle.wasm_core.specs.Features.{feature_set};
+ghost use Rattle.wasm_gen.specs.CheckInputs.{GoesOn, WritesLine, ends_run, outcome, restarted};
+ghost use Rattle.wasm_gen.specs.Device.{FailsOrTires, FailsWrite, WritesOn};
+ghost use Rattle.wasm_gen.specs.Transfer.{ConsumesMore};
+ghost use Rattle.wasm_spec.specs.Features.{default_features};
+
+use crate::device::{Sink, Source};
+use crate::error::RunError;
+use crate::judge::ValidatorId;
+use crate::run::run_check;
+use crate::session::Session;
+use crate::status::Outcome;
+use std::alloc::{AllocError, Global};
+use wasm_core::features::WasmFeatures;
+
+/// Where inputs are found by their names, and where faults are told.
+pub trait Inputs {
+    /// An input that is read.
+    type Input: Source + Drop;
+
+    /// The input of this name, where it can be opened.
+    fn open(&mut self, name: &str) -> Option<Self::Input>;
+
+    /// Tells a fault of the input of this name.
+    fn tell(&mut self, fault: RunError, name: &str);
+}
+
+/// The session that the program begins with: under the default features.
+pub fn first_session() -> Session
+    ensures { result ≡ record { features = default_features; id = 0; has_failed = false } }
+{
+    Session::new(WasmFeatures::default(), ValidatorId::new(0))
+}
+
+/// How the run on an input ended.
+pub fn outcome_of(answer: Result<bool, RunError>) -> Outcome
+    ensures { result ≡ outcome answer }
+{
+    match answer {
+        Ok(true) => Outcome::Yes,
+        Ok(false) => Outcome::No,
+        Err(_) => Outcome::Fault,
+    }
+}
+
+// Whether the run ends by this answer: a failed write ends it, and no other fault.
+fn ends_run(answer: Result<bool, RunError>) -> bool
+    ensures { result ≡ ends_run answer }
+{
+    matches!(answer, Err(RunError::Write))
+}
+
+/// Judges an input and writes the line of its verdict, as [`run_check`] does. Unless the write failed, the session then judges the next input:
+/// where it failed, or memory ran out, by a new judge of the name `next`.
+pub fn check_next<R: Source, W: Sink>(
+    alloc: Global,
+    session: &mut Session,
+    next: ValidatorId,
+    reader: &mut R,
+    writer: &mut W,
+) -> Result<bool, RunError>
+    requires { session.old.has_failed ≡ false }
+    ensures judged { IfOk result (λ is_yes. WritesLine session.old next session.new
+        (R.remaining reader.old) (R.remaining reader.new) (W.contents writer.old) (W.contents writer.new) is_yes) }
+    ensures ready { result ≢ Err RunError.Write → session.new.has_failed ≡ false }
+    ensures goes_on { result ≢ Err RunError.Write → GoesOn session.old next session.new }
+    ensures memory { IfErr result (λ e. e ≡ RunError.Memory → session.new ≡ restarted session.old next) }
+    ensures unread { IfErr result (λ e. (e ≡ RunError.Read) ⊎ (e ≡ RunError.TooLong) → session.new ≡ session.old) }
+
+    // Each refusal comes only with its cause.
+    ensures kinds { IfErr result (λ e. (e ≡ RunError.Read) ⊎ (e ≡ RunError.TooLong) ⊎ (e ≡ RunError.Memory) ⊎ (e ≡ RunError.Write)) }
+    ensures read { IfErr result (λ e. e ≡ RunError.Read
+        → FailsOrTires (R.reads reader.old) (R.reads reader.new) (2 ^ 29)) }
+    ensures too_long { IfErr result (λ e. e ≡ RunError.TooLong
+        → ConsumesMore (R.remaining reader.old) (R.remaining reader.new) (2 ^ 28)) }
+    ensures write { IfErr result (λ e. e ≡ RunError.Write → FailsWrite (W.faults writer.old) (W.faults writer.new)) }
+    ensures nothing { IfErr result (λ e. e ≢ RunError.Write → Keeps (W.contents writer.old) (W.contents writer.new)) }
+    ensures unfailed_write { ends_run result ≡ false → WritesOn (W.faults writer.old) (W.faults writer.new) }
+{
+    let answer = run_check(alloc, session, reader, writer);
+    if session.has_failed() || matches!(answer, Err(RunError::Memory)) {
+        session.restart(next);
+    }
+    answer
+}
+
+// The same of the input of a name, which may not open.
+fn check_named<I: Inputs, W: Sink>(
+    alloc: Global,
+    session: &mut Session,
+    next: ValidatorId,
+    inputs: &mut I,
+    name: &str,
+    writer: &mut W,
+) -> Result<bool, RunError>
+    requires { session.old.has_failed ≡ false }
+    ensures ready { ends_run result ≡ false → session.new.has_failed ≡ false }
+    ensures goes_on { ends_run result ≡ false → GoesOn session.old next session.new }
+    ensures write { ends_run result ≡ true → FailsWrite (W.faults writer.old) (W.faults writer.new) }
+    ensures unfailed_write { ends_run result ≡ false → WritesOn (W.faults writer.old) (W.faults writer.new) }
+{
+    match inputs.open(name) {
+        Some(mut input) => check_next(alloc, session, next, &mut input, writer),
+        None => Err(RunError::Read),
+    }
+}
+
+/// Judges the inputs of these names in turn, tells each fault, and gives how each ended. A failed write ends the run; after any other fault the
+/// next input follows.
+#[tactic(auto, using(crate::proofs::WriteLaws::writes_go_on, crate::proofs::WriteLaws::last_write_fails))]
+pub fn check_inputs<I: Inputs, W: Sink>(
+    alloc: Global,
+    inputs: &mut I,
+    names: &[&str],
+    writer: &mut W,
+) -> Result<Vec<Outcome>, AllocError>
+    ensures each { IfOk result (λ outcomes. length outcomes.items ≤ length names.now) }
+    ensures whole { IfOk result (λ outcomes. ((length outcomes.items ≡ length names.now) × WritesOn (W.faults writer.old) (W.faults writer.new))
+        ⊎ FailsWrite (W.faults writer.old) (W.faults writer.new)) }
+{
+    let mut session = first_session();
+    let mut outcomes = Vec::with_capacity(alloc, names.len())?;
+    for (place, name) in names.iter().enumerate() {
+        let next = ValidatorId::new(place + 1);
+        let answer = check_named(alloc, &mut session, next, inputs, name, writer);
+        outcomes.push(outcome_of(answer))?;
+        if let Err(e) = answer {
+            inputs.tell(e, name);
+        }
+        if ends_run(answer) {
+            break;
+        }
+    }
+    Ok(outcomes)
+}

@@ -4,7 +4,7 @@ use Rattle.std.proofs.lemmas.Result.{err_from_is_err_and}
 use Rattle.std.specs.Io.KnownBytes.{Consumes}
 use Rattle.wasm_gen.specs.Transfer.{ConsumesUpTo}
 use Rattle.wasm_gen.specs.declared.error.RunError.{RunError}
-use Rattle.wasm_gen.specs.declared.error.RunError.TheVariants.{Read, Memory}
+use Rattle.wasm_gen.specs.declared.error.RunError.TheVariants.{Read, TooLong, Memory}
 use Rattle.wasm_gen.proofs.ReadLaws.{one_more, last_ends, last_fails, still_within, tired}
 use Rattle.wasm_gen.proofs.transfer.read_whole.Goals as goal
 use Rattle.wasm_gen.proofs.transfer.read_whole.Goals.{in-Nothing, in-More+else-len-most}
@@ -20,6 +20,39 @@ consumed_more a b c bytes most more all before within last total =
 unless_read : (e : RunError) (P : Type 0) → (e ≡ Read) ⊎ (e ≡ Memory) → (e ≡ Memory → P) → e ≢ Read → P
 unless_read e P (inl is) told differs = absurd (differs is)
 unless_read e P (inr is) told differs = told is
+
+of_three : (e : RunError) → (e ≡ Read) ⊎ (e ≡ Memory) → (e ≡ Read) ⊎ (e ≡ TooLong) ⊎ (e ≡ Memory)
+of_three e (inl is) = inl is
+of_three e (inr is) = inr (inr is)
+
+not_too_long : (e : RunError) (P : Type 0) → (e ≡ Read) ⊎ (e ≡ Memory) → e ≡ TooLong → P
+not_too_long e P (inl is) long = cc
+not_too_long e P (inr is) long = cc
+
+pub returns-in_err-read_turn-clause-whole : goal.returns-in_err-read_turn-clause-whole
+returns-in_err-read_turn-clause-whole g c =
+    let p = err_from_is_err_and c.from_residual.result c.from_residual.ensures.1 in
+    rw p.1 tt
+
+pub returns-in_err-read_turn-clause-within : goal.returns-in_err-read_turn-clause-within
+returns-in_err-read_turn-clause-within g c =
+    let p = err_from_is_err_and c.from_residual.result c.from_residual.ensures.1 in
+    rw p.1 tt
+
+pub returns-in_err-read_turn-clause-ended : goal.returns-in_err-read_turn-clause-ended
+returns-in_err-read_turn-clause-ended g c =
+    let p = err_from_is_err_and c.from_residual.result c.from_residual.ensures.1 in
+    rw p.1 tt
+
+pub returns-in_err-read_turn-clause-kinds : goal.returns-in_err-read_turn-clause-kinds
+returns-in_err-read_turn-clause-kinds g c =
+    let p = err_from_is_err_and c.from_residual.result c.from_residual.ensures.1 in
+    rw (p.1, p.2) (of_three _ c.in_err-read_turn.ensures.kinds)
+
+pub returns-in_err-read_turn-clause-too_long : goal.returns-in_err-read_turn-clause-too_long
+returns-in_err-read_turn-clause-too_long g c =
+    let p = err_from_is_err_and c.from_residual.result c.from_residual.ensures.1 in
+    λ is. not_too_long _ _ c.in_err-read_turn.ensures.kinds (cc (p.1, p.2, is))
 
 pub returns-in_err-read_turn-clause-failed : goal.returns-in_err-read_turn-clause-failed
 returns-in_err-read_turn-clause-failed g c =

@@ -1,10 +1,11 @@
 //! The value types that are drawn.
 
-ghost use Rattle.std.specs.Prelude.{◌≡◌, IfOk, map};
-ghost use Rattle.wasm_core_types.specs.CoreTypes.{val_type};
+ghost use Rattle.std.specs.Prelude.{◌≡◌, ◌<◌, IfOk, length, map};
+ghost use Rattle.wasm_core.specs.CoreTypes.{abstract_heap_type, val_type};
 ghost use Rattle.wasm_smith_source.specs.Draws.{IsDrawn};
 ghost use Rattle.wasm_smith_module.specs.Generating.{offers, reference_at, value_at, values_at};
 ghost use Rattle.wasm_smith_module.specs.Growing.{Draws};
+ghost use Rattle.wasm_smith_module.specs.Offered.{kind};
 
 use crate::growing::grows;
 use std::alloc::{AllocError, Global};
@@ -42,31 +43,49 @@ impl Model for Offers {
     ghost invariant = { λ o. record { some_kind : 0 < length o.kinds.items; some_heap : 0 < length o.heaps.items } };
 }
 
+#[tactic(auto, unfolding(crate::specs::Generating::offers))]
+fn offered_kinds(alloc: Global, config: &Config) -> Result<Vec<Kind>, AllocError>
+    ensures offered { IfOk result (λ kinds. map kind kinds.items ≡ (offers config.now).kinds) }
+    ensures some { IfOk result (λ kinds. 0 < length kinds.items) }
+{
+    let mut kinds = vec![in alloc; Kind::Plain(ValType::I32), Kind::Plain(ValType::I64)]?;
+    if config.allow_floats {
+        kinds.push(Kind::Plain(ValType::F32))?;
+        kinds.push(Kind::Plain(ValType::F64))?;
+    }
+    if config.simd_enabled {
+        kinds.push(Kind::Plain(ValType::V128))?;
+    }
+    if config.reference_types_enabled {
+        kinds.push(Kind::Reference)?;
+    }
+    Ok(kinds)
+}
+
+#[tactic(auto, unfolding(crate::specs::Generating::offers))]
+fn offered_heaps(alloc: Global, config: &Config) -> Result<Vec<AbstractHeapType>, AllocError>
+    ensures offered { IfOk result (λ heaps. map abstract_heap_type heaps.items ≡ (offers config.now).heaps) }
+    ensures some { IfOk result (λ heaps. 0 < length heaps.items) }
+{
+    let mut heaps = vec![in alloc; AbstractHeapType::Func, AbstractHeapType::Extern]?;
+    if config.exceptions_enabled {
+        heaps.push(AbstractHeapType::Exn)?;
+    }
+    if config.stack_switching_enabled {
+        heaps.push(AbstractHeapType::Cont)?;
+        heaps.push(AbstractHeapType::NoCont)?;
+    }
+    Ok(heaps)
+}
+
 impl Offers {
     /// What the configuration offers.
     #[tactic(auto, unfolding(crate::specs::Generating::offers))]
     pub fn new(alloc: Global, config: &Config) -> Result<Offers, AllocError>
         ensures { IfOk result (λ o. o ≡ offers config.now) }
     {
-        let mut kinds = vec![in alloc; Kind::Plain(ValType::I32), Kind::Plain(ValType::I64)]?;
-        if config.allow_floats {
-            kinds.push(Kind::Plain(ValType::F32))?;
-            kinds.push(Kind::Plain(ValType::F64))?;
-        }
-        if config.simd_enabled {
-            kinds.push(Kind::Plain(ValType::V128))?;
-        }
-        if config.reference_types_enabled {
-            kinds.push(Kind::Reference)?;
-        }
-        let mut heaps = vec![in alloc; AbstractHeapType::Func, AbstractHeapType::Extern]?;
-        if config.exceptions_enabled {
-            heaps.push(AbstractHeapType::Exn)?;
-        }
-        if config.stack_switching_enabled {
-            heaps.push(AbstractHeapType::Cont)?;
-            heaps.push(AbstractHeapType::NoCont)?;
-        }
+        let kinds = offered_kinds(alloc, config)?;
+        let heaps = offered_heaps(alloc, config)?;
         Ok(Offers { kinds, heaps })
     }
 

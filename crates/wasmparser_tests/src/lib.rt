@@ -4,8 +4,6 @@
 #[cfg(test)]
 mod bodies;
 #[cfg(test)]
-mod checks;
-#[cfg(test)]
 mod errors;
 #[cfg(test)]
 mod types;

@@ -1,6 +1,6 @@
 //! Value types, their gates, and function types.
 
-use crate::checks::equal;
+use std::alloc::Global;
 use std::test::Fail;
 use wasm_core::binary_reader::BinaryReader;
 use wasm_core::features::{Flags, WasmFeatures};
@@ -9,206 +9,236 @@ use wasmparser::core_types::{AbstractHeapType, FuncType, HeapType, RefType, ValT
 use wasmparser::error::{Error, ErrorKind};
 use wasmparser::gates::is_allowed;
 
-// The nullable reference to a heap type.
-fn nullable(heap_type: AbstractHeapType) -> ValType {
+// The reference to a heap type.
+fn reference(nullable: bool, heap_type: AbstractHeapType) -> ValType {
     ValType::Ref(RefType {
-        nullable: true,
+        nullable,
         heap_type: HeapType::Abstract(heap_type),
     })
 }
 
-// The value type that a byte is, if it is one.
-fn type_of(code: u8) -> Option<ValType> {
-    read_val_type(&mut BinaryReader::new(&[code], 0)).ok()
+// The value type that the bytes begin with, if they do.
+fn type_of(bytes: &[u8]) -> Option<ValType> {
+    read_val_type(&mut BinaryReader::new(bytes, 0)).ok()
 }
 
+// The codes of numbers and vectors.
+const NUMBERS: [(u8, ValType); 5] = [
+    (0x7f, ValType::I32),
+    (0x7e, ValType::I64),
+    (0x7d, ValType::F32),
+    (0x7c, ValType::F64),
+    (0x7b, ValType::V128),
+];
+
+// The codes of references that may be null.
+const REFERENCES: [(u8, AbstractHeapType); 14] = [
+    (0x75, AbstractHeapType::NoCont),
+    (0x74, AbstractHeapType::NoExn),
+    (0x73, AbstractHeapType::NoFunc),
+    (0x72, AbstractHeapType::NoExtern),
+    (0x71, AbstractHeapType::None),
+    (0x70, AbstractHeapType::Func),
+    (0x6f, AbstractHeapType::Extern),
+    (0x6e, AbstractHeapType::Any),
+    (0x6d, AbstractHeapType::Eq),
+    (0x6c, AbstractHeapType::I31),
+    (0x6b, AbstractHeapType::Struct),
+    (0x6a, AbstractHeapType::Array),
+    (0x69, AbstractHeapType::Exn),
+    (0x68, AbstractHeapType::Cont),
+];
+
+// Bytes that no value type is.
+const NO_TYPES: [&[u8]; 17] = [
+    &[0x00],
+    &[0x60],
+    &[0x63],
+    &[0x64],
+    &[0x67],
+    &[0x76],
+    &[0x77],
+    &[0x78],
+    &[0x7a],
+    &[0x80],
+    &[0xff],
+    &[0x63, 0x7f],
+    &[0x63, 0x63, 0x70],
+    &[0x63, 0xf0, 0x7f],
+    &[0x63, 0x00],
+    &[0x64, 0x70],
+    &[],
+];
+
 #[test]
-fn value_types_of_one_byte_read(rt: HostRuntime) {
-    for (code, expected) in [
-        (0x7f, ValType::I32),
-        (0x7e, ValType::I64),
-        (0x7d, ValType::F32),
-        (0x7c, ValType::F64),
-        (0x7b, ValType::V128),
-        (0x75, nullable(AbstractHeapType::NoCont)),
-        (0x74, nullable(AbstractHeapType::NoExn)),
-        (0x73, nullable(AbstractHeapType::NoFunc)),
-        (0x72, nullable(AbstractHeapType::NoExtern)),
-        (0x71, nullable(AbstractHeapType::None)),
-        (0x70, nullable(AbstractHeapType::Func)),
-        (0x6f, nullable(AbstractHeapType::Extern)),
-        (0x6e, nullable(AbstractHeapType::Any)),
-        (0x6d, nullable(AbstractHeapType::Eq)),
-        (0x6c, nullable(AbstractHeapType::I31)),
-        (0x6b, nullable(AbstractHeapType::Struct)),
-        (0x6a, nullable(AbstractHeapType::Array)),
-        (0x69, nullable(AbstractHeapType::Exn)),
-        (0x68, nullable(AbstractHeapType::Cont)),
-    ] {
-        assert_eq!(rt; type_of(code), Some(expected), "{code:x}");
+fn value_types_read(rt: HostRuntime) {
+    for (code, ty) in NUMBERS {
+        assert!(rt; type_of(&[code]) == Some(ty), "{code:x}");
     }
-    for code in [
-        0x00, 0x60, 0x63, 0x64, 0x67, 0x76, 0x77, 0x78, 0x7a, 0x80, 0xff,
-    ] {
-        assert_eq!(rt; type_of(code), None, "{code:x}");
+    for bytes in NO_TYPES {
+        assert!(rt; type_of(bytes) == None, "{bytes:?}");
     }
 }
 
 #[test]
 fn nullable_references_are_written_out_too(rt: HostRuntime) {
-    for code in [
-        0x75, 0x74, 0x73, 0x72, 0x71, 0x70, 0x6f, 0x6e, 0x6d, 0x6c, 0x6b, 0x6a, 0x69, 0x68,
-    ] {
-        let text = [0x63, code];
-        let written_out = read_val_type(&mut BinaryReader::new(&text, 0)).ok();
-        assert!(rt; written_out.is_some(), "{code:x}");
-        assert_eq!(rt; written_out, type_of(code), "{code:x}");
+    for (code, heap_type) in REFERENCES {
+        let expected = Some(reference(true, heap_type));
+        assert!(rt; type_of(&[code]) == expected, "{code:x}");
+        assert!(rt; type_of(&[0x63, code]) == expected, "63 {code:x}");
     }
-    let texts: [&[u8]; 6] = [
-        &[0x63],
-        &[0x63, 0x7f],
-        &[0x63, 0x63, 0x70],
-        &[0x63, 0xf0, 0x7f],
-        &[0x63, 0x00],
-        &[0x64, 0x70],
-    ];
-    for text in texts {
-        assert_eq!(rt;
-            read_val_type(&mut BinaryReader::new(text, 0)).ok(),
-            None,
-            "{text:?}"
-        );
-    }
+}
+
+// Numbers and vectors, and the features that they ask for.
+const NUMBER_GATES: [(ValType, WasmFeatures); 3] = [
+    (ValType::F32, WasmFeatures::FLOATS),
+    (ValType::F64, WasmFeatures::FLOATS),
+    (ValType::V128, WasmFeatures::SIMD),
+];
+
+// References, whether they may be null, and a feature that they ask for.
+const REFERENCE_GATES: [(bool, AbstractHeapType, WasmFeatures); 9] = [
+    (true, AbstractHeapType::Func, WasmFeatures::REFERENCE_TYPES),
+    (true, AbstractHeapType::Extern, WasmFeatures::GC_TYPES),
+    (true, AbstractHeapType::Any, WasmFeatures::GC),
+    (true, AbstractHeapType::NoFunc, WasmFeatures::GC),
+    (true, AbstractHeapType::Exn, WasmFeatures::EXCEPTIONS),
+    (true, AbstractHeapType::NoExn, WasmFeatures::EXCEPTIONS),
+    (true, AbstractHeapType::Cont, WasmFeatures::STACK_SWITCHING),
+    (true, AbstractHeapType::NoCont, WasmFeatures::GC_TYPES),
+    (
+        false,
+        AbstractHeapType::Func,
+        WasmFeatures::FUNCTION_REFERENCES,
+    ),
+];
+
+// Whether the type is allowed, and is not without the feature.
+fn has_gate(ty: ValType, gate: WasmFeatures) -> bool {
+    let all = WasmFeatures::all();
+    is_allowed(all, ty) && !is_allowed(all.difference(gate), ty)
 }
 
 #[test]
 fn each_type_has_its_gate(rt: HostRuntime) {
-    let all = WasmFeatures::all();
-    for (ty, gate) in [
-        (ValType::F32, WasmFeatures::FLOATS),
-        (ValType::F64, WasmFeatures::FLOATS),
-        (ValType::V128, WasmFeatures::SIMD),
-        (
-            nullable(AbstractHeapType::Func),
-            WasmFeatures::REFERENCE_TYPES,
-        ),
-        (nullable(AbstractHeapType::Extern), WasmFeatures::GC_TYPES),
-        (nullable(AbstractHeapType::Any), WasmFeatures::GC),
-        (nullable(AbstractHeapType::NoFunc), WasmFeatures::GC),
-        (nullable(AbstractHeapType::Exn), WasmFeatures::EXCEPTIONS),
-        (nullable(AbstractHeapType::NoExn), WasmFeatures::EXCEPTIONS),
-        (
-            nullable(AbstractHeapType::Cont),
-            WasmFeatures::STACK_SWITCHING,
-        ),
-        (nullable(AbstractHeapType::NoCont), WasmFeatures::GC_TYPES),
-    ] {
-        assert!(rt; is_allowed(all, ty), "{ty:?}");
-        assert!(rt; !is_allowed(all.difference(gate), ty), "{ty:?}");
+    for (ty, gate) in NUMBER_GATES {
+        assert!(rt; has_gate(ty, gate), "{ty:?}");
     }
-    assert!(rt; is_allowed(WasmFeatures::empty(), ValType::I32));
-    assert!(rt; is_allowed(WasmFeatures::empty(), ValType::I64));
-    assert!(rt;
-        is_allowed(
-            WasmFeatures::REFERENCE_TYPES,
-            nullable(AbstractHeapType::Func)
-        )
-    );
+    for (nullable, heap_type, gate) in REFERENCE_GATES {
+        let ty = reference(nullable, heap_type);
+        assert!(rt; has_gate(ty, gate), "{ty:?}");
+    }
 }
 
 #[test]
-fn non_null_functions_have_a_gate(rt: HostRuntime) {
-    let function = ValType::Ref(RefType {
-        nullable: false,
-        heap_type: HeapType::Abstract(AbstractHeapType::Func),
-    });
-    assert!(rt; is_allowed(WasmFeatures::all(), function));
-    let without = WasmFeatures::all().difference(WasmFeatures::FUNCTION_REFERENCES);
-    assert!(rt; !is_allowed(without, function));
+fn some_types_ask_for_no_more(rt: HostRuntime) {
+    let none = WasmFeatures::empty();
+    assert!(rt; is_allowed(none, ValType::I32), "i32");
+    assert!(rt; is_allowed(none, ValType::I64), "i64");
+    let function = reference(true, AbstractHeapType::Func);
+    assert!(rt;
+        is_allowed(WasmFeatures::REFERENCE_TYPES, function),
+        "funcref"
+    );
+}
+
+// Whether the function type has these parameters and results.
+fn has_parts(ty: &FuncType, params: &[ValType], results: &[ValType]) -> bool {
+    ty.params() == params && ty.results() == results
 }
 
 #[test]
 fn function_types_keep_their_parts(rt: HostRuntime) -> Result<(), Fail> {
-    let params = [ValType::I32, ValType::F64].to_vec(rt.alloc())?;
-    let results = [ValType::V128].to_vec(rt.alloc())?;
-    let func_type = FuncType::new(params, results);
-    equal(
-        &rt,
-        func_type.params(),
-        [ValType::I32, ValType::F64].as_slice(),
-    );
-    equal(&rt, func_type.results(), [ValType::V128].as_slice());
+    let params = [ValType::I32, ValType::F64];
+    let results = [ValType::V128];
+    let ty = FuncType::new(params.to_vec(rt.alloc())?, results.to_vec(rt.alloc())?);
+    assert!(rt; has_parts(&ty, &params, &results), "{ty:?}");
     Ok(())
+}
+
+// Whether a function type of these parts is read from a place to an end, and so many bytes are left.
+fn reads(
+    alloc: Global,
+    (bytes, place): (&[u8], u32),
+    (params, results): (&[ValType], &[ValType]),
+    (end, left): (u64, usize),
+) -> Result<bool, Error> {
+    let mut reader = BinaryReader::new(bytes, u64::from(place));
+    let ty = read_func_type(alloc, &mut reader)?;
+    let stands = reader.original_position() == end && reader.bytes_remaining() == left;
+    Ok(has_parts(&ty, params, results) && stands && reader.eof() == (left == 0))
 }
 
 #[test]
 fn function_types_read(rt: HostRuntime) -> Result<(), Fail> {
-    let bytes = [0x60, 0x02, 0x7f, 0x7c, 0x81, 0x00, 0x70, 0x60];
-    let mut reader = BinaryReader::new(&bytes, 9);
-    let func_type = read_func_type(rt.alloc(), &mut reader)?;
-    equal(
-        &rt,
-        func_type.params(),
-        [ValType::I32, ValType::F64].as_slice(),
+    let bytes: &[u8] = &[0x60, 0x02, 0x7f, 0x7c, 0x81, 0x00, 0x70, 0x60];
+    let params: &[ValType] = &[ValType::I32, ValType::F64];
+    let results: &[ValType] = &[reference(true, AbstractHeapType::Func)];
+    assert!(rt;
+        reads(rt.alloc(), (bytes, 9), (params, results), (16, 1))?,
+        "three types"
     );
-    equal(
-        &rt,
-        func_type.results(),
-        [nullable(AbstractHeapType::Func)].as_slice(),
+    assert!(rt;
+        reads(rt.alloc(), (&[0x60, 0x00, 0x00], 0), (&[], &[]), (3, 0))?,
+        "none"
     );
-    equal(&rt, reader.original_position(), 16);
-    equal(&rt, reader.bytes_remaining(), 1);
-    let mut reader = BinaryReader::new(&[0x60, 0x00, 0x00], 0);
-    let func_type = read_func_type(rt.alloc(), &mut reader)?;
-    assert!(rt; func_type.params().is_empty());
-    assert!(rt; func_type.results().is_empty());
-    assert!(rt; reader.eof());
     Ok(())
+}
+
+// Bytes that no function type is.
+const NO_FUNC_TYPES: [&[u8]; 10] = [
+    &[],
+    &[0x5f, 0x00, 0x00],
+    &[0x60],
+    &[0x60, 0x00],
+    &[0x60, 0x01, 0x7f],
+    &[0x60, 0x01, 0x00, 0x00],
+    &[0x60, 0x00, 0x02, 0x7f],
+    &[0x60, 0x00, 0x01, 0x60],
+    &[0x60, 0xff, 0xff, 0xff, 0xff, 0x1f, 0x00],
+    &[0x5f, 0x00],
+];
+
+// Why the bytes at the place 7 are no function type.
+fn refusal(alloc: Global, bytes: &[u8]) -> Option<Error> {
+    read_func_type(alloc, &mut BinaryReader::new(bytes, 7)).err()
 }
 
 #[test]
 fn other_bytes_are_no_function_type(rt: HostRuntime) {
-    let texts: [&[u8]; 9] = [
-        &[],
-        &[0x5f, 0x00, 0x00],
-        &[0x60],
-        &[0x60, 0x00],
-        &[0x60, 0x01, 0x7f],
-        &[0x60, 0x01, 0x00, 0x00],
-        &[0x60, 0x00, 0x02, 0x7f],
-        &[0x60, 0x00, 0x01, 0x60],
-        &[0x60, 0xff, 0xff, 0xff, 0xff, 0x1f, 0x00],
-    ];
-    for text in texts {
-        let refusal = read_func_type(rt.alloc(), &mut BinaryReader::new(text, 7)).err();
-        assert_eq!(rt;
-            refusal.map(|e| e.kind),
-            Some(ErrorKind::Malformed),
-            "{text:?}"
-        );
+    for bytes in NO_FUNC_TYPES {
+        let found = refusal(rt.alloc(), bytes);
+        let is_malformed = matches!(&found, Some(e) if e.kind == ErrorKind::Malformed);
+        assert!(rt; is_malformed, "{bytes:?}");
     }
-    let struct_type = [0x5f, 0x00];
-    let refusal = read_func_type(rt.alloc(), &mut BinaryReader::new(&struct_type, 7)).err();
     let expected = Error {
         offset: 7,
         kind: ErrorKind::Malformed,
     };
-    equal(&rt, refusal, Some(expected));
+    assert!(rt;
+        refusal(rt.alloc(), &[0x5f, 0x00]) == Some(expected),
+        "a structure"
+    );
+}
+
+// Whether these types are read, and so many bytes are left.
+fn reads_list(alloc: Global, bytes: &[u8], types: &[ValType], left: usize) -> Result<bool, Error> {
+    let mut reader = BinaryReader::new(bytes, 0);
+    let read = read_val_types(alloc, &mut reader)?;
+    Ok(read.as_slice() == types && reader.bytes_remaining() == left)
 }
 
 #[test]
 fn lists_of_value_types_read(rt: HostRuntime) -> Result<(), Fail> {
-    let mut reader = BinaryReader::new(&[0x03, 0x7f, 0x7f, 0x7b, 0x7e], 0);
-    let types = read_val_types(rt.alloc(), &mut reader)?;
-    equal(
-        &rt,
-        types.as_slice(),
-        [ValType::I32, ValType::I32, ValType::V128].as_slice(),
-    );
-    equal(&rt, reader.bytes_remaining(), 1);
-    // A count that the bytes can't hold takes no memory beforehand.
+    let types: &[ValType] = &[ValType::I32, ValType::I32, ValType::V128];
+    assert!(rt; reads_list(rt.alloc(), &[0x03, 0x7f, 0x7f, 0x7b, 0x7e], types, 1)?);
+    Ok(())
+}
+
+// A count that the bytes can't hold takes no memory beforehand.
+#[test]
+fn lists_end_with_their_bytes(rt: HostRuntime) {
     let most = [0xff, 0xff, 0xff, 0xff, 0x0f, 0x7f];
     let refusal = read_val_types(rt.alloc(), &mut BinaryReader::new(&most, 0)).err();
-    equal(&rt, refusal.map(|e| e.offset), Some(6));
-    Ok(())
+    assert!(rt; matches!(&refusal, Some(e) if e.offset == 6), "{refusal:?}");
 }

@@ -58,7 +58,7 @@ impl Read for ScriptedReader<'_> {
 }
 
 /// How many reads there were, and what came of them.
-#[derive(Clone, Copy, Debug, Default, PartialEq, Eq)]
+#[derive(Clone, Copy, Default, PartialEq, Eq)]
 pub struct Told {
     /// The reads.
     pub asked: u64,
@@ -141,7 +141,7 @@ impl Source for TellingReader<'_> {
 }
 
 /// What a [`NarrowWriter`] does at a call once it is full.
-#[derive(Clone, Copy, Debug)]
+#[derive(Clone, Copy)]
 pub enum WhenFull {
     /// It fails.
     Fails,

@@ -2,7 +2,7 @@
 #![tactic(auto)]
 
 #[cfg(test)]
-mod checks;
+mod answers;
 #[cfg(test)]
 mod errors;
 #[cfg(test)]

@@ -1,7 +1,8 @@
 //! Judging what a reader gives.
 
-use crate::checks::equal;
+use crate::answers::{front_len, is_cut, is_refused};
 use crate::fakes::{NarrowWriter, ScriptedReader, Step, WhenFull};
+use std::alloc::{AllocError, Global};
 use std::test::Fail;
 use wasm_core::features::WasmFeatures;
 use wasm_gen::error::RunError;
@@ -11,6 +12,8 @@ use wasm_gen::session::Session;
 
 const HEADER: &[u8] = b"\0asm\x01\0\0\0";
 
+const CUT_HEADER: &[u8] = b"\0asm\x01\0\0";
+
 const YES: &str =
     "yes types=0 functions=0 tables=0 memories=0 globals=0 tags=0 elements=0 exports=0\n";
 
@@ -18,80 +21,67 @@ fn new_session() -> Session {
     Session::new(WasmFeatures::default(), ValidatorId::new(0))
 }
 
-// Whether the run ended with this answer, or with memory, as where an allocation is refused.
-fn is_answer(answer: Result<bool, RunError>, expected: Result<bool, RunError>) -> bool {
-    answer == expected || answer == Err(RunError::Memory)
-}
+// Inputs of one session, how many of them are a yes, and the lines that are written.
+const SESSIONS: [(&[&[u8]], u32, &str); 2] = [
+    (&[HEADER], 1, YES),
+    (&[CUT_HEADER, HEADER], 0, "no malformed\nno failed\n"),
+];
 
-#[test]
-fn writes_the_line_of_a_yes(rt: HostRuntime) -> Result<(), Fail> {
-    let alloc = rt.alloc();
-    let mut session = new_session();
-    let mut reader = HEADER;
-    let mut written = Vec::new(alloc);
-    let is_yes = run_check(alloc, &mut session, &mut reader, &mut written)?;
-    assert!(rt; is_yes);
-    equal(&rt, written.as_slice(), YES.as_bytes());
-    Ok(())
-}
-
-#[test]
-fn writes_the_line_of_a_no(rt: HostRuntime) -> Result<(), Fail> {
-    let alloc = rt.alloc();
+// Whether so many of these inputs are a yes in one session, which writes these lines.
+fn writes(alloc: Global, inputs: &[&[u8]], count: u32, lines: &str) -> Result<bool, RunError> {
     let mut session = new_session();
     let mut written = Vec::new(alloc);
-    let mut reader = &HEADER[..7];
-    assert!(rt; !run_check(alloc, &mut session, &mut reader, &mut written)?);
-    let mut reader = HEADER;
-    assert!(rt; !run_check(alloc, &mut session, &mut reader, &mut written)?);
-    equal(
-        &rt,
-        written.as_slice(),
-        b"no malformed\nno failed\n".as_slice(),
-    );
-    Ok(())
+    let mut found = 0u32;
+    for input in inputs {
+        let mut reader = *input;
+        if run_check(alloc, &mut session, &mut reader, &mut written)? {
+            found = found.saturating_add(1);
+        }
+    }
+    Ok(found == count && written.as_slice() == lines.as_bytes())
 }
 
 #[test]
-fn writes_a_front_until_a_write_fails(rt: HostRuntime) -> Result<(), Fail> {
-    let alloc = rt.alloc();
-    for room in 0..YES.len() {
-        let mut session = new_session();
-        let mut reader = HEADER;
-        let mut writer = NarrowWriter::new(alloc, room, WhenFull::Fails)?;
-        let answer = run_check(alloc, &mut session, &mut reader, &mut writer);
-        assert!(rt; is_answer(answer, Err(RunError::Write)), "room for {room}");
-        assert!(rt; answer == Err(RunError::Memory) || writer.taken.len() == room);
-        assert!(rt; YES.as_bytes().starts_with(&writer.taken));
+fn writes_a_line_for_each_answer(rt: HostRuntime) -> Result<(), Fail> {
+    for (inputs, count, lines) in SESSIONS {
+        assert!(rt; writes(rt.alloc(), inputs, count, lines)?, "{lines}");
     }
     Ok(())
 }
 
-#[test]
-fn writes_all_a_byte_at_a_time(rt: HostRuntime) -> Result<(), Fail> {
-    let alloc = rt.alloc();
-    let mut session = new_session();
+// Whether a writer of this room takes as much of the line of a yes, and is refused where that is not all.
+fn fills(alloc: Global, room: usize, when_full: WhenFull) -> Result<bool, AllocError> {
     let mut reader = HEADER;
-    let mut writer = NarrowWriter::new(alloc, YES.len(), WhenFull::Fails)?;
-    assert!(rt; run_check(alloc, &mut session, &mut reader, &mut writer)?);
-    equal(&rt, writer.taken.as_slice(), YES.as_bytes());
-    Ok(())
+    let mut writer = NarrowWriter::new(alloc, room, when_full)?;
+    let answer = run_check(alloc, &mut new_session(), &mut reader, &mut writer);
+    let front = front_len(&writer.taken, YES.as_bytes());
+    if room < YES.len() {
+        return Ok(is_cut(answer.err(), front, room));
+    }
+    Ok(answer == Ok(true) && front == Some(room))
 }
 
 #[test]
-fn refuses_a_writer_that_takes_none(rt: HostRuntime) -> Result<(), Fail> {
-    let alloc = rt.alloc();
-    let mut session = new_session();
-    let mut reader = HEADER;
-    let mut writer = NarrowWriter::new(alloc, 3, WhenFull::TakesNone)?;
-    let answer = run_check(alloc, &mut session, &mut reader, &mut writer);
-    assert!(rt; is_answer(answer, Err(RunError::Write)));
+fn writes_as_much_as_there_is_room(rt: HostRuntime) -> Result<(), Fail> {
+    for room in 0..=YES.len() {
+        for when_full in [WhenFull::Fails, WhenFull::TakesNone] {
+            assert!(rt; fills(rt.alloc(), room, when_full)?, "room for {room}");
+        }
+    }
     Ok(())
+}
+
+// Whether a read that fails behind this script is told, where nothing is written, and the session is as it was.
+fn fails_behind(alloc: Global, script: &[Step]) -> bool {
+    let mut session = new_session();
+    let mut reader = ScriptedReader::new(script, Step::Fails);
+    let mut written = Vec::new(alloc);
+    let answer = run_check(alloc, &mut session, &mut reader, &mut written);
+    is_refused(answer.err(), RunError::Read) && written.is_empty() && !session.has_failed()
 }
 
 #[test]
 fn failed_read_writes_nothing(rt: HostRuntime) {
-    let alloc = rt.alloc();
     let script = [
         Step::Gives(0x00),
         Step::Gives(0x61),
@@ -99,15 +89,9 @@ fn failed_read_writes_nothing(rt: HostRuntime) {
         Step::Gives(0x73),
     ];
     for calls in 0..script.len() + 1 {
-        let mut session = new_session();
-        let mut reader = ScriptedReader::new(&script[..calls], Step::Fails);
-        let mut written = Vec::new(alloc);
-        let answer = run_check(alloc, &mut session, &mut reader, &mut written);
         assert!(rt;
-            is_answer(answer, Err(RunError::Read)),
+            fails_behind(rt.alloc(), &script[..calls]),
             "after {calls} calls"
         );
-        assert!(rt; written.is_empty());
-        assert!(rt; !session.has_failed());
     }
 }

@@ -1,18 +1,24 @@
 //! The status of a run.
 
-use crate::checks::equal;
 use wasm_gen::status::Outcome::{Fault, No, Refused, Yes};
-use wasm_gen::status::status_of;
+use wasm_gen::status::{Outcome, status_of};
+
+// Outcomes of runs, each with the status of all together.
+const ROWS: [(&[Outcome], u8); 9] = [
+    (&[], 0),
+    (&[Yes], 0),
+    (&[Yes, Yes, Yes], 0),
+    (&[Yes, No], 1),
+    (&[Refused, Yes], 1),
+    (&[No, Refused], 1),
+    (&[Fault], 2),
+    (&[Fault, No, Refused, Yes], 2),
+    (&[Yes, Refused, No, Fault], 2),
+];
 
 #[test]
 fn takes_the_worst_outcome(rt: HostRuntime) {
-    equal(&rt, status_of(&[]), 0);
-    equal(&rt, status_of(&[Yes]), 0);
-    equal(&rt, status_of(&[Yes, Yes, Yes]), 0);
-    equal(&rt, status_of(&[Yes, No]), 1);
-    equal(&rt, status_of(&[Refused, Yes]), 1);
-    equal(&rt, status_of(&[No, Refused]), 1);
-    equal(&rt, status_of(&[Fault]), 2);
-    equal(&rt, status_of(&[Fault, No, Refused, Yes]), 2);
-    equal(&rt, status_of(&[Yes, Refused, No, Fault]), 2);
+    for (outcomes, status) in ROWS {
+        assert!(rt; status_of(outcomes) == status, "{outcomes:?}");
+    }
 }

@@ -1,7 +1,7 @@
 //! The value types that are drawn.
 
 ghost use Rattle.std.specs.Prelude.{◌≡◌, ◌<◌, IfOk, length, map};
-ghost use Rattle.wasm_core.specs.CoreTypes.{abstract_heap_type, val_type};
+ghost use Rattle.wasm_core_types.specs.CoreTypes.{abstract_heap_type, val_type};
 ghost use Rattle.wasm_smith_source.specs.Draws.{IsDrawn};
 ghost use Rattle.wasm_smith_module.specs.Generating.{offers, reference_at, value_at, values_at};
 ghost use Rattle.wasm_smith_module.specs.Growing.{Draws};

@@ -27,19 +27,29 @@ struct Total {
     bytes: u64,
 }
 
-// Reads the file, makes a module of each seed, and prints the totals.
+// Does what the program's words ask for.
 fn run<R: Env + Files + Print + AllocGlobal>(rt: &R) -> Option<()> {
-    let alloc = rt.alloc();
     let args = env::args(rt).ok()?;
-    let words = args.collect::<Vec<String>>(alloc).ok()?;
-    let [_, name, length] = words.as_slice() else {
+    let words = args.collect::<Vec<String>>(rt.alloc()).ok()?;
+    print_total(rt, words.as_slice())
+}
+
+// Makes a module of each seed in the file that the words name, and prints the totals.
+fn print_total<R: Files + Print + AllocGlobal>(rt: &R, words: &[String]) -> Option<()> {
+    let [_, name, length] = words else {
         return None;
     };
-    let mut file = fs::open(rt, name.as_str()).ok()?;
-    let bytes = read_whole(alloc, &mut file, MAX_INPUT, MAX_TURNS).ok()?;
     let length = length.as_str().parse::<usize>().ok()?;
-    let total = generate_each(alloc, &bytes, length).ok()?;
+    let total = total_of_file(rt, name.as_str(), length)?;
     println!(rt; "{} modules of {} bytes", total.modules, total.bytes).ok()
+}
+
+// Reads the file and makes a module of each seed.
+fn total_of_file<R: Files + AllocGlobal>(rt: &R, name: &str, length: usize) -> Option<Total> {
+    let alloc = rt.alloc();
+    let mut file = fs::open(rt, name).ok()?;
+    let bytes = read_whole(alloc, &mut file, MAX_INPUT, MAX_TURNS).ok()?;
+    generate_each(alloc, &bytes, length).ok()
 }
 
 // Makes a module of each seed.

@@ -1,6 +1,5 @@
 //! Configurations put in order, and the features that they ask for.
 
-use crate::checks::equal;
 use wasm_core::features::{Flags, WasmFeatures};
 use wasm_smith::config::Config;
 
@@ -101,21 +100,25 @@ fn turn_on(config: &mut Config, turn: usize) -> u32 {
     }
 }
 
+// Whether the counts of the configuration are those of the default.
+fn has_default_counts(config: &Config) -> bool {
+    config.min_types == 0
+        && config.max_types == 100
+        && config.max_tables == 1
+        && config.max_memories == 1
+        && config.max_instructions == 100
+        && config.max_type_size == 1000
+        && config.max_table_elements == 1_000_000
+        && config.max_memory32_bytes == 4_294_967_296
+        && config.max_memory64_bytes == 18_446_744_073_709_551_616
+}
+
 #[test]
 fn has_its_defaults(rt: HostRuntime) {
     let config = Config::default();
     assert!(rt; config.gc_enabled && config.allow_start_export && config.relaxed_simd_enabled);
     assert!(rt; !config.threads_enabled && !config.export_everything && !config.disallow_traps);
-    equal(&rt, (config.min_types, config.max_types), (0, 100));
-    equal(&rt, (config.max_tables, config.max_memories), (1, 1));
-    equal(
-        &rt,
-        (config.max_instructions, config.max_type_size),
-        (100, 1000),
-    );
-    equal(&rt, config.max_table_elements, 1_000_000);
-    equal(&rt, config.max_memory32_bytes, 4_294_967_296);
-    equal(&rt, config.max_memory64_bytes, 18_446_744_073_709_551_616);
+    assert!(rt; has_default_counts(&config), "counts");
 }
 
 #[test]
@@ -125,9 +128,7 @@ fn turns_off_what_needs_more(rt: HostRuntime) {
     config.reference_types_enabled = false;
     config.max_tables = 7;
     config.sanitize();
-    assert!(rt; !config.relaxed_simd_enabled);
-    assert!(rt; !config.gc_enabled);
-    equal(&rt, config.max_tables, 1);
+    assert!(rt; !config.relaxed_simd_enabled && !config.gc_enabled && config.max_tables == 1);
 }
 
 #[test]
@@ -136,7 +137,7 @@ fn keeps_what_needs_nothing_more(rt: HostRuntime) {
     config.max_tables = 7;
     let before = config;
     config.sanitize();
-    equal(&rt, config, before);
+    assert!(rt; config == before);
 }
 
 #[test]
@@ -144,15 +145,15 @@ fn has_the_features_of_the_default(rt: HostRuntime) {
     let mut features = WasmFeatures::default();
     features.remove(WasmFeatures::THREADS);
     features.remove(WasmFeatures::MULTI_MEMORY);
-    equal(&rt, Config::default().features(), features);
+    assert!(rt; Config::default().features() == features);
 }
 
 #[test]
 fn has_a_feature_for_each_switch(rt: HostRuntime) {
-    equal(&rt, bare().features().bits(), 0x2_0401);
+    assert!(rt; bare().features().bits() == 0x2_0401, "none");
     for turn in 0..18 {
         let mut config = bare();
         let bits = turn_on(&mut config, turn);
-        equal(&rt, config.features().bits(), 0x2_0401 | bits);
+        assert!(rt; config.features().bits() == 0x2_0401 | bits, "{bits:x}");
     }
 }

@@ -4,8 +4,6 @@
 #[cfg(test)]
 mod check;
 #[cfg(test)]
-mod checks;
-#[cfg(test)]
 mod config;
 #[cfg(test)]
 mod errors;

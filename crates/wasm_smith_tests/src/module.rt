@@ -9,11 +9,28 @@ use wasm_smith::module::Module;
 use wasm_smith::plain::plain_config;
 use wasm_smith::unstructured::Unstructured;
 
+const EXN: ValType = ValType::Ref(RefType {
+    nullable: true,
+    heap_type: HeapType::Abstract(AbstractHeapType::Exn),
+});
+
+// The parameters and results of a function type.
+type Signature = (&'static [ValType], &'static [ValType]);
+
+// The plain configuration with these bounds.
+fn bounded(min_types: u32, max_types: u32, min_funcs: u32) -> Config {
+    let mut config = plain_config();
+    config.min_types = min_types;
+    config.max_types = max_types;
+    config.min_funcs = min_funcs;
+    config
+}
+
 fn made(alloc: Global, config: Config, bytes: &[u8]) -> Result<Module, Error> {
     Module::new(alloc, config, &mut Unstructured::new(bytes))
 }
 
-fn is_func(type_: &SubType, params: &[ValType], results: &[ValType]) -> bool {
+fn is_func(type_: &SubType, (params, results): Signature) -> bool {
     match &type_.composite_type {
         CompositeType::Func(func) => {
             type_.is_final
@@ -25,82 +42,76 @@ fn is_func(type_: &SubType, params: &[ValType], results: &[ValType]) -> bool {
     }
 }
 
-#[test]
-fn no_bytes_make_nothing(rt: HostRuntime) -> Result<(), Fail> {
-    let module = made(rt.alloc(), plain_config(), &[])?;
-    assert!(rt; module.types().is_empty());
-    assert!(rt; module.funcs().is_empty());
-    assert!(rt; module.locals().is_empty());
-    assert!(rt; *module.config() == plain_config());
-    Ok(())
+fn are_funcs(types: &[SubType], signatures: &[Signature]) -> bool {
+    for (type_, signature) in types.iter().zip(signatures) {
+        if !is_func(type_, *signature) {
+            return false;
+        }
+    }
+    types.len() == signatures.len()
+}
+
+fn are_locals(found: &[Vec<ValType>], expected: &[&[ValType]]) -> bool {
+    for (locals, wanted) in found.iter().zip(expected) {
+        if locals.as_slice() != *wanted {
+            return false;
+        }
+    }
+    found.len() == expected.len()
+}
+
+// How many types are owed, the bytes, and the types, functions and their locals that are made.
+const MODULES: [(u32, &[u8], &[Signature], &[u32], &[&[ValType]]); 6] = [
+    (0, &[], &[], &[], &[]),
+    (0, &[1, 0, 0, 0, 1], &[(&[], &[])], &[0], &[&[]]),
+    (
+        0,
+        &[1, 1, 0, 0, 0, 0, 1],
+        &[(&[ValType::I32], &[])],
+        &[0],
+        &[&[]],
+    ),
+    (
+        0,
+        &[1, 0, 0, 0, 1, 0, 1, 4],
+        &[(&[], &[])],
+        &[0],
+        &[&[ValType::V128]],
+    ),
+    (0, &[1, 0, 1, 5, 2], &[(&[], &[EXN])], &[], &[]),
+    (2, &[], &[(&[], &[]), (&[], &[])], &[], &[]),
+];
+
+// Whether these types, functions and locals are made of the bytes.
+fn makes(
+    alloc: Global,
+    (config, bytes): (Config, &[u8]),
+    types: &[Signature],
+    funcs: &[u32],
+    locals: &[&[ValType]],
+) -> Result<bool, Error> {
+    let module = made(alloc, config, bytes)?;
+    let are_made = are_funcs(module.types(), types) && module.funcs() == funcs;
+    Ok(are_made && are_locals(module.locals(), locals) && *module.config() == config)
 }
 
 #[test]
-fn a_function_without_parameters(rt: HostRuntime) -> Result<(), Fail> {
-    let module = made(rt.alloc(), plain_config(), &[1, 0, 0, 0, 1])?;
-    assert!(rt; matches!(module.types(), [type_] if is_func(type_, &[], &[])));
-    assert!(rt; matches!(module.funcs(), [0]));
-    assert!(rt; matches!(module.locals(), [locals] if locals.is_empty()));
-    Ok(())
-}
-
-#[test]
-fn a_function_with_a_parameter(rt: HostRuntime) -> Result<(), Fail> {
-    let module = made(rt.alloc(), plain_config(), &[1, 1, 0, 0, 0, 0, 1])?;
-    assert!(rt; matches!(module.types(), [type_] if is_func(type_, &[ValType::I32], &[])));
-    assert!(rt; matches!(module.funcs(), [0]));
-    Ok(())
-}
-
-#[test]
-fn a_function_with_a_local(rt: HostRuntime) -> Result<(), Fail> {
-    let module = made(rt.alloc(), plain_config(), &[1, 0, 0, 0, 1, 0, 1, 4])?;
-    assert!(rt; matches!(module.types(), [type_] if is_func(type_, &[], &[])));
-    assert!(rt; matches!(module.funcs(), [0]));
-    assert!(rt; matches!(module.locals(), [locals] if matches!(&**locals, [ValType::V128])));
-    Ok(())
-}
-
-#[test]
-fn a_result_that_is_a_reference(rt: HostRuntime) -> Result<(), Fail> {
-    let exn = ValType::Ref(RefType {
-        nullable: true,
-        heap_type: HeapType::Abstract(AbstractHeapType::Exn),
-    });
-    let module = made(rt.alloc(), plain_config(), &[1, 0, 1, 5, 2])?;
-    assert!(rt; matches!(module.types(), [type_] if is_func(type_, &[], &[exn])));
-    Ok(())
-}
-
-#[test]
-fn as_many_types_as_are_owed(rt: HostRuntime) -> Result<(), Fail> {
-    let config = Config {
-        min_types: 2,
-        ..plain_config()
-    };
-    let module = made(rt.alloc(), config, &[])?;
-    assert!(rt; matches!(module.types(), [a, b] if is_func(a, &[], &[]) && is_func(b, &[], &[])));
+fn modules_are_made_of_bytes(rt: HostRuntime) -> Result<(), Fail> {
+    for (min_types, bytes, types, funcs, locals) in MODULES {
+        let seed = (bounded(min_types, 100, 0), bytes);
+        assert!(rt; makes(rt.alloc(), seed, types, funcs, locals)?, "{bytes:?}");
+    }
     Ok(())
 }
 
 #[test]
 fn functions_are_owed_though_there_is_no_type(rt: HostRuntime) {
-    let config = Config {
-        min_funcs: 1,
-        max_types: 0,
-        ..plain_config()
-    };
-    let result = made(rt.alloc(), config, &[]);
-    assert!(rt; matches!(&result, Err(Error::IncorrectFormat)));
+    let refusal = made(rt.alloc(), bounded(0, 0, 1), &[]).err();
+    assert!(rt; refusal == Some(Error::IncorrectFormat));
 }
 
 #[test]
 fn more_types_are_owed_than_there_may_be(rt: HostRuntime) {
-    let config = Config {
-        min_types: 1,
-        max_types: 0,
-        ..plain_config()
-    };
-    let result = made(rt.alloc(), config, &[]);
-    assert!(rt; matches!(&result, Err(Error::BadConfig("min_types"))));
+    let refusal = made(rt.alloc(), bounded(1, 0, 0), &[]).err();
+    assert!(rt; refusal == Some(Error::BadConfig("min_types")));
 }

@@ -13,21 +13,11 @@ use wasm_smith::unstructured::Unstructured;
 use wasm_smith::witness::witness;
 
 fn func(alloc: Global, params: &[ValType], results: &[ValType]) -> Result<SubType, AllocError> {
-    let mut all_params = Vec::new(alloc);
-    all_params.extend_from_slice(params)?;
-    let mut all_results = Vec::new(alloc);
-    all_results.extend_from_slice(results)?;
+    let params = params.to_vec(alloc)?;
     Ok(SubType {
         is_final: true,
         supertype_idx: None,
-        composite_type: CompositeType::Func(FuncType::new(all_params, all_results)),
-    })
-}
-
-fn reference(heap: AbstractHeapType) -> ValType {
-    ValType::Ref(RefType {
-        nullable: true,
-        heap_type: HeapType::Abstract(heap),
+        composite_type: CompositeType::Func(FuncType::new(params, results.to_vec(alloc)?)),
     })
 }
 
@@ -74,268 +64,259 @@ fn makes(
     }
 }
 
+const FUNC: ValType = ValType::Ref(RefType {
+    nullable: true,
+    heap_type: HeapType::Abstract(AbstractHeapType::Func),
+});
+
+const EXTERN: ValType = ValType::Ref(RefType {
+    nullable: true,
+    heap_type: HeapType::Abstract(AbstractHeapType::Extern),
+});
+
+const EXN: ValType = ValType::Ref(RefType {
+    nullable: true,
+    heap_type: HeapType::Abstract(AbstractHeapType::Exn),
+});
+
+const ANY: ValType = ValType::Ref(RefType {
+    nullable: true,
+    heap_type: HeapType::Abstract(AbstractHeapType::Any),
+});
+
+const NOT_NULL: ValType = ValType::Ref(RefType {
+    nullable: false,
+    heap_type: HeapType::Abstract(AbstractHeapType::Func),
+});
+
+const CONCRETE: ValType = ValType::Ref(RefType {
+    nullable: true,
+    heap_type: HeapType::Concrete(0),
+});
+
+const TYPES: [ValType; 8] = [
+    ValType::I32,
+    ValType::I64,
+    ValType::F32,
+    ValType::F64,
+    ValType::V128,
+    FUNC,
+    EXTERN,
+    EXN,
+];
+
+// In what a configuration is not the plain one.
+#[derive(Clone, Copy, Debug)]
+enum Change {
+    Nothing,
+    NoVectors,
+    NoFloats,
+    NoFloatsNorVectors,
+    NoExceptions,
+    NoReferences,
+    OneResult,
+    OwedTypes,
+    OwedFunctions,
+    OwedElements,
+    ExportsAll,
+    Collects,
+    TooManyTypes,
+    CollectsNoReferences,
+}
+
+// The same for at most one type and two functions, each with one result at most.
+fn narrow_config() -> Config {
+    let mut config = plain_config();
+    config.max_types = 1;
+    config.max_funcs = 2;
+    config.multi_value_enabled = false;
+    config
+}
+
+fn changed(change: Change) -> Config {
+    let mut config = plain_config();
+    match change {
+        Change::Nothing => {}
+        Change::NoVectors => config.simd_enabled = false,
+        Change::NoFloats => config.allow_floats = false,
+        Change::NoFloatsNorVectors => {
+            config.allow_floats = false;
+            config.simd_enabled = false;
+        }
+        Change::NoExceptions => config.exceptions_enabled = false,
+        Change::NoReferences => config.reference_types_enabled = false,
+        Change::OneResult => config = narrow_config(),
+        Change::OwedTypes => config.min_types = 1,
+        Change::OwedFunctions => config.min_funcs = 1,
+        Change::OwedElements => config.min_elements = 1,
+        Change::ExportsAll => config.export_everything = true,
+        Change::Collects => config.gc_enabled = true,
+        Change::TooManyTypes => config.max_types = 0x8000_0001,
+        Change::CollectsNoReferences => {
+            config.gc_enabled = true;
+            config.reference_types_enabled = false;
+        }
+    }
+    config
+}
+
+// Changes, the parameters and results of a function, and whether there is a seed for it.
+const FUNCTIONS: [(Change, &[ValType], &[ValType], bool); 23] = [
+    (Change::Nothing, &[], &[], true),
+    (Change::Nothing, &TYPES, &TYPES, true),
+    (
+        Change::NoFloatsNorVectors,
+        &[EXN, ValType::I64],
+        &[EXN, ValType::I64],
+        true,
+    ),
+    // As many as there may be, and more.
+    (
+        Change::Nothing,
+        &[ValType::I64; 20],
+        &[ValType::I64; 20],
+        true,
+    ),
+    (
+        Change::OneResult,
+        &[ValType::I64; 20],
+        &[ValType::F32],
+        true,
+    ),
+    (Change::Nothing, &[ValType::I64; 21], &[], false),
+    (Change::Nothing, &[], &[ValType::I64; 21], false),
+    (Change::OneResult, &[], &[ValType::I32, ValType::I32], false),
+    // Types that are not enabled.
+    (Change::NoVectors, &[ValType::V128], &[], false),
+    (Change::NoFloats, &[ValType::F32], &[], false),
+    (Change::NoFloats, &[], &[ValType::F64], false),
+    (Change::NoExceptions, &[EXN], &[], false),
+    (Change::NoReferences, &[FUNC], &[], false),
+    // References that are not plain.
+    (Change::Nothing, &[NOT_NULL], &[], false),
+    (Change::Nothing, &[CONCRETE], &[], false),
+    (Change::Nothing, &[ANY], &[], false),
+    // Configurations of which nothing is asked.
+    (Change::OwedTypes, &[], &[], false),
+    (Change::OwedFunctions, &[], &[], false),
+    (Change::OwedElements, &[], &[], false),
+    (Change::ExportsAll, &[], &[], false),
+    (Change::Collects, &[], &[], false),
+    (Change::TooManyTypes, &[], &[], false),
+    // Without references there is no garbage collection either.
+    (Change::CollectsNoReferences, &[], &[], true),
+];
+
 #[test]
-fn a_function_without_parameters(rt: HostRuntime) -> Result<(), Fail> {
-    let seed = of_one_type(
-        rt.alloc(),
-        &plain_config(),
-        func(rt.alloc(), &[], &[])?,
-        &[0],
-    )?;
-    assert!(rt; matches!(&seed, Some(bytes) if matches!(bytes.as_slice(), [1, 0, 0, 0, 1])));
-    assert!(rt; makes(rt.alloc(), &plain_config(), &[], &[])?);
+fn functions_are_made_of_their_seeds(rt: HostRuntime) -> Result<(), Fail> {
+    for (change, params, results, expected) in FUNCTIONS {
+        let found = makes(rt.alloc(), &changed(change), params, results)?;
+        assert!(rt; found == expected, "{change:?}, {params:?}, {results:?}");
+    }
+    Ok(())
+}
+
+// So many groups of one type without parameters and results.
+fn empty_types(alloc: Global, count: usize) -> Result<Vec<Vec<SubType>>, AllocError> {
+    let mut groups = Vec::new(alloc);
+    for _ in 0..count {
+        groups.push(vec![in alloc; func(alloc, &[], &[])?]?)?;
+    }
+    Ok(groups)
+}
+
+// How many types there are, whether the configuration is narrow, the indexes of functions, and the seed.
+const SEEDS: [(usize, bool, &[u32], Option<&[u8]>); 7] = [
+    (0, false, &[], Some(&[0])),
+    (1, false, &[0], Some(&[1, 0, 0, 0, 1])),
+    (1, true, &[0, 0], Some(&[1, 0, 0, 1, 1])),
+    (1, true, &[0, 0, 0], None),
+    (2, true, &[], None),
+    // An index past the types.
+    (1, false, &[1], None),
+    (0, false, &[0], None),
+];
+
+// Whether the seed is this, if there is one.
+fn is_seed(seed: Option<Vec<u8>>, expected: Option<&[u8]>) -> bool {
+    match (seed, expected) {
+        (Some(bytes), Some(wanted)) => bytes.as_slice() == wanted,
+        (None, None) => true,
+        _ => false,
+    }
+}
+
+#[test]
+fn lists_have_these_seeds(rt: HostRuntime) -> Result<(), Fail> {
+    for (count, is_narrow, funcs, expected) in SEEDS {
+        let config = if is_narrow {
+            narrow_config()
+        } else {
+            plain_config()
+        };
+        let groups = empty_types(rt.alloc(), count)?;
+        let seed = witness(rt.alloc(), &config, &groups, funcs)?;
+        assert!(rt; is_seed(seed, expected), "{count} types and {funcs:?}");
+    }
     Ok(())
 }
 
 #[test]
-fn nothing(rt: HostRuntime) -> Result<(), Fail> {
-    let seed = witness(rt.alloc(), &plain_config(), &[], &[])?;
-    assert!(rt; matches!(&seed, Some(bytes) if matches!(bytes.as_slice(), [0])));
+fn two_types_have_a_seed(rt: HostRuntime) -> Result<(), Fail> {
+    let groups = empty_types(rt.alloc(), 2)?;
+    assert!(rt; witness(rt.alloc(), &plain_config(), &groups, &[1])?.is_some());
     Ok(())
 }
 
-#[test]
-fn each_type(rt: HostRuntime) -> Result<(), Fail> {
-    let types = [
-        ValType::I32,
-        ValType::I64,
-        ValType::F32,
-        ValType::F64,
-        ValType::V128,
-        reference(AbstractHeapType::Func),
-        reference(AbstractHeapType::Extern),
-        reference(AbstractHeapType::Exn),
-    ];
-    assert!(rt; makes(rt.alloc(), &plain_config(), &types, &types)?);
-    let config = Config {
-        allow_floats: false,
-        simd_enabled: false,
-        ..plain_config()
-    };
-    let references = [reference(AbstractHeapType::Exn), ValType::I64];
-    assert!(rt; makes(rt.alloc(), &config, &references, &references)?);
-    Ok(())
-}
-
-#[test]
-fn as_many_as_there_may_be(rt: HostRuntime) -> Result<(), Fail> {
-    let alloc = rt.alloc();
-    let most = [ValType::I64; 20];
-    assert!(rt; makes(alloc, &plain_config(), &most, &most)?);
-    let config = Config {
-        max_types: 1,
-        max_funcs: 2,
-        multi_value_enabled: false,
-        ..plain_config()
-    };
-    assert!(rt; makes(alloc, &config, &most, &[ValType::F32])?);
-    let type_ = func(alloc, &[], &[])?;
-    let seed = of_one_type(alloc, &config, type_, &[0, 0])?;
-    assert!(rt; matches!(&seed, Some(bytes) if matches!(bytes.as_slice(), [1, 0, 0, 1, 1])));
-    Ok(())
-}
-
-#[test]
-fn too_many(rt: HostRuntime) -> Result<(), Fail> {
-    let alloc = rt.alloc();
-    let more = [ValType::I64; 21];
-    assert!(rt; !makes(alloc, &plain_config(), &more, &[])?);
-    assert!(rt; !makes(alloc, &plain_config(), &[], &more)?);
-    let config = Config {
-        max_types: 1,
-        max_funcs: 2,
-        multi_value_enabled: false,
-        ..plain_config()
-    };
-    assert!(rt; !makes(alloc, &config, &[], &[ValType::I32, ValType::I32])?);
-    assert!(rt; of_one_type(alloc, &config, func(alloc, &[], &[])?, &[0, 0, 0])?.is_none());
-    let two = vec![in alloc;
-        vec![in alloc; func(alloc, &[], &[])?]?,
-        vec![in alloc; func(alloc, &[], &[])?]?,
-    ]?;
-    assert!(rt; witness(alloc, &config, &two, &[])?.is_none());
-    assert!(rt; witness(alloc, &plain_config(), &two, &[1])?.is_some());
-    Ok(())
-}
-
-#[test]
-fn an_index_past_the_types(rt: HostRuntime) -> Result<(), Fail> {
-    let alloc = rt.alloc();
-    assert!(rt; of_one_type(alloc, &plain_config(), func(alloc, &[], &[])?, &[1])?.is_none());
-    assert!(rt; witness(alloc, &plain_config(), &[], &[0])?.is_none());
-    Ok(())
-}
-
-#[test]
-fn types_that_are_not_enabled(rt: HostRuntime) -> Result<(), Fail> {
-    let alloc = rt.alloc();
-    let no_vectors = Config {
-        simd_enabled: false,
-        ..plain_config()
-    };
-    assert!(rt; !makes(alloc, &no_vectors, &[ValType::V128], &[])?);
-    let no_floats = Config {
-        allow_floats: false,
-        ..plain_config()
-    };
-    assert!(rt; !makes(alloc, &no_floats, &[ValType::F32], &[])?);
-    assert!(rt; !makes(alloc, &no_floats, &[], &[ValType::F64])?);
-    let no_exceptions = Config {
-        exceptions_enabled: false,
-        ..plain_config()
-    };
-    assert!(rt;
-        !makes(
-            alloc,
-            &no_exceptions,
-            &[reference(AbstractHeapType::Exn)],
-            &[]
-        )?
-    );
-    let no_references = Config {
-        reference_types_enabled: false,
-        ..plain_config()
-    };
-    assert!(rt;
-        !makes(
-            alloc,
-            &no_references,
-            &[reference(AbstractHeapType::Func)],
-            &[]
-        )?
-    );
-    Ok(())
-}
-
-#[test]
-fn references_that_are_not_plain(rt: HostRuntime) -> Result<(), Fail> {
-    let alloc = rt.alloc();
-    let not_null = RefType {
-        nullable: false,
-        heap_type: HeapType::Abstract(AbstractHeapType::Func),
-    };
-    assert!(rt; !makes(alloc, &plain_config(), &[ValType::Ref(not_null)], &[])?);
-    let concrete = RefType {
-        nullable: true,
-        heap_type: HeapType::Concrete(0),
-    };
-    assert!(rt; !makes(alloc, &plain_config(), &[ValType::Ref(concrete)], &[])?);
-    assert!(rt;
-        !makes(
-            alloc,
-            &plain_config(),
-            &[reference(AbstractHeapType::Any)],
-            &[]
-        )?
-    );
-    Ok(())
+// Whether there is a seed for the group alone, without functions.
+fn has_seed(alloc: Global, group: Vec<SubType>) -> Result<bool, AllocError> {
+    let groups = vec![in alloc; group]?;
+    Ok(witness(alloc, &plain_config(), &groups, &[])?.is_some())
 }
 
 #[test]
 fn groups_that_are_not_small(rt: HostRuntime) -> Result<(), Fail> {
     let alloc = rt.alloc();
-    let two = vec![in alloc; vec![in alloc; func(alloc, &[], &[])?, func(alloc, &[], &[])?]?]?;
-    assert!(rt; witness(alloc, &plain_config(), &two, &[])?.is_none());
-    let empty = vec![in alloc; Vec::new(alloc)]?;
-    assert!(rt; witness(alloc, &plain_config(), &empty, &[])?.is_none());
-    let open = SubType {
-        is_final: false,
-        ..func(alloc, &[], &[])?
-    };
-    assert!(rt; of_one_type(alloc, &plain_config(), open, &[])?.is_none());
-    let below = SubType {
-        supertype_idx: Some(0),
-        ..func(alloc, &[], &[])?
-    };
-    assert!(rt; of_one_type(alloc, &plain_config(), below, &[])?.is_none());
+    let two = vec![in alloc; func(alloc, &[], &[])?, func(alloc, &[], &[])?]?;
+    assert!(rt; !has_seed(alloc, two)?, "two types");
+    assert!(rt; !has_seed(alloc, Vec::new(alloc))?, "no type");
+    Ok(())
+}
+
+// A function type without parameters and results that is final or not, and has a supertype or not.
+fn sub_type(
+    alloc: Global,
+    is_final: bool,
+    supertype_idx: Option<u32>,
+) -> Result<SubType, AllocError> {
+    let mut type_ = func(alloc, &[], &[])?;
+    type_.is_final = is_final;
+    type_.supertype_idx = supertype_idx;
+    Ok(type_)
+}
+
+fn structure(alloc: Global) -> Result<SubType, AllocError> {
     let field = FieldType {
         element_type: StorageType::I8,
         mutable: true,
     };
-    let structure = SubType {
+    Ok(SubType {
         is_final: true,
         supertype_idx: None,
-        composite_type: CompositeType::Struct(StructType::new(vec![in alloc; field]?)),
-    };
-    assert!(rt; of_one_type(alloc, &plain_config(), structure, &[])?.is_none());
-    Ok(())
+        composite_type: CompositeType::Struct(StructType::new([field].to_vec(alloc)?)),
+    })
 }
 
 #[test]
-fn configurations_of_which_nothing_is_asked(rt: HostRuntime) -> Result<(), Fail> {
+fn types_that_are_not_plain(rt: HostRuntime) -> Result<(), Fail> {
     let alloc = rt.alloc();
+    for (is_final, supertype_idx) in [(false, None), (true, Some(0))] {
+        let group = vec![in alloc; sub_type(alloc, is_final, supertype_idx)?]?;
+        assert!(rt; !has_seed(alloc, group)?, "{is_final} {supertype_idx:?}");
+    }
     assert!(rt;
-        !makes(
-            alloc,
-            &Config {
-                min_types: 1,
-                ..plain_config()
-            },
-            &[],
-            &[]
-        )?
+        !has_seed(alloc, vec![in alloc; structure(alloc)?]?)?,
+        "a structure"
     );
-    assert!(rt;
-        !makes(
-            alloc,
-            &Config {
-                min_funcs: 1,
-                ..plain_config()
-            },
-            &[],
-            &[]
-        )?
-    );
-    assert!(rt;
-        !makes(
-            alloc,
-            &Config {
-                min_elements: 1,
-                ..plain_config()
-            },
-            &[],
-            &[]
-        )?
-    );
-    assert!(rt;
-        !makes(
-            alloc,
-            &Config {
-                export_everything: true,
-                ..plain_config()
-            },
-            &[],
-            &[]
-        )?
-    );
-    assert!(rt;
-        !makes(
-            alloc,
-            &Config {
-                gc_enabled: true,
-                ..plain_config()
-            },
-            &[],
-            &[]
-        )?
-    );
-    assert!(rt;
-        !makes(
-            alloc,
-            &Config {
-                max_types: 0x8000_0001,
-                ..plain_config()
-            },
-            &[],
-            &[]
-        )?
-    );
-    // Without references there is no garbage collection either.
-    let config = Config {
-        gc_enabled: true,
-        reference_types_enabled: false,
-        ..plain_config()
-    };
-    assert!(rt; makes(alloc, &config, &[], &[])?);
     Ok(())
 }

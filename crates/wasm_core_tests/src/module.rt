@@ -1,6 +1,6 @@
 //! The bytes of modules that are written section by section.
 
-use crate::checks::equal;
+use std::alloc::Global;
 use std::test::Fail;
 use wasm_core::encode_error::EncodeError;
 use wasm_core::module::Module;
@@ -10,26 +10,35 @@ use wasm_core::types::FuncType;
 #[test]
 fn header_alone(rt: HostRuntime) -> Result<(), Fail> {
     let text = [0x00, 0x61, 0x73, 0x6d, 0x01, 0x00, 0x00, 0x00];
-    equal(
-        &rt,
-        Module::new(rt.alloc())?.finish().as_slice(),
-        text.as_slice(),
-    );
+    let bytes = Module::new(rt.alloc())?.finish();
+    assert!(rt; bytes.as_slice() == text.as_slice(), "{bytes:?}");
     Ok(())
 }
 
-#[test]
-fn two_sections(rt: HostRuntime) -> Result<(), Fail> {
-    let alloc = rt.alloc();
+// A section of one function type.
+fn one_function(alloc: Global) -> Result<TypeSection, EncodeError> {
     let mut types = TypeSection::new(alloc);
     types.func(FuncType::new(Vec::new(alloc), Vec::new(alloc)))?;
+    Ok(types)
+}
+
+// A module of that section, and one without entries.
+fn two_sections(alloc: Global) -> Result<Vec<u8>, Fail> {
     let mut module = Module::new(alloc)?;
-    module.section(&types)?.section(&TypeSection::new(alloc))?;
+    module
+        .section(&one_function(alloc)?)?
+        .section(&TypeSection::new(alloc))?;
+    Ok(module.finish())
+}
+
+#[test]
+fn sections_stand_behind_one_another(rt: HostRuntime) -> Result<(), Fail> {
     let text = [
         0x00, 0x61, 0x73, 0x6d, 0x01, 0x00, 0x00, 0x00, 0x01, 0x04, 0x01, 0x60, 0x00, 0x00, 0x01,
         0x01, 0x00,
     ];
-    equal(&rt, module.finish().as_slice(), text.as_slice());
+    let bytes = two_sections(rt.alloc())?;
+    assert!(rt; bytes.as_slice() == text.as_slice(), "{bytes:?}");
     Ok(())
 }
 
@@ -42,11 +51,11 @@ fn refusals_change_nothing(rt: HostRuntime) {
     };
     let types = TypeSection::new(alloc);
     for _ in 0..40_u32 {
-        let first = module.section(&types).map(|_| ());
-        if first.is_err() {
-            equal(&rt, first, Err(EncodeError::Memory));
+        let refusal = module.section(&types).err();
+        if refusal.is_some() {
+            assert!(rt; refusal == Some(EncodeError::Memory));
             assert!(rt; module.section(&types).is_ok());
         }
     }
-    equal(&rt, module.finish().len(), 128);
+    assert!(rt; module.finish().len() == 128);
 }

@@ -1,8 +1,6 @@
 //! Type sections: what they write, and how long it is.
 
-use crate::checks::equal;
-use std::alloc::Global;
-use std::process::Abort;
+use std::alloc::{AllocError, Global};
 use std::test::Fail;
 use wasm_core::encode::{Encode, Section};
 use wasm_core::encode_error::EncodeError;
@@ -13,34 +11,29 @@ use wasm_core::types::{
     StorageType, StructType, SubType, ValType,
 };
 
-// What a section writes. Its lengths are to say so, and it is to write into just the room that it asks for.
-fn written(rt: &impl Abort, alloc: Global, section: &TypeSection) -> Result<Vec<u8>, Fail> {
-    let len = section.encoded_len()?;
-    let mut sink = Vec::with_capacity(alloc, len as usize)?;
-    section.encode(&mut sink)?;
-    equal(rt, sink.len() as u64, len);
-    equal(rt, sink.capacity() as u64, len);
-    let mut content = len_u64(u64::from(section.len())) as u64;
-    for i in 0..section.len() {
-        let item = section.item_len(i).ok_or("an entry has a length")?;
-        content = content.saturating_add(item);
-    }
-    equal(rt, section.item_len(section.len()), None);
-    equal(rt, section.item_len(u32::MAX), None);
-    equal(rt, content.saturating_add(len_u64(content) as u64), len);
-    Ok(sink)
+// The composite type of a row.
+#[derive(Clone, Copy)]
+enum Shape {
+    Struct(&'static [FieldType]),
+    Array(FieldType),
+    Cont(u32),
 }
 
-fn no_results(alloc: Global) -> FuncType {
-    FuncType::new(Vec::new(alloc), Vec::new(alloc))
+// A type of a row: whether it is final, its supertype, and its composite type.
+type Row = (bool, Option<u32>, Shape);
+
+// An entry of a row.
+#[derive(Clone, Copy)]
+enum Entry {
+    // A function type with these parameters and results.
+    Func(&'static [ValType], &'static [ValType]),
+    // A type alone.
+    Type(Row),
+    // A group of types.
+    Group(&'static [Row]),
 }
 
-fn constant(value: ValType) -> FieldType {
-    FieldType {
-        element_type: StorageType::Val(value),
-        mutable: false,
-    }
-}
+const FUNC: HeapType = HeapType::Abstract(AbstractHeapType::Func);
 
 fn reference(nullable: bool, heap_type: HeapType) -> ValType {
     ValType::Ref(RefType {
@@ -49,234 +42,318 @@ fn reference(nullable: bool, heap_type: HeapType) -> ValType {
     })
 }
 
-fn structure(is_final: bool, supertype_idx: Option<u32>, fields: Vec<FieldType>) -> SubType {
-    SubType {
+// Entries of a section, how long each is, and what the section writes.
+const SECTIONS: [(&[Entry], &[u64], &[u8]); 8] = [
+    (&[], &[], &[0x01, 0x00]),
+    (&[NO_RESULTS], &[3], &[0x04, 0x01, 0x60, 0x00, 0x00]),
+    (
+        &[
+            NO_RESULTS,
+            Entry::Func(
+                &[
+                    ValType::I32,
+                    ValType::I64,
+                    ValType::F32,
+                    ValType::F64,
+                    ValType::V128,
+                ],
+                &[ValType::I64],
+            ),
+        ],
+        &[3, 9],
+        &[
+            0x0d, 0x02, 0x60, 0x00, 0x00, 0x60, 0x05, 0x7f, 0x7e, 0x7d, 0x7c, 0x7b, 0x01, 0x7e,
+        ],
+    ),
+    // A group of two structures, each with a reference to the other.
+    (
+        &[Entry::Group(&[
+            (
+                true,
+                None,
+                Shape::Struct(&[FieldType {
+                    element_type: StorageType::Val(ValType::Ref(RefType {
+                        nullable: true,
+                        heap_type: HeapType::Concrete(1),
+                    })),
+                    mutable: false,
+                }]),
+            ),
+            (
+                true,
+                None,
+                Shape::Struct(&[FieldType {
+                    element_type: StorageType::Val(ValType::Ref(RefType {
+                        nullable: true,
+                        heap_type: HeapType::Concrete(0),
+                    })),
+                    mutable: false,
+                }]),
+            ),
+        ])],
+        &[12],
+        &[
+            0x0d, 0x01, 0x4e, 0x02, 0x5f, 0x01, 0x63, 0x01, 0x00, 0x5f, 0x01, 0x63, 0x00, 0x00,
+        ],
+    ),
+    // Below a type that is not final.
+    (
+        &[
+            Entry::Type((false, None, Shape::Struct(&[]))),
+            Entry::Type((
+                false,
+                Some(0),
+                Shape::Struct(&[FieldType {
+                    element_type: StorageType::Val(ValType::I32),
+                    mutable: false,
+                }]),
+            )),
+        ],
+        &[4, 7],
+        &[
+            0x0c, 0x02, 0x50, 0x00, 0x5f, 0x00, 0x50, 0x01, 0x00, 0x5f, 0x01, 0x7f, 0x00,
+        ],
+    ),
+    // A final type below another.
+    (
+        &[Entry::Type((true, Some(200), Shape::Struct(&[])))],
+        &[6],
+        &[0x07, 0x01, 0x4f, 0x01, 0xc8, 0x01, 0x5f, 0x00],
+    ),
+    // Arrays and continuations.
+    (
+        &[
+            Entry::Type((
+                true,
+                None,
+                Shape::Array(FieldType {
+                    element_type: StorageType::I8,
+                    mutable: true,
+                }),
+            )),
+            Entry::Type((
+                true,
+                None,
+                Shape::Array(FieldType {
+                    element_type: StorageType::I16,
+                    mutable: false,
+                }),
+            )),
+            Entry::Type((
+                true,
+                None,
+                Shape::Array(FieldType {
+                    element_type: StorageType::Val(ValType::V128),
+                    mutable: true,
+                }),
+            )),
+            Entry::Type((true, None, Shape::Cont(0))),
+            Entry::Type((true, None, Shape::Cont(64))),
+        ],
+        &[3, 3, 3, 2, 3],
+        &[
+            0x0f, 0x05, 0x5e, 0x78, 0x01, 0x5e, 0x77, 0x00, 0x5e, 0x7b, 0x01, 0x5d, 0x00, 0x5d,
+            0xc0, 0x00,
+        ],
+    ),
+    // References.
+    (
+        &[Entry::Func(
+            &[
+                ValType::Ref(RefType {
+                    nullable: false,
+                    heap_type: FUNC,
+                }),
+                ValType::Ref(RefType {
+                    nullable: false,
+                    heap_type: HeapType::Concrete(100),
+                }),
+                ValType::Ref(RefType {
+                    nullable: true,
+                    heap_type: FUNC,
+                }),
+                ValType::Ref(RefType {
+                    nullable: true,
+                    heap_type: HeapType::Concrete(100),
+                }),
+            ],
+            &[ValType::Ref(RefType {
+                nullable: true,
+                heap_type: HeapType::Concrete(u32::MAX),
+            })],
+        )],
+        &[18],
+        &[
+            0x13, 0x01, 0x60, 0x04, 0x64, 0x70, 0x64, 0xe4, 0x00, 0x70, 0x63, 0xe4, 0x00, 0x01,
+            0x63, 0xff, 0xff, 0xff, 0xff, 0x0f,
+        ],
+    ),
+];
+
+const NO_RESULTS: Entry = Entry::Func(&[], &[]);
+
+fn func_type(
+    alloc: Global,
+    params: &[ValType],
+    results: &[ValType],
+) -> Result<FuncType, AllocError> {
+    let params = params.to_vec(alloc)?;
+    Ok(FuncType::new(params, results.to_vec(alloc)?))
+}
+
+fn sub_type(alloc: Global, (is_final, supertype_idx, shape): Row) -> Result<SubType, AllocError> {
+    let composite_type = match shape {
+        Shape::Struct(fields) => CompositeType::Struct(StructType::new(fields.to_vec(alloc)?)),
+        Shape::Array(element) => CompositeType::Array(ArrayType(element)),
+        Shape::Cont(function) => CompositeType::Cont(ContType(function)),
+    };
+    Ok(SubType {
         is_final,
         supertype_idx,
-        composite_type: CompositeType::Struct(StructType::new(fields)),
+        composite_type,
+    })
+}
+
+fn sub_types(alloc: Global, rows: &[Row]) -> Result<Vec<SubType>, AllocError> {
+    let mut types = Vec::new(alloc);
+    for row in rows {
+        types.push(sub_type(alloc, *row)?)?;
     }
+    Ok(types)
 }
 
-#[test]
-fn no_entries(rt: HostRuntime) -> Result<(), Fail> {
-    let section = TypeSection::new(rt.alloc());
-    equal(&rt, section.id(), 1);
-    equal(&rt, section.len(), 0);
-    assert!(rt; section.is_empty());
-    equal(
-        &rt,
-        written(&rt, rt.alloc(), &section)?.as_slice(),
-        [0x01, 0x00].as_slice(),
-    );
+// Appends an entry to the section.
+fn add(alloc: Global, section: &mut TypeSection, entry: Entry) -> Result<(), EncodeError> {
+    match entry {
+        Entry::Func(params, results) => section.func(func_type(alloc, params, results)?)?,
+        Entry::Type(row) => section.subtype(sub_type(alloc, row)?)?,
+        Entry::Group(rows) => section.rec(sub_types(alloc, rows)?)?,
+    };
     Ok(())
 }
 
-#[test]
-fn functions(rt: HostRuntime) -> Result<(), Fail> {
-    let alloc = rt.alloc();
+fn section_of(alloc: Global, entries: &[Entry]) -> Result<TypeSection, EncodeError> {
     let mut section = TypeSection::new(alloc);
-    section.func(no_results(alloc))?;
-    let text = [0x04, 0x01, 0x60, 0x00, 0x00];
-    equal(
-        &rt,
-        written(&rt, alloc, &section)?.as_slice(),
-        text.as_slice(),
-    );
-    equal(&rt, section.item_len(0), Some(3));
-    let params = vec![in alloc;
-        ValType::I32,
-        ValType::I64,
-        ValType::F32,
-        ValType::F64,
-        ValType::V128,
-    ]?;
-    let results = vec![in alloc; ValType::I64]?;
-    section.func(FuncType::new(params, results))?;
-    let text = [
-        0x0d, 0x02, 0x60, 0x00, 0x00, 0x60, 0x05, 0x7f, 0x7e, 0x7d, 0x7c, 0x7b, 0x01, 0x7e,
-    ];
-    equal(
-        &rt,
-        written(&rt, alloc, &section)?.as_slice(),
-        text.as_slice(),
-    );
-    equal(&rt, section.len(), 2);
-    equal(&rt, section.item_len(1), Some(9));
-    Ok(())
+    for entry in entries {
+        add(alloc, &mut section, *entry)?;
+    }
+    Ok(section)
+}
+
+// How long the entries are together, with their number.
+fn content_len(section: &TypeSection) -> Option<u64> {
+    let mut content = len_u64(u64::from(section.len())) as u64;
+    for i in 0..section.len() {
+        content = content.saturating_add(section.item_len(i)?);
+    }
+    Some(content)
+}
+
+// Whether the lengths of a section that writes so many bytes say so.
+fn says_its_lengths(section: &TypeSection, len: u64) -> bool {
+    let Some(content) = content_len(section) else {
+        return false;
+    };
+    section.item_len(section.len()).is_none()
+        && section.item_len(u32::MAX).is_none()
+        && content.saturating_add(len_u64(content) as u64) == len
+}
+
+// What a section writes. Its lengths are to say so, and it is to write into just the room that it asks for.
+fn written(alloc: Global, section: &TypeSection) -> Result<Vec<u8>, Fail> {
+    let len = section.encoded_len()?;
+    let mut sink = Vec::with_capacity(alloc, len as usize)?;
+    section.encode(&mut sink)?;
+    let is_full = sink.len() as u64 == len && sink.capacity() as u64 == len;
+    if !is_full || !says_its_lengths(section, len) {
+        return Err(Fail::from("a length is not the section's"));
+    }
+    Ok(sink)
+}
+
+// Whether a section has entries of these lengths.
+fn has_lengths(section: &TypeSection, lengths: &[u64]) -> bool {
+    let mut count = 0u32;
+    for length in lengths {
+        if section.item_len(count) != Some(*length) {
+            return false;
+        }
+        count = count.saturating_add(1);
+    }
+    section.len() == count && section.is_empty() == (count == 0) && section.id() == 1
+}
+
+// Whether a section of these entries has these lengths, and writes this text.
+fn writes(alloc: Global, entries: &[Entry], lengths: &[u64], text: &[u8]) -> Result<bool, Fail> {
+    let section = section_of(alloc, entries)?;
+    Ok(has_lengths(&section, lengths) && written(alloc, &section)?.as_slice() == text)
 }
 
 #[test]
-fn group_of_two(rt: HostRuntime) -> Result<(), Fail> {
-    let alloc = rt.alloc();
-    let second = constant(reference(true, HeapType::Concrete(1)));
-    let first = constant(reference(true, HeapType::Concrete(0)));
-    let types = vec![in alloc;
-        structure(true, None, vec![in alloc; second]?),
-        structure(true, None, vec![in alloc; first]?),
-    ]?;
-    let mut section = TypeSection::new(alloc);
-    section.rec(types)?;
-    let text = [
-        0x0d, 0x01, 0x4e, 0x02, 0x5f, 0x01, 0x63, 0x01, 0x00, 0x5f, 0x01, 0x63, 0x00, 0x00,
-    ];
-    equal(
-        &rt,
-        written(&rt, alloc, &section)?.as_slice(),
-        text.as_slice(),
-    );
-    equal(&rt, section.len(), 1);
-    equal(&rt, section.item_len(0), Some(12));
+fn sections_write_their_entries(rt: HostRuntime) -> Result<(), Fail> {
+    for (entries, lengths, text) in SECTIONS {
+        assert!(rt; writes(rt.alloc(), entries, lengths, text)?, "{text:?}");
+    }
     Ok(())
 }
 
-#[test]
-fn below_an_open_type(rt: HostRuntime) -> Result<(), Fail> {
-    let alloc = rt.alloc();
+// A group of one type, the type itself, and an empty group, by calls that go on.
+fn chained(alloc: Global) -> Result<TypeSection, Fail> {
+    let row = (true, None, Shape::Struct(&[]));
     let mut section = TypeSection::new(alloc);
-    let below = structure(false, Some(0), vec![in alloc; constant(ValType::I32)]?);
     section
-        .subtype(structure(false, None, Vec::new(alloc)))?
-        .subtype(below)?;
-    let text = [
-        0x0c, 0x02, 0x50, 0x00, 0x5f, 0x00, 0x50, 0x01, 0x00, 0x5f, 0x01, 0x7f, 0x00,
-    ];
-    equal(
-        &rt,
-        written(&rt, alloc, &section)?.as_slice(),
-        text.as_slice(),
-    );
-    equal(&rt, section.item_len(0), Some(4));
-    equal(&rt, section.item_len(1), Some(7));
-    Ok(())
-}
-
-#[test]
-fn final_below_another(rt: HostRuntime) -> Result<(), Fail> {
-    let alloc = rt.alloc();
-    let mut section = TypeSection::new(alloc);
-    section.subtype(structure(true, Some(200), Vec::new(alloc)))?;
-    let text = [0x07, 0x01, 0x4f, 0x01, 0xc8, 0x01, 0x5f, 0x00];
-    equal(
-        &rt,
-        written(&rt, alloc, &section)?.as_slice(),
-        text.as_slice(),
-    );
-    Ok(())
-}
-
-#[test]
-fn group_of_one_beside_its_type(rt: HostRuntime) -> Result<(), Fail> {
-    let alloc = rt.alloc();
-    let mut section = TypeSection::new(alloc);
-    let group = vec![in alloc; structure(true, None, Vec::new(alloc))]?;
-    section
-        .rec(group)?
-        .subtype(structure(true, None, Vec::new(alloc)))?
+        .rec(sub_types(alloc, &[row])?)?
+        .subtype(sub_type(alloc, row)?)?
         .rec(Vec::new(alloc))?;
-    let text = [0x09, 0x03, 0x4e, 0x01, 0x5f, 0x00, 0x5f, 0x00, 0x4e, 0x00];
-    equal(
-        &rt,
-        written(&rt, alloc, &section)?.as_slice(),
-        text.as_slice(),
-    );
-    Ok(())
+    Ok(section)
 }
 
 #[test]
-fn arrays_and_continuations(rt: HostRuntime) -> Result<(), Fail> {
-    let alloc = rt.alloc();
-    let rows = [
-        (StorageType::I8, true),
-        (StorageType::I16, false),
-        (StorageType::Val(ValType::V128), true),
-    ];
-    let mut section = TypeSection::new(alloc);
-    for (element_type, mutable) in rows {
-        section.subtype(SubType {
-            is_final: true,
-            supertype_idx: None,
-            composite_type: CompositeType::Array(ArrayType(FieldType {
-                element_type,
-                mutable,
-            })),
-        })?;
-    }
-    for function in [0, 64] {
-        section.subtype(SubType {
-            is_final: true,
-            supertype_idx: None,
-            composite_type: CompositeType::Cont(ContType(function)),
-        })?;
-    }
-    let text = [
-        0x0f, 0x05, 0x5e, 0x78, 0x01, 0x5e, 0x77, 0x00, 0x5e, 0x7b, 0x01, 0x5d, 0x00, 0x5d, 0xc0,
-        0x00,
-    ];
-    equal(
-        &rt,
-        written(&rt, alloc, &section)?.as_slice(),
-        text.as_slice(),
-    );
+fn calls_go_on(rt: HostRuntime) -> Result<(), Fail> {
+    let text = written(rt.alloc(), &chained(rt.alloc())?)?;
+    let expected = [0x09, 0x03, 0x4e, 0x01, 0x5f, 0x00, 0x5f, 0x00, 0x4e, 0x00];
+    assert!(rt; text.as_slice() == expected.as_slice(), "{text:?}");
     Ok(())
 }
 
-#[test]
-fn references(rt: HostRuntime) -> Result<(), Fail> {
-    let alloc = rt.alloc();
-    let heap = HeapType::Abstract(AbstractHeapType::Func);
-    let params = vec![in alloc;
-        reference(false, heap),
-        reference(false, HeapType::Concrete(100)),
-        reference(true, heap),
-        reference(true, HeapType::Concrete(100)),
-    ]?;
-    let results = vec![in alloc; reference(true, HeapType::Concrete(u32::MAX))]?;
+// Abstract heap types, each with its code.
+const HEAP_TYPES: [(AbstractHeapType, u8); 14] = [
+    (AbstractHeapType::NoCont, 0x75),
+    (AbstractHeapType::NoExn, 0x74),
+    (AbstractHeapType::NoFunc, 0x73),
+    (AbstractHeapType::NoExtern, 0x72),
+    (AbstractHeapType::None, 0x71),
+    (AbstractHeapType::Func, 0x70),
+    (AbstractHeapType::Extern, 0x6f),
+    (AbstractHeapType::Any, 0x6e),
+    (AbstractHeapType::Eq, 0x6d),
+    (AbstractHeapType::I31, 0x6c),
+    (AbstractHeapType::Struct, 0x6b),
+    (AbstractHeapType::Array, 0x6a),
+    (AbstractHeapType::Exn, 0x69),
+    (AbstractHeapType::Cont, 0x68),
+];
+
+// Whether a function from the reference that may be null to the one that may not has this code in both.
+fn has_code(alloc: Global, heap: AbstractHeapType, code: u8) -> Result<bool, Fail> {
+    let params = [reference(true, HeapType::Abstract(heap))];
+    let results = [reference(false, HeapType::Abstract(heap))];
     let mut section = TypeSection::new(alloc);
-    section.func(FuncType::new(params, results))?;
-    let text = [
-        0x13, 0x01, 0x60, 0x04, 0x64, 0x70, 0x64, 0xe4, 0x00, 0x70, 0x63, 0xe4, 0x00, 0x01, 0x63,
-        0xff, 0xff, 0xff, 0xff, 0x0f,
-    ];
-    equal(
-        &rt,
-        written(&rt, alloc, &section)?.as_slice(),
-        text.as_slice(),
-    );
-    Ok(())
+    section.func(func_type(alloc, &params, &results)?)?;
+    let text = [0x07, 0x01, 0x60, 0x01, code, 0x01, 0x64, code];
+    Ok(written(alloc, &section)?.as_slice() == text.as_slice())
 }
 
 #[test]
 fn abstract_references(rt: HostRuntime) -> Result<(), Fail> {
-    let rows = [
-        (AbstractHeapType::NoCont, 0x75),
-        (AbstractHeapType::NoExn, 0x74),
-        (AbstractHeapType::NoFunc, 0x73),
-        (AbstractHeapType::NoExtern, 0x72),
-        (AbstractHeapType::None, 0x71),
-        (AbstractHeapType::Func, 0x70),
-        (AbstractHeapType::Extern, 0x6f),
-        (AbstractHeapType::Any, 0x6e),
-        (AbstractHeapType::Eq, 0x6d),
-        (AbstractHeapType::I31, 0x6c),
-        (AbstractHeapType::Struct, 0x6b),
-        (AbstractHeapType::Array, 0x6a),
-        (AbstractHeapType::Exn, 0x69),
-        (AbstractHeapType::Cont, 0x68),
-    ];
-    for (heap, code) in rows {
-        let alloc = rt.alloc();
-        let params = vec![in alloc; reference(true, HeapType::Abstract(heap))]?;
-        let results = vec![in alloc; reference(false, HeapType::Abstract(heap))]?;
-        let mut section = TypeSection::new(alloc);
-        section.func(FuncType::new(params, results))?;
-        let text = [0x07, 0x01, 0x60, 0x01, code, 0x01, 0x64, code];
-        equal(
-            &rt,
-            written(&rt, alloc, &section)?.as_slice(),
-            text.as_slice(),
-        );
+    for (heap, code) in HEAP_TYPES {
+        assert!(rt; has_code(rt.alloc(), heap, code)?, "{code:x}");
     }
     Ok(())
+}
+
+fn no_results(alloc: Global) -> FuncType {
+    FuncType::new(Vec::new(alloc), Vec::new(alloc))
 }
 
 #[test]
@@ -286,9 +363,9 @@ fn counts_and_sizes_of_two_bytes(rt: HostRuntime) -> Result<(), Fail> {
     for _ in 0..128_u32 {
         section.func(no_results(alloc))?;
     }
-    let text = written(&rt, alloc, &section)?;
-    equal(&rt, text.len(), 388);
-    assert!(rt; text.starts_with(&[0x82, 0x03, 0x80, 0x01, 0x60, 0x00, 0x00, 0x60]));
+    let text = written(alloc, &section)?;
+    let front = [0x82, 0x03, 0x80, 0x01, 0x60, 0x00, 0x00, 0x60];
+    assert!(rt; text.len() == 388 && text.starts_with(&front));
     Ok(())
 }
 
@@ -303,33 +380,46 @@ fn appends_behind_what_stands_there(rt: HostRuntime) -> Result<(), Fail> {
     let text = [
         7, 7, 7, 0x04, 0x01, 0x60, 0x00, 0x00, 0x04, 0x01, 0x60, 0x00, 0x00,
     ];
-    equal(&rt, sink.as_slice(), text.as_slice());
+    assert!(rt; sink.as_slice() == text.as_slice(), "{sink:?}");
     Ok(())
 }
 
 // For `rt try --test --fail-alloc N`, which refuses an allocation: what refuses is as it was, and takes the same call
 // again.
+
+// Whether one function more goes in behind so many, at the second call where the first is refused.
+fn takes_a_function(alloc: Global, section: &mut TypeSection, count: u32) -> bool {
+    if section.len() != count {
+        return false;
+    }
+    let refusal = section.func(no_results(alloc)).err();
+    if refusal.is_none() {
+        return true;
+    }
+    let is_kept = section.len() == count && section.item_len(count).is_none();
+    refusal == Some(EncodeError::Memory) && is_kept && section.func(no_results(alloc)).is_ok()
+}
+
+// Whether the section is written, at the second call where the first is refused.
+fn is_written(section: &TypeSection, sink: &mut Vec<u8>) -> bool {
+    let refusal = section.encode(sink).err();
+    if refusal.is_none() {
+        return true;
+    }
+    refusal == Some(EncodeError::Memory) && sink.is_empty() && section.encode(sink).is_ok()
+}
+
 #[test]
 fn refusals_change_nothing(rt: HostRuntime) {
-    let alloc = rt.alloc();
-    let mut section = TypeSection::new(alloc);
+    let mut section = TypeSection::new(rt.alloc());
     for count in 0..40_u32 {
-        equal(&rt, section.len(), count);
-        let first = section.func(no_results(alloc)).map(|_| ());
-        if first.is_err() {
-            equal(&rt, first, Err(EncodeError::Memory));
-            equal(&rt, section.len(), count);
-            equal(&rt, section.item_len(count), None);
-            assert!(rt; section.func(no_results(alloc)).is_ok());
-        }
+        assert!(rt;
+            takes_a_function(rt.alloc(), &mut section, count),
+            "{count}"
+        );
     }
-    let mut sink = Vec::new(alloc);
-    let first = section.encode(&mut sink);
-    if first.is_err() {
-        equal(&rt, first, Err(EncodeError::Memory));
-        assert!(rt; sink.is_empty());
-        equal(&rt, section.encode(&mut sink), Ok(()));
-    }
-    equal(&rt, sink.len(), 122);
-    assert!(rt; sink.starts_with(&[0x79, 0x28, 0x60, 0x00, 0x00]));
+    let mut sink = Vec::new(rt.alloc());
+    assert!(rt; is_written(&section, &mut sink));
+    let front = [0x79, 0x28, 0x60, 0x00, 0x00];
+    assert!(rt; sink.len() == 122 && sink.starts_with(&front), "{sink:?}");
 }

@@ -1,6 +1,5 @@
 //! Types keep what they are made of.
 
-use crate::checks::equal;
 use std::test::Fail;
 use wasm_core::types::{
     AbstractHeapType, FieldType, FuncType, HeapType, RefType, StorageType, StructType, ValType,
@@ -16,11 +15,11 @@ fn keeps_parameters_and_results(rt: HostRuntime) -> Result<(), Fail> {
     let params = vec![in alloc; ValType::I32, reference]?;
     let results = vec![in alloc; ValType::F64]?;
     let func_type = FuncType::new(params, results);
-    equal(&rt, func_type.params(), &[ValType::I32, reference][..]);
-    equal(&rt, func_type.results(), &[ValType::F64][..]);
+    let are_kept = func_type.params() == [ValType::I32, reference].as_slice()
+        && func_type.results() == [ValType::F64].as_slice();
+    assert!(rt; are_kept, "{func_type:?}");
     let none = FuncType::new(Vec::new(alloc), Vec::new(alloc));
-    assert!(rt; none.params().is_empty());
-    assert!(rt; none.results().is_empty());
+    assert!(rt; none.params().is_empty() && none.results().is_empty());
     Ok(())
 }
 
@@ -39,7 +38,7 @@ fn keeps_fields(rt: HostRuntime) -> Result<(), Fail> {
         mutable: false,
     };
     let struct_type = StructType::new(vec![in alloc; byte, function]?);
-    equal(&rt, struct_type.fields(), &[byte, function][..]);
+    assert!(rt; struct_type.fields() == [byte, function].as_slice());
     assert!(rt; StructType::new(Vec::new(alloc)).fields().is_empty());
     Ok(())
 }

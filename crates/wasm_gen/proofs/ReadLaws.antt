@@ -1,5 +1,5 @@
 -- What reads in a row tell together.
-use Rattle.std.proofs.Common.{◌≡◌, ℕ, ◌+◌, ◌<◌, Option, Some, None, inl, inr, arith}
+use Rattle.std.proofs.Common.{◌≡◌, ℕ, ◌+◌, ◌<◌, Option, Some, None, inl, inr, refl, arith}
 use Rattle.wasm_gen.specs.Device.{ReadCounts, Tells, EndsRead, FailsOrTires, FailsRead, ReadsOn, ReadsToEnd, ReadsWithin}
 
 -- a step, and then another
@@ -26,3 +26,7 @@ pub tired : (a b : Option ReadCounts) (n turns : ℕ) → n ≡ turns → ReadsO
 tired a None n turns e p = tt
 tired None (Some y) n turns e p = absurd p
 tired (Some x) (Some y) n turns e p = (inr (omega arith, omega arith), omega arith)
+
+pub none_read : (a : Option ReadCounts) (turns : ℕ) → ReadsWithin a a turns
+none_read None turns = tt
+none_read (Some x) turns = (omega arith, refl, refl)

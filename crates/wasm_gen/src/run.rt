@@ -3,7 +3,7 @@
 ghost use Rattle.std.specs.Prelude.{◌≡◌, ◌≢◌, ◌^◌, ◌⊎◌, IfOk, IfErr, OnOk};
 ghost use Rattle.std.specs.Io.KnownBytes.{Keeps};
 ghost use Rattle.wasm_gen.specs.Device.{FailsOrTires, FailsWrite, ReadsToEnd, ReadsWithin, WritesOn};
-ghost use Rattle.wasm_gen.specs.Run.{WritesVerdict, WritesFront, KeepsOrRunsOut};
+ghost use Rattle.wasm_gen.specs.Run.{WritesVerdict, WritesFront, KeepsOrRunsOut, ReachesVerdict};
 ghost use Rattle.wasm_gen.specs.RunGenerate.{MakesBytes, WritesModule, WritesModuleFront, RefusesSeed};
 ghost use Rattle.wasm_gen.specs.Transfer.{ConsumesMore};
 ghost use Rattle.wasm_gen.specs.declared.error.GenerateError.{GenerateError};
@@ -11,16 +11,17 @@ ghost use Rattle.wasm_gen.specs.declared.error.GenerateError.{GenerateError};
 use crate::device::{Sink, Source};
 use crate::error::RunError;
 use crate::generate::generate;
-use crate::judge::ErrorKind;
+use crate::judge::{Error, ErrorKind, Types};
 use crate::session::Session;
 use crate::transfer::{MAX_INPUT, MAX_TURNS, read_whole, write_whole};
 use crate::verdict::{empty_line, put_verdict};
 use std::alloc::Global;
 use wasm_smith::config::Config;
 
-/// Reads a module, judges it and writes the line of its verdict. Answers whether the verdict is yes.
+/// Reads a module, judges it and writes the line of its verdict, for which it takes the room beforehand. Answers whether the verdict is yes.
 ///
 /// After `Write` the session has judged the module. After `Memory` it is as it was, or it has failed since judging ran out of memory.
+#[tactic(auto, using(crate::proofs::ReadLaws::none_read, crate::proofs::WriteLaws::none_written))]
 pub fn run_check<R: Source, W: Sink>(
     alloc: Global,
     session: &mut Session,
@@ -57,19 +58,47 @@ pub fn run_check<R: Source, W: Sink>(
     ensures features { session.new.features ≡ session.old.features }
     ensures id { session.new.id ≡ session.old.id }
 {
-    let bytes = read_whole(alloc, reader, MAX_INPUT, MAX_TURNS)?;
     let Ok(mut line) = empty_line(alloc) else {
         return Err(RunError::Memory);
     };
+    let verdict = judge_input(alloc, session, reader)?;
+    put_verdict(&mut line, &verdict);
+    write_whole(writer, &line)?;
+    Ok(verdict.is_ok())
+}
+
+// Reads a module and judges it. Running out of memory is no verdict.
+fn judge_input<R: Source>(
+    alloc: Global,
+    session: &mut Session,
+    reader: &mut R,
+) -> Result<Result<Types, Error>, RunError>
+    ensures reached { IfOk result (ReachesVerdict session.old session.new (R.remaining reader.old) (R.remaining reader.new)) }
+
+    ensures kinds { IfErr result (λ e. (e ≡ RunError.Read) ⊎ (e ≡ RunError.TooLong) ⊎ (e ≡ RunError.Memory)) }
+    ensures read { IfErr result (λ e. e ≡ RunError.Read
+        → FailsOrTires (R.reads reader.old) (R.reads reader.new) (2 ^ 29)) }
+    ensures too_long { IfErr result (λ e. e ≡ RunError.TooLong
+        → ConsumesMore (R.remaining reader.old) (R.remaining reader.new) (2 ^ 28)) }
+
+    ensures read_to_end { OnOk result (ReadsToEnd (R.reads reader.old) (R.reads reader.new) (2 ^ 29)) }
+    ensures unfailed_read { IfErr result (λ e. (e ≡ RunError.TooLong) ⊎ (e ≡ RunError.Memory)
+        → ReadsWithin (R.reads reader.old) (R.reads reader.new) (2 ^ 29) ⊎ ReadsToEnd (R.reads reader.old) (R.reads reader.new) (2 ^ 29)) }
+
+    ensures unread { IfErr result (λ e. (e ≡ RunError.Read) ⊎ (e ≡ RunError.TooLong) → session.new ≡ session.old) }
+    ensures memory { IfErr result (λ e. e ≡ RunError.Memory → KeepsOrRunsOut session.old session.new
+        (R.remaining reader.old) (R.remaining reader.new)) }
+    ensures features { session.new.features ≡ session.old.features }
+    ensures id { session.new.id ≡ session.old.id }
+{
+    let bytes = read_whole(alloc, reader, MAX_INPUT, MAX_TURNS)?;
     let verdict = session.check(alloc, &bytes);
     if let Err(e) = &verdict {
         if e.kind == ErrorKind::Memory {
             return Err(RunError::Memory);
         }
     }
-    put_verdict(&mut line, &verdict);
-    write_whole(writer, &line)?;
-    Ok(verdict.is_ok())
+    Ok(verdict)
 }
 
 /// Reads a seed, makes a module of it and writes its bytes.

@@ -1,5 +1,5 @@
 -- What reads in a row tell together.
-use Rattle.std.proofs.Common.{◌≡◌, ℕ, ◌+◌, ◌<◌, Option, Some, None, inl, inr, refl, arith}
+use Rattle.std.proofs.Common.{◌≡◌, ℕ, ◌+◌, ◌<◌, ◌≤◌, Option, Some, None, inl, inr, refl, arith}
 use Rattle.wasm_gen.specs.Device.{ReadCounts, Tells, EndsRead, FailsOrTires, FailsRead, ReadsOn, ReadsToEnd, ReadsWithin}
 
 -- a step, and then another
@@ -22,10 +22,10 @@ last_fails a b c n turns h = joined _ _ _ (λ x y z p q. (inl (omega arith, omeg
 pub still_within : (a b c : Option ReadCounts) (n turns : ℕ) → n < turns → ReadsOn a b n → ReadsOn b c 1 → ReadsWithin a c turns
 still_within a b c n turns h = joined _ _ _ (λ x y z p q. (omega arith, omega arith, omega arith)) a b c
 
-pub tired : (a b : Option ReadCounts) (n turns : ℕ) → n ≡ turns → ReadsOn a b n → FailsOrTires a b turns
-tired a None n turns e p = tt
-tired None (Some y) n turns e p = absurd p
-tired (Some x) (Some y) n turns e p = (inr (omega arith, omega arith), omega arith)
+pub tired : (a b : Option ReadCounts) (n turns : ℕ) → turns ≤ n → n ≤ turns → ReadsOn a b n → FailsOrTires a b turns
+tired a None n turns all few p = tt
+tired None (Some y) n turns all few p = absurd p
+tired (Some x) (Some y) n turns all few p = (inr (omega arith, omega arith), omega arith)
 
 pub none_read : (a : Option ReadCounts) (turns : ℕ) → ReadsWithin a a turns
 none_read None turns = tt

@@ -1,4 +1,4 @@
-use Rattle.std.proofs.Common.{◌≡◌, ◌≢◌, ◌≤◌, ◌+◌, ◌^◌, ℕ, List, ◌++◌, length, length-append, Option, Ok, Err, ◌⊎◌, inl, inr, ap, arith}
+use Rattle.std.proofs.Common.{◌≡◌, ◌≢◌, ◌<◌, ◌≤◌, ◌+◌, ◌^◌, ℕ, List, ◌++◌, length, length-append, Option, Vec, vec_len, Global, Ok, Err, ◌⊎◌, inl, inr, ap, arith}
 use Rattle.std.proofs.KnownBytes.{Consumes-trans, Consumes-kept}
 use Rattle.std.proofs.lemmas.Result.{err_from_is_err_and}
 use Rattle.std.specs.Io.KnownBytes.{Consumes}
@@ -28,6 +28,12 @@ of_three e (inr is) = inr (inr is)
 not_too_long : (e : RunError) (P : Type 0) → (e ≡ Read) ⊎ (e ≡ Memory) → e ≡ TooLong → P
 not_too_long e P (inl is) long = cc
 not_too_long e P (inr is) long = cc
+
+longer : (most n : ℕ) (v : Vec ℕ Global) → n ≡ vec_len v → most < n → most < length v.items
+longer most n v is h = omega (arith, v.ok.0)
+
+no_longer : (most n : ℕ) (v : Vec ℕ Global) → n ≡ vec_len v → n ≤ most → length v.items ≤ most
+no_longer most n v is h = omega (arith, v.ok.0)
 
 pub returns-in_err-read_turn-clause-whole : goal.returns-in_err-read_turn-clause-whole
 returns-in_err-read_turn-clause-whole g c =
@@ -91,7 +97,11 @@ returns-in-End-clause-ended g c =
 pub returns-then-len-most-clause-too_long : goal.returns-then-len-most-clause-too_long
 returns-then-len-most-clause-too_long g c =
     let last = c.in_ok-read_turn.ensures.more (ap Ok c.in-More.is) in
-    λ _. (c.read_turn.new.bytes.items, rw last.3 (Consumes-trans _ _ _ _ _ c.loop-turn.invariant.consumed last.1), omega arith)
+    λ _. (
+      c.read_turn.new.bytes.items,
+      rw last.3 (Consumes-trans _ _ _ _ _ c.loop-turn.invariant.consumed last.1),
+      longer _ _ c.read_turn.new.bytes c.len.ensures c.if-len-most.true,
+    )
 
 pub returns-then-len-most-clause-unfailed : goal.returns-then-len-most-clause-unfailed
 returns-then-len-most-clause-unfailed g c =
@@ -119,10 +129,10 @@ loop-turn-preserved g c =
           let last = told.more (ap Ok w.in-More.is) in
           record {
             consumed = rw last.3 (Consumes-trans _ _ _ _ _ before.consumed last.1);
-            within = omega arith;
+            within = no_longer _ _ c.read_turn.new.bytes w.len.ensures w.if-len-most.false;
             counted = one_more _ _ _ _ before.counted (told.goes_on (λ is. cc (w.in-More.is, is)));
           }
     ]
 
 pub returns-clause-failed : goal.returns-clause-failed
-returns-clause-failed g c = λ _. tired _ _ _ _ (omega arith) c.loop-turn.invariant.counted
+returns-clause-failed g c = λ _. tired _ _ _ _ c.loop-turn-test.false c.loop-turn.auto._turn-end c.loop-turn.invariant.counted

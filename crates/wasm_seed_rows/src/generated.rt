@@ -45,65 +45,63 @@ const ROWS: [(&[u8], &[u8]); 5] = [
     ),
 ];
 
-// Whether no module is made, for this reason.
-fn is_refused(alloc: Global, config: &Config, seed: &[u8], e: GenerateError) -> bool {
-    match generate(alloc, config, seed) {
-        Ok(_bytes) => false,
-        Err(other) => other == e,
-    }
+// Whether the seed makes a module of these sections.
+fn makes(alloc: Global, config: &Config, seed: &[u8], sections: &[u8]) -> Result<bool, Fail> {
+    let expected = joined(alloc, &[&HEADER, sections])?;
+    Ok(generate(alloc, config, seed)?.as_slice() == expected.as_slice())
 }
 
 #[test]
 fn seeds_make_these_modules(rt: HostRuntime) -> Result<(), Fail> {
-    let alloc = rt.alloc();
     for (seed, sections) in ROWS {
-        let bytes = generate(alloc, &plain_config(), seed)?;
-        let expected = joined(alloc, &[&HEADER, sections])?;
-        assert_eq!(rt; bytes.as_slice(), expected.as_slice());
+        assert!(rt;
+            makes(rt.alloc(), &plain_config(), seed, sections)?,
+            "{seed:?}"
+        );
     }
     Ok(())
 }
 
 #[test]
 fn minimums_are_met_without_a_seed(rt: HostRuntime) -> Result<(), Fail> {
-    let alloc = rt.alloc();
     let mut config = plain_config();
     config.min_types = 2;
-    let bytes = generate(alloc, &config, &[])?;
     let types: &[u8] = &[0x01, 0x07, 0x02, 0x60, 0x00, 0x00, 0x60, 0x00, 0x00];
-    let expected = joined(alloc, &[&HEADER, types])?;
-    assert_eq!(rt; bytes.as_slice(), expected.as_slice());
+    assert!(rt; makes(rt.alloc(), &config, &[], types)?);
     Ok(())
 }
 
+// Least and most types, least functions, and why no module is made.
+const REFUSED: [(u32, u32, u32, GenerateError); 3] = [
+    (0, 0, 1, GenerateError::Minimum),
+    (1, 0, 0, GenerateError::Config("min_types")),
+    (1_000_001, 1_000_001, 0, GenerateError::Limit(Limit::Types)),
+];
+
 #[test]
 fn refusals_name_their_cause(rt: HostRuntime) {
-    let alloc = rt.alloc();
-    let mut config = plain_config();
-    config.min_funcs = 1;
-    config.max_types = 0;
-    assert!(rt; is_refused(alloc, &config, &[], GenerateError::Minimum));
-    let mut config = plain_config();
-    config.min_types = 1;
-    config.max_types = 0;
-    let e = GenerateError::Config("min_types");
-    assert!(rt; is_refused(alloc, &config, &[], e));
+    for (min_types, max_types, min_funcs, error) in REFUSED {
+        let mut config = plain_config();
+        config.min_types = min_types;
+        config.max_types = max_types;
+        config.min_funcs = min_funcs;
+        let refusal = generate(rt.alloc(), &config, &[]).err();
+        assert!(rt; refusal == Some(error), "{error}");
+    }
     let mut config = plain_config();
     config.gc_enabled = true;
-    let e = GenerateError::Config("gc_enabled");
-    assert!(rt; is_refused(alloc, &config, &[], e));
-    let mut config = plain_config();
-    config.min_types = 1_000_001;
-    config.max_types = 1_000_001;
-    let e = GenerateError::Limit(Limit::Types);
-    assert!(rt; is_refused(alloc, &config, &[], e));
+    let refusal = generate(rt.alloc(), &config, &[]).err();
+    assert!(rt;
+        refusal == Some(GenerateError::Config("gc_enabled")),
+        "gc_enabled"
+    );
 }
 
 #[test]
 fn modules_of_one_byte_are_accepted(rt: HostRuntime) -> Result<(), Fail> {
     for byte in 0..=255u8 {
         let refusal = refusal_of_made(rt.alloc(), &plain_config(), &[byte])?;
-        assert_eq!(rt; refusal, None);
+        assert!(rt; refusal == None, "{byte}");
     }
     Ok(())
 }
@@ -113,7 +111,7 @@ fn modules_of_cut_seeds_are_accepted(rt: HostRuntime) -> Result<(), Fail> {
     for (seed, _sections) in ROWS {
         for len in 0..seed.len() {
             let refusal = refusal_of_made(rt.alloc(), &plain_config(), &seed[..len])?;
-            assert_eq!(rt; refusal, None);
+            assert!(rt; refusal == None, "{len} of {seed:?}");
         }
     }
     Ok(())
@@ -122,8 +120,7 @@ fn modules_of_cut_seeds_are_accepted(rt: HostRuntime) -> Result<(), Fail> {
 #[test]
 fn module_of_a_long_seed_is_accepted(rt: HostRuntime) -> Result<(), Fail> {
     let seed = [0xff; 4096];
-    let refusal = refusal_of_made(rt.alloc(), &plain_config(), &seed)?;
-    assert_eq!(rt; refusal, None);
+    assert!(rt; refusal_of_made(rt.alloc(), &plain_config(), &seed)? == None);
     Ok(())
 }
 
@@ -138,21 +135,27 @@ fn patterned(alloc: Global, step: u8) -> Result<Vec<u8>, AllocError> {
     Ok(seed)
 }
 
+// A configuration in which the bits of a number turn features off.
+fn turned(bits: u8) -> Config {
+    let mut config = plain_config();
+    config.allow_floats = bits & 1 == 0;
+    config.simd_enabled = bits & 2 == 0;
+    config.reference_types_enabled = bits & 4 == 0;
+    config.multi_value_enabled = bits & 8 == 0;
+    config.exceptions_enabled = bits & 16 == 0;
+    config.min_types = 3;
+    config.min_funcs = 2;
+    config
+}
+
 #[test]
 fn modules_of_other_configurations_are_accepted(rt: HostRuntime) -> Result<(), Fail> {
-    let alloc = rt.alloc();
-    for turned in 0..32u8 {
-        let mut config = plain_config();
-        config.allow_floats = turned & 1 == 0;
-        config.simd_enabled = turned & 2 == 0;
-        config.reference_types_enabled = turned & 4 == 0;
-        config.multi_value_enabled = turned & 8 == 0;
-        config.exceptions_enabled = turned & 16 == 0;
-        config.min_types = 3;
-        config.min_funcs = 2;
+    for bits in 0..32u8 {
+        let config = turned(bits);
         for step in [1u8, 3, 7, 11] {
-            let seed = patterned(alloc, step)?;
-            assert_eq!(rt; refusal_of_made(alloc, &config, &seed)?, None);
+            let seed = patterned(rt.alloc(), step)?;
+            let refusal = refusal_of_made(rt.alloc(), &config, &seed)?;
+            assert!(rt; refusal == None, "{bits} and {step}");
         }
     }
     Ok(())

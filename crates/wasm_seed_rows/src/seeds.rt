@@ -12,48 +12,67 @@ use wasm_rows::modules::{module, new_session};
 // How many lists are made.
 const LISTS: u32 = 1000;
 
+// Whether a seed for these groups and functions is found, and makes this module.
+fn seed_makes(
+    alloc: Global,
+    groups: &[Vec<SubType>],
+    funcs: &[u32],
+    module: &[u8],
+) -> Result<bool, Fail> {
+    let Some(seed) = seed_for(alloc, &plain_config(), groups, funcs)? else {
+        return Ok(false);
+    };
+    Ok(generate(alloc, &plain_config(), &seed)?.as_slice() == module)
+}
+
+// Whether the lists of this number are made from their seed.
+fn is_made_again(alloc: Global, number: u32) -> Result<bool, Fail> {
+    let lists = drawn_lists(alloc, number)?;
+    let module = module_of(alloc, &lists)?;
+    let groups = lists.groups(alloc)?;
+    seed_makes(alloc, &groups, &lists.funcs, &module)
+}
+
 #[test]
 fn drawn_lists_are_made_from_their_seeds(rt: HostRuntime) -> Result<(), Fail> {
-    let alloc = rt.alloc();
     for number in 0..LISTS {
-        let lists = drawn_lists(alloc, number)?;
-        let module = module_of(alloc, &lists)?;
-        let groups = lists.groups(alloc)?;
-        let answer = seed_for(alloc, &plain_config(), &groups, &lists.funcs)?;
-        assert!(rt; answer.is_some(), "{number}");
-        let seed = answer.unwrap_or(Vec::new(alloc));
-        let made = generate(alloc, &plain_config(), &seed)?;
-        assert_eq!(rt; made.as_slice(), module.as_slice(), "{number}");
+        assert!(rt; is_made_again(rt.alloc(), number)?, "{number}");
     }
     Ok(())
 }
 
+// Whether they are made from another spelling.
+fn is_made_of(alloc: Global, number: u32, turn: u8) -> Result<bool, Fail> {
+    let lists = drawn_lists(alloc, number)?;
+    let module = module_of(alloc, &lists)?;
+    let seed = spelled(alloc, &lists, Spelling { turn })?;
+    Ok(generate(alloc, &plain_config(), &seed)?.as_slice() == module.as_slice())
+}
+
 #[test]
 fn drawn_lists_are_made_from_other_spellings(rt: HostRuntime) -> Result<(), Fail> {
-    let alloc = rt.alloc();
     for number in 0..LISTS {
-        let lists = drawn_lists(alloc, number)?;
-        let module = module_of(alloc, &lists)?;
         for turn in 1..4u8 {
-            let seed = spelled(alloc, &lists, Spelling { turn })?;
-            let made = generate(alloc, &plain_config(), &seed)?;
-            assert_eq!(rt; made.as_slice(), module.as_slice(), "{number}");
+            assert!(rt; is_made_of(rt.alloc(), number, turn)?, "{number} in {turn}");
         }
     }
     Ok(())
 }
 
-// A module has the same types and functions where their sections, at its front, have the same bytes.
+// Whether they are made from a seed with a tail. A module has the same types and functions where their sections, at its
+// front, have the same bytes.
+fn is_made_in_front(alloc: Global, number: u32) -> Result<bool, Fail> {
+    let lists = drawn_lists(alloc, number)?;
+    let front = lists.front(alloc)?;
+    let mut seed = spelled(alloc, &lists, Spelling { turn: 1 })?;
+    seed.extend_from_slice(&[0x2a, 0x01, 0x01, 0xff, 0x00, 0x7f, 0x03, 0x02])?;
+    Ok(generate(alloc, &plain_config(), &seed)?.starts_with(&front))
+}
+
 #[test]
 fn drawn_lists_are_made_from_seeds_with_a_tail(rt: HostRuntime) -> Result<(), Fail> {
-    let alloc = rt.alloc();
     for number in 0..LISTS {
-        let lists = drawn_lists(alloc, number)?;
-        let front = lists.front(alloc)?;
-        let mut seed = spelled(alloc, &lists, Spelling { turn: 1 })?;
-        seed.extend_from_slice(&[0x2a, 0x01, 0x01, 0xff, 0x00, 0x7f, 0x03, 0x02])?;
-        let made = generate(alloc, &plain_config(), &seed)?;
-        assert!(rt; made.starts_with(&front), "{number}");
+        assert!(rt; is_made_in_front(rt.alloc(), number)?, "{number}");
     }
     Ok(())
 }
@@ -70,9 +89,13 @@ fn function_of(alloc: Global, params: &[ValType]) -> Result<Vec<SubType>, AllocE
     Ok(group)
 }
 
-// The same without parameters.
-fn empty_function(alloc: Global) -> Result<Vec<SubType>, AllocError> {
-    function_of(alloc, &[])
+// So many groups of one function type without parameters each.
+fn empty_functions(alloc: Global, count: usize) -> Result<Vec<Vec<SubType>>, AllocError> {
+    let mut groups = Vec::new(alloc);
+    for _ in 0..count {
+        groups.push(function_of(alloc, &[])?)?;
+    }
+    Ok(groups)
 }
 
 // Whether there is a seed for one function of a type with these parameters.
@@ -82,74 +105,111 @@ fn has_seed(alloc: Global, config: &Config, params: &[ValType]) -> Result<bool, 
 }
 
 #[test]
-fn bounds_of_the_family_have_seeds(rt: HostRuntime) -> Result<(), Fail> {
+fn parameters_have_their_bounds(rt: HostRuntime) -> Result<(), Fail> {
     let alloc = rt.alloc();
     let config = plain_config();
-    assert!(rt; has_seed(alloc, &config, &[ValType::V128; 20])?);
-    assert!(rt; !has_seed(alloc, &config, &[ValType::V128; 21])?);
+    assert!(rt; has_seed(alloc, &config, &[ValType::V128; 20])?, "20");
+    assert!(rt; !has_seed(alloc, &config, &[ValType::V128; 21])?, "21");
     let mut no_vectors = plain_config();
     no_vectors.simd_enabled = false;
-    assert!(rt; !has_seed(alloc, &no_vectors, &[ValType::V128])?);
-    let mut groups = Vec::new(alloc);
-    for _ in 0..100 {
-        groups.push(empty_function(alloc)?)?;
+    assert!(rt;
+        !has_seed(alloc, &no_vectors, &[ValType::V128])?,
+        "no vectors"
+    );
+    Ok(())
+}
+
+// How many types there are, how many functions of the last of a hundred, functions behind these, and whether there is a
+// seed.
+const COUNTS: [(usize, usize, &[u32], bool); 4] = [
+    (100, 100, &[], true),
+    (100, 100, &[0], false),
+    (101, 0, &[], false),
+    // An index past the types.
+    (1, 0, &[1], false),
+];
+
+// Whether there is a seed for so many types, and these functions.
+fn have_seed(alloc: Global, types: usize, last: usize, others: &[u32]) -> Result<bool, Fail> {
+    let groups = empty_functions(alloc, types)?;
+    let mut funcs = vec![in alloc; 99u32; last]?;
+    funcs.extend_from_slice(others)?;
+    Ok(seed_for(alloc, &plain_config(), &groups, &funcs)?.is_some())
+}
+
+#[test]
+fn types_and_functions_have_their_bounds(rt: HostRuntime) -> Result<(), Fail> {
+    for (types, last, others, expected) in COUNTS {
+        let found = have_seed(rt.alloc(), types, last, others)?;
+        assert!(rt;
+            found == expected,
+            "{types} types, {last} functions and {others:?}"
+        );
     }
-    let mut funcs = vec![in alloc; 99u32; 100]?;
-    assert!(rt; seed_for(alloc, &config, &groups, &funcs)?.is_some());
-    funcs.push(0)?;
-    assert!(rt; seed_for(alloc, &config, &groups, &funcs)?.is_none());
-    groups.push(empty_function(alloc)?)?;
-    assert!(rt; seed_for(alloc, &config, &groups, &[])?.is_none());
     Ok(())
 }
 
 #[test]
 fn one_function_is_made_of_its_seed(rt: HostRuntime) -> Result<(), Fail> {
-    let alloc = rt.alloc();
-    let groups = vec![in alloc; empty_function(alloc)?]?;
-    let answer = seed_for(alloc, &plain_config(), &groups, &[0])?;
-    assert!(rt; answer.is_some());
-    let made = generate(alloc, &plain_config(), &answer.unwrap_or(Vec::new(alloc)))?;
+    let groups = empty_functions(rt.alloc(), 1)?;
     let sections: &[u8] = &[
         0x01, 0x04, 0x01, 0x60, 0x00, 0x00, 0x03, 0x02, 0x01, 0x00, 0x0a, 0x05, 0x01, 0x03, 0x00,
         0x00, 0x0b,
     ];
-    assert_eq!(rt; made.as_slice(), module(alloc, &[sections])?.as_slice());
+    let module = module(rt.alloc(), &[sections])?;
+    assert!(rt; seed_makes(rt.alloc(), &groups, &[0], &module)?);
     Ok(())
 }
 
 #[test]
-fn what_is_out_of_reach_has_no_seed(rt: HostRuntime) -> Result<(), Fail> {
-    let alloc = rt.alloc();
-    let one = vec![in alloc; empty_function(alloc)?]?;
-    assert!(rt; seed_for(alloc, &plain_config(), &one, &[1])?.is_none());
-    let mut config = plain_config();
-    config.min_types = 1;
-    assert!(rt; seed_for(alloc, &config, &one, &[0])?.is_none());
-    let mut config = plain_config();
-    config.export_everything = true;
-    assert!(rt; seed_for(alloc, &config, &one, &[0])?.is_none());
-    assert!(rt; seed_for(alloc, &Config::default(), &one, &[0])?.is_none());
-    let mut two = empty_function(alloc)?;
-    two.append(&mut empty_function(alloc)?)?;
-    let pair = vec![in alloc; two]?;
-    assert!(rt; seed_for(alloc, &plain_config(), &pair, &[0])?.is_none());
+fn configurations_out_of_reach_have_no_seed(rt: HostRuntime) -> Result<(), Fail> {
+    let mut owing = plain_config();
+    owing.min_types = 1;
+    assert!(rt; !has_seed(rt.alloc(), &owing, &[])?, "min_types");
+    let mut exporting = plain_config();
+    exporting.export_everything = true;
+    assert!(rt;
+        !has_seed(rt.alloc(), &exporting, &[])?,
+        "export_everything"
+    );
+    assert!(rt; !has_seed(rt.alloc(), &Config::default(), &[])?, "default");
     Ok(())
+}
+
+// A group of two function types.
+fn pair(alloc: Global) -> Result<Vec<SubType>, AllocError> {
+    let mut two = function_of(alloc, &[])?;
+    two.append(&mut function_of(alloc, &[])?)?;
+    Ok(two)
+}
+
+#[test]
+fn group_of_two_has_no_seed(rt: HostRuntime) -> Result<(), Fail> {
+    let groups = vec![in rt.alloc(); pair(rt.alloc())?]?;
+    let seed = seed_for(rt.alloc(), &plain_config(), &groups, &[0])?;
+    assert!(rt; seed.is_none());
+    Ok(())
+}
+
+// How many functions are defined by what is made for so many functions of one type, if there is a seed.
+fn defined(alloc: Global, config: &Config, count: usize) -> Result<Option<u32>, Fail> {
+    let groups = empty_functions(alloc, 1)?;
+    let funcs = vec![in alloc; 0u32; count]?;
+    let Some(seed) = seed_for(alloc, config, &groups, &funcs)? else {
+        return Ok(None);
+    };
+    let made = generate(alloc, config, &seed)?;
+    let types = new_session().check(alloc, &made)?;
+    Ok(Some(types.as_ref().function_count()))
 }
 
 #[test]
 fn limit_of_functions_is_the_last_that_is_made(rt: HostRuntime) -> Result<(), Fail> {
-    let alloc = rt.alloc();
-    let one = vec![in alloc; empty_function(alloc)?]?;
     let mut config = plain_config();
     config.max_funcs = 2_000_000;
-    let mut funcs = vec![in alloc; 0u32; 1_000_000]?;
-    let answer = seed_for(alloc, &config, &one, &funcs)?;
-    assert!(rt; answer.is_some());
-    let made = generate(alloc, &config, &answer.unwrap_or(Vec::new(alloc)))?;
-    let types = new_session().check(alloc, &made)?;
-    assert_eq!(rt; types.as_ref().function_count(), 1_000_000);
-    funcs.push(0)?;
-    assert!(rt; seed_for(alloc, &config, &one, &funcs)?.is_none());
+    for (count, expected) in [(1_000_000, Some(1_000_000)), (1_000_001, None)] {
+        let found = defined(rt.alloc(), &config, count)?;
+        assert!(rt; found == expected, "{count}: {found:?}");
+    }
     Ok(())
 }

@@ -3,7 +3,8 @@
 #   bench/proofs.sh         the first build of the program, on all cores, and then each crate
 #   bench/proofs.sh build   the first build alone
 #   bench/proofs.sh NAME..  these crates alone; those below them are built first
-# Of a crate it prints the seconds that one processor takes for it, and its ten dearest functions. A crate of tests is proved with its tests.
+# Of a crate it prints the seconds that one processor takes for it, and its ten dearest functions, types and lemma files. A crate of tests is
+# proved with its tests.
 set -euo pipefail
 top=$(cd "$(dirname "$0")/.." && pwd)
 room=$(mktemp -d)
@@ -25,30 +26,28 @@ build() {
     rm -rf "$room"/crates/*/out
 }
 
-# Writes before each line the seconds since the first.
-stamped() {
-    local began=$EPOCHREALTIME
-    while IFS= read -r line; do
-        printf '%s %s\n' "$(awk "BEGIN { print $EPOCHREALTIME - $began }")" "$line"
-    done
-}
-
-# dearest LOG: what lies between a function's line and the one before it; what comes before the first is the loading.
+# What is dearest in this folder's crate, by when each module that the check made was written. (The lines of `rt check --progress` say when a function
+# is done with, and what else was checked on the way.)
 dearest() {
-    awk '
-        $2 == "checked" { if (last == "") { loading = $1 } else { sub(",", "", $3); printf "%7.1f s %s\n", $1 - last, $3 } last = $1 }
-        END { if (last != "") printf "%7.1f s (until the first function is proved)\n", loading }' "$1" |
-        sort -rn | head -n 11
+    find out/incremental -maxdepth 2 -name '*.oantt' -printf '%T@ %f\n' | sort -n | awk '
+        {
+            sub(/\.oantt$/, "", $2)
+            sub(/^Rattle-/, "", $2)
+            sub(/\.(Code|Lts|Tie|Proof|Reads|Goals|Kinds|Named|Layout|Met|Answers|Invariants|Statement|Given|Carried|Instances)([.-].*)?$/, "", $2)
+            if (NR > 1) cost[$2] += $1 - last
+            last = $1
+        }
+        END { for (name in cost) printf "%7.1f s %s\n", cost[name], name }' | sort -rn | head -n 10
 }
 
 # prove NAME: proves the crate in its folder.
 prove() {
-    local flags=(--jobs 1 --progress)
+    local flags=(--jobs 1)
     grep -rqs '#\[test\]' src && flags+=(--test)
-    timed rt check "${flags[@]}" 2>&1 | stamped > "$room/log"
-    grep -q ' logic=proved ' "$room/log" || { tail -n 20 "$room/log"; echo "$1: not proved"; exit 1; }
-    awk -v name="$1" '{ printf "%s: %.0f s of processor, %.0f s\n", name, $2 + $3, $1 }' "$room/seconds"
-    dearest "$room/log"
+    timed rt check "${flags[@]}" > "$room/log" 2>&1 || true
+    tail -n 1 "$room/log" | grep -q '^logic=proved ' || { tail -n 20 "$room/log"; echo "$1: not proved"; exit 1; }
+    awk -v name="$1" '{ printf "%s: %.0f s of processor, %.0f s\n", name, $2 + $3, $1 }' <(tail -n 1 "$room/seconds")
+    dearest
 }
 
 if [ $# = 0 ] || [ "$1" = build ]; then

@@ -2,8 +2,6 @@
 #![tactic(auto)]
 
 #[cfg(test)]
-mod checks;
-#[cfg(test)]
 mod custom_sections;
 #[cfg(test)]
 mod function_limits;

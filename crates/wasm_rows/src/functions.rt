@@ -191,7 +191,7 @@ fn cut_modules_read_without_functions_or_whole(rt: HostRuntime) -> Result<(), Fa
 }
 
 // Sections, and why a module of them is refused.
-const MODULES: [(&[&[u8]], Option<ErrorKind>); 31] = [
+const MODULES: &[(&[&[u8]], Option<ErrorKind>)] = &[
     // They come once, and in order.
     (&[NO_FUNCTIONS, TYPES], MALFORMED),
     (&[TYPES, NO_BODIES, NO_FUNCTIONS], MALFORMED),
@@ -238,7 +238,7 @@ const MODULES: [(&[&[u8]], Option<ErrorKind>); 31] = [
 #[test]
 fn sections_read_in_their_order(rt: HostRuntime) -> Result<(), Fail> {
     for (parts, expected) in MODULES {
-        assert!(rt; refusal_of(rt.alloc(), parts)? == expected, "{parts:?}");
+        assert!(rt; refusal_of(rt.alloc(), parts)? == *expected, "{parts:?}");
     }
     Ok(())
 }

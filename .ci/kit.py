@@ -30,8 +30,8 @@ def crates(top):
 
 
 def in_order(tasks):
-    """Runs tasks side by side, each after those that it waits for, and returns what each gave. A task is a list of what it waits for, the crate that it
-    works on, and a call that gets what was given and how many jobs it may use."""
+    """Runs tasks side by side, each after those that it waits for, and returns what each gave. A task's key is a crate and what is done with it; a task is a
+    list of what it waits for, the crate that it works on, and a call that gets what was given and how many jobs it may use."""
     lines = {it: it.count(rb"\n") for _, it, _ in tasks.values()}
     return rt.in_lanes({key: (waits, lines[it], rt.need(it), call) for key, (waits, it, call) in tasks.items()})
 

@@ -1,12 +1,12 @@
-pub mod CoreTexts
+pub mod CoreEncodings
 pub mod EncodeErrorCases
 pub mod LimitCases
-pub mod TypeEntries
 pub mod TypeReading
 pub mod Types
 pub mod ValTypeCases
 pub use Rattle.wasm_core_types.specs.CoreTypes
 pub use Rattle.wasm_core_write.specs.Encoding
+pub use Rattle.wasm_core_write.specs.ModuleBytes
 pub use Rattle.wasm_core_base.specs.Features
 pub use Rattle.wasm_core_base.specs.Limits
 pub use Rattle.wasm_core_types.specs.SubTypes

@@ -9,5 +9,5 @@ pub use wasm_core_base::{features, limits};
 pub use wasm_core_read::{binary_reader, malformed};
 pub use wasm_core_types::types;
 pub use wasm_core_write::{
-    encode, encode_error, leb128, module, text, type_entries, type_section, type_texts,
+    encode, encode_error, encoding, leb128, module, rec_group, type_encodings, type_section,
 };

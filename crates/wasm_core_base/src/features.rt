@@ -1,4 +1,4 @@
-//! The features under which a module is read and judged.
+//! The features under which a module is read and validated.
 
 ghost use Rattle.std.specs.Prelude.{⊤, ◌≡◌, ◌==◌, [], ◌∷◌, codes};
 ghost use Rattle.std.specs.Int.RustNames.{bit_and};

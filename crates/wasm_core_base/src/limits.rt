@@ -1,10 +1,13 @@
 //! The limits past which a module is refused.
 
+ghost use Rattle.std.specs.Prelude.{◌≡◌};
+ghost use Rattle.wasm_spec.specs.Limits.{total_of_types};
+
 use std::fmt;
 use thiserror::Error;
 
 // The numbers of the limits. A limit is passed by a greater number. The format itself has none of these but the length; the
-// appendix "Implementation Limitations" of the Core Specification lets a judge have them.
+// appendix "Implementation Limitations" of the Core Specification lets a validator have them.
 
 /// The limit [`Limit::Types`].
 pub const MAX_WASM_TYPES: u64 = 1_000_000;
@@ -69,10 +72,17 @@ pub const MAX_WASM_SUBTYPING_DEPTH: u64 = 63;
 /// The limit [`Limit::Length`].
 pub const MAX_WASM_LENGTH: u64 = 4_294_967_295;
 
-/// The most types that one judge holds over all of its modules.
+/// The most types that one validator holds over all of its modules.
 pub const MAX_WASM_TOTAL_TYPES: u64 = 1_048_576;
 
-/// A limit that a module can pass. Its text is the name of its case.
+/// [`MAX_WASM_TOTAL_TYPES`], as contracts cite it.
+pub fn max_total_types() -> u64
+    ensures { result ≡ total_of_types }
+{
+    MAX_WASM_TOTAL_TYPES
+}
+
+/// A limit that a module can pass. It is shown as its name.
 #[derive(Clone, Copy, Debug, PartialEq, Eq, Hash, Error)]
 pub enum Limit {
     /// Types in the index space.
@@ -122,7 +132,36 @@ pub enum Limit {
 impl Limit {
     ghost use Rattle.std.specs.Prelude.{◌≡◌};
     ghost use Rattle.wasm_spec.specs.Limits.{most};
-    ghost use Rattle.wasm_core_base.specs.Limits.{limit};
+    ghost use Rattle.wasm_core_base.specs.Limits.{limit, limit_name};
+
+    /// The name of its case.
+    pub fn name(&self) -> &'static str
+        ensures { result.now ≡ limit_name self.now }
+    {
+        match self {
+            Limit::Types => "Types",
+            Limit::Groups => "Groups",
+            Limit::Imports => "Imports",
+            Limit::Functions => "Functions",
+            Limit::Globals => "Globals",
+            Limit::Tags => "Tags",
+            Limit::Exports => "Exports",
+            Limit::Tables => "Tables",
+            Limit::Memories => "Memories",
+            Limit::ElementSegments => "ElementSegments",
+            Limit::DataSegments => "DataSegments",
+            Limit::SegmentEntries => "SegmentEntries",
+            Limit::Params => "Params",
+            Limit::Results => "Results",
+            Limit::Fields => "Fields",
+            Limit::Locals => "Locals",
+            Limit::BodySize => "BodySize",
+            Limit::Name => "Name",
+            Limit::TypeSize => "TypeSize",
+            Limit::Depth => "Depth",
+            Limit::Length => "Length",
+        }
+    }
 
     /// The greatest number that the limit lets through.
     pub fn max(self) -> u64
@@ -156,6 +195,6 @@ impl Limit {
 
 impl fmt::Display for Limit {
     fn fmt<W: fmt::Write>(&self, f: &mut fmt::Formatter<W>) -> fmt::Result {
-        fmt::Debug::fmt(self, f)
+        f.write_str(self.name())
     }
 }

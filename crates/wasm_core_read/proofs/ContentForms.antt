@@ -13,7 +13,7 @@ use Rattle.wasm_core_read.specs.PartReading.{body_at, import_at, table_at, globa
 use Rattle.wasm_core_read.specs.Reading.{ReadingOf, unsigned_at, name_at, filled}
 use Rattle.wasm_core_read.specs.TypeReading.{list_at, rec_group_at, limits_at, tag_type_at}
 use Rattle.wasm_core_read.proofs.ExternalForms.{reads_limits, reads_tag_type}
-use Rattle.wasm_core_read.proofs.Forms.{bind_some, some_is, behind, reads_unsigned, reads_name, reads_body, filled_some, fills_filled}
+use Rattle.wasm_core_read.proofs.Forms.{bind_some, some_is, rest_bytes, reads_unsigned, reads_name, reads_body, filled_some, fills_filled}
 use Rattle.wasm_core_read.proofs.ListForms.{reads_list, list_count}
 use Rattle.wasm_core_read.proofs.PartForms.{reads_import, reads_table, reads_global, reads_export, reads_element, reads_data}
 use Rattle.wasm_core_read.proofs.TypeForms.{reads_rec_group}
@@ -23,74 +23,74 @@ Contents = ℕ → List ℕ → Option Section
 
 -- the contents that are read are those of sections of their ids
 abbrev FindsContents : Bool → Contents → Type 0
-FindsContents compact contents = (id : ℕ) (text : List ℕ) (section : Section) → AreBytes text → contents id text ≡ Some section → IsContentOf compact id text section
+FindsContents compact contents = (id : ℕ) (bytes : List ℕ) (section : Section) → AreBytes bytes → contents id bytes ≡ Some section → IsContentOf compact id bytes section
 
 content : {A : Type 0} (compact : Bool) (wanted : ℕ) (IsA : List ℕ → A → Type 0) (a_at : ReadingOf A) (view : A → Section) (others : Contents) → ReadsExactly IsA a_at
-    → ((text : List ℕ) (a : A) → IsA text a → IsContentOf compact wanted text (view a)) → FindsContents compact others → FindsContents compact (content_or wanted a_at view others)
-content compact wanted IsA a_at view others law is found id text section are e =
+    → ((bytes : List ℕ) (a : A) → IsA bytes a → IsContentOf compact wanted bytes (view a)) → FindsContents compact others → FindsContents compact (content_or wanted a_at view others)
+content compact wanted IsA a_at view others law is found id bytes section are e =
     elim (eqb_tells id wanted) [
       | inl (t, same) ↦
-          let a = bind_some (filled (a_at text)) (λ a. Some (view a)) section (rw t at e) in
-          let f = (fills_filled IsA a_at law).found text a.0 are a.1 in
-          subst (λ q. IsContentOf compact id text q) (some_is (view a.0) section a.2) (subst (λ (n : ℕ). IsContentOf compact n text (view a.0)) (sym same) (is text a.0 f))
-      | inr (t, other) ↦ found id text section are (rw t at e)
+          let a = bind_some (filled (a_at bytes)) (λ a. Some (view a)) section (rw t at e) in
+          let f = (fills_filled IsA a_at law).found bytes a.0 are a.1 in
+          subst (λ q. IsContentOf compact id bytes q) (some_is (view a.0) section a.2) (subst (λ (n : ℕ). IsContentOf compact n bytes (view a.0)) (sym same) (is bytes a.0 f))
+      | inr (t, other) ↦ found id bytes section are (rw t at e)
     ]
 
 nothing : (compact : Bool) → FindsContents compact no_section
-nothing compact id text section are e = absurd cc
+nothing compact id bytes section are e = absurd cc
 
 others_found : (compact : Bool) → FindsContents compact (others_of compact)
 others_found compact =
-    content compact 1 (IsList IsRecGroup) (list_at rec_group_at) (λ x. TypeSection x) _ (reads_list IsRecGroup rec_group_at reads_rec_group) (λ text x h. (h, refl))
-    (content compact 2 (IsList (IsImport compact)) (list_at (import_at compact)) (λ x. ImportSection x) _ (reads_list (IsImport compact) (import_at compact) (reads_import compact)) (λ text x h. (h, refl))
-    (content compact 3 (IsList IsU32) (list_at (unsigned_at 32)) (λ x. FunctionSection x) _ (reads_list IsU32 (unsigned_at 32) (reads_unsigned 32)) (λ text x h. (h, refl))
-    (content compact 4 (IsList IsTable) (list_at table_at) (λ x. TableSection x) _ (reads_list IsTable table_at reads_table) (λ text x h. (h, refl))
-    (content compact 5 (IsList IsMemoryType) (list_at limits_at) (λ x. MemorySection x) _ (reads_list IsMemoryType limits_at reads_limits) (λ text x h. (h, refl))
-    (content compact 6 (IsList IsGlobal) (list_at global_at) (λ x. GlobalSection x) _ (reads_list IsGlobal global_at reads_global) (λ text x h. (h, refl))
-    (content compact 7 (IsList IsExport) (list_at export_at) (λ x. ExportSection x) _ (reads_list IsExport export_at reads_export) (λ text x h. (h, refl))
-    (content compact 8 IsU32 (unsigned_at 32) (λ x. StartSection x) _ (reads_unsigned 32) (λ text x h. (h, refl))
-    (content compact 9 (IsList IsElementSegment) (list_at element_at) (λ x. ElementSection x) _ (reads_list IsElementSegment element_at reads_element) (λ text x h. (h, refl))
-    (content compact 10 (IsList IsBody) (list_at body_at) (λ x. CodeSection x) _ (reads_list IsBody body_at reads_body) (λ text x h. (h, refl))
-    (content compact 11 (IsList IsDataSegment) (list_at data_at) (λ x. DataSection x) _ (reads_list IsDataSegment data_at reads_data) (λ text x h. (h, refl))
-    (content compact 12 IsU32 (unsigned_at 32) (λ x. DataCountSection x) _ (reads_unsigned 32) (λ text x h. (h, refl))
-    (content compact 13 (IsList IsTagType) (list_at tag_type_at) (λ x. TagSection x) no_section (reads_list IsTagType tag_type_at reads_tag_type) (λ text x h. (h, refl))
+    content compact 1 (IsList IsRecGroup) (list_at rec_group_at) (λ x. TypeSection x) _ (reads_list IsRecGroup rec_group_at reads_rec_group) (λ bytes x h. (h, refl))
+    (content compact 2 (IsList (IsImport compact)) (list_at (import_at compact)) (λ x. ImportSection x) _ (reads_list (IsImport compact) (import_at compact) (reads_import compact)) (λ bytes x h. (h, refl))
+    (content compact 3 (IsList IsU32) (list_at (unsigned_at 32)) (λ x. FunctionSection x) _ (reads_list IsU32 (unsigned_at 32) (reads_unsigned 32)) (λ bytes x h. (h, refl))
+    (content compact 4 (IsList IsTable) (list_at table_at) (λ x. TableSection x) _ (reads_list IsTable table_at reads_table) (λ bytes x h. (h, refl))
+    (content compact 5 (IsList IsMemoryType) (list_at limits_at) (λ x. MemorySection x) _ (reads_list IsMemoryType limits_at reads_limits) (λ bytes x h. (h, refl))
+    (content compact 6 (IsList IsGlobal) (list_at global_at) (λ x. GlobalSection x) _ (reads_list IsGlobal global_at reads_global) (λ bytes x h. (h, refl))
+    (content compact 7 (IsList IsExport) (list_at export_at) (λ x. ExportSection x) _ (reads_list IsExport export_at reads_export) (λ bytes x h. (h, refl))
+    (content compact 8 IsU32 (unsigned_at 32) (λ x. StartSection x) _ (reads_unsigned 32) (λ bytes x h. (h, refl))
+    (content compact 9 (IsList IsElementSegment) (list_at element_at) (λ x. ElementSection x) _ (reads_list IsElementSegment element_at reads_element) (λ bytes x h. (h, refl))
+    (content compact 10 (IsList IsBody) (list_at body_at) (λ x. CodeSection x) _ (reads_list IsBody body_at reads_body) (λ bytes x h. (h, refl))
+    (content compact 11 (IsList IsDataSegment) (list_at data_at) (λ x. DataSection x) _ (reads_list IsDataSegment data_at reads_data) (λ bytes x h. (h, refl))
+    (content compact 12 IsU32 (unsigned_at 32) (λ x. DataCountSection x) _ (reads_unsigned 32) (λ bytes x h. (h, refl))
+    (content compact 13 (IsList IsTagType) (list_at tag_type_at) (λ x. TagSection x) no_section (reads_list IsTagType tag_type_at reads_tag_type) (λ bytes x h. (h, refl))
     (nothing compact)))))))))))))
 
-content_found : (compact : Bool) (id : ℕ) (text : List ℕ) (section : Section) → AreBytes text → content_of compact id text ≡ Some section → IsContentOf compact id text section
+content_found : (compact : Bool) (id : ℕ) (bytes : List ℕ) (section : Section) → AreBytes bytes → content_of compact id bytes ≡ Some section → IsContentOf compact id bytes section
 unfolding content_of
-content_found compact id text section are e =
+content_found compact id bytes section are e =
     elim (eqb_tells id 0) [
       | inl (t, same) ↦
-          let a = bind_some (name_at text) (λ name. Some (Custom name.0 name.1)) section (rw t at e) in
-          let n = reads_name.found text a.0.0 a.0.1 are a.1 in
-          subst (λ q. IsContentOf compact id text q) (some_is (Custom a.0.0 a.0.1) section a.2) ((n.0, a.0.1, n.1, n.2, (behind text n.0 a.0.1 are n.1, refl)), sym same)
-      | inr (t, other) ↦ others_found compact id text section are (rw t at e)
+          let a = bind_some (name_at bytes) (λ name. Some (Custom name.0 name.1)) section (rw t at e) in
+          let n = reads_name.found bytes a.0.0 a.0.1 are a.1 in
+          subst (λ q. IsContentOf compact id bytes q) (some_is (Custom a.0.0 a.0.1) section a.2) ((n.0, a.0.1, n.1, n.2, (rest_bytes bytes n.0 a.0.1 are n.1, refl)), sym same)
+      | inr (t, other) ↦ others_found compact id bytes section are (rw t at e)
     ]
 
-whole : {A : Type 0} (IsA : List ℕ → A → Type 0) (a_at : ReadingOf A) (text : List ℕ) (a : A) → ReadsExactly IsA a_at → IsA text a → filled (a_at text) ≡ Some a
-whole IsA a_at text a law h = (fills_filled IsA a_at law).again text a h
+whole : {A : Type 0} (IsA : List ℕ → A → Type 0) (a_at : ReadingOf A) (bytes : List ℕ) (a : A) → ReadsExactly IsA a_at → IsA bytes a → filled (a_at bytes) ≡ Some a
+whole IsA a_at bytes a law h = (fills_filled IsA a_at law).again bytes a h
 
-pub content_again : (compact : Bool) (text : List ℕ) (section : Section) → IsContent compact text section → content_of compact (section_id section) text ≡ Some section
+pub content_again : (compact : Bool) (bytes : List ℕ) (section : Section) → IsContent compact bytes section → content_of compact (section_id section) bytes ≡ Some section
 unfolding content_of
-content_again compact text (Custom name contents) h =
-    let split : text ≡ h.0 ++ contents = rw h.4.1 h.2 in
+content_again compact bytes (Custom name contents) h =
+    let split : bytes ≡ h.0 ++ contents = rw h.4.1 h.2 in
     ap (λ (l : List ℕ). content_of compact 0 l) split ∙ rw (reads_name.again h.0 name contents h.3) refl
-content_again compact text (TypeSection x) h = rw (whole (IsList IsRecGroup) (list_at rec_group_at) text x (reads_list IsRecGroup rec_group_at reads_rec_group) h) refl
-content_again compact text (ImportSection x) h = rw (whole (IsList (IsImport compact)) (list_at (import_at compact)) text x (reads_list (IsImport compact) (import_at compact) (reads_import compact)) h) refl
-content_again compact text (FunctionSection x) h = rw (whole (IsList IsU32) (list_at (unsigned_at 32)) text x (reads_list IsU32 (unsigned_at 32) (reads_unsigned 32)) h) refl
-content_again compact text (TableSection x) h = rw (whole (IsList IsTable) (list_at table_at) text x (reads_list IsTable table_at reads_table) h) refl
-content_again compact text (MemorySection x) h = rw (whole (IsList IsMemoryType) (list_at limits_at) text x (reads_list IsMemoryType limits_at reads_limits) h) refl
-content_again compact text (GlobalSection x) h = rw (whole (IsList IsGlobal) (list_at global_at) text x (reads_list IsGlobal global_at reads_global) h) refl
-content_again compact text (ExportSection x) h = rw (whole (IsList IsExport) (list_at export_at) text x (reads_list IsExport export_at reads_export) h) refl
-content_again compact text (StartSection x) h = rw (whole IsU32 (unsigned_at 32) text x (reads_unsigned 32) h) refl
-content_again compact text (ElementSection x) h = rw (whole (IsList IsElementSegment) (list_at element_at) text x (reads_list IsElementSegment element_at reads_element) h) refl
-content_again compact text (CodeSection x) h = rw (whole (IsList IsBody) (list_at body_at) text x (reads_list IsBody body_at reads_body) h) refl
-content_again compact text (DataSection x) h = rw (whole (IsList IsDataSegment) (list_at data_at) text x (reads_list IsDataSegment data_at reads_data) h) refl
-content_again compact text (DataCountSection x) h = rw (whole IsU32 (unsigned_at 32) text x (reads_unsigned 32) h) refl
-content_again compact text (TagSection x) h = rw (whole (IsList IsTagType) (list_at tag_type_at) text x (reads_list IsTagType tag_type_at reads_tag_type) h) refl
+content_again compact bytes (TypeSection x) h = rw (whole (IsList IsRecGroup) (list_at rec_group_at) bytes x (reads_list IsRecGroup rec_group_at reads_rec_group) h) refl
+content_again compact bytes (ImportSection x) h = rw (whole (IsList (IsImport compact)) (list_at (import_at compact)) bytes x (reads_list (IsImport compact) (import_at compact) (reads_import compact)) h) refl
+content_again compact bytes (FunctionSection x) h = rw (whole (IsList IsU32) (list_at (unsigned_at 32)) bytes x (reads_list IsU32 (unsigned_at 32) (reads_unsigned 32)) h) refl
+content_again compact bytes (TableSection x) h = rw (whole (IsList IsTable) (list_at table_at) bytes x (reads_list IsTable table_at reads_table) h) refl
+content_again compact bytes (MemorySection x) h = rw (whole (IsList IsMemoryType) (list_at limits_at) bytes x (reads_list IsMemoryType limits_at reads_limits) h) refl
+content_again compact bytes (GlobalSection x) h = rw (whole (IsList IsGlobal) (list_at global_at) bytes x (reads_list IsGlobal global_at reads_global) h) refl
+content_again compact bytes (ExportSection x) h = rw (whole (IsList IsExport) (list_at export_at) bytes x (reads_list IsExport export_at reads_export) h) refl
+content_again compact bytes (StartSection x) h = rw (whole IsU32 (unsigned_at 32) bytes x (reads_unsigned 32) h) refl
+content_again compact bytes (ElementSection x) h = rw (whole (IsList IsElementSegment) (list_at element_at) bytes x (reads_list IsElementSegment element_at reads_element) h) refl
+content_again compact bytes (CodeSection x) h = rw (whole (IsList IsBody) (list_at body_at) bytes x (reads_list IsBody body_at reads_body) h) refl
+content_again compact bytes (DataSection x) h = rw (whole (IsList IsDataSegment) (list_at data_at) bytes x (reads_list IsDataSegment data_at reads_data) h) refl
+content_again compact bytes (DataCountSection x) h = rw (whole IsU32 (unsigned_at 32) bytes x (reads_unsigned 32) h) refl
+content_again compact bytes (TagSection x) h = rw (whole (IsList IsTagType) (list_at tag_type_at) bytes x (reads_list IsTagType tag_type_at reads_tag_type) h) refl
 
 pub fills_content : (compact : Bool) (id : ℕ) → FillsExactly (IsContentOf compact id) (content_of compact id)
-fills_content compact id = record { found = content_found compact id; again = λ text section h. rw (← h.1) (content_again compact text section h.0) }
+fills_content compact id = record { found = content_found compact id; again = λ bytes section h. rw (← h.1) (content_again compact bytes section h.0) }
 
 -- ---- the ids and the counts that contents have
 

@@ -9,7 +9,7 @@ use Rattle.wasm_core_read.specs.Reading.{ReadingOf, unsigned_at, seen_at, tested
 use Rattle.wasm_core_read.specs.TypeReading.{val_type_at, ref_type_from, ref_type_at, mutability_at, has_bit, limits_with, limits_at, is_of_table, table_limits_at, table_type_from, table_type_at, global_type_at, tag_type_at, external_kind_at, external_type_at}
 use Rattle.wasm_core_read.proofs.Forms.{ltb_tells, reads_unsigned}
 use Rattle.wasm_core_read.proofs.TypeForms.{reads_val_type, reads_mutability, ref_from_found, reads_ref_type}
-use Rattle.wasm_core_read.proofs.WayForms.{FindsBehind, Announced, IsPresent, seen, pair, reads_seen, reads_tested, reads_pair, reads_optional, none, bare, coded, announced, announced_seen, announced_pair, same_form, reads_marked}
+use Rattle.wasm_core_read.proofs.WayForms.{FindsAfter, Announced, IsPresent, seen, pair, reads_seen, reads_tested, reads_pair, reads_optional, none, bare, coded, announced, announced_seen, announced_pair, same_form, reads_marked}
 
 -- ---- limits
 
@@ -53,7 +53,7 @@ flags_are : (flags : ℕ) → flags < 16 → flags ≡ flags_of (has_bit 1 flags
 flags_are flags few = rw (digit 1 (flags / 1 % 2) (omega arith), digit 2 (flags / 2 % 2) (omega arith), digit 4 (flags / 4 % 2) (omega arith), digit 8 (flags / 8 % 2) (omega arith)) (omega (arith, few))
 
 abbrev IsBounds : ℕ → List ℕ → ℕ × (Option ℕ × Option ℕ) → Type 0
-IsBounds flags text x = IsPair IsU64 (IsPair (IsPresent (has_bit 1 flags) IsU64) (IsPresent (has_bit 8 flags) IsU32)) text x
+IsBounds flags bytes x = IsPair IsU64 (IsPair (IsPresent (has_bit 1 flags) IsU64) (IsPresent (has_bit 8 flags) IsU32)) bytes x
 
 abbrev bounds_at : ℕ → ReadingOf (ℕ × (Option ℕ × Option ℕ))
 bounds_at flags = pair_at (unsigned_at 64) (pair_at (optional_at (has_bit 1 flags) (unsigned_at 64)) (optional_at (has_bit 8 flags) (unsigned_at 32)))
@@ -67,21 +67,21 @@ reads_bounds flags =
 abbrev limits_of : ℕ → ℕ × (Option ℕ × Option ℕ) → Limits
 limits_of flags x = record { minimum = x.0; maximum = x.1.0; shared = has_bit 2 flags; is_64 = has_bit 4 flags; page_size_log2 = x.1.1 }
 
-limits_found : FindsBehind (Announced IsLimits) (λ flags rest. cond (nat_lt flags 16) (limits_with flags rest) None)
+limits_found : FindsAfter (Announced IsLimits) (λ flags rest. cond (nat_lt flags 16) (limits_with flags rest) None)
 limits_found flags bytes v rest are e =
     elim (ltb_tells flags 16) [
-      | inl (t, few) ↦ seen (Announced IsLimits flags) (IsBounds flags) (bounds_at flags) (limits_of flags) (reads_bounds flags).found (λ text x h. with_flags text x few h) bytes v rest are (rw t at e)
+      | inl (t, few) ↦ seen (Announced IsLimits flags) (IsBounds flags) (bounds_at flags) (limits_of flags) (reads_bounds flags).found (λ encoding x h. with_flags encoding x few h) bytes v rest are (rw t at e)
       | inr (t, many) ↦ let f = rw t at e in absurd cc
     ]
   where
-    with_flags : (text : List ℕ) (x : ℕ × (Option ℕ × Option ℕ)) → flags < 16 → IsBounds flags text x → IsLimits (flags ∷ text) (limits_of flags x)
-    with_flags text x few h =
+    with_flags : (encoding : List ℕ) (x : ℕ × (Option ℕ × Option ℕ)) → flags < 16 → IsBounds flags encoding x → IsLimits (flags ∷ encoding) (limits_of flags x)
+    with_flags encoding x few h =
         let same : flags ≡ limits_flags (limits_of flags x) = rw (h.4.3.1, h.4.4.1) (flags_are flags few) in
-        (text, ap (λ (n : ℕ). n ∷ text) same, (h.0, h.1, h.2, h.3, (h.4.0, h.4.1, h.4.2, h.4.3.0, h.4.4.0)))
+        (encoding, ap (λ (n : ℕ). n ∷ encoding) same, (h.0, h.1, h.2, h.3, (h.4.0, h.4.1, h.4.2, h.4.3.0, h.4.4.0)))
 
-limits_again : (text : List ℕ) (v : Limits) (rest : List ℕ) → IsLimits text v → limits_at (text ++ rest) ≡ Some (v, rest)
+limits_again : (bytes : List ℕ) (v : Limits) (rest : List ℕ) → IsLimits bytes v → limits_at (bytes ++ rest) ≡ Some (v, rest)
 unfolding limits_at
-limits_again text v rest h =
+limits_again bytes v rest h =
     let flags = limits_flags v in
     let b : AreBits (is_some v.maximum) v.shared v.is_64 (is_some v.page_size_log2) flags = bits (is_some v.maximum) v.shared v.is_64 (is_some v.page_size_log2) in
     let p = h.2 in
@@ -102,9 +102,9 @@ neither true b e = absurd cc
 reads_table_limits : ReadsExactly IsTableLimits table_limits_at
 unfolding table_limits_at
 reads_table_limits =
-    same_form (λ text v. IsLimits text v × (is_of_table v ≡ true)) IsTableLimits (tested_at is_of_table limits_at)
-    (λ text v h. let n = neither v.shared (is_some v.page_size_log2) h.1 in (h.0, n.0, n.1))
-    (λ text v h. (h.0, rw (h.1, h.2) refl))
+    same_form (λ bytes v. IsLimits bytes v × (is_of_table v ≡ true)) IsTableLimits (tested_at is_of_table limits_at)
+    (λ bytes v h. let n = neither v.shared (is_some v.page_size_log2) h.1 in (h.0, n.0, n.1))
+    (λ bytes v h. (h.0, rw (h.1, h.2) refl))
     (reads_tested IsLimits limits_at is_of_table reads_limits)
 
 -- ---- tables, globals and tags
@@ -112,18 +112,18 @@ reads_table_limits =
 abbrev table_of : RefType ℕ × Limits → TableType ℕ
 table_of x = record { element_type = x.0; limits = x.1 }
 
-pub table_from_found : FindsBehind (Announced IsTableType) table_type_from
+pub table_from_found : FindsAfter (Announced IsTableType) table_type_from
 table_from_found code =
     seen (Announced IsTableType code) (IsPair (Announced IsRefType code) IsTableLimits) (pair_at (ref_type_from code) table_limits_at) table_of
     (pair (Announced IsRefType code) (ref_type_from code) IsTableLimits table_limits_at (ref_from_found code) reads_table_limits.found)
-    (λ text x h. (code ∷ h.0, h.1, ap (λ (l : List ℕ). code ∷ l) h.2, h.3, h.4))
+    (λ bytes x h. (code ∷ h.0, h.1, ap (λ (l : List ℕ). code ∷ l) h.2, h.3, h.4))
 
-table_again : (text : List ℕ) (v : TableType ℕ) (rest : List ℕ) → IsTableType text v → table_type_at (text ++ rest) ≡ Some (v, rest)
+table_again : (bytes : List ℕ) (v : TableType ℕ) (rest : List ℕ) → IsTableType bytes v → table_type_at (bytes ++ rest) ≡ Some (v, rest)
 unfolding table_type_at ref_type_at
-table_again text v rest h =
-    let both = (reads_pair IsRefType ref_type_at IsTableLimits table_limits_at reads_ref_type reads_table_limits).again text (v.element_type, v.limits) rest h in
-    announced_seen table_of (λ code. pair_at (ref_type_from code) table_limits_at) (text ++ rest) (v.element_type, v.limits) rest
-    (announced_pair ref_type_from table_limits_at (text ++ rest) ∙ both)
+table_again bytes v rest h =
+    let both = (reads_pair IsRefType ref_type_at IsTableLimits table_limits_at reads_ref_type reads_table_limits).again bytes (v.element_type, v.limits) rest h in
+    announced_seen table_of (λ code. pair_at (ref_type_from code) table_limits_at) (bytes ++ rest) (v.element_type, v.limits) rest
+    (announced_pair ref_type_from table_limits_at (bytes ++ rest) ∙ both)
 
 pub reads_table_type : ReadsExactly IsTableType table_type_at
 unfolding table_type_at
@@ -141,13 +141,13 @@ reads_tag_type = reads_marked 0x00 IsU32 (unsigned_at 32) (reads_unsigned 32)
 
 -- ---- kinds and external types
 
-kind_again : (text : List ℕ) (v : ExternalKind) (rest : List ℕ) → IsExternalKind text v → external_kind_at (text ++ rest) ≡ Some (v, rest)
+kind_again : (bytes : List ℕ) (v : ExternalKind) (rest : List ℕ) → IsExternalKind bytes v → external_kind_at (bytes ++ rest) ≡ Some (v, rest)
 unfolding external_kind_at
-kind_again text FuncKind rest h = rw h refl
-kind_again text TableKind rest h = rw h refl
-kind_again text MemoryKind rest h = rw h refl
-kind_again text GlobalKind rest h = rw h refl
-kind_again text TagKind rest h = rw h refl
+kind_again bytes FuncKind rest h = rw h refl
+kind_again bytes TableKind rest h = rw h refl
+kind_again bytes MemoryKind rest h = rw h refl
+kind_again bytes GlobalKind rest h = rw h refl
+kind_again bytes TagKind rest h = rw h refl
 
 pub reads_external_kind : ReadsExactly IsExternalKind external_kind_at
 unfolding external_kind_at
@@ -158,28 +158,28 @@ reads_external_kind = record {
   again = kind_again;
 }
 
-external_again : (text : List ℕ) (v : ExternalType ℕ) (rest : List ℕ) → IsExternalType text v → external_type_at (text ++ rest) ≡ Some (v, rest)
+external_again : (bytes : List ℕ) (v : ExternalType ℕ) (rest : List ℕ) → IsExternalType bytes v → external_type_at (bytes ++ rest) ≡ Some (v, rest)
 unfolding external_type_at
-external_again text (FuncExternal function) rest h = rw (h.1, (reads_unsigned 32).again h.0 function rest h.2) refl
-external_again text (TableExternal type) rest h = rw (h.1, reads_table_type.again h.0 type rest h.2) refl
-external_again text (MemoryExternal type) rest h = rw (h.1, reads_limits.again h.0 type rest h.2) refl
-external_again text (GlobalExternal type) rest h = rw (h.1, reads_global_type.again h.0 type rest h.2) refl
-external_again text (TagExternal function) rest h = rw (h.1, reads_tag_type.again h.0 function rest h.2) refl
+external_again bytes (FuncExternal function) rest h = rw (h.1, (reads_unsigned 32).again h.0 function rest h.2) refl
+external_again bytes (TableExternal type) rest h = rw (h.1, reads_table_type.again h.0 type rest h.2) refl
+external_again bytes (MemoryExternal type) rest h = rw (h.1, reads_limits.again h.0 type rest h.2) refl
+external_again bytes (GlobalExternal type) rest h = rw (h.1, reads_global_type.again h.0 type rest h.2) refl
+external_again bytes (TagExternal function) rest h = rw (h.1, reads_tag_type.again h.0 function rest h.2) refl
 
 pub reads_external_type : ReadsExactly IsExternalType external_type_at
 unfolding external_type_at
 reads_external_type = record {
   found = announced IsExternalType _
       (coded (Announced IsExternalType) 0x00 (seen_at (λ function. FuncExternal function) (unsigned_at 32)) _
-      (seen (Announced IsExternalType 0x00) IsU32 (unsigned_at 32) (λ function. FuncExternal function) (reads_unsigned 32).found (λ text function h. (text, refl, h)))
+      (seen (Announced IsExternalType 0x00) IsU32 (unsigned_at 32) (λ function. FuncExternal function) (reads_unsigned 32).found (λ bytes function h. (bytes, refl, h)))
       (coded (Announced IsExternalType) 0x01 (seen_at (λ type. TableExternal type) table_type_at) _
-      (seen (Announced IsExternalType 0x01) IsTableType table_type_at (λ type. TableExternal type) reads_table_type.found (λ text type h. (text, refl, h)))
+      (seen (Announced IsExternalType 0x01) IsTableType table_type_at (λ type. TableExternal type) reads_table_type.found (λ bytes type h. (bytes, refl, h)))
       (coded (Announced IsExternalType) 0x02 (seen_at (λ type. MemoryExternal type) limits_at) _
-      (seen (Announced IsExternalType 0x02) IsLimits limits_at (λ type. MemoryExternal type) reads_limits.found (λ text type h. (text, refl, h)))
+      (seen (Announced IsExternalType 0x02) IsLimits limits_at (λ type. MemoryExternal type) reads_limits.found (λ bytes type h. (bytes, refl, h)))
       (coded (Announced IsExternalType) 0x03 (seen_at (λ type. GlobalExternal type) global_type_at) _
-      (seen (Announced IsExternalType 0x03) IsGlobalType global_type_at (λ type. GlobalExternal type) reads_global_type.found (λ text type h. (text, refl, h)))
+      (seen (Announced IsExternalType 0x03) IsGlobalType global_type_at (λ type. GlobalExternal type) reads_global_type.found (λ bytes type h. (bytes, refl, h)))
       (coded (Announced IsExternalType) 0x04 (seen_at (λ function. TagExternal function) tag_type_at) no_code
-      (seen (Announced IsExternalType 0x04) IsTagType tag_type_at (λ function. TagExternal function) reads_tag_type.found (λ text function h. (text, refl, h)))
+      (seen (Announced IsExternalType 0x04) IsTagType tag_type_at (λ function. TagExternal function) reads_tag_type.found (λ bytes function h. (bytes, refl, h)))
       (none (Announced IsExternalType)))))));
   again = external_again;
 }

@@ -26,7 +26,7 @@ some_is x y e = cc
 pub ltb_tells : (a b : ℕ) → ((ltb a b ≡ true) × (a < b)) ⊎ ((ltb a b ≡ false) × (b ≤ a))
 ltb_tells a b = elim (cases_lt a b) [ inl lt ↦ inl (lt-ltb a b lt, lt) | inr le ↦ inr (le-ltb a b le, le) ]
 
--- one text behind the other
+-- one encoding after the other
 pub joined : (bytes a mid b rest : List ℕ) → bytes ≡ a ++ mid → mid ≡ b ++ rest → bytes ≡ (a ++ b) ++ rest
 joined bytes a mid b rest p q = p ∙ ap (λ (l : List ℕ). a ++ l) q ∙ sym (append_assoc a b rest)
 
@@ -35,12 +35,12 @@ pub parts_are : (a b : List ℕ) → AreBytes (a ++ b) → AreBytes a × AreByte
 parts_are [] b h = (tt, h)
 parts_are (x ∷ a) b h = let p = parts_are a b h.1 in ((h.0, p.0), p.1)
 
--- what stands behind a text in bytes is bytes
-pub behind : (bytes a rest : List ℕ) → AreBytes bytes → bytes ≡ a ++ rest → AreBytes rest
-behind bytes a rest h e = (parts_are a rest (subst AreBytes e h)).1
+-- what stands after an encoding in bytes is bytes
+pub rest_bytes : (bytes a rest : List ℕ) → AreBytes bytes → bytes ≡ a ++ rest → AreBytes rest
+rest_bytes bytes a rest h e = (parts_are a rest (subst AreBytes e h)).1
 
 abbrev pub Found : {A : Type 0} → (List ℕ → A → Type 0) → List ℕ → A → List ℕ → Type 0
-Found IsA bytes v rest = (text : List ℕ) × (bytes ≡ text ++ rest) × IsA text v
+Found IsA bytes v rest = (encoding : List ℕ) × (bytes ≡ encoding ++ rest) × IsA encoding v
 
 -- ---- one byte
 
@@ -53,11 +53,11 @@ byte_found (b ∷ bs) v rest h e =
 
 pub reads_byte : ReadsExactly IsOneByte byte_at
 unfolding byte_at
-reads_byte = record { found = byte_found; again = λ text v rest h. rw h.0 refl }
+reads_byte = record { found = byte_found; again = λ bytes v rest h. rw h.0 refl }
 
 -- ---- numbers
 
-longer : (bits b : ℕ) (text : List ℕ) (high : ℕ) → 128 ≤ b → b < 256 → 7 < bits → IsUnsigned (bits - 7) text high → IsUnsigned bits (b ∷ text) (b - 128 + 128 * high)
+longer : (bits b : ℕ) (bytes : List ℕ) (high : ℕ) → 128 ≤ b → b < 256 → 7 < bits → IsUnsigned (bits - 7) bytes high → IsUnsigned bits (b ∷ bytes) (b - 128 + 128 * high)
 longer bits b [] high large small many h = absurd h
 longer bits b (c ∷ cs) high large small many h = (large, small, many, high, omega arith, h)
 
@@ -82,7 +82,7 @@ unsigned_found bits (b ∷ bs) v rest h e =
       ]
     ]
 
-pub unsigned_again : (bits : ℕ) (text : List ℕ) (v : ℕ) (rest : List ℕ) → IsUnsigned bits text v → unsigned_at bits (text ++ rest) ≡ Some (v, rest)
+pub unsigned_again : (bits : ℕ) (bytes : List ℕ) (v : ℕ) (rest : List ℕ) → IsUnsigned bits bytes v → unsigned_at bits (bytes ++ rest) ≡ Some (v, rest)
 unfolding unsigned_at
 unsigned_again bits [] v rest h = absurd h
 unsigned_again bits (b ∷ []) v rest h =
@@ -118,7 +118,7 @@ bytes_again x rest =
 pub reads_bytes : (n : ℕ) → ReadsExactly (IsBytesOf n) (bytes_at n)
 reads_bytes n = record {
   found = λ bytes v rest h e. let p = bytes_found n bytes v rest e in (v, p.0, (((parts_are v rest (subst AreBytes p.0 h)).0, refl), p.1));
-  again = λ text v rest h. rw (← h.1, ← h.0.1) (bytes_again v rest);
+  again = λ encoding v rest h. rw (← h.1, ← h.0.1) (bytes_again v rest);
 }
 
 -- ---- bodies
@@ -134,19 +134,19 @@ body_found bytes body rest h e =
     let n = bind_some (unsigned_at 32 bytes) (λ n. bytes_at n.0 n.1) (body, rest) e in
     let size = unsigned_found 32 bytes n.0.0 n.0.1 h n.1 in
     let content = bytes_found n.0.0 n.0.1 body rest n.2 in
-    let are = (parts_are body rest (subst AreBytes content.0 (behind bytes size.0 n.0.1 h size.1))).0 in
+    let are = (parts_are body rest (subst AreBytes content.0 (rest_bytes bytes size.0 n.0.1 h size.1))).0 in
     (size.0 ++ body, joined bytes size.0 n.0.1 body rest size.1 content.0, (size.0, body, refl, rw content.1 size.2, (are, refl)))
 
-body_again : (text body rest : List ℕ) → IsBody text body → body_at (text ++ rest) ≡ Some (body, rest)
-body_again text body rest h =
-    let split : text ++ rest ≡ h.0 ++ (body ++ rest) = rw (h.2, h.4.1) (append_assoc h.0 h.1 rest) in
+body_again : (bytes body rest : List ℕ) → IsBody bytes body → body_at (bytes ++ rest) ≡ Some (body, rest)
+body_again bytes body rest h =
+    let split : bytes ++ rest ≡ h.0 ++ (body ++ rest) = rw (h.2, h.4.1) (append_assoc h.0 h.1 rest) in
     let size : IsU32 h.0 (length body) = rw h.4.1 h.3 in
     ap body_at split ∙ sized h.0 body rest size
 
 pub reads_body : ReadsExactly IsBody body_at
 reads_body = record { found = body_found; again = body_again }
 
--- ---- where the bytes are all of a text
+-- ---- where the bytes are all of an encoding
 
 pub filled_some : {A : Type 0} (read : Option (A × List ℕ)) (v : A) → filled read ≡ Some v → read ≡ Some (v, [])
 filled_some None v e = absurd cc
@@ -158,7 +158,7 @@ fills_filled IsA a_at law = record {
   found = λ bytes v h e.
       let f = law.found bytes v [] h (filled_some (a_at bytes) v e) in
       subst (λ (l : List ℕ). IsA l v) (sym (f.1 ∙ append-nil f.0)) f.2;
-  again = λ text v h. let all : a_at text ≡ Some (v, []) = ap a_at (sym (append-nil text)) ∙ law.again text v [] h in rw all refl;
+  again = λ encoding v h. let all : a_at encoding ≡ Some (v, []) = ap a_at (sym (append-nil encoding)) ∙ law.again encoding v [] h in rw all refl;
 }
 
 -- ---- names
@@ -172,18 +172,18 @@ reads_name = record {
       let g = cond_some (is_utf8 c.0.0) c.0 (v, rest) c.2 in
       let size = unsigned_found 32 bytes n.0.0 n.0.1 h n.1 in
       let content = bytes_found n.0.0 n.0.1 c.0.0 c.0.1 c.1 in
-      let are = (parts_are c.0.0 c.0.1 (subst AreBytes content.0 (behind bytes size.0 n.0.1 h size.1))).0 in
+      let are = (parts_are c.0.0 c.0.1 (subst AreBytes content.0 (rest_bytes bytes size.0 n.0.1 h size.1))).0 in
       subst (λ x. Found IsName bytes x.0 x.1) g.1
       (size.0 ++ c.0.0, joined bytes size.0 n.0.1 c.0.0 c.0.1 size.1 content.0, ((size.0, c.0.0, refl, rw content.1 size.2, (are, refl)), utf8_from c.0.0 g.0));
-  again = λ text v rest h.
+  again = λ encoding v rest h.
       let f = h.0 in
-      let split : text ++ rest ≡ f.0 ++ (v ++ rest) = rw (f.2, f.4.1) (append_assoc f.0 f.1 rest) in
+      let split : encoding ++ rest ≡ f.0 ++ (v ++ rest) = rw (f.2, f.4.1) (append_assoc f.0 f.1 rest) in
       let size : IsU32 f.0 (length v) = rw f.4.1 f.3 in
       let t : is_utf8 v ≡ true = utf8 v h.1 in
       ap name_at split ∙ rw (unsigned_again 32 f.0 (length v) (v ++ rest) size, bytes_again v rest, t) refl;
 }
 
--- ---- one value, and no text that begins another
+-- ---- one value, and no encoding that begins another
 
 pub prefix_free : {A : Type 0} (IsA : List ℕ → A → Type 0) (a_at : List ℕ → Option (A × List ℕ)) → ReadsExactly IsA a_at → IsPrefixFree IsA
 prefix_free {A = A} IsA a_at law = λ a b x y v w p q e.

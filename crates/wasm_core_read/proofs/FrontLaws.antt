@@ -6,7 +6,7 @@ use Rattle.wasm_core_read.specs.declared.malformed.Malformed.{Malformed}
 use Rattle.wasm_core_read.specs.Input.{Input, GoesOn}
 use Rattle.wasm_core_read.specs.Laws.{ReadsExactly, Reads}
 use Rattle.wasm_core_read.specs.Reading.{Gives, unsigned_at, signed_at}
-use Rattle.wasm_core_read.proofs.Forms.{some_is, parts_are, behind, unsigned_found}
+use Rattle.wasm_core_read.proofs.Forms.{some_is, parts_are, rest_bytes, unsigned_found}
 use Rattle.wasm_core_read.proofs.NumberForms.{signed_found}
 
 -- what a slice holds is bytes
@@ -19,21 +19,21 @@ pub reads_from : {X A : Type 0} (IsA : List ℕ → A → Type 0) (a_at : List �
 reads_from IsA a_at law view old new (Ok x) are h =
     let f = law.found old.rest (view x) new.rest are h.0 in
     record {
-      found = record { text = f.0; parts = f.1; spells = f.2 };
+      found = record { encoding = f.0; parts = f.1; spells = f.2 };
       only = λ w rest b.
-          let both = some_is (w, rest) (view x, new.rest) (sym (law.again b.text w rest b.spells) ∙ ap a_at (sym b.parts) ∙ h.0) in
+          let both = some_is (w, rest) (view x, new.rest) (sym (law.again b.encoding w rest b.spells) ∙ ap a_at (sym b.parts) ∙ h.0) in
           (ap (λ q. q.0) both, ap (λ q. q.1) both);
       goes_on = h.1;
     }
 reads_from IsA a_at law view old new (Err e) are h =
-    (record { none = λ w rest b. let some = sym (law.again b.text w rest b.spells) ∙ ap a_at (sym b.parts) ∙ h.0 in absurd cc; within = h.2 }, h.1)
+    (record { none = λ w rest b. let some = sym (law.again b.encoding w rest b.spells) ∙ ap a_at (sym b.parts) ∙ h.0 in absurd cc; within = h.2 }, h.1)
 
--- what stands behind a number in bytes is bytes
-pub behind_number : (bits : ℕ) (bytes : List ℕ) (v : ℕ) (rest : List ℕ) → AreBytes bytes → Some (v, rest) ≡ unsigned_at bits bytes → AreBytes rest
-behind_number bits bytes v rest h e = let f = unsigned_found bits bytes v rest h (sym e) in behind bytes f.0 rest h f.1
+-- what stands after a number in bytes is bytes
+pub after_number : (bits : ℕ) (bytes : List ℕ) (v : ℕ) (rest : List ℕ) → AreBytes bytes → Some (v, rest) ≡ unsigned_at bits bytes → AreBytes rest
+after_number bits bytes v rest h e = let f = unsigned_found bits bytes v rest h (sym e) in rest_bytes bytes f.0 rest h f.1
 
-pub behind_signed : (bits : ℕ) (bytes : List ℕ) (v : ℤ) (rest : List ℕ) → AreBytes bytes → Some (v, rest) ≡ signed_at bits bytes → AreBytes rest
-behind_signed bits bytes v rest h e = let f = signed_found bits bytes v rest h (sym e) in behind bytes f.0 rest h f.1
+pub after_signed : (bits : ℕ) (bytes : List ℕ) (v : ℤ) (rest : List ℕ) → AreBytes bytes → Some (v, rest) ≡ signed_at bits bytes → AreBytes rest
+after_signed bits bytes v rest h e = let f = signed_found bits bytes v rest h (sym e) in rest_bytes bytes f.0 rest h f.1
 
 -- a part of bytes is bytes
 pub dropped : (n : ℕ) (bytes : List ℕ) → AreBytes bytes → AreBytes (drop n bytes)

@@ -8,9 +8,11 @@ pub mod ListForms
 pub mod ListLaws
 pub mod ModuleForms
 pub mod Names
+pub mod NoModule
 pub mod NumberForms
 pub mod PartForms
 pub mod ReadingLaws
+pub mod Rows
 pub mod SignedLaws
 pub mod TypeForms
 pub mod UnsignedLaws

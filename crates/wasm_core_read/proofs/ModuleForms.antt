@@ -7,15 +7,15 @@ use Rattle.std.proofs.lemmas.Bool.Decides.{Decides-eqb}
 use Rattle.std.proofs.lemmas.Option.{cond_some}
 use Rattle.std.proofs.lemmas.Slice.Eq.{starts_is}
 use Rattle.wasm_spec.specs.Bytes.{AreBytes, IsItems}
-use Rattle.wasm_spec.specs.Grammar.{header, section_id, IsSection, place_of, last_place, IsBehind, AreOrdered, IsModule}
+use Rattle.wasm_spec.specs.Grammar.{header, section_id, IsSection, place_of, last_place, ComesAfter, AreOrdered, IsModule}
 use Rattle.wasm_spec.specs.Syntax.{Section, functions_of, bodies_of, data_of, data_counts_of}
 use Rattle.wasm_core_read.specs.Laws.{ReadsExactly, FillsExactly, IsFrame}
-use Rattle.wasm_core_read.specs.ModuleReading.{content_of, frame_at, section_at, sections_at, sections_of, is_behind, are_ordered, are_counted, in_order, module_of}
+use Rattle.wasm_core_read.specs.ModuleReading.{content_of, frame_at, section_at, sections_at, sections_of, is_after, are_ordered, are_counted, in_order, module_of}
 use Rattle.wasm_core_read.specs.PartReading.{body_at}
 use Rattle.wasm_core_read.specs.Reading.{◌>>=◌, byte_at, unsigned_at, bytes_at}
 use Rattle.wasm_core_read.proofs.BytesLaws.{bytes_length}
 use Rattle.wasm_core_read.proofs.ContentForms.{fills_content, content_again}
-use Rattle.wasm_core_read.proofs.Forms.{bind_some, some_is, Found, behind, ltb_tells, reads_body, sized}
+use Rattle.wasm_core_read.proofs.Forms.{bind_some, some_is, Found, rest_bytes, ltb_tells, reads_body, sized}
 
 -- ---- frames
 
@@ -23,7 +23,7 @@ steps : {A B C : Type 0} (r : Option A) (f : A → Option B) (g : B → Option C
 steps (Some x) f g = refl
 steps None f g = refl
 
--- the id, and behind it the size and the bytes
+-- the id, and after it the size and the bytes
 id_and_body : (b : ℕ) (bs : List ℕ) → frame_at (b ∷ bs) ≡ (body_at bs >>= λ c. Some ((b, c.0), c.1))
 unfolding frame_at byte_at body_at
 id_and_body b bs = steps (unsigned_at 32 bs) (λ n. bytes_at n.0 n.1) (λ c. Some ((b, c.0), c.1))
@@ -36,19 +36,19 @@ frame_found (b ∷ bs) frame rest h e =
     let f = reads_body.found bs c.0.0 c.0.1 h.1 c.1 in
     subst (λ x. Found IsFrame (b ∷ bs) x.0 x.1) (some_is ((b, c.0.0), c.0.1) (frame, rest) c.2) (b ∷ f.0, ap (λ (l : List ℕ). b ∷ l) f.1, (f.0, refl, f.2))
 
-frame_again : (text : List ℕ) (frame : ℕ × List ℕ) (rest : List ℕ) → IsFrame text frame → frame_at (text ++ rest) ≡ Some (frame, rest)
-frame_again text frame rest h =
+frame_again : (bytes : List ℕ) (frame : ℕ × List ℕ) (rest : List ℕ) → IsFrame bytes frame → frame_at (bytes ++ rest) ≡ Some (frame, rest)
+frame_again bytes frame rest h =
     ap (λ (l : List ℕ). frame_at (l ++ rest)) h.1 ∙ id_and_body frame.0 (h.0 ++ rest) ∙ rw (reads_body.again h.0 frame.1 rest h.2) refl
 
 pub reads_frame : ReadsExactly IsFrame frame_at
 reads_frame = record { found = frame_found; again = frame_again }
 
--- both what stands in a frame and what stands behind it are bytes
+-- both what stands in a frame and what stands after it are bytes
 pub frame_bytes : (bytes : List ℕ) (frame : ℕ × List ℕ) (rest : List ℕ) → AreBytes bytes → frame_at bytes ≡ Some (frame, rest) → AreBytes frame.1 × AreBytes rest
 frame_bytes bytes frame rest h e =
     let f = frame_found bytes frame rest h e in
     let content = f.2.2.4 in
-    (subst AreBytes (sym content.1) content.0, behind bytes f.0 rest h f.1)
+    (subst AreBytes (sym content.1) content.0, rest_bytes bytes f.0 rest h f.1)
 
 -- ---- sections
 
@@ -63,12 +63,12 @@ section_found compact bytes section rest h e =
     subst (λ q. Found (IsSection compact) bytes q.0 q.1) (some_is (s.0, f.0.1) (section, rest) s.2)
     (x.0, x.1, (x.2.0, x.2.1 ∙ ap (λ (n : ℕ). n ∷ x.2.0) (sym content.1), (framed.0, framed.1, framed.2, framed.3, content.0)))
 
-section_again : (compact : Bool) (text : List ℕ) (section : Section) (rest : List ℕ) → IsSection compact text section → section_at compact (text ++ rest) ≡ Some (section, rest)
+section_again : (compact : Bool) (bytes : List ℕ) (section : Section) (rest : List ℕ) → IsSection compact bytes section → section_at compact (bytes ++ rest) ≡ Some (section, rest)
 unfolding section_at
-section_again compact text section rest h =
+section_again compact bytes section rest h =
     let f = h.2 in
     let id = section_id section in
-    let split : text ++ rest ≡ id ∷ (f.0 ++ (f.1 ++ rest)) = ap (λ (l : List ℕ). l ++ rest) h.1 ∙ ap (λ (l : List ℕ). id ∷ (l ++ rest)) f.2 ∙ ap (λ (l : List ℕ). id ∷ l) (append_assoc f.0 f.1 rest) in
+    let split : bytes ++ rest ≡ id ∷ (f.0 ++ (f.1 ++ rest)) = ap (λ (l : List ℕ). l ++ rest) h.1 ∙ ap (λ (l : List ℕ). id ∷ (l ++ rest)) f.2 ∙ ap (λ (l : List ℕ). id ∷ l) (append_assoc f.0 f.1 rest) in
     let frame : frame_at (id ∷ (f.0 ++ (f.1 ++ rest))) ≡ Some ((id, f.1), rest) = id_and_body id (f.0 ++ (f.1 ++ rest)) ∙ rw (sized f.0 f.1 rest f.3) refl in
     ap (section_at compact) split ∙ rw (frame, content_again compact f.1 section f.4) refl
 
@@ -94,7 +94,7 @@ number_shorter bits (b ∷ bs) v rest e = elim (ltb_tells b 128) [
   ]
 ]
 
--- What stands behind a frame is shorter, so that reading sections ends.
+-- What stands after a frame is shorter, so that reading sections ends.
 pub frame_shorter : (bytes : List ℕ) (frame : ℕ × List ℕ) (rest : List ℕ) → frame_at bytes ≡ Some (frame, rest) → length rest < length bytes
 unfolding frame_at byte_at body_at
 frame_shorter [] frame rest e = absurd cc
@@ -115,19 +115,19 @@ sections_found compact (suc f) (b ∷ bs) sections h e =
     let a = bind_some (section_at compact (b ∷ bs)) (λ x. sections_at compact f x.1 >>= λ others. Some (x.0 ∷ others)) sections e in
     let o = bind_some (sections_at compact f a.0.1) (λ others. Some (a.0.0 ∷ others)) sections a.2 in
     let first = (reads_section compact).found (b ∷ bs) a.0.0 a.0.1 h a.1 in
-    let others = sections_found compact f a.0.1 o.0 (behind (b ∷ bs) first.0 a.0.1 h first.1) o.1 in
+    let others = sections_found compact f a.0.1 o.0 (rest_bytes (b ∷ bs) first.0 a.0.1 h first.1) o.1 in
     subst (λ x. IsItems (IsSection compact) (b ∷ bs) x) (some_is (a.0.0 ∷ o.0) sections o.2) (first.0, a.0.1, first.1, first.2, others)
 
 -- as many sections as there are bytes at most, so that the fuel is never short
-sections_again : (compact : Bool) (fuel : ℕ) (text : List ℕ) (sections : List Section) → length text ≤ fuel → IsItems (IsSection compact) text sections → sections_at compact fuel text ≡ Some sections
+sections_again : (compact : Bool) (fuel : ℕ) (bytes : List ℕ) (sections : List Section) → length bytes ≤ fuel → IsItems (IsSection compact) bytes sections → sections_at compact fuel bytes ≡ Some sections
 unfolding sections_at
-sections_again compact zero text [] le h = rw h refl
-sections_again compact (suc f) text [] le h = rw h refl
-sections_again compact zero text (section ∷ sections) le h =
+sections_again compact zero bytes [] le h = rw h refl
+sections_again compact (suc f) bytes [] le h = rw h refl
+sections_again compact zero bytes (section ∷ sections) le h =
     absurd (omega (arith, le, ap length h.2, length-append h.0 h.1, ap length h.3.1))
-sections_again compact (suc f) text (section ∷ sections) le h =
+sections_again compact (suc f) bytes (section ∷ sections) le h =
     let framed = h.3.0 in
-    let shown : text ≡ section_id section ∷ (framed ++ h.1) = h.2 ∙ ap (λ (l : List ℕ). l ++ h.1) h.3.1 in
+    let shown : bytes ≡ section_id section ∷ (framed ++ h.1) = h.2 ∙ ap (λ (l : List ℕ). l ++ h.1) h.3.1 in
     let first : section_at compact (section_id section ∷ (framed ++ h.1)) ≡ Some (section, h.1) = subst (λ (l : List ℕ). section_at compact (l ++ h.1) ≡ Some (section, h.1)) h.3.1 ((reads_section compact).again h.0 section h.1 h.3) in
     let others = sections_again compact f h.1 sections (omega (arith, le, ap length shown, length-append framed h.1)) h.4 in
     ap (sections_at compact (suc f)) shown ∙ rw (first, others) refl
@@ -136,31 +136,31 @@ pub of_found : (compact : Bool) (bytes : List ℕ) (sections : List Section) →
 unfolding sections_of
 of_found compact bytes sections h e = sections_found compact (length bytes) bytes sections h e
 
-pub of_again : (compact : Bool) (text : List ℕ) (sections : List Section) → IsItems (IsSection compact) text sections → sections_of compact text ≡ Some sections
+pub of_again : (compact : Bool) (bytes : List ℕ) (sections : List Section) → IsItems (IsSection compact) bytes sections → sections_of compact bytes ≡ Some sections
 unfolding sections_of
-of_again compact text sections h = sections_again compact (length text) text sections (omega arith) h
+of_again compact bytes sections h = sections_again compact (length bytes) bytes sections (omega arith) h
 
 -- ---- the order of sections
 
-behind_found : (last : ℕ) (place : Option ℕ) → is_behind last place ≡ true → IsBehind last place
-behind_found last None e = tt
-behind_found last (Some place) e = ltb-true last place e
+after_found : (last : ℕ) (place : Option ℕ) → is_after last place ≡ true → ComesAfter last place
+after_found last None e = tt
+after_found last (Some place) e = ltb-true last place e
 
-behind_again : (last : ℕ) (place : Option ℕ) → IsBehind last place → is_behind last place ≡ true
-behind_again last None h = refl
-behind_again last (Some place) h = lt-ltb last place h
+after_again : (last : ℕ) (place : Option ℕ) → ComesAfter last place → is_after last place ≡ true
+after_again last None h = refl
+after_again last (Some place) h = lt-ltb last place h
 
 pub ordered_found : (last : ℕ) (sections : List Section) → are_ordered last sections ≡ true → AreOrdered last sections
 ordered_found last [] e = tt
 ordered_found last (section ∷ sections) e =
-    let p = and_parts (is_behind last (place_of section)) (are_ordered (last_place last (place_of section)) sections) e in
-    (behind_found last (place_of section) p.0, ordered_found (last_place last (place_of section)) sections p.1)
+    let p = and_parts (is_after last (place_of section)) (are_ordered (last_place last (place_of section)) sections) e in
+    (after_found last (place_of section) p.0, ordered_found (last_place last (place_of section)) sections p.1)
 
 pub ordered_again : (last : ℕ) (sections : List Section) → AreOrdered last sections → are_ordered last sections ≡ true
 ordered_again last [] h = refl
 ordered_again last (section ∷ sections) h =
-    and_from (is_behind last (place_of section)) (are_ordered (last_place last (place_of section)) sections)
-    (behind_again last (place_of section) h.0) (ordered_again (last_place last (place_of section)) sections h.1)
+    and_from (is_after last (place_of section)) (are_ordered (last_place last (place_of section)) sections)
+    (after_again last (place_of section) h.0) (ordered_again (last_place last (place_of section)) sections h.1)
 
 counted_found : (sections : List Section) (counts : List ℕ) → list_all (λ count. eqb count (length (data_of sections))) counts ≡ true → AllByRecursion (λ count. count ≡ length (data_of sections)) counts
 counted_found sections [] e = tt
@@ -204,7 +204,7 @@ module_found compact bytes sections h e =
     let begins : bytes ≡ header ++ drop 8 bytes = headed.0 g.0 in
     let s = bind_some (sections_of compact (drop 8 bytes)) in_order sections g.1 in
     let o = in_order_found s.0 sections s.2 in
-    let holds = of_found compact (drop 8 bytes) s.0 (behind bytes header (drop 8 bytes) h begins) s.1 in
+    let holds = of_found compact (drop 8 bytes) s.0 (rest_bytes bytes header (drop 8 bytes) h begins) s.1 in
     subst (λ q. IsModule compact bytes q) o.0
     (record { body = drop 8 bytes; begins = begins; holds = holds; ordered = o.1.ordered; agreeing = o.1.agreeing; counted = o.1.counted })
   where
@@ -220,5 +220,5 @@ module_again compact bytes sections m =
 pub fills_module : (compact : Bool) → FillsExactly (IsModule compact) (module_of compact)
 fills_module compact = record { found = module_found compact; again = module_again compact }
 
-pub module_one : (compact : Bool) (text : List ℕ) (ps qs : List Section) → IsModule compact text ps → IsModule compact text qs → ps ≡ qs
-module_one compact text ps qs m n = some_is ps qs (sym (module_again compact text ps m) ∙ module_again compact text qs n)
+pub module_one : (compact : Bool) (bytes : List ℕ) (ps qs : List Section) → IsModule compact bytes ps → IsModule compact bytes qs → ps ≡ qs
+module_one compact bytes ps qs m n = some_is ps qs (sym (module_again compact bytes ps m) ∙ module_again compact bytes qs n)

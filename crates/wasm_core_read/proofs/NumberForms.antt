@@ -41,7 +41,7 @@ above_is : (low : ℕ) (z : ℤ) → low < 128 → above low 128 z ≡ (pos 128 
 above_is low (pos n) small = omega (arith, ints)
 above_is low (negsuc n) small = omega (arith, ints)
 
-longer : (bits b : ℕ) (text : List ℕ) (high : ℤ) → 128 ≤ b → b < 256 → 7 < bits → IsSigned (bits - 7) text high → IsSigned bits (b ∷ text) (above (b - 128) 128 high)
+longer : (bits b : ℕ) (bytes : List ℕ) (high : ℤ) → 128 ≤ b → b < 256 → 7 < bits → IsSigned (bits - 7) bytes high → IsSigned bits (b ∷ bytes) (above (b - 128) 128 high)
 longer bits b [] high large small many h = absurd h
 longer bits b (c ∷ cs) high large small many h = (large, small, many, high, above_is (b - 128) high (omega (arith, small)), h)
 
@@ -63,7 +63,7 @@ signed_found bits (b ∷ bs) v rest h e =
       ]
     ]
 
-pub signed_again : (bits : ℕ) (text : List ℕ) (v : ℤ) (rest : List ℕ) → IsSigned bits text v → signed_at bits (text ++ rest) ≡ Some (v, rest)
+pub signed_again : (bits : ℕ) (bytes : List ℕ) (v : ℤ) (rest : List ℕ) → IsSigned bits bytes v → signed_at bits (bytes ++ rest) ≡ Some (v, rest)
 unfolding signed_at
 signed_again bits [] v rest h = absurd h
 signed_again bits (b ∷ []) v rest h =
@@ -90,7 +90,7 @@ reads_float len = record {
       let p = bytes_found len bytes s.0.0 s.0.1 s.1 in
       let are = (parts_are s.0.0 s.0.1 (subst AreBytes p.0 h)).0 in
       subst (λ (x : ℕ × List ℕ). Found (IsFloatBits len) bytes x.0 x.1) (some_is (low_first s.0.0, s.0.1) (v, rest) s.2) (s.0.0, p.0, (are, p.1, refl));
-  again = λ text v rest h. rw (← h.1, bytes_again text rest) (ap (λ (n : ℕ). Some (n, rest)) (sym h.2));
+  again = λ encoding v rest h. rw (← h.1, bytes_again encoding rest) (ap (λ (n : ℕ). Some (n, rest)) (sym h.2));
 }
 
 pub no_float : (len : ℕ) (bytes : List ℕ) → length bytes < len → float_at len bytes ≡ None
@@ -139,7 +139,7 @@ more_within bits low (pos n) (negsuc k) many small e wide h = absurd (omega (ari
 more_within bits low (negsuc n) (pos k) many small e wide h = absurd (omega (arith, ints, e))
 more_within bits low (negsuc n) (negsuc k) many small e wide h = omega (arith, ints, e, wide, h)
 
-pub signed_within : (bits : ℕ) (text : List ℕ) (z : ℤ) → IsSigned bits text z → IsWithinBits (bits - 1) z
+pub signed_within : (bits : ℕ) (bytes : List ℕ) (z : ℤ) → IsSigned bits bytes z → IsWithinBits (bits - 1) z
 signed_within bits [] z h = absurd h
 signed_within bits (b ∷ []) z h = last_within bits b z h
 signed_within bits (b ∷ c ∷ bs) z h =

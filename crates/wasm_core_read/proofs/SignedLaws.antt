@@ -56,7 +56,7 @@ high_value low shift bits b fits some within large t =
 
 -- ---- the bytes before it
 
--- what is read, behind the low part v that stands below u
+-- what is read, after the low part v that stands below u
 abbrev pub with_low : ℕ → ℕ → Option (ℤ × List ℕ) → Option (ℤ × List ℕ)
 with_low v u read = read >>= λ x. Some (above v u x.0, x.1)
 
@@ -64,7 +64,7 @@ nothing_below : (z : ℤ) → above 0 1 z ≡ z
 nothing_below (pos n) = ap pos (omega arith)
 nothing_below (negsuc n) = ap negsuc (omega arith)
 
--- a number, and what stands behind it
+-- a number, and what stands after it
 abbrev pub followed : List ℕ → Option ℤ → Option (ℤ × List ℕ)
 followed rest last = last >>= λ z. Some (z, rest)
 

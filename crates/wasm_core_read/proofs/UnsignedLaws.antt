@@ -7,7 +7,7 @@ use Rattle.std.proofs.Math.Nat.{mul-le-mul_right}
 use Rattle.std.proofs.Math.Pow.{pow_mono}
 use Rattle.wasm_core_read.specs.Reading.{◌>>=◌, unsigned_at}
 
--- what is read, behind the low part v that stands below u
+-- what is read, after the low part v that stands below u
 abbrev pub with_low : ℕ → ℕ → Option (ℕ × List ℕ) → Option (ℕ × List ℕ)
 with_low v u read = read >>= λ x. Some (v + x.0 * u, x.1)
 

@@ -47,14 +47,14 @@ sections_at compact (suc fuel) (b ∷ bs) = section_at compact (b ∷ bs) >>= λ
 unfoldable pub sections_of : Bool → List ℕ → Option (List Section)
 sections_of compact bytes = sections_at compact (length bytes) bytes
 
--- whether a place that a section has comes behind the last one
-abbrev pub is_behind : ℕ → Option ℕ → Bool
-is_behind last None = true
-is_behind last (Some place) = nat_lt last place
+-- whether a place that a section has comes after the last one
+abbrev pub is_after : ℕ → Option ℕ → Bool
+is_after last None = true
+is_after last (Some place) = nat_lt last place
 
 abbrev pub are_ordered : ℕ → List Section → Bool
 are_ordered last [] = true
-are_ordered last (section ∷ sections) = is_behind last (place_of section) && are_ordered (last_place last (place_of section)) sections
+are_ordered last (section ∷ sections) = is_after last (place_of section) && are_ordered (last_place last (place_of section)) sections
 
 -- whether each count of data segments is theirs
 abbrev pub are_counted : List Section → Bool

@@ -83,7 +83,7 @@ seen_at view a_at bytes = a_at bytes >>= λ a. Some (view a.0, a.1)
 abbrev pub tested_at : {A : Type 0} → (A → Bool) → ReadingOf A → ReadingOf A
 tested_at test a_at bytes = a_at bytes >>= λ a. if test a.0 then Some a else None
 
--- one form behind the other
+-- one form after the other
 abbrev pub pair_at : {A B : Type 0} → ReadingOf A → ReadingOf B → ReadingOf (A × B)
 pair_at a_at b_at bytes = a_at bytes >>= λ a. b_at a.1 >>= λ b. Some ((a.0, b.0), b.1)
 
@@ -92,20 +92,20 @@ abbrev pub optional_at : {A : Type 0} → Bool → ReadingOf A → ReadingOf (Op
 optional_at false a_at bytes = Some (None, bytes)
 optional_at true a_at bytes = seen_at (λ a. Some a) a_at bytes
 
--- behind a byte, what it announces
+-- after a byte, what it announces
 abbrev pub announced_at : {A : Type 0} → (ℕ → ReadingOf A) → ReadingOf A
 announced_at form [] = None
 announced_at form (b ∷ rest) = form b rest
 
--- behind a u32, what it announces
+-- after a u32, what it announces
 abbrev pub numbered_at : {A : Type 0} → (ℕ → ReadingOf A) → ReadingOf A
 numbered_at form bytes = unsigned_at 32 bytes >>= λ n. form n.0 n.1
 
--- what stands behind this code, where the code is this one, else what stands behind others
-abbrev pub behind_code : {A : Type 0} → ℕ → ReadingOf A → (ℕ → ReadingOf A) → ℕ → ReadingOf A
-behind_code wanted a_at others code rest = if code == wanted then a_at rest else others code rest
+-- what stands after this code, where the code is this one, else what stands after others
+abbrev pub after_code : {A : Type 0} → ℕ → ReadingOf A → (ℕ → ReadingOf A) → ℕ → ReadingOf A
+after_code wanted a_at others code rest = if code == wanted then a_at rest else others code rest
 
--- a code behind which nothing stands
+-- a code after which nothing stands
 abbrev pub bare_code : {A : Type 0} → ℕ → A → (ℕ → ReadingOf A) → ℕ → ReadingOf A
 bare_code wanted x others code rest = if code == wanted then Some (x, rest) else others code rest
 

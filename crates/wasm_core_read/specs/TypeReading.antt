@@ -3,7 +3,7 @@ use Rattle.std.specs.Prelude.{ℕ, zero, suc, ◌/◌, ◌%◌, ◌||◌, ℤ, p
 use Rattle.wasm_spec.specs.TypeGrammar.{heap_code}
 use Rattle.wasm_spec.specs.Types.{AbstractHeapType, HeapType, Abstract, Concrete, RefType, ValType, I32, I64, F32, F64, V128, Ref, StorageType, I8, I16, Val, FieldType, FuncType, CompositeType, FuncComposite, StructComposite, ArrayComposite, ContComposite, SubType, RecGroup, Single, Group, Limits, TableType, GlobalType, ExternalType, FuncExternal, TableExternal, MemoryExternal, GlobalExternal, TagExternal, ExternalKind, FuncKind, TableKind, MemoryKind, GlobalKind, TagKind}
 use Rattle.wasm_spec.specs.Types as types
-use Rattle.wasm_core_read.specs.Reading.{◌>>=◌, ReadingOf, unsigned_at, signed_at, seen_at, tested_at, pair_at, optional_at, announced_at, behind_code, bare_code, no_code}
+use Rattle.wasm_core_read.specs.Reading.{◌>>=◌, ReadingOf, unsigned_at, signed_at, seen_at, tested_at, pair_at, optional_at, announced_at, after_code, bare_code, no_code}
 
 -- so many items
 unfoldable pub items_at : {A : Type 0} → ReadingOf A → ℕ → ReadingOf (List A)
@@ -61,9 +61,9 @@ val_type_codes = (0x7f, I32) ∷ (0x7e, I64) ∷ (0x7d, F32) ∷ (0x7c, F64) ∷
 abbrev pub short_type : ℕ → ReadingOf (ValType ℕ)
 short_type code rest = look_up val_type_codes code >>= λ type. Some (type, rest)
 
--- a value type behind its first byte
+-- a value type after its first byte
 abbrev pub val_type_from : ℕ → ReadingOf (ValType ℕ)
-val_type_from = behind_code 0x63 (seen_at (λ heap. Ref true heap) heap_type_at) (behind_code 0x64 (seen_at (λ heap. Ref false heap) heap_type_at) short_type)
+val_type_from = after_code 0x63 (seen_at (λ heap. Ref true heap) heap_type_at) (after_code 0x64 (seen_at (λ heap. Ref false heap) heap_type_at) short_type)
 
 unfoldable pub val_type_at : ReadingOf (ValType ℕ)
 val_type_at = announced_at val_type_from
@@ -73,7 +73,7 @@ abbrev pub reference_of : ValType ℕ → Option (RefType ℕ)
 reference_of (Ref nullable heap) = Some (record { nullable = nullable; heap_type = heap })
 reference_of _ = None
 
--- a reference type behind its first byte
+-- a reference type after its first byte
 abbrev pub ref_type_from : ℕ → ReadingOf (RefType ℕ)
 ref_type_from code rest = val_type_from code rest >>= λ type. reference_of type.0 >>= λ reference. Some (reference, type.1)
 
@@ -96,12 +96,12 @@ unfoldable pub signature_at : ReadingOf (FuncType ℕ)
 signature_at = seen_at (λ x. record { params = x.0; results = x.1 }) (pair_at (list_at val_type_at) (list_at val_type_at))
 
 unfoldable pub func_type_at : ReadingOf (FuncType ℕ)
-func_type_at = announced_at (behind_code 0x60 signature_at no_code)
+func_type_at = announced_at (after_code 0x60 signature_at no_code)
 
--- a composite type behind its code
+-- a composite type after its code
 abbrev pub composite_from : ℕ → ReadingOf (CompositeType ℕ)
-composite_from = behind_code 0x60 (seen_at (λ type. FuncComposite type) signature_at) (behind_code 0x5f (seen_at (λ fields. StructComposite fields) (list_at field_type_at))
-    (behind_code 0x5e (seen_at (λ field. ArrayComposite field) field_type_at) (behind_code 0x5d (seen_at (λ function. ContComposite function) heap_index_at) no_code)))
+composite_from = after_code 0x60 (seen_at (λ type. FuncComposite type) signature_at) (after_code 0x5f (seen_at (λ fields. StructComposite fields) (list_at field_type_at))
+    (after_code 0x5e (seen_at (λ field. ArrayComposite field) field_type_at) (after_code 0x5d (seen_at (λ function. ContComposite function) heap_index_at) no_code)))
 
 unfoldable pub composite_type_at : ReadingOf (CompositeType ℕ)
 composite_type_at = announced_at composite_from
@@ -114,15 +114,15 @@ below_at final = seen_at (λ x. record { is_final = final; supertypes = x.0; com
 abbrev pub final_type : CompositeType ℕ → SubType ℕ
 final_type type = record { is_final = true; supertypes = []; composite_type = type }
 
--- a sub type behind its first byte
+-- a sub type after its first byte
 abbrev pub sub_from : ℕ → ReadingOf (SubType ℕ)
-sub_from = behind_code 0x50 (below_at false) (behind_code 0x4f (below_at true) (λ code. seen_at final_type (composite_from code)))
+sub_from = after_code 0x50 (below_at false) (after_code 0x4f (below_at true) (λ code. seen_at final_type (composite_from code)))
 
 unfoldable pub sub_type_at : ReadingOf (SubType ℕ)
 sub_type_at = announced_at sub_from
 
 unfoldable pub rec_group_at : ReadingOf (RecGroup ℕ)
-rec_group_at = announced_at (behind_code 0x4e (seen_at (λ types. Group types) (list_at sub_type_at)) (λ code. seen_at (λ type. Single type) (sub_from code)))
+rec_group_at = announced_at (after_code 0x4e (seen_at (λ types. Group types) (list_at sub_type_at)) (λ code. seen_at (λ type. Single type) (sub_from code)))
 
 -- ---- limits, and what is imported
 
@@ -146,7 +146,7 @@ is_of_table limits = if limits.shared || is_some limits.page_size_log2 then fals
 unfoldable pub table_limits_at : ReadingOf Limits
 table_limits_at = tested_at is_of_table limits_at
 
--- a table's type behind its first byte
+-- a table's type after its first byte
 abbrev pub table_type_from : ℕ → ReadingOf (TableType ℕ)
 table_type_from code = seen_at (λ x. record { element_type = x.0; limits = x.1 }) (pair_at (ref_type_from code) table_limits_at)
 
@@ -157,12 +157,12 @@ unfoldable pub global_type_at : ReadingOf (GlobalType ℕ)
 global_type_at = seen_at (λ x. record { value_type = x.0; mutable = x.1 }) (pair_at val_type_at mutability_at)
 
 unfoldable pub tag_type_at : ReadingOf ℕ
-tag_type_at = announced_at (behind_code 0x00 (unsigned_at 32) no_code)
+tag_type_at = announced_at (after_code 0x00 (unsigned_at 32) no_code)
 
 unfoldable pub external_kind_at : ReadingOf ExternalKind
 external_kind_at = announced_at (bare_code 0x00 FuncKind (bare_code 0x01 TableKind (bare_code 0x02 MemoryKind (bare_code 0x03 GlobalKind (bare_code 0x04 TagKind no_code)))))
 
 unfoldable pub external_type_at : ReadingOf (ExternalType ℕ)
-external_type_at = announced_at (behind_code 0x00 (seen_at (λ function. FuncExternal function) (unsigned_at 32)) (behind_code 0x01 (seen_at (λ type. TableExternal type) table_type_at)
-    (behind_code 0x02 (seen_at (λ type. MemoryExternal type) limits_at) (behind_code 0x03 (seen_at (λ type. GlobalExternal type) global_type_at)
-    (behind_code 0x04 (seen_at (λ function. TagExternal function) tag_type_at) no_code)))))
+external_type_at = announced_at (after_code 0x00 (seen_at (λ function. FuncExternal function) (unsigned_at 32)) (after_code 0x01 (seen_at (λ type. TableExternal type) table_type_at)
+    (after_code 0x02 (seen_at (λ type. MemoryExternal type) limits_at) (after_code 0x03 (seen_at (λ type. GlobalExternal type) global_type_at)
+    (after_code 0x04 (seen_at (λ function. TagExternal function) tag_type_at) no_code)))))

@@ -12,12 +12,11 @@ ghost use Rattle.wasm_spec.specs.Bytes.{IsOneByte, IsUnsigned, IsSigned, IsBytes
 ghost use Rattle.wasm_spec.specs.ConstantGrammar.{IsConstantOperator, IsConstantExpression};
 ghost use Rattle.wasm_spec.specs.Grammar.{header, IsSection, IsModule};
 ghost use Rattle.wasm_spec.specs.ModuleParts.{IsImport, IsTable, IsGlobal, IsExport, IsElementSegment, IsDataSegment, IsBody};
-ghost use Rattle.wasm_spec.specs.Features.{Features, CompactImports, has};
 ghost use Rattle.wasm_spec.specs.Syntax.{ImportEntry, Import, Section, Custom, TypeSection, FunctionSection, CodeSection};
 ghost use Rattle.wasm_spec.specs.TypeGrammar.{IsHeapType, IsRefType, IsValType, IsStorageType, IsFieldType, IsFuncType, IsCompositeType, IsSubType, IsRecGroup, IsLimits, IsTableType, IsGlobalType, IsTagType, IsExternalKind, IsExternalType};
 ghost use Rattle.wasm_spec.specs.Types.{ExternalType, Single, FuncComposite};
 
-/// What is read from bytes is a text of the form, and each text of it is read, whatever follows it.
+/// What is read from bytes is an encoding of the form, and each encoding of it is read, whatever follows it.
 pub fn reads_exactly()
     ensures byte { ReadsExactly IsOneByte byte_at }
     ensures number { (bits : ℕ) → ReadsExactly (IsUnsigned bits) (unsigned_at bits) }
@@ -63,7 +62,7 @@ pub fn reads_lists()
     ensures bodies { ReadsExactly IsBodies (list_at body_at) }
 {}
 
-/// A text of a form has one value, and no text of it is a proper prefix of another.
+/// An encoding of a form has one value, and no encoding of it is a proper prefix of another.
 pub fn prefix_free()
     ensures byte { IsPrefixFree IsOneByte }
     ensures number { (bits : ℕ) → IsPrefixFree (IsUnsigned bits) }
@@ -98,20 +97,19 @@ pub fn prefix_free()
     ensures section { (compact : Bool) → IsPrefixFree (IsSection compact) }
 {}
 
-/// Bytes are a text of at most one module.
+/// Bytes are an encoding of at most one module.
 pub fn one_module()
-    ensures { (compact : Bool) (text : List ℕ) (a b : List Section) → IsModule compact text a → IsModule compact text b → a ≡ b }
+    ensures { (compact : Bool) (bytes : List ℕ) (a b : List Section) → IsModule compact bytes a → IsModule compact bytes b → a ≡ b }
 {}
 
-/// Of the features only compact imports decide how bytes read. Where these are off, what reads is read so where they are on, too: a single
-/// import is no group.
+/// Only compact imports decide how bytes read. What reads with them off reads the same with them on: a single import is no group.
 pub fn read_under_features()
-    ensures same { (f g : Features) (text : List ℕ) (sections : List Section) → has f CompactImports ≡ has g CompactImports → IsModule (has f CompactImports) text sections → IsModule (has g CompactImports) text sections }
-    ensures single { (compact : Bool) (text origin name : List ℕ) (type : ExternalType ℕ) → IsImport compact text (Import origin name type) ↔ IsImport false text (Import origin name type) }
-    ensures no_group { (text : List ℕ) (origin name : List ℕ) (type : ExternalType ℕ) (entry : ImportEntry) → IsImport false text (Import origin name type) → IsImport true text entry → entry ≡ Import origin name type }
+    ensures more { (bytes : List ℕ) (sections : List Section) → IsModule false bytes sections → IsModule true bytes sections }
+    ensures single { (compact : Bool) (bytes origin name : List ℕ) (type : ExternalType ℕ) → IsImport compact bytes (Import origin name type) ↔ IsImport false bytes (Import origin name type) }
+    ensures no_group { (bytes : List ℕ) (origin name : List ℕ) (type : ExternalType ℕ) (entry : ImportEntry) → IsImport false bytes (Import origin name type) → IsImport true bytes entry → entry ≡ Import origin name type }
 {}
 
-/// Bytes that are a text of no module, worked out by hand.
+/// Bytes that are an encoding of no module, worked out by hand.
 pub fn no_module()
     ensures nothing { (compact : Bool) → IsNoModule compact [] }
     ensures cut_header { (compact : Bool) → IsNoModule compact (0x00 ∷ 0x61 ∷ 0x73 ∷ 0x6d ∷ 0x01 ∷ 0x00 ∷ 0x00 ∷ []) }
@@ -124,7 +122,7 @@ pub fn no_module()
     ensures long_name { (compact : Bool) → IsNoModule compact (header ++ (0x00 ∷ 0x01 ∷ 0x01 ∷ [])) }
 
     // Names that aren't UTF-8: a byte that begins nothing, an overlong form, a surrogate, past the last character.
-    ensures no_text { (compact : Bool) → IsNoModule compact (header ++ (0x00 ∷ 0x02 ∷ 0x01 ∷ 0xff ∷ [])) }
+    ensures no_encoding { (compact : Bool) → IsNoModule compact (header ++ (0x00 ∷ 0x02 ∷ 0x01 ∷ 0xff ∷ [])) }
     ensures overlong { (compact : Bool) → IsNoModule compact (header ++ (0x00 ∷ 0x03 ∷ 0x02 ∷ 0xc0 ∷ 0x80 ∷ [])) }
     ensures surrogate { (compact : Bool) → IsNoModule compact (header ++ (0x00 ∷ 0x04 ∷ 0x03 ∷ 0xed ∷ 0xa0 ∷ 0x80 ∷ [])) }
     ensures past_the_last { (compact : Bool) → IsNoModule compact (header ++ (0x00 ∷ 0x05 ∷ 0x04 ∷ 0xf4 ∷ 0x90 ∷ 0x80 ∷ 0x80 ∷ [])) }
@@ -138,10 +136,26 @@ pub fn no_module()
     ensures no_functions { (compact : Bool) → IsNoModule compact (header ++ (0x0a ∷ 0x04 ∷ 0x01 ∷ 0x02 ∷ 0x00 ∷ 0x0b ∷ [])) }
     ensures body_too_many { (compact : Bool) → IsNoModule compact (header ++ (0x01 ∷ 0x04 ∷ 0x01 ∷ 0x60 ∷ 0x00 ∷ 0x00 ∷ []) ++ (0x03 ∷ 0x02 ∷ 0x01 ∷ 0x00 ∷ []) ++ (0x0a ∷ 0x07 ∷ 0x02 ∷ 0x02 ∷ 0x00 ∷ 0x0b ∷ 0x02 ∷ 0x00 ∷ 0x0b ∷ [])) }
 
-    // A count of six bytes, a byte behind the types, a type that goes past its frame.
+    // A count of six bytes, a byte after the types, a type that goes past its frame.
     ensures long_count { (compact : Bool) → IsNoModule compact (header ++ (0x01 ∷ 0x09 ∷ 0x81 ∷ 0x80 ∷ 0x80 ∷ 0x80 ∷ 0x80 ∷ 0x00 ∷ 0x60 ∷ 0x00 ∷ 0x00 ∷ [])) }
-    ensures byte_behind { (compact : Bool) → IsNoModule compact (header ++ (0x01 ∷ 0x05 ∷ 0x01 ∷ 0x60 ∷ 0x00 ∷ 0x00 ∷ 0x00 ∷ [])) }
+    ensures byte_after { (compact : Bool) → IsNoModule compact (header ++ (0x01 ∷ 0x05 ∷ 0x01 ∷ 0x60 ∷ 0x00 ∷ 0x00 ∷ 0x00 ∷ [])) }
     ensures short_types { (compact : Bool) → IsNoModule compact (header ++ (0x01 ∷ 0x03 ∷ 0x01 ∷ 0x60 ∷ 0x00 ∷ [])) }
+{}
+
+/// Each two neighbours among the sections that have a place, swapped, are no module.
+pub fn swapped_sections()
+    ensures import_before_type { (compact : Bool) → IsNoModule compact (header ++ (0x02 ∷ 0x01 ∷ 0x00 ∷ 0x01 ∷ 0x01 ∷ 0x00 ∷ [])) }
+    ensures function_before_import { (compact : Bool) → IsNoModule compact (header ++ (0x03 ∷ 0x01 ∷ 0x00 ∷ 0x02 ∷ 0x01 ∷ 0x00 ∷ [])) }
+    ensures table_before_function { (compact : Bool) → IsNoModule compact (header ++ (0x04 ∷ 0x01 ∷ 0x00 ∷ 0x03 ∷ 0x01 ∷ 0x00 ∷ [])) }
+    ensures memory_before_table { (compact : Bool) → IsNoModule compact (header ++ (0x05 ∷ 0x01 ∷ 0x00 ∷ 0x04 ∷ 0x01 ∷ 0x00 ∷ [])) }
+    ensures tag_before_memory { (compact : Bool) → IsNoModule compact (header ++ (0x0d ∷ 0x01 ∷ 0x00 ∷ 0x05 ∷ 0x01 ∷ 0x00 ∷ [])) }
+    ensures global_before_tag { (compact : Bool) → IsNoModule compact (header ++ (0x06 ∷ 0x01 ∷ 0x00 ∷ 0x0d ∷ 0x01 ∷ 0x00 ∷ [])) }
+    ensures export_before_global { (compact : Bool) → IsNoModule compact (header ++ (0x07 ∷ 0x01 ∷ 0x00 ∷ 0x06 ∷ 0x01 ∷ 0x00 ∷ [])) }
+    ensures start_before_export { (compact : Bool) → IsNoModule compact (header ++ (0x08 ∷ 0x01 ∷ 0x00 ∷ 0x07 ∷ 0x01 ∷ 0x00 ∷ [])) }
+    ensures element_before_start { (compact : Bool) → IsNoModule compact (header ++ (0x09 ∷ 0x01 ∷ 0x00 ∷ 0x08 ∷ 0x01 ∷ 0x00 ∷ [])) }
+    ensures data_count_before_element { (compact : Bool) → IsNoModule compact (header ++ (0x0c ∷ 0x01 ∷ 0x00 ∷ 0x09 ∷ 0x01 ∷ 0x00 ∷ [])) }
+    ensures code_before_data_count { (compact : Bool) → IsNoModule compact (header ++ (0x0a ∷ 0x01 ∷ 0x00 ∷ 0x0c ∷ 0x01 ∷ 0x00 ∷ [])) }
+    ensures data_before_code { (compact : Bool) → IsNoModule compact (header ++ (0x0b ∷ 0x01 ∷ 0x00 ∷ 0x0a ∷ 0x01 ∷ 0x00 ∷ [])) }
 {}
 
 /// Names of two, three and four bytes a character.

@@ -4,5 +4,6 @@
 pub mod binary_reader;
 pub mod laws;
 pub mod malformed;
+pub mod row_examples;
 mod signed;
 mod unsigned;

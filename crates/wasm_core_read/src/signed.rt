@@ -31,7 +31,7 @@ fn with_last(low: u64, shift: u32, byte: u8, bits: u32) -> Option<i64>
     Some(-1 - complement as i64)
 }
 
-/// The number of at most so many bits at the front, and the bytes behind it.
+/// The number of at most so many bits at the front, and the bytes after it.
 #[inline(always)]
 pub fn signed_front(bytes: &[u8], bits: u32) -> Option<(i64, &[u8])>
     requires some_bits { 0 < bits }

@@ -13,7 +13,7 @@ pub fn has_bits(byte: u8, bits: u32) -> bool
     bits >= 7 || byte >> bits == 0
 }
 
-/// The number of at most so many bits at the front, and the bytes behind it.
+/// The number of at most so many bits at the front, and the bytes after it.
 #[inline(always)]
 #[tactic(auto, unfolding(crate::specs::Reading::unsigned_at))]
 pub fn unsigned_front(bytes: &[u8], bits: u32) -> Option<(u64, &[u8])>

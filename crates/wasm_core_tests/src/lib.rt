@@ -2,6 +2,8 @@
 #![tactic(auto)]
 
 #[cfg(test)]
+mod errors;
+#[cfg(test)]
 mod features;
 #[cfg(test)]
 mod module;
@@ -16,4 +18,4 @@ mod type_section;
 #[cfg(test)]
 mod types;
 #[cfg(test)]
-mod written_numbers;
+mod widths;

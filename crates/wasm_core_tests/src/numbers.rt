@@ -1,185 +1,180 @@
-//! Numbers in LEB128: what is written is read back.
+//! Numbers in LEB128: what is written of them, and that it is read back.
 
+use crate::widths::{length, read, value, written};
 use std::alloc::{AllocError, Global};
 use std::test::Fail;
 use wasm_core::binary_reader::BinaryReader;
-use wasm_core::leb128::{
-    len_s32, len_s33, len_s64, len_u32, len_u64, write_s32, write_s33, write_s64, write_u32,
-    write_u64,
-};
+use wasm_core::leb128::{len_s64, len_u64, put_s64, put_u64, write_s64, write_u32};
+use wasm_test_rows::fields::three_fields;
+use wasm_test_rows::rows::check_rows;
+use wasm_test_rows::values::bytes_of;
 
-// Three bytes, two numbers, and two bytes more.
-fn surrounded(alloc: Global) -> Result<Vec<u8>, AllocError> {
-    let mut sink = [7; 3].to_vec(alloc)?;
-    write_u32(&mut sink, 16_384)?;
-    write_s64(&mut sink, -65)?;
-    sink.extend_from_slice(&[1, 2])?;
-    Ok(sink)
+// Whether these bytes are the number at a width, are as long as it is said to be, and are all that is read. Past 33 bits a number is written at 33
+// bits, and isn't read.
+fn is_kept(width: &str, number: i128, bytes: &[u8]) -> bool {
+    let mut reader = BinaryReader::new(bytes, 0);
+    let is_readable = width != "s33" || (number >= -4_294_967_296 && number < 4_294_967_296);
+    let is_read = match read(&mut reader, width) {
+        Ok(found) => is_readable && found == number && reader.eof(),
+        Err(_) => !is_readable,
+    };
+    is_read && value(width, bytes) == number && length(width, number) == Some(bytes.len())
 }
 
-#[test]
-fn what_stands_around_a_number_stays(rt: HostRuntime) -> Result<(), Fail> {
-    let sink = surrounded(rt.alloc())?;
-    let mut reader = BinaryReader::new(&sink, 0);
-    assert!(rt; reader.read_bytes(3) == Ok([7, 7, 7].as_slice()), "before");
-    assert!(rt; reader.read_var_u32() == Ok(16_384), "unsigned");
-    assert!(rt; reader.read_var_i64() == Ok(-65), "signed");
-    assert!(rt; reader.bytes_remaining() == 2, "behind");
-    Ok(())
+// Whether the number fills just the room of its length.
+fn unsigned_fills_its_room(alloc: Global, number: u64) -> Result<bool, AllocError> {
+    let mut sink = Vec::with_capacity(alloc, len_u64(number))?;
+    put_u64(&mut sink, number);
+    Ok(value("u64", &sink) == i128::from(number) && sink.capacity() == len_u64(number))
 }
 
-const UNSIGNED_BOUNDS: [u64; 12] = [
-    0,
-    1,
-    63,
-    64,
-    127,
-    128,
-    16_384,
-    2_097_152,
-    268_435_456,
-    4_294_967_295,
-    4_294_967_296,
-    u64::MAX,
-];
+fn signed_fills_its_room(alloc: Global, number: i64) -> Result<bool, AllocError> {
+    let mut sink = Vec::with_capacity(alloc, len_s64(number))?;
+    put_s64(&mut sink, number);
+    Ok(value("s64", &sink) == i128::from(number) && sink.capacity() == len_s64(number))
+}
 
-const SIGNED_BOUNDS: [i64; 19] = [
-    0,
-    1,
-    -1,
-    63,
-    64,
-    -64,
-    -65,
-    127,
-    128,
-    2_147_483_647,
-    2_147_483_648,
-    -2_147_483_648,
-    -2_147_483_649,
-    4_294_967_295,
-    4_294_967_296,
-    -4_294_967_296,
-    -4_294_967_297,
-    i64::MAX,
-    i64::MIN,
-];
-
-/// The number of these bytes, by shifts from the last to the first.
-pub fn unsigned_value(text: &[u8]) -> u64 {
-    let mut value: u64 = 0;
-    for byte in text.iter().rev() {
-        value = (value << 7) | u64::from(byte & 0x7f);
+// The same of a number of 64 bits, with a sign or without one.
+fn fills_its_room(alloc: Global, widths: &str, number: i128) -> Option<bool> {
+    if widths.ends_with("u64") {
+        unsigned_fills_its_room(alloc, number.try_into().ok()?).ok()
+    } else {
+        signed_fills_its_room(alloc, number.try_into().ok()?).ok()
     }
-    value
 }
 
-/// The same with a sign.
-pub fn signed_value(text: &[u8]) -> i64 {
-    let sign = text.last().is_some_and(|last| last & 0x40 != 0);
-    let mut value: i64 = if sign { -1 } else { 0 };
-    for byte in text.iter().rev() {
-        value = (value << 7) | i64::from(byte & 0x7f);
-    }
-    value
-}
-
-// What is written has the value of the number, is as long as it is said to be, and is all that is read.
-
-fn u32_is_kept(alloc: Global, number: u32) -> Result<bool, AllocError> {
-    let mut sink = Vec::new(alloc);
-    write_u32(&mut sink, number)?;
-    let mut reader = BinaryReader::new(&sink, 0);
-    let is_same = reader.read_var_u32() == Ok(number) && reader.eof();
-    Ok(is_same && unsigned_value(&sink) == u64::from(number) && sink.len() == len_u32(number))
-}
-
-fn u64_is_kept(alloc: Global, number: u64) -> Result<bool, AllocError> {
-    let mut sink = Vec::new(alloc);
-    write_u64(&mut sink, number)?;
-    let mut reader = BinaryReader::new(&sink, 0);
-    let is_same = reader.read_var_u64() == Ok(number) && reader.eof();
-    Ok(is_same && unsigned_value(&sink) == number && sink.len() == len_u64(number))
-}
-
-fn s32_is_kept(alloc: Global, number: i32) -> Result<bool, AllocError> {
-    let mut sink = Vec::new(alloc);
-    write_s32(&mut sink, number)?;
-    let mut reader = BinaryReader::new(&sink, 0);
-    let is_same = reader.read_var_i32() == Ok(number) && reader.eof();
-    Ok(is_same && signed_value(&sink) == i64::from(number) && sink.len() == len_s32(number))
-}
-
-// Past 33 bits it is written, and isn't read.
-fn s33_is_kept(alloc: Global, number: i64) -> Result<bool, AllocError> {
-    let mut sink = Vec::new(alloc);
-    write_s33(&mut sink, number)?;
-    let read = BinaryReader::new(&sink, 0).read_var_s33().ok();
-    let fits = number >= -4_294_967_296 && number < 4_294_967_296;
-    let wanted = if fits { Some(number) } else { None };
-    Ok(read == wanted && sink.len() == len_s33(number))
-}
-
-fn s64_is_kept(alloc: Global, number: i64) -> Result<bool, AllocError> {
-    let mut sink = Vec::new(alloc);
-    write_s64(&mut sink, number)?;
-    let mut reader = BinaryReader::new(&sink, 0);
-    let is_same = reader.read_var_i64() == Ok(number) && reader.eof();
-    Ok(is_same && signed_value(&sink) == number && sink.len() == len_s64(number))
-}
-
-// At each width that the number fits.
-fn unsigned_is_kept(alloc: Global, number: u64) -> Result<bool, AllocError> {
-    if let Ok(narrow) = u32::try_from(number) {
-        if !u32_is_kept(alloc, narrow)? {
-            return Ok(false);
+// Whether these bytes are written of the number at each of the widths, and are kept.
+fn is_written(alloc: Global, widths: &str, number: i128, bytes: &[u8]) -> bool {
+    for width in widths.split_whitespace() {
+        let is_same = written(alloc, width, number).as_deref() == Some(bytes);
+        if !is_same || !is_kept(width, number, bytes) {
+            return false;
         }
     }
-    u64_is_kept(alloc, number)
+    !widths.is_empty()
 }
 
-fn signed_is_kept(alloc: Global, number: i64) -> Result<bool, AllocError> {
-    if let Ok(narrow) = i32::try_from(number) {
-        if !s32_is_kept(alloc, narrow)? {
-            return Ok(false);
+// Widths, a number, and what is written of it.
+const WRITTEN: &str = "
+    u32 u64 | 0 | 00
+    u32 u64 | 1 | 01
+    u32 u64 | 63 | 3f
+    u32 u64 | 64 | 40
+    u32 u64 | 127 | 7f
+    u32 u64 | 128 | 80 01
+    u32 u64 | 16383 | ff 7f
+    u32 u64 | 16384 | 80 80 01
+    u32 u64 | 624485 | e5 8e 26
+    u32 u64 | 2097152 | 80 80 80 01
+    u32 u64 | 268435455 | ff ff ff 7f
+    u32 u64 | 268435456 | 80 80 80 80 01
+    u32 u64 | 4294967295 | ff ff ff ff 0f
+    u64 | 4294967296 | 80 80 80 80 10
+    u64 | 18446744073709551615 | ff ff ff ff ff ff ff ff ff 01
+
+    s32 s33 s64 | 0 | 00
+    s32 s33 s64 | 1 | 01
+    s32 s33 s64 | -1 | 7f
+    s32 s33 s64 | 63 | 3f
+    s32 s33 s64 | 64 | c0 00
+    s32 s33 s64 | -64 | 40
+    s32 s33 s64 | -65 | bf 7f
+    s32 s33 s64 | 127 | ff 00
+    s32 s33 s64 | 128 | 80 01
+    s32 s33 s64 | -127 | 81 7f
+    s32 s33 s64 | -128 | 80 7f
+    s32 s33 s64 | -129 | ff 7e
+    s32 s33 s64 | 8191 | ff 3f
+    s32 s33 s64 | 8192 | 80 c0 00
+    s32 s33 s64 | -8192 | 80 40
+    s32 s33 s64 | -8193 | ff bf 7f
+    s32 s33 s64 | 2147483647 | ff ff ff ff 07
+    s32 s33 s64 | -2147483648 | 80 80 80 80 78
+    s33 s64 | 2147483648 | 80 80 80 80 08
+    s33 s64 | -2147483649 | ff ff ff ff 77
+    s33 s64 | 4294967295 | ff ff ff ff 0f
+    s33 s64 | -4294967296 | 80 80 80 80 70
+    // Past 33 bits.
+    s33 s64 | 4294967296 | 80 80 80 80 10
+    s33 s64 | -4294967297 | ff ff ff ff 6f
+    s33 s64 | 9223372036854775807 | ff ff ff ff ff ff ff ff ff 00
+    s33 s64 | -9223372036854775808 | 80 80 80 80 80 80 80 80 80 7f
+";
+
+fn holds(alloc: Global, row: &str) -> Option<bool> {
+    let (widths, digits, bytes) = three_fields(row)?;
+    let number = digits.parse().ok()?;
+    let fits = fills_its_room(alloc, widths, number)?;
+    let bytes = bytes_of(alloc, bytes)?;
+    Some(fits && is_written(alloc, widths, number, &bytes))
+}
+
+#[test]
+fn numbers_are_written(rt: HostRuntime) -> Result<(), Fail> {
+    Ok(check_rows(rt.alloc(), WRITTEN, 41, holds)?)
+}
+
+// Whether what is written of the number is read back.
+fn is_read_at(alloc: Global, width: &str, number: i128) -> bool {
+    match written(alloc, width, number) {
+        Some(bytes) => is_kept(width, number, &bytes),
+        None => false,
+    }
+}
+
+// Whether the number is read back at each width that it fits.
+fn is_read_back(alloc: Global, number: i128) -> bool {
+    for width in "u32 u64 s32 s33 s64".split(' ') {
+        if length(width, number).is_some() && !is_read_at(alloc, width, number) {
+            return false;
         }
     }
-    Ok(s33_is_kept(alloc, number)? && s64_is_kept(alloc, number)?)
+    true
 }
 
-#[test]
-fn numbers_at_their_bounds(rt: HostRuntime) -> Result<(), Fail> {
-    for number in UNSIGNED_BOUNDS {
-        assert!(rt; unsigned_is_kept(rt.alloc(), number)?, "{number}");
-    }
-    for number in SIGNED_BOUNDS {
-        assert!(rt; signed_is_kept(rt.alloc(), number)?, "{number}");
-    }
-    Ok(())
-}
-
-#[test]
-fn numbers_of_one_byte(rt: HostRuntime) -> Result<(), Fail> {
-    for number in 0..256_u64 {
-        assert!(rt; unsigned_is_kept(rt.alloc(), number)?, "{number}");
-    }
-    for number in -128..256_i64 {
-        assert!(rt; signed_is_kept(rt.alloc(), number)?, "{number}");
-    }
-    Ok(())
-}
-
-#[test]
-fn drawn_numbers(rt: HostRuntime) -> Result<(), Fail> {
+// Whether drawn numbers of each length are, without a sign and with one.
+fn drawn_are_read_back(alloc: Global) -> bool {
     let mut drawn: u64 = 1;
     for turn in 0..10_000_u32 {
         drawn = drawn
             .wrapping_mul(6_364_136_223_846_793_005)
             .wrapping_add(1_442_695_040_888_963_407);
-        // Some of each width.
-        let are_read = unsigned_is_kept(rt.alloc(), drawn >> (turn % 64))?
-            && signed_is_kept(rt.alloc(), drawn.cast_signed() >> (turn % 64))?;
-        assert!(rt; are_read, "{drawn}");
+        let unsigned = i128::from(drawn >> (turn % 64));
+        let signed = i128::from(drawn.cast_signed() >> (turn % 64));
+        if !is_read_back(alloc, unsigned) || !is_read_back(alloc, signed) {
+            return false;
+        }
     }
-    Ok(())
+    true
+}
+
+// Whether all numbers of one byte are.
+fn small_are_read_back(alloc: Global) -> bool {
+    for number in -128..256_i64 {
+        if !is_read_back(alloc, i128::from(number)) {
+            return false;
+        }
+    }
+    true
+}
+
+#[test]
+fn numbers_are_read_back(rt: HostRuntime) {
+    assert!(rt; small_are_read_back(rt.alloc()), "small");
+    assert!(rt; drawn_are_read_back(rt.alloc()), "drawn");
+}
+
+// Three bytes, two numbers, and two bytes more.
+fn surrounded(alloc: Global) -> Option<Vec<u8>> {
+    let mut sink = b"abc".to_vec(alloc).ok()?;
+    write_u32(&mut sink, 16_384).ok()?;
+    write_s64(&mut sink, -65).ok()?;
+    sink.extend_from_slice(b"de").ok()?;
+    Some(sink)
+}
+
+#[test]
+fn what_stands_around_a_number_stays(rt: HostRuntime) {
+    let expected: &[u8] = b"abc\x80\x80\x01\xbf\x7fde";
+    assert!(rt; surrounded(rt.alloc()).as_deref() == Some(expected));
 }

@@ -1,347 +1,188 @@
-//! Numbers at each width: their bounds, padding to the limit, and what is refused.
+//! Numbers that are read at each width: their bounds, padding to the limit, and what is refused. And bytes and strings between them.
 
+use crate::widths::read;
+use std::alloc::Global;
+use std::test::Fail;
 use wasm_core::binary_reader::BinaryReader;
 use wasm_core::malformed::Malformed;
+use wasm_test_rows::fields::three_fields;
+use wasm_test_rows::rows::check_rows;
+use wasm_test_rows::types::word_and_rest;
+use wasm_test_rows::values::bytes_of;
 
 // The place of the first byte.
 const PLACE: u64 = 7;
 
-const REFUSED: Malformed = Malformed { offset: PLACE };
+// What is read one after the other, the bytes, and how many of these are left. A number has its width in front, and one of floating point is given by
+// its bits.
+const READ: &str = "
+    u32 0 | 00 | 0
+    u32 1 | 01 | 0
+    u32 63 | 3f | 0
+    u32 64 | 40 | 0
+    u32 127 | 7f | 0
+    u32 128 | 80 01 | 0
+    u32 4294967295 | ff ff ff ff 0f | 0
+    u32 0 | 80 80 80 80 00 | 0
+    u32 1 | 81 80 80 80 00 | 0
+    u32 127 | ff 80 80 80 00 | 0
+    u32 malformed |  | 0
+    u32 malformed | 80 | 1
+    u32 malformed | 84 80 80 80 10 | 5
+    u32 malformed | ff ff ff ff 10 | 5
+    u32 malformed | 84 80 80 80 80 00 | 6
+    u32 malformed | ff ff ff ff | 4
+    u32 malformed | ff ff ff ff 1f | 5
+    u32 malformed | 80 80 80 80 80 00 | 6
 
-// Whether a reader is behind all of the text.
-fn is_behind(reader: &BinaryReader<'_>, text: &[u8]) -> bool {
-    reader.eof() && reader.original_position() == PLACE + text.len() as u64
-}
+    u64 0 | 00 | 0
+    u64 1 | 01 | 0
+    u64 63 | 3f | 0
+    u64 64 | 40 | 0
+    u64 127 | 7f | 0
+    u64 128 | 80 01 | 0
+    u64 18446744073709551615 | ff ff ff ff ff ff ff ff ff 01 | 0
+    u64 0 | 80 80 80 80 80 80 80 80 80 00 | 0
+    u64 1 | 81 80 80 80 80 80 80 80 80 00 | 0
+    u64 127 | ff 80 80 80 80 80 80 80 80 00 | 0
+    u64 malformed |  | 0
+    u64 malformed | 80 | 1
+    u64 malformed | 84 80 80 80 80 80 80 80 80 02 | 10
+    u64 malformed | ff ff ff ff ff ff ff ff ff 02 | 10
+    u64 malformed | 84 80 80 80 80 80 80 80 80 80 00 | 11
+    u64 malformed | ff ff ff ff ff ff ff ff ff | 9
 
-// Whether a reader is where it was, as a refusal leaves it.
-fn stayed(reader: &BinaryReader<'_>, text: &[u8]) -> bool {
-    reader.original_position() == PLACE && reader.bytes_remaining() == text.len()
-}
+    s32 0 | 00 | 0
+    s32 1 | 01 | 0
+    s32 -1 | 7f | 0
+    s32 63 | 3f | 0
+    s32 64 | c0 00 | 0
+    s32 -64 | 40 | 0
+    s32 -65 | bf 7f | 0
+    s32 127 | ff 00 | 0
+    s32 128 | 80 01 | 0
+    s32 2147483647 | ff ff ff ff 07 | 0
+    s32 -2147483648 | 80 80 80 80 78 | 0
+    s32 0 | 80 80 80 80 00 | 0
+    s32 1 | 81 80 80 80 00 | 0
+    s32 -1 | ff ff ff ff 7f | 0
+    s32 64 | c0 80 80 80 00 | 0
+    s32 -65 | bf ff ff ff 7f | 0
+    s32 malformed |  | 0
+    s32 malformed | 80 | 1
+    s32 malformed | 80 80 80 80 08 | 5
+    s32 malformed | ff ff ff ff 77 | 5
+    s32 malformed | ff ff ff ff 0f | 5
+    s32 malformed | ff ff ff ff ff 7f | 6
+    s32 malformed | 80 80 80 80 80 00 | 6
+    s32 malformed | ff ff ff ff | 4
 
-// Unsigned numbers of 32 bits, with texts that are refused.
-const U32_ROWS: [(&[u8], Option<u32>); 18] = [
-    (&[0x00], Some(0)),
-    (&[0x01], Some(1)),
-    (&[0x3f], Some(63)),
-    (&[0x40], Some(64)),
-    (&[0x7f], Some(127)),
-    (&[0x80, 0x01], Some(128)),
-    (&[0xff, 0xff, 0xff, 0xff, 0x0f], Some(u32::MAX)),
-    (&[0x80, 0x80, 0x80, 0x80, 0x00], Some(0)),
-    (&[0x81, 0x80, 0x80, 0x80, 0x00], Some(1)),
-    (&[0xff, 0x80, 0x80, 0x80, 0x00], Some(127)),
-    (&[], None),
-    (&[0x80], None),
-    (&[0x84, 0x80, 0x80, 0x80, 0x10], None),
-    (&[0xff, 0xff, 0xff, 0xff, 0x10], None),
-    (&[0x84, 0x80, 0x80, 0x80, 0x80, 0x00], None),
-    (&[0xff, 0xff, 0xff, 0xff], None),
-    (&[0xff, 0xff, 0xff, 0xff, 0x1f], None),
-    (&[0x80, 0x80, 0x80, 0x80, 0x80, 0x00], None),
-];
+    s33 0 | 00 | 0
+    s33 1 | 01 | 0
+    s33 -1 | 7f | 0
+    s33 63 | 3f | 0
+    s33 64 | c0 00 | 0
+    s33 -64 | 40 | 0
+    s33 -65 | bf 7f | 0
+    s33 127 | ff 00 | 0
+    s33 128 | 80 01 | 0
+    s33 4294967295 | ff ff ff ff 0f | 0
+    s33 -4294967296 | 80 80 80 80 70 | 0
+    s33 0 | 80 80 80 80 00 | 0
+    s33 1 | 81 80 80 80 00 | 0
+    s33 -1 | ff ff ff ff 7f | 0
+    s33 64 | c0 80 80 80 00 | 0
+    s33 -65 | bf ff ff ff 7f | 0
+    s33 malformed |  | 0
+    s33 malformed | 80 | 1
+    s33 malformed | 80 80 80 80 10 | 5
+    s33 malformed | ff ff ff ff 6f | 5
+    s33 malformed | ff ff ff ff 1f | 5
+    s33 malformed | ff ff ff ff ff 7f | 6
+    s33 malformed | 80 80 80 80 80 00 | 6
+    s33 malformed | ff ff ff ff | 4
 
-// Whether the text is this number, and all of it is read, or whether it is refused.
-fn is_u32(text: &[u8], expected: Option<u32>) -> bool {
-    let mut reader = BinaryReader::new(text, PLACE);
-    match (reader.read_var_u32(), expected) {
-        (Ok(number), Some(wanted)) => number == wanted && is_behind(&reader, text),
-        (Err(refusal), None) => refusal == REFUSED && stayed(&reader, text),
-        _ => false,
+    s64 0 | 00 | 0
+    s64 1 | 01 | 0
+    s64 -1 | 7f | 0
+    s64 63 | 3f | 0
+    s64 64 | c0 00 | 0
+    s64 -64 | 40 | 0
+    s64 -65 | bf 7f | 0
+    s64 127 | ff 00 | 0
+    s64 128 | 80 01 | 0
+    s64 9223372036854775807 | ff ff ff ff ff ff ff ff ff 00 | 0
+    s64 -9223372036854775808 | 80 80 80 80 80 80 80 80 80 7f | 0
+    s64 0 | 80 80 80 80 80 80 80 80 80 00 | 0
+    s64 1 | 81 80 80 80 80 80 80 80 80 00 | 0
+    s64 -1 | ff ff ff ff ff ff ff ff ff 7f | 0
+    s64 64 | c0 80 80 80 80 80 80 80 80 00 | 0
+    s64 -65 | bf ff ff ff ff ff ff ff ff 7f | 0
+    s64 malformed |  | 0
+    s64 malformed | 80 | 1
+    s64 malformed | 80 80 80 80 80 80 80 80 80 01 | 10
+    s64 malformed | ff ff ff ff ff ff ff ff ff 7e | 10
+    s64 malformed | ff ff ff ff ff ff ff ff ff 01 | 10
+    s64 malformed | ff ff ff ff ff ff ff ff ff ff 7f | 11
+    s64 malformed | 80 80 80 80 80 80 80 80 80 80 00 | 11
+    s64 malformed | ff ff ff ff ff ff ff ff ff | 9
+
+    // One after the other.
+    s32 63, s33 -64, s64 64, s32 -65, u64 127, u32 128, s64 -1, s33 -128 | 3f 40 c0 00 bf 7f ff 00 80 01 7f 80 7f 05 | 1
+    f32 1065353216, f64 13830561074266702337, f32 malformed, f64 malformed | 00 00 80 3f 01 02 03 04 05 06 f0 bf ff ff ff | 3
+    u8 5, u32 4, string é, bytes ab, bytes, u8 3 | 05 84 80 00 02 c3 a9 61 62 03 | 0
+    u8 5, u32 4, string é | 05 84 80 00 02 c3 a9 61 62 03 | 3
+    u32 malformed, string malformed | 80 80 80 80 80 00 | 6
+    // More bytes than there are: nine of eight, and one of none.
+    bytes malformed | 80 80 80 80 80 80 80 00 | 8
+    u8 malformed | | 0
+";
+
+// Whether the value that is read next is this.
+fn answer(reader: &mut BinaryReader<'_>, kind: &str, expected: &str) -> Result<bool, Malformed> {
+    match kind {
+        "string" => Ok(reader.read_string()? == expected),
+        "bytes" => Ok(reader.read_bytes(expected.len())? == expected.as_bytes()),
+        _ => Ok(expected.parse().ok() == Some(read(reader, kind)?)),
     }
 }
 
-#[test]
-fn unsigned_of_32_bits(rt: HostRuntime) {
-    for (text, expected) in U32_ROWS {
-        assert!(rt; is_u32(text, expected), "{text:?}");
+// Whether it is, or is refused where the reader stands and stays.
+fn is_next(reader: &mut BinaryReader<'_>, value: &str) -> bool {
+    let (kind, expected) = word_and_rest(value);
+    let place = reader.original_position();
+    match answer(reader, kind, expected) {
+        Ok(is_same) => is_same,
+        Err(refusal) => {
+            expected == "malformed"
+                && refusal.offset == place
+                && reader.original_position() == place
+        }
     }
 }
 
-// Unsigned numbers of 64 bits, with texts that are refused.
-const U64_ROWS: [(&[u8], Option<u64>); 16] = [
-    (&[0x00], Some(0)),
-    (&[0x01], Some(1)),
-    (&[0x3f], Some(63)),
-    (&[0x40], Some(64)),
-    (&[0x7f], Some(127)),
-    (&[0x80, 0x01], Some(128)),
-    (
-        &[0xff, 0xff, 0xff, 0xff, 0xff, 0xff, 0xff, 0xff, 0xff, 0x01],
-        Some(u64::MAX),
-    ),
-    (
-        &[0x80, 0x80, 0x80, 0x80, 0x80, 0x80, 0x80, 0x80, 0x80, 0x00],
-        Some(0),
-    ),
-    (
-        &[0x81, 0x80, 0x80, 0x80, 0x80, 0x80, 0x80, 0x80, 0x80, 0x00],
-        Some(1),
-    ),
-    (
-        &[0xff, 0x80, 0x80, 0x80, 0x80, 0x80, 0x80, 0x80, 0x80, 0x00],
-        Some(127),
-    ),
-    (&[], None),
-    (&[0x80], None),
-    (
-        &[0x84, 0x80, 0x80, 0x80, 0x80, 0x80, 0x80, 0x80, 0x80, 0x02],
-        None,
-    ),
-    (
-        &[0xff, 0xff, 0xff, 0xff, 0xff, 0xff, 0xff, 0xff, 0xff, 0x02],
-        None,
-    ),
-    (
-        &[
-            0x84, 0x80, 0x80, 0x80, 0x80, 0x80, 0x80, 0x80, 0x80, 0x80, 0x00,
-        ],
-        None,
-    ),
-    (
-        &[0xff, 0xff, 0xff, 0xff, 0xff, 0xff, 0xff, 0xff, 0xff],
-        None,
-    ),
-];
-
-// Whether the text is this number, and all of it is read, or whether it is refused.
-fn is_u64(text: &[u8], expected: Option<u64>) -> bool {
-    let mut reader = BinaryReader::new(text, PLACE);
-    match (reader.read_var_u64(), expected) {
-        (Ok(number), Some(wanted)) => number == wanted && is_behind(&reader, text),
-        (Err(refusal), None) => refusal == REFUSED && stayed(&reader, text),
-        _ => false,
-    }
-}
-
-#[test]
-fn unsigned_of_64_bits(rt: HostRuntime) {
-    for (text, expected) in U64_ROWS {
-        assert!(rt; is_u64(text, expected), "{text:?}");
-    }
-}
-
-// Signed numbers of 32 bits, with texts that are refused.
-const I32_ROWS: [(&[u8], Option<i32>); 24] = [
-    (&[0x00], Some(0)),
-    (&[0x01], Some(1)),
-    (&[0x7f], Some(-1)),
-    (&[0x3f], Some(63)),
-    (&[0xc0, 0x00], Some(64)),
-    (&[0x40], Some(-64)),
-    (&[0xbf, 0x7f], Some(-65)),
-    (&[0xff, 0x00], Some(127)),
-    (&[0x80, 0x01], Some(128)),
-    (&[0xff, 0xff, 0xff, 0xff, 0x07], Some(i32::MAX)),
-    (&[0x80, 0x80, 0x80, 0x80, 0x78], Some(i32::MIN)),
-    (&[0x80, 0x80, 0x80, 0x80, 0x00], Some(0)),
-    (&[0x81, 0x80, 0x80, 0x80, 0x00], Some(1)),
-    (&[0xff, 0xff, 0xff, 0xff, 0x7f], Some(-1)),
-    (&[0xc0, 0x80, 0x80, 0x80, 0x00], Some(64)),
-    (&[0xbf, 0xff, 0xff, 0xff, 0x7f], Some(-65)),
-    (&[], None),
-    (&[0x80], None),
-    (&[0x80, 0x80, 0x80, 0x80, 0x08], None),
-    (&[0xff, 0xff, 0xff, 0xff, 0x77], None),
-    (&[0xff, 0xff, 0xff, 0xff, 0x0f], None),
-    (&[0xff, 0xff, 0xff, 0xff, 0xff, 0x7f], None),
-    (&[0x80, 0x80, 0x80, 0x80, 0x80, 0x00], None),
-    (&[0xff, 0xff, 0xff, 0xff], None),
-];
-
-// Whether the text is this number, and all of it is read, or whether it is refused.
-fn is_i32(text: &[u8], expected: Option<i32>) -> bool {
-    let mut reader = BinaryReader::new(text, PLACE);
-    match (reader.read_var_i32(), expected) {
-        (Ok(number), Some(wanted)) => number == wanted && is_behind(&reader, text),
-        (Err(refusal), None) => refusal == REFUSED && stayed(&reader, text),
-        _ => false,
-    }
-}
-
-#[test]
-fn signed_of_32_bits(rt: HostRuntime) {
-    for (text, expected) in I32_ROWS {
-        assert!(rt; is_i32(text, expected), "{text:?}");
-    }
-}
-
-// Signed numbers of 33 bits, with texts that are refused.
-const S33_ROWS: [(&[u8], Option<i64>); 24] = [
-    (&[0x00], Some(0)),
-    (&[0x01], Some(1)),
-    (&[0x7f], Some(-1)),
-    (&[0x3f], Some(63)),
-    (&[0xc0, 0x00], Some(64)),
-    (&[0x40], Some(-64)),
-    (&[0xbf, 0x7f], Some(-65)),
-    (&[0xff, 0x00], Some(127)),
-    (&[0x80, 0x01], Some(128)),
-    (&[0xff, 0xff, 0xff, 0xff, 0x0f], Some(4_294_967_295)),
-    (&[0x80, 0x80, 0x80, 0x80, 0x70], Some(-4_294_967_296)),
-    (&[0x80, 0x80, 0x80, 0x80, 0x00], Some(0)),
-    (&[0x81, 0x80, 0x80, 0x80, 0x00], Some(1)),
-    (&[0xff, 0xff, 0xff, 0xff, 0x7f], Some(-1)),
-    (&[0xc0, 0x80, 0x80, 0x80, 0x00], Some(64)),
-    (&[0xbf, 0xff, 0xff, 0xff, 0x7f], Some(-65)),
-    (&[], None),
-    (&[0x80], None),
-    (&[0x80, 0x80, 0x80, 0x80, 0x10], None),
-    (&[0xff, 0xff, 0xff, 0xff, 0x6f], None),
-    (&[0xff, 0xff, 0xff, 0xff, 0x1f], None),
-    (&[0xff, 0xff, 0xff, 0xff, 0xff, 0x7f], None),
-    (&[0x80, 0x80, 0x80, 0x80, 0x80, 0x00], None),
-    (&[0xff, 0xff, 0xff, 0xff], None),
-];
-
-// Whether the text is this number, and all of it is read, or whether it is refused.
-fn is_s33(text: &[u8], expected: Option<i64>) -> bool {
-    let mut reader = BinaryReader::new(text, PLACE);
-    match (reader.read_var_s33(), expected) {
-        (Ok(number), Some(wanted)) => number == wanted && is_behind(&reader, text),
-        (Err(refusal), None) => refusal == REFUSED && stayed(&reader, text),
-        _ => false,
-    }
-}
-
-#[test]
-fn signed_of_33_bits(rt: HostRuntime) {
-    for (text, expected) in S33_ROWS {
-        assert!(rt; is_s33(text, expected), "{text:?}");
-    }
-}
-
-// Signed numbers of 64 bits, with texts that are refused.
-const I64_ROWS: [(&[u8], Option<i64>); 24] = [
-    (&[0x00], Some(0)),
-    (&[0x01], Some(1)),
-    (&[0x7f], Some(-1)),
-    (&[0x3f], Some(63)),
-    (&[0xc0, 0x00], Some(64)),
-    (&[0x40], Some(-64)),
-    (&[0xbf, 0x7f], Some(-65)),
-    (&[0xff, 0x00], Some(127)),
-    (&[0x80, 0x01], Some(128)),
-    (
-        &[0xff, 0xff, 0xff, 0xff, 0xff, 0xff, 0xff, 0xff, 0xff, 0x00],
-        Some(i64::MAX),
-    ),
-    (
-        &[0x80, 0x80, 0x80, 0x80, 0x80, 0x80, 0x80, 0x80, 0x80, 0x7f],
-        Some(i64::MIN),
-    ),
-    (
-        &[0x80, 0x80, 0x80, 0x80, 0x80, 0x80, 0x80, 0x80, 0x80, 0x00],
-        Some(0),
-    ),
-    (
-        &[0x81, 0x80, 0x80, 0x80, 0x80, 0x80, 0x80, 0x80, 0x80, 0x00],
-        Some(1),
-    ),
-    (
-        &[0xff, 0xff, 0xff, 0xff, 0xff, 0xff, 0xff, 0xff, 0xff, 0x7f],
-        Some(-1),
-    ),
-    (
-        &[0xc0, 0x80, 0x80, 0x80, 0x80, 0x80, 0x80, 0x80, 0x80, 0x00],
-        Some(64),
-    ),
-    (
-        &[0xbf, 0xff, 0xff, 0xff, 0xff, 0xff, 0xff, 0xff, 0xff, 0x7f],
-        Some(-65),
-    ),
-    (&[], None),
-    (&[0x80], None),
-    (
-        &[0x80, 0x80, 0x80, 0x80, 0x80, 0x80, 0x80, 0x80, 0x80, 0x01],
-        None,
-    ),
-    (
-        &[0xff, 0xff, 0xff, 0xff, 0xff, 0xff, 0xff, 0xff, 0xff, 0x7e],
-        None,
-    ),
-    (
-        &[0xff, 0xff, 0xff, 0xff, 0xff, 0xff, 0xff, 0xff, 0xff, 0x01],
-        None,
-    ),
-    (
-        &[
-            0xff, 0xff, 0xff, 0xff, 0xff, 0xff, 0xff, 0xff, 0xff, 0xff, 0x7f,
-        ],
-        None,
-    ),
-    (
-        &[
-            0x80, 0x80, 0x80, 0x80, 0x80, 0x80, 0x80, 0x80, 0x80, 0x80, 0x00,
-        ],
-        None,
-    ),
-    (
-        &[0xff, 0xff, 0xff, 0xff, 0xff, 0xff, 0xff, 0xff, 0xff],
-        None,
-    ),
-];
-
-// Whether the text is this number, and all of it is read, or whether it is refused.
-fn is_i64(text: &[u8], expected: Option<i64>) -> bool {
-    let mut reader = BinaryReader::new(text, PLACE);
-    match (reader.read_var_i64(), expected) {
-        (Ok(number), Some(wanted)) => number == wanted && is_behind(&reader, text),
-        (Err(refusal), None) => refusal == REFUSED && stayed(&reader, text),
-        _ => false,
-    }
-}
-
-#[test]
-fn signed_of_64_bits(rt: HostRuntime) {
-    for (text, expected) in I64_ROWS {
-        assert!(rt; is_i64(text, expected), "{text:?}");
-    }
-}
-
-#[test]
-fn floating_point_numbers(rt: HostRuntime) {
-    let bytes = [
-        0x00, 0x00, 0x80, 0x3f, 0x01, 0x02, 0x03, 0x04, 0x05, 0x06, 0xf0, 0xbf, 0xff, 0xff, 0xff,
-    ];
-    let mut reader = BinaryReader::new(&bytes, PLACE);
-    let single = reader.read_f32_bits() == Ok(0x3f80_0000);
-    assert!(rt; single && reader.original_position() == PLACE + 4, "single");
-    let double = reader.read_f64_bits() == Ok(0xbff0_0605_0403_0201);
-    assert!(rt;
-        double && reader.original_position() == PLACE + 12,
-        "double"
-    );
-    let refused = Malformed { offset: PLACE + 12 };
-    let is_refused = reader.read_f32_bits() == Err(refused)
-        && reader.read_f64_bits() == Err(refused);
-    assert!(rt;
-        is_refused && reader.original_position() == PLACE + 12,
-        "cut"
-    );
-    assert!(rt; reader.bytes_remaining() == 3, "left");
-}
-
-// The numbers that stand in the bytes, of each width, and how many bytes are left.
-fn read_all(bytes: &[u8]) -> Result<([i64; 8], usize), Malformed> {
+// Whether these values are read, and so many bytes are left.
+fn reads(values: &str, bytes: &[u8], left: usize) -> bool {
     let mut reader = BinaryReader::new(bytes, PLACE);
-    let numbers = [
-        i64::from(reader.read_var_i32()?),
-        reader.read_var_s33()?,
-        reader.read_var_i64()?,
-        i64::from(reader.read_var_i32()?),
-        reader.read_var_u64()?.cast_signed(),
-        i64::from(reader.read_var_u32()?),
-        reader.read_var_i64()?,
-        reader.read_var_s33()?,
-    ];
-    Ok((numbers, reader.bytes_remaining()))
+    for value in values.split(',') {
+        if !is_next(&mut reader, value) {
+            return false;
+        }
+    }
+    let end = PLACE + bytes.len() as u64;
+    reader.bytes_remaining() == left
+        && reader.eof() == (left == 0)
+        && reader.original_position().saturating_add(left as u64) == end
+}
+
+fn holds(alloc: Global, row: &str) -> Option<bool> {
+    let (values, bytes, left) = three_fields(row)?;
+    let left = left.parse().ok()?;
+    let bytes = bytes_of(alloc, bytes)?;
+    Some(reads(values, &bytes, left))
 }
 
 #[test]
-fn nothing_behind_is_read(rt: HostRuntime) {
-    let bytes = [
-        0x3f, 0x40, 0xc0, 0x00, 0xbf, 0x7f, 0xff, 0x00, 0x80, 0x01, 0x7f, 0x80, 0x7f, 0x05,
-    ];
-    let expected = ([63, -64, 64, -65, 127, 128, -1, -128], 1);
-    assert_eq!(rt; read_all(&bytes), Ok(expected));
+fn values_are_read(rt: HostRuntime) -> Result<(), Fail> {
+    Ok(check_rows(rt.alloc(), READ, 113, holds)?)
 }

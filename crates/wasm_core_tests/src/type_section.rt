@@ -1,243 +1,79 @@
 //! Type sections: what they write, and how long it is.
 
-use std::alloc::{AllocError, Global};
+use std::alloc::Global;
 use std::test::Fail;
 use wasm_core::encode::{Encode, Section};
 use wasm_core::encode_error::EncodeError;
 use wasm_core::leb128::len_u64;
+use wasm_core::module::Module;
 use wasm_core::type_section::TypeSection;
-use wasm_core::types::{
-    AbstractHeapType, ArrayType, CompositeType, ContType, FieldType, FuncType, HeapType, RefType,
-    StorageType, StructType, SubType, ValType,
-};
+use wasm_core::types::{FuncType, SubType};
+use wasm_test_rows::fields::three_fields;
+use wasm_test_rows::rows::check_rows;
+use wasm_test_rows::types::{func_type_of, sub_type_of, sub_types_of, word_and_rest};
+use wasm_test_rows::values::{bytes_of, numbers_of};
 
-// The composite type of a row.
-#[derive(Clone, Copy)]
-enum Shape {
-    Struct(&'static [FieldType]),
-    Array(FieldType),
-    Cont(u32),
-}
-
-// A type of a row: whether it is final, its supertype, and its composite type.
-type Row = (bool, Option<u32>, Shape);
-
-// An entry of a row.
-#[derive(Clone, Copy)]
-enum Entry {
-    // A function type with these parameters and results.
-    Func(&'static [ValType], &'static [ValType]),
-    // A type alone.
-    Type(Row),
-    // A group of types.
-    Group(&'static [Row]),
-}
-
-const FUNC: HeapType = HeapType::Abstract(AbstractHeapType::Func);
-
-fn reference(nullable: bool, heap_type: HeapType) -> ValType {
-    ValType::Ref(RefType {
-        nullable,
-        heap_type,
-    })
-}
-
-// Entries of a section, how long each is, and what the section writes.
-const SECTIONS: [(&[Entry], &[u64], &[u8]); 8] = [
-    (&[], &[], &[0x01, 0x00]),
-    (&[NO_RESULTS], &[3], &[0x04, 0x01, 0x60, 0x00, 0x00]),
-    (
-        &[
-            NO_RESULTS,
-            Entry::Func(
-                &[
-                    ValType::I32,
-                    ValType::I64,
-                    ValType::F32,
-                    ValType::F64,
-                    ValType::V128,
-                ],
-                &[ValType::I64],
-            ),
-        ],
-        &[3, 9],
-        &[
-            0x0d, 0x02, 0x60, 0x00, 0x00, 0x60, 0x05, 0x7f, 0x7e, 0x7d, 0x7c, 0x7b, 0x01, 0x7e,
-        ],
-    ),
-    // A group of two structures, each with a reference to the other.
-    (
-        &[Entry::Group(&[
-            (
-                true,
-                None,
-                Shape::Struct(&[FieldType {
-                    element_type: StorageType::Val(ValType::Ref(RefType {
-                        nullable: true,
-                        heap_type: HeapType::Concrete(1),
-                    })),
-                    mutable: false,
-                }]),
-            ),
-            (
-                true,
-                None,
-                Shape::Struct(&[FieldType {
-                    element_type: StorageType::Val(ValType::Ref(RefType {
-                        nullable: true,
-                        heap_type: HeapType::Concrete(0),
-                    })),
-                    mutable: false,
-                }]),
-            ),
-        ])],
-        &[12],
-        &[
-            0x0d, 0x01, 0x4e, 0x02, 0x5f, 0x01, 0x63, 0x01, 0x00, 0x5f, 0x01, 0x63, 0x00, 0x00,
-        ],
-    ),
-    // Below a type that is not final.
-    (
-        &[
-            Entry::Type((false, None, Shape::Struct(&[]))),
-            Entry::Type((
-                false,
-                Some(0),
-                Shape::Struct(&[FieldType {
-                    element_type: StorageType::Val(ValType::I32),
-                    mutable: false,
-                }]),
-            )),
-        ],
-        &[4, 7],
-        &[
-            0x0c, 0x02, 0x50, 0x00, 0x5f, 0x00, 0x50, 0x01, 0x00, 0x5f, 0x01, 0x7f, 0x00,
-        ],
-    ),
-    // A final type below another.
-    (
-        &[Entry::Type((true, Some(200), Shape::Struct(&[])))],
-        &[6],
-        &[0x07, 0x01, 0x4f, 0x01, 0xc8, 0x01, 0x5f, 0x00],
-    ),
-    // Arrays and continuations.
-    (
-        &[
-            Entry::Type((
-                true,
-                None,
-                Shape::Array(FieldType {
-                    element_type: StorageType::I8,
-                    mutable: true,
-                }),
-            )),
-            Entry::Type((
-                true,
-                None,
-                Shape::Array(FieldType {
-                    element_type: StorageType::I16,
-                    mutable: false,
-                }),
-            )),
-            Entry::Type((
-                true,
-                None,
-                Shape::Array(FieldType {
-                    element_type: StorageType::Val(ValType::V128),
-                    mutable: true,
-                }),
-            )),
-            Entry::Type((true, None, Shape::Cont(0))),
-            Entry::Type((true, None, Shape::Cont(64))),
-        ],
-        &[3, 3, 3, 2, 3],
-        &[
-            0x0f, 0x05, 0x5e, 0x78, 0x01, 0x5e, 0x77, 0x00, 0x5e, 0x7b, 0x01, 0x5d, 0x00, 0x5d,
-            0xc0, 0x00,
-        ],
-    ),
-    // References.
-    (
-        &[Entry::Func(
-            &[
-                ValType::Ref(RefType {
-                    nullable: false,
-                    heap_type: FUNC,
-                }),
-                ValType::Ref(RefType {
-                    nullable: false,
-                    heap_type: HeapType::Concrete(100),
-                }),
-                ValType::Ref(RefType {
-                    nullable: true,
-                    heap_type: FUNC,
-                }),
-                ValType::Ref(RefType {
-                    nullable: true,
-                    heap_type: HeapType::Concrete(100),
-                }),
-            ],
-            &[ValType::Ref(RefType {
-                nullable: true,
-                heap_type: HeapType::Concrete(u32::MAX),
-            })],
-        )],
-        &[18],
-        &[
-            0x13, 0x01, 0x60, 0x04, 0x64, 0x70, 0x64, 0xe4, 0x00, 0x70, 0x63, 0xe4, 0x00, 0x01,
-            0x63, 0xff, 0xff, 0xff, 0xff, 0x0f,
-        ],
-    ),
-];
-
-const NO_RESULTS: Entry = Entry::Func(&[], &[]);
-
-fn func_type(
-    alloc: Global,
-    params: &[ValType],
-    results: &[ValType],
-) -> Result<FuncType, AllocError> {
-    let params = params.to_vec(alloc)?;
-    Ok(FuncType::new(params, results.to_vec(alloc)?))
-}
-
-fn sub_type(alloc: Global, (is_final, supertype_idx, shape): Row) -> Result<SubType, AllocError> {
-    let composite_type = match shape {
-        Shape::Struct(fields) => CompositeType::Struct(StructType::new(fields.to_vec(alloc)?)),
-        Shape::Array(element) => CompositeType::Array(ArrayType(element)),
-        Shape::Cont(function) => CompositeType::Cont(ContType(function)),
+fn add_func(alloc: Global, section: &mut TypeSection, field: &str) -> bool {
+    let Some(ty) = func_type_of(alloc, field) else {
+        return false;
     };
-    Ok(SubType {
-        is_final,
-        supertype_idx,
-        composite_type,
-    })
+    section.func(ty).is_ok()
 }
 
-fn sub_types(alloc: Global, rows: &[Row]) -> Result<Vec<SubType>, AllocError> {
-    let mut types = Vec::new(alloc);
-    for row in rows {
-        types.push(sub_type(alloc, *row)?)?;
+fn add_type(alloc: Global, section: &mut TypeSection, field: &str) -> bool {
+    let Some(ty) = sub_type_of(alloc, field) else {
+        return false;
+    };
+    section.subtype(ty).is_ok()
+}
+
+fn add_group(alloc: Global, section: &mut TypeSection, field: &str) -> bool {
+    let Some(types) = sub_types_of(alloc, field) else {
+        return false;
+    };
+    section.rec(types).is_ok()
+}
+
+// Appends an entry to the section, if it can: `func` and a function type, `type` and a type alone, or `rec` and a group of types.
+fn add(alloc: Global, section: &mut TypeSection, entry: &str) -> bool {
+    match word_and_rest(entry) {
+        ("func", ty) => add_func(alloc, section, ty),
+        ("type", ty) => add_type(alloc, section, ty),
+        ("rec", types) => add_group(alloc, section, types),
+        _ => false,
     }
-    Ok(types)
 }
 
-// Appends an entry to the section.
-fn add(alloc: Global, section: &mut TypeSection, entry: Entry) -> Result<(), EncodeError> {
-    match entry {
-        Entry::Func(params, results) => section.func(func_type(alloc, params, results)?)?,
-        Entry::Type(row) => section.subtype(sub_type(alloc, row)?)?,
-        Entry::Group(rows) => section.rec(sub_types(alloc, rows)?)?,
-    };
-    Ok(())
+// Appends an entry so many times, if it can.
+fn add_times(alloc: Global, section: &mut TypeSection, entry: &str, count: u32) -> bool {
+    for _ in 0..count {
+        if !add(alloc, section, entry) {
+            return false;
+        }
+    }
+    true
 }
 
-fn section_of(alloc: Global, entries: &[Entry]) -> Result<TypeSection, EncodeError> {
+// Appends entries with `;` between them, if it can. An entry may be followed by how often it stands there: `func -> * 20`.
+fn add_all(alloc: Global, section: &mut TypeSection, entries: &str) -> bool {
+    for entry in entries.split_terminator(';') {
+        let (entry, count) = entry.split_once(" * ").unwrap_or((entry, "1"));
+        let count = count.trim().parse().unwrap_or(0);
+        if count == 0 || !add_times(alloc, section, entry, count) {
+            return false;
+        }
+    }
+    true
+}
+
+/// A section of these entries.
+pub fn section_of(alloc: Global, entries: &str) -> Option<TypeSection> {
     let mut section = TypeSection::new(alloc);
-    for entry in entries {
-        add(alloc, &mut section, *entry)?;
+    if add_all(alloc, &mut section, entries) {
+        Some(section)
+    } else {
+        None
     }
-    Ok(section)
 }
 
 // How long the entries are together, with their number.
@@ -260,22 +96,23 @@ fn says_its_lengths(section: &TypeSection, len: u64) -> bool {
 }
 
 // What a section writes. Its lengths are to say so, and it is to write into just the room that it asks for.
-fn written(alloc: Global, section: &TypeSection) -> Result<Vec<u8>, Fail> {
-    let len = section.encoded_len()?;
-    let mut sink = Vec::with_capacity(alloc, len as usize)?;
-    section.encode(&mut sink)?;
+fn written(alloc: Global, section: &TypeSection) -> Option<Vec<u8>> {
+    let len = section.encoded_len().ok()?;
+    let mut sink = Vec::with_capacity(alloc, len as usize).ok()?;
+    section.encode(&mut sink).ok()?;
     let is_full = sink.len() as u64 == len && sink.capacity() as u64 == len;
-    if !is_full || !says_its_lengths(section, len) {
-        return Err(Fail::from("a length is not the section's"));
+    if is_full && says_its_lengths(section, len) {
+        Some(sink)
+    } else {
+        None
     }
-    Ok(sink)
 }
 
 // Whether a section has entries of these lengths.
-fn has_lengths(section: &TypeSection, lengths: &[u64]) -> bool {
+fn has_lengths(section: &TypeSection, lengths: &[u32]) -> bool {
     let mut count = 0u32;
     for length in lengths {
-        if section.item_len(count) != Some(*length) {
+        if section.item_len(count) != Some(u64::from(*length)) {
             return false;
         }
         count = count.saturating_add(1);
@@ -283,111 +120,125 @@ fn has_lengths(section: &TypeSection, lengths: &[u64]) -> bool {
     section.len() == count && section.is_empty() == (count == 0) && section.id() == 1
 }
 
-// Whether a section of these entries has these lengths, and writes this text.
-fn writes(alloc: Global, entries: &[Entry], lengths: &[u64], text: &[u8]) -> Result<bool, Fail> {
+// A module of one section.
+fn module_of(alloc: Global, section: &TypeSection) -> Option<Vec<u8>> {
+    let mut module = Module::new(alloc).ok()?;
+    module.push(section).ok()?;
+    Some(module.finish())
+}
+
+// Whether a section writes these bytes, and a module has just them after its header and the section's number.
+fn writes(alloc: Global, section: &TypeSection, bytes: &[u8]) -> bool {
+    match (written(alloc, section), module_of(alloc, section)) {
+        (Some(found), Some(module)) => {
+            found.as_slice() == bytes && module.strip_prefix(b"\0asm\x01\0\0\0\x01") == Some(bytes)
+        }
+        _ => false,
+    }
+}
+
+// Entries of a section, how long each is, and what the section writes.
+const SECTIONS: &str = "
+    | | 01 00
+    func -> | 3 | 04 01 60 00 00
+    func -> ; func i32 i64 f32 f64 v128 -> i64 | 3 9 | 0d 02 60 00 00 60 05 7f 7e 7d 7c 7b 01 7e
+    // A group of two structures, each with a reference to the other.
+    rec struct 1?, struct 0? | 12 | 0d 01 4e 02 5f 01 63 01 00 5f 01 63 00 00
+    // Below a type that is not final.
+    type open struct ; type open sub 0 struct i32 | 4 7 | 0c 02 50 00 5f 00 50 01 00 5f 01 7f 00
+    // A final type below another.
+    type sub 200 struct | 6 | 07 01 4f 01 c8 01 5f 00
+    // Arrays and continuations.
+    type array mut:i8 ; type array i16 ; type array mut:v128 ; type cont 0 ; type cont 64 | 3 3 3 2 3 | 0f 05 5e 78 01 5e 77 00 5e 7b 01 5d 00 5d c0 00
+    // References.
+    func func 100 func? 100? -> 4294967295? | 18 | 13 01 60 04 64 70 64 e4 00 70 63 e4 00 01 63 ff ff ff ff 0f
+    func nocont? -> nocont | 6 | 07 01 60 01 75 01 64 75
+    func noexn? -> noexn | 6 | 07 01 60 01 74 01 64 74
+    func nofunc? -> nofunc | 6 | 07 01 60 01 73 01 64 73
+    func noextern? -> noextern | 6 | 07 01 60 01 72 01 64 72
+    func none? -> none | 6 | 07 01 60 01 71 01 64 71
+    func func? -> func | 6 | 07 01 60 01 70 01 64 70
+    func extern? -> extern | 6 | 07 01 60 01 6f 01 64 6f
+    func any? -> any | 6 | 07 01 60 01 6e 01 64 6e
+    func eq? -> eq | 6 | 07 01 60 01 6d 01 64 6d
+    func i31? -> i31 | 6 | 07 01 60 01 6c 01 64 6c
+    func struct? -> struct | 6 | 07 01 60 01 6b 01 64 6b
+    func array? -> array | 6 | 07 01 60 01 6a 01 64 6a
+    func exn? -> exn | 6 | 07 01 60 01 69 01 64 69
+    func cont? -> cont | 6 | 07 01 60 01 68 01 64 68
+    // Many entries.
+    func -> * 128 | 3*128 | 82 03 80 01 600000*128
+    func -> * 1000000 | 3*1000000 | c3 8d b7 01 c0 84 3d 600000*1000000
+    rec func -> * 1000 | 5*1000 | 8a 27 e8 07 4e01600000*1000
+";
+
+fn holds(alloc: Global, row: &str) -> Option<bool> {
+    let (entries, lengths, bytes) = three_fields(row)?;
+    let lengths = numbers_of(alloc, lengths)?;
+    let bytes = bytes_of(alloc, bytes)?;
     let section = section_of(alloc, entries)?;
-    Ok(has_lengths(&section, lengths) && written(alloc, &section)?.as_slice() == text)
+    Some(has_lengths(&section, &lengths) && writes(alloc, &section, &bytes))
 }
 
 #[test]
 fn sections_write_their_entries(rt: HostRuntime) -> Result<(), Fail> {
-    for (entries, lengths, text) in SECTIONS {
-        assert!(rt; writes(rt.alloc(), entries, lengths, text)?, "{text:?}");
-    }
-    Ok(())
+    Ok(check_rows(rt.alloc(), SECTIONS, 25, holds)?)
 }
 
-// A group of one type, the type itself, and an empty group, by calls that go on.
-fn chained(alloc: Global) -> Result<TypeSection, Fail> {
-    let row = (true, None, Shape::Struct(&[]));
+// Adds a group of one type, the type itself, and an empty group, each to what the call before answers.
+fn add_in_turn(
+    section: &mut TypeSection,
+    group: Vec<SubType>,
+    ty: SubType,
+    none: Vec<SubType>,
+) -> bool {
+    let Ok(section) = section.rec(group) else {
+        return false;
+    };
+    let Ok(section) = section.subtype(ty) else {
+        return false;
+    };
+    section.rec(none).is_ok()
+}
+
+// Whether these bytes are written of a section that is made in this way.
+fn writes_in_turn(alloc: Global, bytes: &[u8]) -> bool {
+    let (Some(group), Some(ty)) = (sub_types_of(alloc, "struct"), sub_type_of(alloc, "struct"))
+    else {
+        return false;
+    };
     let mut section = TypeSection::new(alloc);
-    section
-        .rec(sub_types(alloc, &[row])?)?
-        .subtype(sub_type(alloc, row)?)?
-        .rec(Vec::new(alloc))?;
-    Ok(section)
+    add_in_turn(&mut section, group, ty, Vec::new(alloc)) && writes(alloc, &section, bytes)
 }
 
 #[test]
-fn calls_go_on(rt: HostRuntime) -> Result<(), Fail> {
-    let text = written(rt.alloc(), &chained(rt.alloc())?)?;
-    let expected = [0x09, 0x03, 0x4e, 0x01, 0x5f, 0x00, 0x5f, 0x00, 0x4e, 0x00];
-    assert!(rt; text.as_slice() == expected.as_slice(), "{text:?}");
-    Ok(())
-}
-
-// Abstract heap types, each with its code.
-const HEAP_TYPES: [(AbstractHeapType, u8); 14] = [
-    (AbstractHeapType::NoCont, 0x75),
-    (AbstractHeapType::NoExn, 0x74),
-    (AbstractHeapType::NoFunc, 0x73),
-    (AbstractHeapType::NoExtern, 0x72),
-    (AbstractHeapType::None, 0x71),
-    (AbstractHeapType::Func, 0x70),
-    (AbstractHeapType::Extern, 0x6f),
-    (AbstractHeapType::Any, 0x6e),
-    (AbstractHeapType::Eq, 0x6d),
-    (AbstractHeapType::I31, 0x6c),
-    (AbstractHeapType::Struct, 0x6b),
-    (AbstractHeapType::Array, 0x6a),
-    (AbstractHeapType::Exn, 0x69),
-    (AbstractHeapType::Cont, 0x68),
-];
-
-// Whether a function from the reference that may be null to the one that may not has this code in both.
-fn has_code(alloc: Global, heap: AbstractHeapType, code: u8) -> Result<bool, Fail> {
-    let params = [reference(true, HeapType::Abstract(heap))];
-    let results = [reference(false, HeapType::Abstract(heap))];
-    let mut section = TypeSection::new(alloc);
-    section.func(func_type(alloc, &params, &results)?)?;
-    let text = [0x07, 0x01, 0x60, 0x01, code, 0x01, 0x64, code];
-    Ok(written(alloc, &section)?.as_slice() == text.as_slice())
-}
-
-#[test]
-fn abstract_references(rt: HostRuntime) -> Result<(), Fail> {
-    for (heap, code) in HEAP_TYPES {
-        assert!(rt; has_code(rt.alloc(), heap, code)?, "{code:x}");
-    }
-    Ok(())
+fn calls_go_on(rt: HostRuntime) {
+    assert!(rt; writes_in_turn(rt.alloc(), b"\x09\x03\x4e\x01\x5f\0\x5f\0\x4e\0"));
 }
 
 fn no_results(alloc: Global) -> FuncType {
     FuncType::new(Vec::new(alloc), Vec::new(alloc))
 }
 
-#[test]
-fn counts_and_sizes_of_two_bytes(rt: HostRuntime) -> Result<(), Fail> {
-    let alloc = rt.alloc();
-    let mut section = TypeSection::new(alloc);
-    for _ in 0..128_u32 {
-        section.func(no_results(alloc))?;
-    }
-    let text = written(alloc, &section)?;
-    let front = [0x82, 0x03, 0x80, 0x01, 0x60, 0x00, 0x00, 0x60];
-    assert!(rt; text.len() == 388 && text.starts_with(&front));
-    Ok(())
+// What is written twice after three bytes.
+fn written_twice(alloc: Global) -> Option<Vec<u8>> {
+    let section = section_of(alloc, "func ->")?;
+    let mut sink = b"abc".to_vec(alloc).ok()?;
+    section.encode(&mut sink).ok()?;
+    section.encode(&mut sink).ok()?;
+    Some(sink)
 }
 
 #[test]
-fn appends_behind_what_stands_there(rt: HostRuntime) -> Result<(), Fail> {
-    let alloc = rt.alloc();
-    let mut section = TypeSection::new(alloc);
-    section.func(no_results(alloc))?;
-    let mut sink = [7; 3].to_vec(alloc)?;
-    section.encode(&mut sink)?;
-    section.encode(&mut sink)?;
-    let text = [
-        7, 7, 7, 0x04, 0x01, 0x60, 0x00, 0x00, 0x04, 0x01, 0x60, 0x00, 0x00,
-    ];
-    assert!(rt; sink.as_slice() == text.as_slice(), "{sink:?}");
-    Ok(())
+fn appends_after_what_stands_there(rt: HostRuntime) {
+    let expected: &[u8] = b"abc\x04\x01\x60\0\0\x04\x01\x60\0\0";
+    assert!(rt; written_twice(rt.alloc()).as_deref() == Some(expected));
 }
 
 // For `rt try --test --fail-alloc N`, which refuses an allocation: what refuses is as it was, and takes the same call
 // again.
 
-// Whether one function more goes in behind so many, at the second call where the first is refused.
+// Whether one function more goes in after so many, at the second call where the first is refused.
 fn takes_a_function(alloc: Global, section: &mut TypeSection, count: u32) -> bool {
     if section.len() != count {
         return false;

@@ -1,44 +1,53 @@
 //! Types keep what they are made of.
 
-use std::test::Fail;
+use std::alloc::Global;
 use wasm_core::types::{
     AbstractHeapType, FieldType, FuncType, HeapType, RefType, StorageType, StructType, ValType,
 };
 
-#[test]
-fn keeps_parameters_and_results(rt: HostRuntime) -> Result<(), Fail> {
-    let alloc = rt.alloc();
-    let reference = ValType::Ref(RefType {
+const PARAMS: &[ValType] = &[
+    ValType::I32,
+    ValType::Ref(RefType {
         nullable: true,
         heap_type: HeapType::Concrete(7),
-    });
-    let params = vec![in alloc; ValType::I32, reference]?;
-    let results = vec![in alloc; ValType::F64]?;
-    let func_type = FuncType::new(params, results);
-    let are_kept = func_type.params() == [ValType::I32, reference].as_slice()
-        && func_type.results() == [ValType::F64].as_slice();
-    assert!(rt; are_kept, "{func_type:?}");
-    let none = FuncType::new(Vec::new(alloc), Vec::new(alloc));
-    assert!(rt; none.params().is_empty() && none.results().is_empty());
-    Ok(())
-}
+    }),
+];
 
-#[test]
-fn keeps_fields(rt: HostRuntime) -> Result<(), Fail> {
-    let alloc = rt.alloc();
-    let byte = FieldType {
+const FIELDS: &[FieldType] = &[
+    FieldType {
         element_type: StorageType::I8,
         mutable: true,
-    };
-    let function = FieldType {
+    },
+    FieldType {
         element_type: StorageType::Val(ValType::Ref(RefType {
             nullable: false,
             heap_type: HeapType::Abstract(AbstractHeapType::Func),
         })),
         mutable: false,
-    };
-    let struct_type = StructType::new(vec![in alloc; byte, function]?);
-    assert!(rt; struct_type.fields() == [byte, function].as_slice());
-    assert!(rt; StructType::new(Vec::new(alloc)).fields().is_empty());
-    Ok(())
+    },
+];
+
+// Whether a function type keeps its parameters and results.
+fn keeps_parts(alloc: Global, params: &[ValType], results: &[ValType]) -> Option<bool> {
+    let kept = params.to_vec(alloc).ok()?;
+    let ty = FuncType::new(kept, results.to_vec(alloc).ok()?);
+    Some(ty.params() == params && ty.results() == results)
+}
+
+// Whether a structure type keeps its fields.
+fn keeps_fields(alloc: Global, fields: &[FieldType]) -> Option<bool> {
+    let ty = StructType::new(fields.to_vec(alloc).ok()?);
+    Some(ty.fields() == fields)
+}
+
+#[test]
+fn types_keep_their_parts(rt: HostRuntime) {
+    let alloc = rt.alloc();
+    assert!(rt;
+        keeps_parts(alloc, PARAMS, &[ValType::F64]) == Some(true),
+        "parts"
+    );
+    assert!(rt; keeps_fields(alloc, FIELDS) == Some(true), "fields");
+    let are_kept = keeps_parts(alloc, &[], &[]) == Some(true);
+    assert!(rt; are_kept && keeps_fields(alloc, &[]) == Some(true), "none");
 }

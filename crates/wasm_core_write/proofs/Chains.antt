@@ -3,6 +3,7 @@
 --     good, good_refused      an error's machine value, and that of an `Err` of it, are of their types
 --     by_result        a proof's step: the two cases of the answer, with what is said of it, and its machine value
 --     same_error       a `Result` with another value at `Ok` is that error where the first one is
+--     says, four_facts     a proof's step: four facts are shown, and the rest of the goal is left
 use mathlib.Core.Path.{◌≡◌, refl, ap, ◌∙◌}
 use mathlib.Core.List.{List, [], ◌∷◌, ◌++◌}
 use mathlib.Core.Logic.{◌↔◌}
@@ -11,7 +12,9 @@ use seplogic.Ra.Ura.{Ura}
 use mir.Syntax.{Ty, ty_unit, ty_enum, tcons, tnil, ttcons, ttnil}
 use mir.Val.{Val, vunit, vcons, vnil, of_list, has_ty, WT}
 use types.Logic.{Logic}
-use types.Kit.{Goal, Seq, Item, ‵, ◌$◌, fpick, fsplit, feq_l, rewrite, move, drop}
+use base.Logic.{SProp, ent, sep, emp, via}
+use contract.Monad.{fact, fact_i}
+use types.Kit.{Goal, Seq, Item, Step, step, prop, raw, ‵, ◌$◌, ◌∵◌, !, qed, use0, done, fpick, fsplit, feq_l, rewrite, move, drop}
 use types.Match.{live}
 use denote.RattleType.{RattleType}
 use denote.Builtin.{unit}
@@ -70,3 +73,14 @@ module _ {M : Type 1} {𝓤 : Ura M} {𝓛 : Logic 𝓤} {K : Type 0} {Γ : List
       peeks t error_row (Is error_row) (shows 𝓛 error_row) x vss.0 (λ is. let e'' = lowers.val_is x vss.0 is in
       rewrite t 0 (λ (ws : List Val). ‵ (error_row.own_val x ws)) e'' refl $ move t (1 ∷ []) $ drop t $
       err x f (ap only e ∙ ap (λ (ws : List Val). live 1 (of_list ws)) (e' ∙ ap (λ (ws : List Val). ws ++ []) e'')))))))
+
+-- facts one after the other hold of nothing
+and_fact : {M : Type 1} {𝓤 : Ura M} (𝓛 : Logic 𝓤) (φ : Type 0) (F : SProp 𝓤) → φ → ent 𝓤 (emp 𝓤) F → ent 𝓤 (emp 𝓤) (sep 𝓤 (fact 𝓤 φ) F)
+and_fact {𝓤 = 𝓤} 𝓛 φ F x f = qed 𝓛 [] ∵ use0 𝓛 (raw F) f $ use0 𝓛 (raw (fact 𝓤 φ)) (fact_i 𝓤 φ (emp 𝓤) x) $ done !
+
+-- a proof's step: what holds of nothing is shown, and the rest of the goal is left
+pub says : {M : Type 1} {𝓤 : Ura M} {𝓛 : Logic 𝓤} {K : Type 0} {Γ : List (Item 𝓤)} {P : SProp 𝓤} → K → (F : SProp 𝓤) → ent 𝓤 (emp 𝓤) F → Step K 𝓛 Γ (prop P) Γ (prop (sep 𝓤 P F))
+says {𝓤 = 𝓤} {𝓛 = 𝓛} {P = P} t F f = step (λ s. record { prf = via 𝓤 P s.prf (qed 𝓛 (raw P ∷ []) ∵ use0 𝓛 (raw F) f $ move ! (1 ∷ []) $ done !) })
+
+pub four_facts : {M : Type 1} {𝓤 : Ura M} (𝓛 : Logic 𝓤) (φ ψ χ ω : Type 0) → φ × ψ × χ × ω → ent 𝓤 (emp 𝓤) (sep 𝓤 (fact 𝓤 φ) (sep 𝓤 (fact 𝓤 ψ) (sep 𝓤 (fact 𝓤 χ) (fact 𝓤 ω))))
+four_facts {𝓤 = 𝓤} 𝓛 φ ψ χ ω x = and_fact 𝓛 φ _ x.0 (and_fact 𝓛 ψ _ x.1 (and_fact 𝓛 χ _ x.2 (fact_i 𝓤 ω (emp 𝓤) x.3)))

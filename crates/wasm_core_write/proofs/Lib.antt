@@ -1,5 +1,5 @@
-pub mod EntryLaws
-pub mod EntryLists
+pub mod RecGroupLaws
+pub mod RecGroupLists
 pub mod Items
 pub mod TypeLists
 pub mod Chains

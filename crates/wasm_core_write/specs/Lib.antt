@@ -1,4 +1,5 @@
-pub mod CoreEntries
-pub mod CoreTexts
+pub mod CoreEncodings
+pub mod CoreRecGroups
+pub mod EncodeErrors
 pub mod Encoding
-pub mod TypeEntries
+pub mod ModuleBytes

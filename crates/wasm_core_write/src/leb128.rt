@@ -3,21 +3,21 @@
 
 ghost use Rattle.std.specs.Prelude.{◌≡◌, ◌≤◌, ◌<◌, ◌+◌, ◌^◌, ◌++◌, length, vec_len, vec_capacity};
 ghost use Rattle.wasm_core_write.specs.Encoding.{Appends};
-ghost use Rattle.wasm_spec.specs.Shortest.{unsigned_text, low_bits, magnitude_text, signed_text};
+ghost use Rattle.wasm_spec.specs.Shortest.{unsigned_encoding, low_bits, magnitude_encoding, signed_encoding};
 
 use std::alloc::AllocError;
 
 /// The number of bytes that [`write_u32`] appends.
 pub fn len_u32(n: u32) -> usize
-    ensures { result ≡ length (unsigned_text n) }
+    ensures { result ≡ length (unsigned_encoding n) }
 {
     len_u64(u64::from(n))
 }
 
 /// The number of bytes that [`write_u64`] appends.
-#[tactic(auto, using(wasm_spec::proofs::UnsignedTexts::unsigned_steps))]
+#[tactic(auto, using(wasm_spec::proofs::UnsignedEncodings::unsigned_steps))]
 pub fn len_u64(n: u64) -> usize
-    ensures bytes { result ≡ length (unsigned_text n) }
+    ensures bytes { result ≡ length (unsigned_encoding n) }
     ensures few { result ≤ 10 }
 {
     let mut len = 1;
@@ -31,21 +31,21 @@ pub fn len_u64(n: u64) -> usize
 
 /// The number of bytes that [`write_s32`] appends.
 pub fn len_s32(n: i32) -> usize
-    ensures { result ≡ length (signed_text n) }
+    ensures { result ≡ length (signed_encoding n) }
 {
     len_s64(i64::from(n))
 }
 
 /// The number of bytes that [`write_s33`] appends.
 pub fn len_s33(n: i64) -> usize
-    ensures { result ≡ length (signed_text n) }
+    ensures { result ≡ length (signed_encoding n) }
 {
     len_s64(n)
 }
 
 /// The number of bytes that [`write_s64`] appends.
 pub fn len_s64(n: i64) -> usize
-    ensures bytes { result ≡ length (signed_text n) }
+    ensures bytes { result ≡ length (signed_encoding n) }
     ensures few { result ≤ 10 }
 {
     let (negative, magnitude) = parts(n);
@@ -54,15 +54,15 @@ pub fn len_s64(n: i64) -> usize
 
 /// Appends a number. Where memory runs out, nothing is appended.
 pub fn write_u32(sink: &mut Vec<u8>, n: u32) -> Result<(), AllocError>
-    ensures { Appends sink.old sink.new result (unsigned_text n) }
+    ensures { Appends sink.old sink.new result (unsigned_encoding n) }
 {
     write_u64(sink, u64::from(n))
 }
 
 /// Appends a number. Where memory runs out, nothing is appended.
-#[tactic(auto, using(wasm_spec::proofs::UnsignedTexts::unsigned_steps))]
+#[tactic(auto, using(wasm_spec::proofs::UnsignedEncodings::unsigned_steps))]
 pub fn write_u64(sink: &mut Vec<u8>, n: u64) -> Result<(), AllocError>
-    ensures { Appends sink.old sink.new result (unsigned_text n) }
+    ensures { Appends sink.old sink.new result (unsigned_encoding n) }
 {
     if n < 0x80 {
         return Ok(sink.push(n as u8)?);
@@ -74,7 +74,7 @@ pub fn write_u64(sink: &mut Vec<u8>, n: u64) -> Result<(), AllocError>
 
 /// Appends a number. Where memory runs out, nothing is appended.
 pub fn write_s32(sink: &mut Vec<u8>, n: i32) -> Result<(), AllocError>
-    ensures { Appends sink.old sink.new result (signed_text n) }
+    ensures { Appends sink.old sink.new result (signed_encoding n) }
 {
     write_s64(sink, i64::from(n))
 }
@@ -82,15 +82,15 @@ pub fn write_s32(sink: &mut Vec<u8>, n: i32) -> Result<(), AllocError>
 /// Appends a number of 33 bits: a heap type or a block type. One that needs more bits is written all the same, as
 /// [`write_s64`] does; no reader of 33 bits then takes it. Where memory runs out, nothing is appended.
 pub fn write_s33(sink: &mut Vec<u8>, n: i64) -> Result<(), AllocError>
-    ensures { Appends sink.old sink.new result (signed_text n) }
+    ensures { Appends sink.old sink.new result (signed_encoding n) }
 {
     write_s64(sink, n)
 }
 
 /// Appends a number. Where memory runs out, nothing is appended.
-#[tactic(auto, using(wasm_spec::proofs::SignedTexts::signed_steps))]
+#[tactic(auto, using(wasm_spec::proofs::SignedEncodings::signed_steps))]
 pub fn write_s64(sink: &mut Vec<u8>, n: i64) -> Result<(), AllocError>
-    ensures { Appends sink.old sink.new result (signed_text n) }
+    ensures { Appends sink.old sink.new result (signed_encoding n) }
 {
     let (negative, magnitude) = parts(n);
     if magnitude < 0x40 {
@@ -102,10 +102,10 @@ pub fn write_s64(sink: &mut Vec<u8>, n: i64) -> Result<(), AllocError>
 }
 
 /// Writes a number for which there is room.
-#[tactic(auto, using(wasm_spec::proofs::UnsignedTexts::unsigned_steps))]
+#[tactic(auto, using(wasm_spec::proofs::UnsignedEncodings::unsigned_steps))]
 pub fn put_u64(sink: &mut Vec<u8>, n: u64)
-    requires { vec_len sink.old + length (unsigned_text n) ≤ vec_capacity sink.old }
-    ensures written { sink.new.items ≡ sink.old.items ++ unsigned_text n }
+    requires { vec_len sink.old + length (unsigned_encoding n) ≤ vec_capacity sink.old }
+    ensures written { sink.new.items ≡ sink.old.items ++ unsigned_encoding n }
     ensures capacity { vec_capacity sink.old ≤ vec_capacity sink.new }
 {
     let mut rest = n;
@@ -118,8 +118,8 @@ pub fn put_u64(sink: &mut Vec<u8>, n: u64)
 
 /// Writes a signed number for which there is room.
 pub fn put_s64(sink: &mut Vec<u8>, n: i64)
-    requires { vec_len sink.old + length (signed_text n) ≤ vec_capacity sink.old }
-    ensures written { sink.new.items ≡ sink.old.items ++ signed_text n }
+    requires { vec_len sink.old + length (signed_encoding n) ≤ vec_capacity sink.old }
+    ensures written { sink.new.items ≡ sink.old.items ++ signed_encoding n }
     ensures capacity { vec_capacity sink.old ≤ vec_capacity sink.new }
 {
     let (negative, magnitude) = parts(n);
@@ -128,7 +128,7 @@ pub fn put_s64(sink: &mut Vec<u8>, n: i64)
 
 // A number as its sign and m: it is m, or where it is negative -(m + 1).
 fn parts(n: i64) -> (bool, u64)
-    ensures text { magnitude_text result.0 result.1 ≡ signed_text n }
+    ensures bytes { magnitude_encoding result.0 result.1 ≡ signed_encoding n }
     ensures below { result.1 < 2 ^ 63 }
 {
     if n < 0 {
@@ -147,10 +147,10 @@ fn low_bits(negative: bool, magnitude: u64) -> u8
     if negative { 0x7f - low } else { low }
 }
 
-#[tactic(auto, using(wasm_spec::proofs::SignedTexts::signed_steps))]
+#[tactic(auto, using(wasm_spec::proofs::SignedEncodings::signed_steps))]
 fn len_magnitude(negative: bool, magnitude: u64) -> usize
     requires { magnitude < 2 ^ 63 }
-    ensures bytes { result ≡ length (magnitude_text negative magnitude) }
+    ensures bytes { result ≡ length (magnitude_encoding negative magnitude) }
     ensures few { result ≤ 10 }
 {
     let mut len = 1;
@@ -162,10 +162,10 @@ fn len_magnitude(negative: bool, magnitude: u64) -> usize
     len
 }
 
-#[tactic(auto, using(wasm_spec::proofs::SignedTexts::signed_steps))]
+#[tactic(auto, using(wasm_spec::proofs::SignedEncodings::signed_steps))]
 fn put_magnitude(sink: &mut Vec<u8>, negative: bool, magnitude: u64)
-    requires { vec_len sink.old + length (magnitude_text negative magnitude) ≤ vec_capacity sink.old }
-    ensures written { sink.new.items ≡ sink.old.items ++ magnitude_text negative magnitude }
+    requires { vec_len sink.old + length (magnitude_encoding negative magnitude) ≤ vec_capacity sink.old }
+    ensures written { sink.new.items ≡ sink.old.items ++ magnitude_encoding negative magnitude }
     ensures capacity { vec_capacity sink.old ≤ vec_capacity sink.new }
 {
     let mut rest = magnitude;

@@ -3,10 +3,10 @@
 
 pub mod encode;
 pub mod encode_error;
+pub mod encoding;
 pub mod laws;
 pub mod leb128;
 pub mod module;
-pub mod text;
-pub mod type_entries;
+pub mod rec_group;
+pub mod type_encodings;
 pub mod type_section;
-pub mod type_texts;

@@ -1,6 +1,6 @@
 //! The bytes of a module, as they are written (Core Specification, Binary Format, "Modules").
 
-ghost use Rattle.std.specs.Prelude.{◌≡◌, ◌↔◌, ◌≤◌, ◌^◌, ◌∷◌, ◌++◌, Err, IfOk, IfErr};
+ghost use Rattle.std.specs.Prelude.{◌≡◌, ◌↔◌, ◌+◌, ◌≤◌, ◌<◌, ◌^◌, ◌∷◌, ◌++◌, length, Err, IfOk, IfErr};
 ghost use Rattle.wasm_spec.specs.Grammar.{header};
 
 use crate::encode::Section;
@@ -10,18 +10,19 @@ use std::marker::Model;
 
 const HEADER: [u8; 8] = [0x00, 0x61, 0x73, 0x6d, 0x01, 0x00, 0x00, 0x00];
 
-/// The bytes of a module so far: the header, and sections.
+/// The bytes of a module that is being written: the header, and sections.
 #[derive(Debug, Drop)]
 pub struct Module {
     bytes: Vec<u8>,
 }
 
 impl Model for Module {
-    ghost use Rattle.std.specs.Prelude.{ℕ, List};
+    ghost use Rattle.std.specs.Prelude.{vec_capacity};
+    ghost use Rattle.wasm_core_write.specs.ModuleBytes.{ModuleBytes};
 
-    ghost Value = { List ℕ };
+    ghost Value = { ModuleBytes };
 
-    ghost view = { λ m. m.bytes.items };
+    ghost view = { λ m. record { bytes = m.bytes.items; capacity = vec_capacity m.bytes } };
 }
 
 impl Module {
@@ -33,7 +34,7 @@ impl Module {
     /// # Errors
     /// `Memory` alone.
     pub fn new(alloc: Global) -> Result<Module, EncodeError>
-        ensures begins { IfOk result (λ m. m ≡ header) }
+        ensures begins { IfOk result (λ m. m.bytes ≡ header) }
         ensures memory_alone { IfErr result (λ e. e ≡ EncodeError.Memory) }
     {
         let mut bytes = Vec::new(alloc);
@@ -45,10 +46,11 @@ impl Module {
     ///
     /// # Errors
     /// `TooLong` exactly where the section's [`Encode::encode`](crate::encode::Encode::encode) answers it, and else
-    /// `Memory` where the bytes cannot grow.
+    /// `Memory` where the bytes cannot grow, which they need only where their capacity is too small.
     pub fn push<S: Section>(&mut self, section: &S) -> Result<(), EncodeError>
-        ensures appended { IfOk result (λ _. self.new ≡ self.old ++ S.number section.now ∷ S.Encode.text section.now) }
+        ensures appended { IfOk result (λ _. self.new.bytes ≡ self.old.bytes ++ S.number section.now ∷ S.Encode.encoding section.now) }
         ensures kept { IfErr result (λ _. self.new ≡ self.old) }
+        ensures no_room { IfErr result (λ e. e ≡ EncodeError.Memory → self.old.capacity < length self.old.bytes + 1 + length (S.Encode.encoding section.now)) }
         ensures too_long { (result ≡ Err EncodeError.TooLong) ↔ (2 ^ 32 ≤ S.Encode.longest section.now) }
     {
         let len = section.encoded_len()?;
@@ -64,7 +66,8 @@ impl Module {
     pub fn section<S: Section>(&mut self, section: &S) -> Result<&mut Module, EncodeError>
         ensures* refused { sem 𝓛 (LendsIfOk the_row the_row self.entry result (λ w. w) self.old) }
         ensures same_reference { IfOk result (λ m. m.ghost_name ≡ self.entry.ghost_name) }
-        ensures appended { IfOk result (λ m. m.now ≡ self.old ++ S.number section.now ∷ S.Encode.text section.now) }
+        ensures appended { IfOk result (λ m. m.now.bytes ≡ self.old.bytes ++ S.number section.now ∷ S.Encode.encoding section.now) }
+        ensures no_room { IfErr result (λ e. e ≡ EncodeError.Memory → self.old.capacity < length self.old.bytes + 1 + length (S.Encode.encoding section.now)) }
         ensures too_long { (result ≡ Err EncodeError.TooLong) ↔ (2 ^ 32 ≤ S.Encode.longest section.now) }
     {
         match self.push(section) {
@@ -75,7 +78,7 @@ impl Module {
 
     /// The bytes.
     pub fn finish(self) -> Vec<u8>
-        ensures { result.items ≡ self }
+        ensures { result.items ≡ self.bytes }
     {
         self.bytes
     }

@@ -2,41 +2,43 @@
 
 ghost use Rattle.std.specs.Prelude.{◌≡◌, ◌↔◌, ◌+◌, ◌≤◌, ◌<◌, ◌^◌, [], ◌∷◌, ◌++◌, true, List, length, map, Err, IfOk, IfErr, IsTrue};
 ghost use Rattle.std.specs.List.{flat_map};
-ghost use Rattle.wasm_core_write.specs.CoreEntries.{type_entry, type_entry_text};
+ghost use Rattle.wasm_core_write.specs.CoreRecGroups.{rec_group, core_group_encoding};
 ghost use Rattle.wasm_core_write.specs.Encoding.{Measures, TellsItem};
 ghost use Rattle.wasm_core_types.specs.SubTypes.{sub_type};
-ghost use Rattle.wasm_core_write.specs.TypeEntries as spec;
-ghost use Rattle.wasm_core_write.specs.TypeEntries.{entry_text, entries_text};
-ghost use Rattle.wasm_spec.specs.Shortest.{list_text, framed_text};
+ghost use Rattle.wasm_spec.specs.Types as spec;
+ghost use Rattle.wasm_spec.specs.TypeEncodings.{rec_group_encoding, rec_groups_encoding};
+ghost use Rattle.wasm_spec.specs.Shortest.{list_encoding, framed_encoding};
 ghost use Rattle.wasm_spec.specs.Types.{FuncComposite};
 
 use crate::encode::{Encode, Section};
 use crate::encode_error::EncodeError;
+use crate::encoding::{
+    Encoding, add_sizes, encode_framed, framed_len, item_len, list_size, put_list,
+};
 use crate::leb128::len_u64;
-use crate::text::{Text, add_sizes, encode_framed, framed_len, item_len, list_size, put_list};
-use crate::type_entries::{TypeEntry, TypeGroup};
+use crate::rec_group::RecGroup;
 use std::alloc::Global;
 use std::marker::Model;
 use wasm_core_types::types::{CompositeType, FuncType, SubType};
 
-impl Text for TypeEntry {
-    ghost text = { type_entry_text };
+impl Encoding for RecGroup {
+    ghost encoding = { core_group_encoding };
 
-    #[tactic(auto, using(crate::proofs::TypeLists::steps), unfolding(crate::specs::CoreEntries::type_entry_text, crate::specs::CoreTexts::sub_type_text, crate::specs::TypeEntries::entry_text, wasm_spec::specs::TypeTexts::group_text))]
+    #[tactic(auto, using(crate::proofs::TypeLists::steps), unfolding(crate::specs::CoreRecGroups::core_group_encoding, crate::specs::CoreEncodings::sub_type_encoding, wasm_spec::specs::TypeEncodings::rec_group_encoding, wasm_spec::specs::TypeEncodings::group_encoding))]
     fn size(&self) -> Result<u64, EncodeError> {
         match self {
-            TypeEntry::Single(ty) => ty.size(),
-            TypeEntry::Group(group) => add_sizes(1, list_size(group.types())?),
+            RecGroup::Single(ty) => ty.size(),
+            RecGroup::Group(group) => add_sizes(1, list_size(group)?),
         }
     }
 
-    #[tactic(auto, using(crate::proofs::TypeLists::steps), unfolding(crate::specs::CoreEntries::type_entry_text, crate::specs::CoreTexts::sub_type_text, crate::specs::TypeEntries::entry_text, wasm_spec::specs::TypeTexts::group_text))]
+    #[tactic(auto, using(crate::proofs::TypeLists::steps), unfolding(crate::specs::CoreRecGroups::core_group_encoding, crate::specs::CoreEncodings::sub_type_encoding, wasm_spec::specs::TypeEncodings::rec_group_encoding, wasm_spec::specs::TypeEncodings::group_encoding))]
     fn put(&self, sink: &mut Vec<u8>) {
         match self {
-            TypeEntry::Single(ty) => ty.put(sink),
-            TypeEntry::Group(group) => {
+            RecGroup::Single(ty) => ty.put(sink),
+            RecGroup::Group(group) => {
                 sink.push_reserved(GROUP);
-                put_list(group.types(), sink);
+                put_list(group, sink);
             }
         }
     }
@@ -50,24 +52,24 @@ const GROUP: u8 = 0x4e;
 /// section is as it was.
 #[derive(Debug, Drop)]
 pub struct TypeSection {
-    entries: Vec<TypeEntry>,
-    // The length of the entries' texts, one behind the other, so that writing need not measure them.
+    entries: Vec<RecGroup>,
+    // The length of the entries' encodings, one after the other, so that writing need not measure them.
     size: Result<u64, EncodeError>,
 }
 
 impl Model for TypeSection {
-    ghost use Rattle.std.specs.Prelude.{◌<◌, ◌^◌, List, length, map};
+    ghost use Rattle.std.specs.Prelude.{◌<◌, ◌^◌, ℕ, List, length, map};
     ghost use Rattle.std.specs.List.{flat_map};
-    ghost use Rattle.wasm_core_write.specs.CoreEntries.{type_entry};
+    ghost use Rattle.wasm_core_write.specs.CoreRecGroups.{rec_group};
     ghost use Rattle.wasm_core_write.specs.Encoding.{Measures};
-    ghost use Rattle.wasm_core_write.specs.TypeEntries as spec;
-    ghost use Rattle.wasm_core_write.specs.TypeEntries.{entry_text};
+    ghost use Rattle.wasm_spec.specs.Types as spec;
+    ghost use Rattle.wasm_spec.specs.TypeEncodings.{rec_group_encoding};
 
-    ghost Value = { List spec.TypeEntry };
+    ghost Value = { List (spec.RecGroup ℕ) };
 
-    ghost view = { λ s. map type_entry s.entries.items };
+    ghost view = { λ s. map rec_group s.entries.items };
 
-    ghost invariant = { λ s. (length s.entries.items < 2 ^ 32) × Measures s.size (length (flat_map entry_text (map type_entry s.entries.items))) (length (flat_map entry_text (map type_entry s.entries.items))) };
+    ghost invariant = { λ s. (length s.entries.items < 2 ^ 32) × Measures s.size (length (flat_map rec_group_encoding (map rec_group s.entries.items))) (length (flat_map rec_group_encoding (map rec_group s.entries.items))) };
 }
 
 impl TypeSection {
@@ -102,9 +104,9 @@ impl TypeSection {
     ///
     /// # Errors
     /// `TooLong` exactly where there are 4,294,967,295 entries, and else `Memory`.
-    #[tactic(auto, using(wasm_spec::proofs::ListTexts::sizes), unfolding(crate::specs::CoreEntries::type_entry_text))]
-    pub fn push(&mut self, entry: TypeEntry) -> Result<(), EncodeError>
-        ensures added { IfOk result (λ _. self.new ≡ self.old ++ type_entry entry ∷ []) }
+    #[tactic(auto, using(wasm_spec::proofs::ListEncodings::sizes), unfolding(crate::specs::CoreRecGroups::core_group_encoding))]
+    pub fn push(&mut self, entry: RecGroup) -> Result<(), EncodeError>
+        ensures added { IfOk result (λ _. self.new ≡ self.old ++ rec_group entry ∷ []) }
         ensures kept { IfErr result (λ _. self.new ≡ self.old) }
         ensures too_long { (result ≡ Err EncodeError.TooLong) ↔ (2 ^ 32 ≤ length self.old + 1) }
     {
@@ -117,10 +119,10 @@ impl TypeSection {
         Ok(())
     }
 
-    // The length of the entries' texts and of one behind them.
-    #[tactic(auto, using(wasm_spec::proofs::ListTexts::sizes))]
-    fn size_with(&self, entry: &TypeEntry) -> Result<u64, EncodeError>
-        ensures { Measures result (length (flat_map entry_text self.now ++ type_entry_text entry.now)) (length (flat_map entry_text self.now ++ type_entry_text entry.now)) }
+    // The length of the entries' encodings and of one after them.
+    #[tactic(auto, using(wasm_spec::proofs::ListEncodings::sizes))]
+    fn size_with(&self, entry: &RecGroup) -> Result<u64, EncodeError>
+        ensures { Measures result (length (flat_map rec_group_encoding self.now ++ core_group_encoding entry.now)) (length (flat_map rec_group_encoding self.now ++ core_group_encoding entry.now)) }
     {
         add_sizes(self.size?, entry.size()?)
     }
@@ -176,7 +178,7 @@ impl TypeSection {
         ensures kept { IfErr result (λ _. self.new ≡ self.old) }
         ensures too_long { (result ≡ Err EncodeError.TooLong) ↔ (2 ^ 32 ≤ length self.old + 1) }
     {
-        self.push(TypeEntry::Single(ty))
+        self.push(RecGroup::Single(ty))
     }
 
     /// Adds a group, which is written out as one also where it has one type.
@@ -201,37 +203,37 @@ impl TypeSection {
         ensures kept { IfErr result (λ _. self.new ≡ self.old) }
         ensures too_long { (result ≡ Err EncodeError.TooLong) ↔ (2 ^ 32 ≤ length self.old + 1) }
     {
-        self.push(TypeEntry::Group(TypeGroup::new(types)))
+        self.push(RecGroup::Group(types))
     }
 
     /// The number of bytes of the entry of the accepted adding call of this number, counted from 0. It takes no
     /// memory. Where [`Encode::encode`] answers `TooLong`, the number says nothing.
     pub fn item_len(&self, i: u32) -> Option<u64>
-        ensures { TellsItem entry_text self.now i result }
+        ensures { TellsItem rec_group_encoding self.now i result }
     {
         item_len(&self.entries, i)
     }
 }
 
 // What stands in the frame of the section.
-impl Text for TypeSection {
-    ghost text = { entries_text };
+impl Encoding for TypeSection {
+    ghost encoding = { rec_groups_encoding };
 
-    #[tactic(auto, using(wasm_spec::proofs::ListTexts::sizes))]
+    #[tactic(auto, using(wasm_spec::proofs::ListEncodings::sizes))]
     fn size(&self) -> Result<u64, EncodeError> {
         add_sizes(len_u64(self.entries.len() as u64) as u64, self.size?)
     }
 
-    #[tactic(auto, using(crate::proofs::EntryLists::steps))]
+    #[tactic(auto, using(crate::proofs::RecGroupLists::steps))]
     fn put(&self, sink: &mut Vec<u8>) {
         put_list(&self.entries, sink);
     }
 }
 
 impl Encode for TypeSection {
-    ghost text = { λ s. framed_text (entries_text s) };
+    ghost encoding = { λ s. framed_encoding (rec_groups_encoding s) };
 
-    ghost longest = { λ s. length (entries_text s) };
+    ghost longest = { λ s. length (rec_groups_encoding s) };
 
     fn encode(&self, sink: &mut Vec<u8>) -> Result<(), EncodeError> {
         encode_framed(self, sink)

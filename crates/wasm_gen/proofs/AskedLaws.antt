@@ -4,7 +4,7 @@ use Rattle.wasm_core.specs.Limits.{limit}
 use Rattle.wasm_spec.specs.Limits.{Types, Functions, most}
 use Rattle.wasm_spec.specs.Types.{SubType}
 use Rattle.wasm_smith.specs.ErrorCases as smith
-use Rattle.wasm_smith.specs.Family.{IsAskable, IsInFamily, plain}
+use Rattle.wasm_smith.specs.Family.{IsAskable, IsInFamily, bare}
 use Rattle.wasm_smith.specs.Generating.{module_at}
 use Rattle.wasm_smith.specs.Made.{Made}
 use Rattle.wasm_smith.specs.Spelling.{Spells}
@@ -28,7 +28,7 @@ makes_lists c seed bytes g = record {
   };
 }
 
-no_limit : (c : Config) (seed : List ℕ) (groups : List (List (SubType ℕ))) (funcs : List ℕ) (m : Made) → m ≡ plain groups funcs → IsReachable c groups funcs
+no_limit : (c : Config) (seed : List ℕ) (groups : List (List (SubType ℕ))) (funcs : List ℕ) (m : Made) → m ≡ bare groups funcs → IsReachable c groups funcs
     → (length m.types ≤ most Types) × (length m.funcs ≤ most Functions)
 no_limit c seed groups funcs m e asked =
     (subst (λ (d : Made). length d.types ≤ most Types) (sym e) asked.few_types, subst (λ (d : Made). length d.funcs ≤ most Functions) (sym e) asked.few_funcs)

@@ -1,3 +1,4 @@
+mod AcceptedLaws
 mod AskedLaws
 mod GenerateLaws
 mod ReadLaws

@@ -1,5 +1,5 @@
 -- What reads in a row tell together.
-use Rattle.std.proofs.Common.{◌≡◌, ℕ, ◌+◌, ◌<◌, ◌≤◌, Option, Some, None, inl, inr, refl, arith}
+use Rattle.std.proofs.Common.{ℕ, ◌+◌, ◌<◌, ◌≤◌, Option, Some, None, inl, inr, refl, arith}
 use Rattle.wasm_gen.specs.Device.{ReadCounts, Tells, EndsRead, FailsOrTires, FailsRead, ReadsOn, ReadsToEnd, ReadsWithin}
 
 -- a step, and then another

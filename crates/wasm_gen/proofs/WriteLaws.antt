@@ -1,5 +1,5 @@
 -- What writes in a row tell together.
-use Rattle.std.proofs.Common.{◌≡◌, ℕ, ◌+◌, Option, Some, None, refl, ◌∙◌, ap}
+use Rattle.std.proofs.Common.{ℕ, ◌+◌, Option, Some, None, refl, ◌∙◌, ap}
 use Rattle.wasm_gen.specs.Device.{WritesOn, FailsWrite}
 
 pub writes_go_on : (a b c : Option ℕ) → WritesOn a b → WritesOn b c → WritesOn a c

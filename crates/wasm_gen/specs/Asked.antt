@@ -3,7 +3,7 @@ use Rattle.std.specs.Prelude.{◌≡◌, ◌⊎◌, ◌≤◌, ◌%◌, ℕ, Lis
 use Rattle.wasm_core.specs.Types as core
 use Rattle.wasm_spec.specs.Limits.{Types, Functions, most}
 use Rattle.wasm_spec.specs.Types.{SubType}
-use Rattle.wasm_smith.specs.Family.{IsAskable, IsInFamily, plain, types_of}
+use Rattle.wasm_smith.specs.Family.{IsAskable, IsInFamily, bare, types_of}
 use Rattle.wasm_smith.specs.Made.{Made}
 use Rattle.wasm_smith.specs.Spelling.{Spells}
 use Rattle.wasm_smith.specs.Types.{Config}
@@ -29,7 +29,7 @@ pub record HasLists (c : Config) (groups : List (List (SubType ℕ))) (funcs : L
 -- is a module of this list.
 pub record MakesLists (c : Config) (seed bytes : List ℕ) : Type 0 where
   pub exactly : (groups : List (List (SubType ℕ))) (funcs : List ℕ) → IsReachable c groups funcs → Spells c groups funcs seed
-      → IsGenerated c (plain groups funcs) bytes
+      → IsGenerated c (bare groups funcs) bytes
   pub going_on : (groups : List (List (SubType ℕ))) (funcs front rest : List ℕ) (byte : ℕ) → IsReachable c groups funcs
       → Spells c groups funcs front → seed ≡ front ++ byte ∷ rest → byte % 2 ≡ 0 → HasLists c groups funcs bytes
 
@@ -37,8 +37,8 @@ pub record MakesLists (c : Config) (seed bytes : List ℕ) : Type 0 where
 abbrev pub IsWantOrLimit : Config → List ℕ → GenerateError → Type 0
 IsWantOrLimit c seed e = (e ≡ Memory) ⊎ ((passed : core.Limit) × (e ≡ Limit passed) × PassesLimit c seed passed)
 
--- With a configuration with which lists can be asked for, only want of memory, or a limit that the drawn module passes, keeps a module from being
--- generated; and where the seed spells a list that passes no limit, only want of memory
+-- With a configuration with which lists can be asked for, only running out of memory, or a limit that the drawn module passes, keeps a module from being
+-- generated; and where the seed spells a list that passes no limit, only running out of memory
 -- does.
 pub record RefusesRightly (c : Config) (seed : List ℕ) (e : GenerateError) : Type 0 where
   pub total : IsAskable c → IsWantOrLimit c seed e

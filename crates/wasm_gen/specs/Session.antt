@@ -2,7 +2,7 @@
 use Rattle.std.specs.Prelude.{◌≡◌, ℕ, List, Bool, true, false, not, Result, Ok, Err, IsErrAnd}
 use Rattle.wasm_core.specs.LimitCases.{Locals}
 use Rattle.wasm_spec.specs.Spaces.{Sizes}
-use Rattle.wasmparser.specs.Judging.{IsJudged}
+use Rattle.wasmparser.specs.Validation.{IsValidated}
 use Rattle.wasmparser.specs.Types.{Error, ErrorKind, Operator, Body, Limit, Failed}
 use Rattle.wasm_gen.specs.History.{History}
 
@@ -13,20 +13,20 @@ is_in_body Body = true
 is_in_body (Limit Locals) = true
 is_in_body _ = false
 
--- the answer ends the judge: a refusal does, unless it is one of a body
+-- the answer ends the validator: a refusal does, unless it is one of a body
 abbrev pub fails : Result Sizes Error → Bool
 fails (Ok sizes) = false
 fails (Err e) = not (is_in_body e.kind)
 
 -- what a session answers to the bytes of a module, and how it goes on
 pub record Checks (old : History) (bytes : List ℕ) (verdict : Result Sizes Error) (new : History) : Type 0 where
-  -- a judge that has not failed judges the bytes under the session's features
-  pub judged : old.has_failed ≡ false → IsJudged old.features bytes verdict
-  -- a judge that has failed refuses whatever comes
+  -- a validator that has not failed validates the bytes under the session's features
+  pub validated : old.has_failed ≡ false → IsValidated old.features bytes verdict
+  -- a validator that has failed refuses whatever comes
   pub refused : old.has_failed ≡ true → IsErrAnd verdict (λ e. (e.kind ≡ Failed) × (e.offset ≡ 0))
-  -- a judge that has not failed fails by some answers
+  -- a validator that has not failed fails by some answers
   pub goes_on : old.has_failed ≡ false → new.has_failed ≡ fails verdict
-  -- a judge that has failed stays so
+  -- a validator that has failed stays so
   pub stays : old.has_failed ≡ true → new.has_failed ≡ true
   pub features_kept : new.features ≡ old.features
   pub id_kept : new.id ≡ old.id

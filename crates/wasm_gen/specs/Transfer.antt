@@ -1,4 +1,4 @@
--- What reading a whole input and writing a whole text do to the known bytes.
+-- What reading a whole input and writing bytes whole do to the known bytes.
 use Rattle.std.specs.Prelude.{◌≡◌, ◌<◌, ◌≤◌, ◌++◌, ℕ, List, length, take, Option}
 use Rattle.std.specs.Io.KnownBytes.{Appends, Consumes, IsAtEnd}
 
@@ -18,6 +18,6 @@ ConsumesUpTo old new most = (bytes : List ℕ) × Consumes old new bytes × (len
 abbrev pub ConsumesMore : Option (List ℕ) → Option (List ℕ) → ℕ → Type 0
 ConsumesMore old new most = (bytes : List ℕ) × Consumes old new bytes × (most < length bytes)
 
--- the known bytes grow by a front of the text, which is not all of it
+-- the known bytes grow by a front of these bytes, not by all of them
 abbrev pub AppendsFront : Option (List ℕ) → Option (List ℕ) → List ℕ → Type 0
-AppendsFront old new text = (n : ℕ) × (n < length text) × Appends old new (take n text)
+AppendsFront old new bytes = (n : ℕ) × (n < length bytes) × Appends old new (take n bytes)

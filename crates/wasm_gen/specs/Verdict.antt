@@ -5,14 +5,14 @@ use Rattle.wasmparser.specs.Error.{kind_name}
 use Rattle.wasmparser.specs.Types.{Error}
 
 -- a label and the number under it
-abbrev pub count_text : List ℕ → ℕ → List ℕ
-count_text label n = label ++ decimal n
+abbrev pub counted : List ℕ → ℕ → List ℕ
+counted label n = label ++ decimal n
 
 -- the line for a valid module
 abbrev pub yes_line : Sizes → List ℕ
-yes_line s = codes "yes" ++ count_text (codes " types=") s.types ++ count_text (codes " functions=") s.functions
-    ++ count_text (codes " tables=") s.tables ++ count_text (codes " memories=") s.memories ++ count_text (codes " globals=") s.globals
-    ++ count_text (codes " tags=") s.tags ++ count_text (codes " elements=") s.elements ++ count_text (codes " exports=") s.exports ++ codes "\n"
+yes_line s = codes "yes" ++ counted (codes " types=") s.types ++ counted (codes " functions=") s.functions
+    ++ counted (codes " tables=") s.tables ++ counted (codes " memories=") s.memories ++ counted (codes " globals=") s.globals
+    ++ counted (codes " tags=") s.tags ++ counted (codes " elements=") s.elements ++ counted (codes " exports=") s.exports ++ codes "\n"
 
 -- the line for a verdict
 abbrev pub verdict_line : Result Sizes Error → List ℕ

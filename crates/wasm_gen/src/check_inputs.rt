@@ -1,8 +1,7 @@
-//! Judging many inputs one after the other, as the program does.
+//! Validates many inputs one after the other, as the program does.
 
 ghost use Rattle.std.specs.Prelude.{◌≡◌, ◌≢◌, ◌≤◌, ◌⊎◌, ◌^◌, true, false, length, IfOk, IfErr};
 ghost use Rattle.std.specs.Io.KnownBytes.{Keeps};
-ghost use Rattle.wasm_core.specs.Features.{feature_set};
 ghost use Rattle.wasm_gen.specs.CheckInputs.{GoesOn, WritesLine, ends_run, outcome, restarted};
 ghost use Rattle.wasm_gen.specs.Device.{FailsOrTires, FailsWrite, WritesOn};
 ghost use Rattle.wasm_gen.specs.Transfer.{ConsumesMore};
@@ -54,8 +53,8 @@ fn ends_run(answer: Result<bool, RunError>) -> bool
     matches!(answer, Err(RunError::Write))
 }
 
-/// Judges an input and writes the line of its verdict, as [`run_check`] does. Unless the write failed, the session then judges the next input:
-/// where it failed, or memory ran out, by a new judge of the name `next`.
+/// Validates an input and writes the line of its verdict, as [`run_check`] does. Unless the write failed, the session then validates the next input:
+/// where it failed, or memory ran out, by a new validator of the name `next`.
 pub fn check_next<R: Source, W: Sink>(
     alloc: Global,
     session: &mut Session,
@@ -64,7 +63,7 @@ pub fn check_next<R: Source, W: Sink>(
     writer: &mut W,
 ) -> Result<bool, RunError>
     requires { session.old.has_failed ≡ false }
-    ensures judged { IfOk result (λ is_yes. WritesLine session.old next session.new
+    ensures validated { IfOk result (λ is_yes. WritesLine session.old next session.new
         (R.remaining reader.old) (R.remaining reader.new) (W.contents writer.old) (W.contents writer.new) is_yes) }
     ensures ready { result ≢ Err RunError.Write → session.new.has_failed ≡ false }
     ensures goes_on { result ≢ Err RunError.Write → GoesOn session.old next session.new }
@@ -109,7 +108,7 @@ fn check_named<I: Inputs, W: Sink>(
     }
 }
 
-/// Judges the inputs of these names in turn, tells each fault, and gives how each ended. A failed write ends the run; after any other fault the
+/// Validates the inputs of these names in turn, tells each fault, and gives how each ended. A failed write ends the run; after any other fault the
 /// next input follows.
 #[tactic(auto, using(crate::proofs::WriteLaws::writes_go_on, crate::proofs::WriteLaws::last_write_fails))]
 pub fn check_inputs<I: Inputs, W: Sink>(

@@ -1,4 +1,4 @@
-//! What users of a session need of the judge.
+//! What users of a session need of the validator.
 
 pub use wasmparser::error::{Error, ErrorKind};
 pub use wasmparser::types::{CoreExports, EntityType, Types, TypesRef};

@@ -1,4 +1,4 @@
-//! Modules made of seeds, seeds for lists of types and functions, sessions that judge modules, and the program's commands over
+//! Modules made of seeds, seeds for lists of types and functions, sessions that validate modules, and the program's commands over
 //! readers and writers.
 #![tactic(auto)]
 
@@ -7,6 +7,7 @@ pub mod device;
 pub mod error;
 pub mod generate;
 pub mod judge;
+pub mod laws;
 pub mod run;
 pub mod seed;
 pub mod session;

@@ -18,9 +18,9 @@ use crate::verdict::{empty_line, put_verdict};
 use std::alloc::Global;
 use wasm_smith::config::Config;
 
-/// Reads a module, judges it and writes the line of its verdict, for which it takes the room beforehand. Answers whether the verdict is yes.
+/// Reads a module, validates it and writes the line of its verdict, for which it takes the room beforehand. Answers whether the verdict is yes.
 ///
-/// After `Write` the session has judged the module. After `Memory` it is as it was, or it has failed since judging ran out of memory.
+/// After `Write` the session has validated the module. After `Memory` it is as it was, or it has failed since validating ran out of memory.
 #[tactic(auto, using(crate::proofs::ReadLaws::none_read, crate::proofs::WriteLaws::none_written))]
 pub fn run_check<R: Source, W: Sink>(
     alloc: Global,
@@ -61,14 +61,14 @@ pub fn run_check<R: Source, W: Sink>(
     let Ok(mut line) = empty_line(alloc) else {
         return Err(RunError::Memory);
     };
-    let verdict = judge_input(alloc, session, reader)?;
+    let verdict = check_input(alloc, session, reader)?;
     put_verdict(&mut line, &verdict);
     write_whole(writer, &line)?;
     Ok(verdict.is_ok())
 }
 
-// Reads a module and judges it. Running out of memory is no verdict.
-fn judge_input<R: Source>(
+// Reads a module and validates it. Running out of memory is no verdict.
+fn check_input<R: Source>(
     alloc: Global,
     session: &mut Session,
     reader: &mut R,

@@ -1,4 +1,4 @@
-//! Judging many modules, one after the other.
+//! Validation many modules, one after the other.
 
 ghost use Rattle.std.specs.Prelude.{◌≡◌};
 ghost use Rattle.wasm_core.specs.Features.{feature_set};
@@ -9,13 +9,13 @@ use std::alloc::Global;
 use std::marker::Model;
 use wasm_core::features::WasmFeatures;
 use wasm_core::limits::Limit;
-use wasmparser::judge::validate_module;
+use wasmparser::validator::validate_module;
 
-/// Judges modules under one set of features. After a module with a refused body the next one is judged. Any other
-/// refusal ends the judge: from then on each module is refused as `Failed`, until
-/// [`restart`](Session::restart) hands in another judge.
+/// Validates modules under one set of features. After a module with a refused body the next one is validated. Any other
+/// refusal ends the validator: from then on each module is refused as `Failed`, and
+/// [`restart`](Session::restart) hands in another validator.
 ///
-/// Contracts see a session as its features, the judge's name, and whether the judge failed.
+/// Contracts see a session as its features, the validator's name, and whether the validator failed.
 #[derive(Debug, Drop)]
 pub struct Session {
     features: WasmFeatures,
@@ -46,7 +46,7 @@ impl Session {
     ghost use Rattle.std.specs.Prelude.{false};
     ghost use Rattle.wasm_gen.specs.Session.{Checks};
 
-    /// A session with these features, whose first judge has this name.
+    /// A session with these features, whose first validator has this name.
     pub fn new(features: WasmFeatures, id: ValidatorId) -> Session
         ensures { result ≡ record { features = feature_set features; id = id; has_failed = false } }
     {
@@ -57,9 +57,9 @@ impl Session {
         }
     }
 
-    /// Judges the bytes of a module, and shows the index spaces of a valid one.
+    /// Validates the bytes of a module, and shows the index spaces of a valid one.
     ///
-    /// The kind of a refusal names a fault that is there, or want of memory; which of several is named is open.
+    /// The kind of a refusal names a fault that is there, or running out of memory; which of several is named is open.
     pub fn check(&mut self, alloc: Global, bytes: &[u8]) -> Result<Types, Error>
         ensures { Checks self.old bytes.now result self.new }
     {
@@ -76,7 +76,7 @@ impl Session {
         verdict
     }
 
-    /// Goes on with a new judge of this name, under the same features.
+    /// Goes on with a new validator of this name, under the same features.
     pub fn restart(&mut self, id: ValidatorId)
         ensures { self.new ≡ record { features = self.old.features; id = id; has_failed = false } }
     {
@@ -84,21 +84,21 @@ impl Session {
         self.has_failed = false;
     }
 
-    /// Whether the judge has ended, and judges no more.
+    /// Whether the validator has ended, and validates no more.
     pub fn has_failed(&self) -> bool
         ensures { result ≡ self.now.has_failed }
     {
         self.has_failed
     }
 
-    /// The name of the judge, as it was handed in last.
+    /// The name of the validator, as it was handed in last.
     pub fn id(&self) -> ValidatorId
         ensures { result ≡ self.now.id }
     {
         self.id
     }
 
-    /// The features under which modules are judged.
+    /// The features under which modules are validated.
     pub fn features(&self) -> WasmFeatures
         ensures { feature_set result ≡ self.now.features }
     {

@@ -1,4 +1,4 @@
-//! Reads all that a source has, up to a bound, and writes a text whole.
+//! Reads all that a source has, up to a bound, and writes bytes whole.
 ghost use Rattle.std.specs.Prelude.{◌≡◌, ◌≢◌, ◌≤◌, ◌<◌, ◌+◌, ◌⊎◌, length, IfOk, IfErr, OnOk, OnErr};
 ghost use Rattle.std.specs.Io.KnownBytes.{Appends, IsAtEnd, Keeps};
 ghost use Rattle.wasm_gen.specs.Device.{EndsRead, FailsOrTires, FailsRead, FailsWrite};
@@ -105,19 +105,19 @@ pub fn read_whole<R: Source>(
     Err(RunError::Read)
 }
 
-/// Writes a text whole. After a refusal a front of it is written, and nothing else.
-pub fn write_whole<W: Sink>(writer: &mut W, text: &[u8]) -> Result<(), RunError>
-    ensures whole { OnOk result (Appends (W.contents writer.old) (W.contents writer.new) text.now) }
+/// Writes bytes whole. After a refusal a front of it is written, and nothing else.
+pub fn write_whole<W: Sink>(writer: &mut W, bytes: &[u8]) -> Result<(), RunError>
+    ensures whole { OnOk result (Appends (W.contents writer.old) (W.contents writer.new) bytes.now) }
     ensures unfailed { OnOk result (WritesOn (W.faults writer.old) (W.faults writer.new)) }
 
     ensures kind { IfErr result (λ e. e ≡ RunError.Write) }
     ensures failed { OnErr result (FailsWrite (W.faults writer.old) (W.faults writer.new)) }
     ensures front { OnErr result
-        (AppendsFront (W.contents writer.old) (W.contents writer.new) text.now) }
+        (AppendsFront (W.contents writer.old) (W.contents writer.new) bytes.now) }
 {
     let mut written = 0;
-    while written < text.len() {
-        match writer.write(&text[written..]) {
+    while written < bytes.len() {
+        match writer.write(&bytes[written..]) {
             Ok(0) => return Err(RunError::Write),
             Ok(n) => written += n,
             Err(_) => return Err(RunError::Write),

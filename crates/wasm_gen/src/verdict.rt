@@ -1,15 +1,15 @@
 //! The line that tells the verdict on a module.
 
 ghost use Rattle.std.specs.Prelude.{◌≡◌, ◌≤◌, ◌+◌, ◌++◌, [], length, vec_len, vec_capacity, Err, IfOk};
-ghost use Rattle.wasm_gen.specs.Verdict.{count_text, yes_line, verdict_line};
+ghost use Rattle.wasm_gen.specs.Verdict.{counted, yes_line, verdict_line};
 ghost use Rattle.wasmparser.specs.Types.{shown};
 
 use crate::judge::{Error, Types, TypesRef};
 use itoa::Buffer;
 use std::alloc::{AllocError, Global};
-use wasm_core::text::put_bytes;
+use wasm_core::encoding::put_bytes;
 
-// More than a line's bytes: a number has at most 20 digits, and there are eight behind labels.
+// More than a line's bytes: a number has at most 20 digits, and there are eight after labels.
 const ROOM: usize = 300;
 
 // How many exports a module has.
@@ -25,7 +25,7 @@ fn export_count(types: TypesRef<'_>) -> u64
 // Appends a label and a number, for which there is room.
 fn put_count(line: &mut Vec<u8>, label: &str, count: u64)
     requires { vec_len line.old + length label.now + 20 ≤ vec_capacity line.old }
-    ensures written { line.new.items ≡ line.old.items ++ count_text label.now count }
+    ensures written { line.new.items ≡ line.old.items ++ counted label.now count }
     ensures length { vec_len line.new ≤ vec_len line.old + length label.now + 20 }
     ensures capacity { vec_capacity line.old ≤ vec_capacity line.new }
 {

@@ -7,7 +7,7 @@ use std::rt::{Env, Files};
 use std::{env, fs};
 use wasm_gen::error::GenerateError;
 use wasm_gen::generate::generate;
-use wasm_gen::smith::plain_config;
+use wasm_gen::smith::supported_config;
 use wasm_gen::transfer::{MAX_INPUT, MAX_TURNS, read_whole};
 
 fn main(rt: HostRuntime) -> ExitCode {
@@ -54,7 +54,7 @@ fn total_of_file<R: Files + AllocGlobal>(rt: &R, name: &str, length: usize) -> O
 
 // Makes a module of each seed.
 fn generate_each(alloc: Global, bytes: &[u8], length: usize) -> Result<Total, GenerateError> {
-    let config = plain_config();
+    let config = supported_config();
     let mut total = Total::default();
     for seed in bytes.chunks(length.max(1)) {
         let module = generate(alloc, &config, seed)?;

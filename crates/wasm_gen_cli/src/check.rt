@@ -40,7 +40,7 @@ impl<W: Write> Write for Flushed<W> {
     }
 }
 
-/// Judges the files in turn by one session, tells each fault, and gives the program's status. A failed write ends the run; after
+/// Validates the files in turn by one session, tells each fault, and gives the program's status. A failed write ends the run; after
 /// any other fault the next file follows.
 pub fn check_files<R: Files + Print + Eprint + AllocGlobal>(rt: &R, names: &[&str]) -> u8 {
     let mut files = NamedFiles(rt);

@@ -1,4 +1,4 @@
-//! The program `wasm_gen`: makes WebAssembly modules of seeds, and judges modules in files.
+//! The program `wasm_gen`: makes WebAssembly modules of seeds, and validates modules in files.
 #![tactic(auto)]
 
 mod check;

@@ -3,7 +3,7 @@
 use clap::{Arg, ArgAction, ArgMatches, Command, Error};
 use std::alloc::{AllocError, Global};
 
-// The files that `check` judges.
+// The files that `check` validates.
 fn files<'a>(alloc: Global) -> Arg<'a> {
     Arg::new(alloc, "FILE")
         .help("Files with modules")
@@ -19,7 +19,7 @@ fn seed<'a>(alloc: Global) -> Arg<'a> {
         .required(true)
 }
 
-// The command that judges modules.
+// The command that validates modules.
 fn check<'a>(alloc: Global) -> Result<Command<'a>, AllocError> {
     Command::new(alloc, "check")
         .about("Says of each file whether it holds a valid module")
@@ -29,7 +29,7 @@ fn check<'a>(alloc: Global) -> Result<Command<'a>, AllocError> {
 // The command that makes a module.
 fn generate<'a>(alloc: Global) -> Result<Command<'a>, AllocError> {
     Command::new(alloc, "generate")
-        .about("Makes a module of a seed and writes it to standard output")
+        .about("Generates the module of a seed and writes it to standard output")
         .arg(seed(alloc))
 }
 
@@ -44,7 +44,7 @@ fn add<'a>(
 // The program without its commands.
 fn program<'a>(alloc: Global) -> Result<Command<'a>, AllocError> {
     Command::new(alloc, "wasm_gen")
-        .about("Makes and judges WebAssembly modules")
+        .about("Makes and validates WebAssembly modules")
         .subcommand_required(true)
         .arg_required_else_help(true)
         .bin_name("wasm_gen")

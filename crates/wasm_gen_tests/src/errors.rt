@@ -1,12 +1,11 @@
 //! The texts of errors.
 
-use std::alloc::{AllocError, Global};
-use std::test::Fail;
+use std::alloc::Global;
 use wasm_core::limits::Limit;
 use wasm_gen::error::{GenerateError, RunError};
 
 // Errors, each with its text.
-const ROWS: [(RunError, &str); 11] = [
+const ROWS: &[(RunError, &str)] = &[
     (RunError::Read, "cannot read"),
     (RunError::Write, "cannot write"),
     (RunError::TooLong, "input too long"),
@@ -33,14 +32,16 @@ const ROWS: [(RunError, &str); 11] = [
 ];
 
 // Whether the error shows this text.
-fn shows(alloc: Global, error: RunError, text: &str) -> Result<bool, AllocError> {
-    Ok(error.to_string(alloc)?.as_str() == text)
+fn shows(alloc: Global, error: RunError, text: &str) -> bool {
+    match error.to_string(alloc) {
+        Ok(shown) => shown.as_str() == text,
+        Err(_) => false,
+    }
 }
 
 #[test]
-fn has_its_text(rt: HostRuntime) -> Result<(), Fail> {
+fn error_has_its_text(rt: HostRuntime) {
     for (error, text) in ROWS {
-        assert!(rt; shows(rt.alloc(), error, text)?, "{text}");
+        assert!(rt; shows(rt.alloc(), *error, text), "{text}");
     }
-    Ok(())
 }

@@ -3,35 +3,32 @@ ghost use Rattle.std.specs.Prelude.{◌≡◌, ◌+◌, IfOk, IfSome, Some};
 ghost use Rattle.std.specs.Option.{option_map};
 ghost use Rattle.wasm_gen.specs.Device.{FailsWrite, Tells};
 
-use std::alloc::{AllocError, Global};
+use std::alloc::Global;
 use std::io;
 use std::io::{Error, ErrorKind, Read};
 use wasm_gen::device::{Sink, Source};
 
-/// What a [`ScriptedReader`] does at one call.
-#[derive(Clone, Copy)]
-pub enum Step {
-    /// It gives this byte.
-    Gives(u8),
-    /// A signal cuts it short.
-    IsInterrupted,
-    /// It fails.
-    Fails,
-    /// It gives nothing, as at the end.
-    Ends,
-}
-
-/// A reader that takes one step of its script at each call, and then another step without end.
+/// A reader that takes one step of its script at each call, and then another step without end. A step is a byte: for `~` a signal cuts the call short,
+/// for `!` it fails, for `.` it gives nothing, as at the end, and any other byte it gives.
 #[derive(Drop)]
 pub struct ScriptedReader<'a> {
-    script: &'a [Step],
-    then: Step,
+    script: &'a [u8],
+    then: u8,
 }
 
 impl<'a> ScriptedReader<'a> {
-    /// A reader that takes the steps of the script, and from then on this one.
-    pub fn new(script: &'a [Step], then: Step) -> Self {
-        ScriptedReader { script, then }
+    /// A reader that takes the steps of the script, and the last of them without end.
+    pub fn new(script: &'a str) -> Self {
+        match script.as_bytes().split_last() {
+            Some((then, script)) => ScriptedReader {
+                script,
+                then: *then,
+            },
+            None => ScriptedReader {
+                script: &[],
+                then: b'.',
+            },
+        }
     }
 }
 
@@ -43,16 +40,16 @@ impl Read for ScriptedReader<'_> {
             self.script = rest;
         }
         match step {
-            Step::Gives(byte) => match buffer.first_mut() {
+            b'~' => Err(Error::from(ErrorKind::Interrupted)),
+            b'!' => Err(Error::from(ErrorKind::BrokenPipe)),
+            b'.' => Ok(0),
+            byte => match buffer.first_mut() {
                 Some(first) => {
                     *first = byte;
                     Ok(1)
                 }
                 None => Ok(0),
             },
-            Step::IsInterrupted => Err(Error::from(ErrorKind::Interrupted)),
-            Step::Fails => Err(Error::from(ErrorKind::BrokenPipe)),
-            Step::Ends => Ok(0),
         }
     }
 }
@@ -162,13 +159,13 @@ pub struct NarrowWriter {
 
 impl NarrowWriter {
     /// A writer that takes so many bytes.
-    pub fn new(alloc: Global, room: usize, when_full: WhenFull) -> Result<Self, AllocError> {
-        Ok(NarrowWriter {
-            taken: Vec::with_capacity(alloc, room)?,
+    pub fn new(alloc: Global, room: usize, when_full: WhenFull) -> Self {
+        NarrowWriter {
+            taken: Vec::new(alloc),
             faults: Some(0),
             room,
             when_full,
-        })
+        }
     }
 
     // One more fault, which is no longer told where there is no room for it.

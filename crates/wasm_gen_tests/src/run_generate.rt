@@ -1,13 +1,14 @@
 //! Making a module of what a reader gives.
 
-use crate::answers::{front_len, is_cut, is_refused};
-use crate::fakes::{NarrowWriter, ScriptedReader, Step, WhenFull};
-use std::alloc::{AllocError, Global};
-use std::test::Fail;
+use crate::answers::is_front;
+use crate::fakes::{NarrowWriter, ScriptedReader, WhenFull};
+use std::alloc::Global;
+use std::io;
+use wasm_core::limits::Limit;
 use wasm_gen::device::Source;
 use wasm_gen::error::{GenerateError, RunError};
 use wasm_gen::run::run_generate;
-use wasm_gen::smith::{Config, plain_config};
+use wasm_gen::smith::{Config, supported_config};
 
 // A seed of one type and one function, and the bytes that are made of it.
 const SEED: &[u8] = &[0x01, 0x00, 0x00, 0x00, 0x01];
@@ -18,40 +19,39 @@ const MODULE: &[u8] = &[
 ];
 
 // Whether exactly the module is made of the seed.
-fn makes_the_module(alloc: Global) -> Result<bool, RunError> {
+fn makes_the_module(alloc: Global) -> bool {
     let mut reader = SEED;
     let mut written = Vec::new(alloc);
-    run_generate(alloc, &plain_config(), &mut reader, &mut written)?;
-    Ok(written.as_slice() == MODULE)
+    let answer = run_generate(alloc, &supported_config(), &mut reader, &mut written);
+    answer == Ok(()) && written.as_slice() == MODULE
 }
 
 #[test]
-fn writes_the_module_of_a_seed(rt: HostRuntime) -> Result<(), Fail> {
-    assert!(rt; makes_the_module(rt.alloc())?);
-    Ok(())
+fn writes_the_module_of_a_seed(rt: HostRuntime) {
+    assert!(rt; makes_the_module(rt.alloc()));
 }
 
-// Whether a writer of this room takes as much of the module, and is refused where that is not all.
-fn fills(alloc: Global, room: usize) -> Result<bool, AllocError> {
+// Whether a writer of this room takes as much of the module, and the run is refused where that is not all.
+fn fills(alloc: Global, room: usize) -> bool {
     let mut reader = SEED;
-    let mut writer = NarrowWriter::new(alloc, room, WhenFull::Fails)?;
-    let answer = run_generate(alloc, &plain_config(), &mut reader, &mut writer);
-    let front = front_len(&writer.taken, MODULE);
-    if room < MODULE.len() {
-        return Ok(is_cut(answer.err(), front, room));
-    }
-    Ok(answer.is_ok() && front == Some(room))
+    let mut writer = NarrowWriter::new(alloc, room, WhenFull::Fails);
+    let answer = run_generate(alloc, &supported_config(), &mut reader, &mut writer);
+    let expected = if room < MODULE.len() {
+        Err(RunError::Write)
+    } else {
+        Ok(())
+    };
+    answer == expected && is_front(&writer.taken, MODULE, room)
 }
 
 #[test]
-fn writes_as_much_as_there_is_room(rt: HostRuntime) -> Result<(), Fail> {
+fn writes_as_much_as_there_is_room(rt: HostRuntime) {
     for room in 0..=MODULE.len() {
-        assert!(rt; fills(rt.alloc(), room)?, "room for {room}");
+        assert!(rt; fills(rt.alloc(), room), "room for {room}");
     }
-    Ok(())
 }
 
-// Whether this refusal is told of what the reader gives, where nothing is written.
+// Whether a run is refused so, and writes nothing.
 fn is_refused_for<R: Source + Drop>(
     alloc: Global,
     config: &Config,
@@ -60,36 +60,42 @@ fn is_refused_for<R: Source + Drop>(
 ) -> bool {
     let mut written = Vec::new(alloc);
     let answer = run_generate(alloc, config, &mut reader, &mut written);
-    is_refused(answer.err(), error) && written.is_empty()
+    answer == Err(error) && written.is_empty()
 }
+
+// Least and most types, least functions, and why no module is made.
+const REFUSED: &[(u32, u32, u32, GenerateError)] = &[
+    (0, 0, 1, GenerateError::Minimum),
+    (1, 0, 1, GenerateError::Config("min_types")),
+    (1_000_001, 1_000_001, 0, GenerateError::Limit(Limit::Types)),
+];
 
 #[test]
 fn writes_nothing_of_a_refused_seed(rt: HostRuntime) {
-    let rows = [
-        (0, GenerateError::Minimum),
-        (1, GenerateError::Config("min_types")),
-    ];
-    for (min_types, cause) in rows {
-        let mut config = plain_config();
-        config.min_funcs = 1;
-        config.max_types = 0;
-        config.min_types = min_types;
-        let error = RunError::Generate(cause);
-        assert!(rt;
-            is_refused_for(rt.alloc(), &config, SEED, error),
-            "{min_types} types"
-        );
+    let mut config = supported_config();
+    for (min_types, max_types, min_funcs, cause) in REFUSED {
+        config.min_types = *min_types;
+        config.max_types = *max_types;
+        config.min_funcs = *min_funcs;
+        let error = RunError::Generate(*cause);
+        assert!(rt; is_refused_for(rt.alloc(), &config, SEED, error), "{cause}");
     }
 }
 
 #[test]
 fn writes_nothing_where_a_read_fails(rt: HostRuntime) {
-    let script = [Step::Gives(0x01), Step::IsInterrupted, Step::Gives(0x00)];
-    for calls in 0..script.len() + 1 {
-        let reader = ScriptedReader::new(&script[..calls], Step::Fails);
+    let config = supported_config();
+    for script in ["!", "\x01!", "\x01~!", "\x01~\0!"] {
+        let reader = ScriptedReader::new(script);
         assert!(rt;
-            is_refused_for(rt.alloc(), &plain_config(), reader, RunError::Read),
-            "after {calls} calls"
+            is_refused_for(rt.alloc(), &config, reader, RunError::Read),
+            "{script:?}"
         );
     }
+}
+
+#[test]
+fn writes_nothing_of_an_input_without_end(rt: HostRuntime) {
+    let reader = io::repeat(1);
+    assert!(rt; is_refused_for(rt.alloc(), &supported_config(), reader, RunError::TooLong));
 }

@@ -4,7 +4,7 @@ use wasm_gen::status::Outcome::{Fault, No, Refused, Yes};
 use wasm_gen::status::{Outcome, status_of};
 
 // Outcomes of runs, each with the status of all together.
-const ROWS: [(&[Outcome], u8); 9] = [
+const ROWS: &[(&[Outcome], u8)] = &[
     (&[], 0),
     (&[Yes], 0),
     (&[Yes, Yes, Yes], 0),
@@ -17,8 +17,8 @@ const ROWS: [(&[Outcome], u8); 9] = [
 ];
 
 #[test]
-fn takes_the_worst_outcome(rt: HostRuntime) {
+fn status_is_that_of_the_worst_outcome(rt: HostRuntime) {
     for (outcomes, status) in ROWS {
-        assert!(rt; status_of(outcomes) == status, "{outcomes:?}");
+        assert!(rt; status_of(outcomes) == *status, "{outcomes:?}");
     }
 }

@@ -1,25 +1,28 @@
-//! Reading whole inputs, and writing whole texts.
+//! Reading whole inputs, and writing whole outputs.
 
-use crate::answers::{front_len, is_refused};
-use crate::fakes::{NarrowWriter, ScriptedReader, Step, TellingReader, Told, WhenFull};
-use std::alloc::{AllocError, Global};
+use crate::answers::is_front;
+use crate::fakes::{NarrowWriter, ScriptedReader, TellingReader, Told, WhenFull};
+use std::alloc::Global;
 use std::io::ErrorKind;
-use std::test::Fail;
 use wasm_gen::error::RunError;
 use wasm_gen::transfer::{CHUNK_SIZE, MAX_INPUT, MAX_TURNS, read_whole, write_whole};
+use wasm_test_rows::fields::{count_of_rows, four_fields, is_row};
+use wasm_test_rows::values::number_of;
 
 const TEXT: &[u8] = b"yes types=0\n";
 
-// Whether a slice of so many bytes is read whole, and nothing is left of it.
-fn is_read_whole(alloc: Global, size: usize) -> Result<bool, Fail> {
-    let input = vec![in alloc; 7u8; size]?;
-    let mut reader = input.as_slice();
-    let bytes = read_whole(alloc, &mut reader, size, 5)?;
-    Ok(bytes == input && reader.is_empty())
+// Whether a slice is read whole, and nothing is left of it.
+fn is_read_whole(alloc: Global, input: &[u8]) -> bool {
+    let mut reader = input;
+    match read_whole(alloc, &mut reader, input.len(), 5) {
+        Ok(bytes) => bytes.as_slice() == input && reader.is_empty(),
+        Err(_) => false,
+    }
 }
 
 #[test]
-fn reads_a_slice_whole(rt: HostRuntime) -> Result<(), Fail> {
+fn reads_a_slice_whole(rt: HostRuntime) {
+    let input = [7; 3 * CHUNK_SIZE];
     for size in [
         0,
         1,
@@ -28,132 +31,62 @@ fn reads_a_slice_whole(rt: HostRuntime) -> Result<(), Fail> {
         CHUNK_SIZE + 1,
         3 * CHUNK_SIZE,
     ] {
-        assert!(rt; is_read_whole(rt.alloc(), size)?, "at {size}");
+        assert!(rt; is_read_whole(rt.alloc(), &input[..size]), "at {size}");
     }
-    Ok(())
 }
 
-// Reads a script to its end.
-fn read_script(
-    alloc: Global,
-    script: &[Step],
-    then: Step,
-    most: usize,
-    turns: u64,
-) -> Result<Vec<u8>, RunError> {
-    let mut reader = ScriptedReader::new(script, then);
-    read_whole(alloc, &mut reader, most, turns)
+// The script of a reader, the most bytes and turns that are allowed, and the bytes that are read, or the error.
+const SCRIPTS: &str = "
+    ~a~~b. | 268435456 | 536870912 | ab
+    a~.    | 1         | 3         | a
+    !      | 268435456 | 536870912 | Read
+    a!     | 268435456 | 536870912 | Read
+    ab!    | 268435456 | 536870912 | Read
+    ab~!   | 268435456 | 536870912 | Read
+    ab~c!  | 268435456 | 536870912 | Read
+    ~      | 268435456 | 0         | Read
+    ~      | 268435456 | 1         | Read
+    ~      | 268435456 | 100       | Read
+    a~.    | 1         | 2         | Read
+    a      | 0         | 536870912 | TooLong
+    a      | 1         | 536870912 | TooLong
+    a      | 10        | 536870912 | TooLong
+";
+
+// Whether this comes of reading a script: the bytes, or the error.
+fn reads(alloc: Global, script: &str, most: u64, turns: u64, expected: &str) -> Option<bool> {
+    let mut reader = ScriptedReader::new(script);
+    match read_whole(alloc, &mut reader, usize::try_from(most).ok()?, turns) {
+        Ok(bytes) => Some(bytes.as_slice() == expected.as_bytes()),
+        Err(RunError::Read) => Some(expected == "Read"),
+        Err(RunError::TooLong) => Some(expected == "TooLong"),
+        Err(_) => None,
+    }
 }
 
-// Scripts, the bytes and turns that are allowed, and what is read.
-const WHOLE_SCRIPTS: [(&[Step], usize, u64, &[u8]); 2] = [
-    (
-        &[
-            Step::IsInterrupted,
-            Step::Gives(1),
-            Step::IsInterrupted,
-            Step::IsInterrupted,
-            Step::Gives(2),
-        ],
-        MAX_INPUT,
-        MAX_TURNS,
-        &[1, 2],
-    ),
-    (&[Step::Gives(1), Step::IsInterrupted], 1, 3, &[1]),
-];
-
-// Whether exactly these bytes are read of a script to its end.
-fn reads(
-    alloc: Global,
-    script: &[Step],
-    most: usize,
-    turns: u64,
-    bytes: &[u8],
-) -> Result<bool, RunError> {
-    Ok(read_script(alloc, script, Step::Ends, most, turns)?.as_slice() == bytes)
+// Whether a row holds.
+fn holds(alloc: Global, row: &str) -> Option<bool> {
+    let (script, most, turns, expected) = four_fields(row)?;
+    reads(alloc, script, number_of(most)?, number_of(turns)?, expected)
 }
 
 #[test]
-fn reads_scripts_to_their_end(rt: HostRuntime) -> Result<(), Fail> {
-    for (script, most, turns, bytes) in WHOLE_SCRIPTS {
-        assert!(rt; reads(rt.alloc(), script, most, turns, bytes)?, "{bytes:?}");
+fn reads_up_to_the_end_or_a_failure(rt: HostRuntime) {
+    let table = SCRIPTS;
+    for row in table.lines() {
+        if is_row(row) {
+            assert!(rt; holds(rt.alloc(), row) == Some(true), "{row}");
+        }
     }
-    Ok(())
-}
-
-// Scripts and the step that then comes, the bytes and turns that are allowed, and the refusal.
-const REFUSED_SCRIPTS: [(&[Step], Step, usize, u64, RunError); 12] = [
-    (&[], Step::Fails, MAX_INPUT, MAX_TURNS, RunError::Read),
-    (
-        &[Step::Gives(1)],
-        Step::Fails,
-        MAX_INPUT,
-        MAX_TURNS,
-        RunError::Read,
-    ),
-    (
-        &[Step::Gives(1), Step::Gives(2)],
-        Step::Fails,
-        MAX_INPUT,
-        MAX_TURNS,
-        RunError::Read,
-    ),
-    (
-        &[Step::Gives(1), Step::Gives(2), Step::IsInterrupted],
-        Step::Fails,
-        MAX_INPUT,
-        MAX_TURNS,
-        RunError::Read,
-    ),
-    (
-        &[
-            Step::Gives(1),
-            Step::Gives(2),
-            Step::IsInterrupted,
-            Step::Gives(3),
-        ],
-        Step::Fails,
-        MAX_INPUT,
-        MAX_TURNS,
-        RunError::Read,
-    ),
-    (&[], Step::IsInterrupted, MAX_INPUT, 0, RunError::Read),
-    (&[], Step::IsInterrupted, MAX_INPUT, 1, RunError::Read),
-    (&[], Step::IsInterrupted, MAX_INPUT, 100, RunError::Read),
-    (
-        &[Step::Gives(1), Step::IsInterrupted],
-        Step::Ends,
-        1,
-        2,
-        RunError::Read,
-    ),
-    (&[], Step::Gives(7), 0, MAX_TURNS, RunError::TooLong),
-    (&[], Step::Gives(7), 1, MAX_TURNS, RunError::TooLong),
-    (&[], Step::Gives(7), 10, MAX_TURNS, RunError::TooLong),
-];
-
-#[test]
-fn refuses_what_fails_or_does_not_end(rt: HostRuntime) {
-    for (script, then, most, turns, error) in REFUSED_SCRIPTS {
-        let answer = read_script(rt.alloc(), script, then, most, turns);
-        assert!(rt;
-            is_refused(answer.err(), error),
-            "{} steps, at most {most} bytes in {turns} turns",
-            script.len()
-        );
-    }
+    assert!(rt; count_of_rows(table) == 14);
 }
 
 // Whether the text is read where so many bytes are allowed, and refused where it is longer.
 fn is_read_within(alloc: Global, most: usize) -> bool {
     let mut reader = TEXT;
-    let answer = read_whole(alloc, &mut reader, most, MAX_TURNS);
-    if most < TEXT.len() {
-        return is_refused(answer.err(), RunError::TooLong);
-    }
-    match answer {
-        Ok(bytes) => bytes.as_slice() == TEXT,
-        Err(_) => false,
+    match read_whole(alloc, &mut reader, most, MAX_TURNS) {
+        Ok(bytes) => most >= TEXT.len() && bytes.as_slice() == TEXT,
+        Err(e) => most < TEXT.len() && e == RunError::TooLong,
     }
 }
 
@@ -164,14 +97,16 @@ fn reads_no_more_than_is_allowed(rt: HostRuntime) {
     }
 }
 
-// A reader of the text, which fails in this way where so many bytes are left.
-fn telling_reader(fails_with: Option<usize>, kind: ErrorKind) -> TellingReader<'static> {
-    TellingReader {
+// Whether a read of the text, which may fail in this way where two bytes are left, asks so often.
+fn asks(alloc: Global, fails_with: Option<usize>, kind: ErrorKind, told: Told) -> bool {
+    let mut reader = TellingReader {
         rest: TEXT,
         fails_with,
         kind,
         told: Some(Told::default()),
-    }
+    };
+    let answer = read_whole(alloc, &mut reader, MAX_INPUT, 20);
+    answer.is_ok() == fails_with.is_none() && reader.told == Some(told)
 }
 
 // The counts of so many reads, of which so many failed and so many gave no byte.
@@ -185,58 +120,42 @@ fn counts(asked: u64, failed: u64, ended: u64) -> Told {
 
 #[test]
 fn stops_at_the_first_end_or_failure(rt: HostRuntime) {
-    let all = TEXT.len() as u64 + 1;
+    let alloc = rt.alloc();
     let last = Some(TEXT.len() - 2);
-    for (fails_with, kind, is_ok, told) in [
-        (None, ErrorKind::Other, true, counts(all, 0, 1)),
-        (last, ErrorKind::BrokenPipe, false, counts(3, 1, 0)),
-        (last, ErrorKind::Interrupted, false, counts(20, 0, 0)),
-    ] {
-        let mut reader = telling_reader(fails_with, kind);
-        let answer = read_whole(rt.alloc(), &mut reader, MAX_INPUT, 20);
-        if answer != Err(RunError::Memory) {
-            let asked = told.asked;
-            assert!(rt;
-                answer.is_ok() == is_ok && reader.told == Some(told),
-                "{asked} reads"
-            );
-        }
-    }
+    assert!(rt; asks(alloc, None, ErrorKind::Other, counts(13, 0, 1)));
+    assert!(rt; asks(alloc, last, ErrorKind::BrokenPipe, counts(3, 1, 0)));
+    assert!(rt; asks(alloc, last, ErrorKind::Interrupted, counts(20, 0, 0)));
 }
 
 // Whether a vector takes the text whole.
-fn fills_a_vector(alloc: Global) -> Result<bool, Fail> {
-    let mut all = Vec::with_capacity(alloc, TEXT.len())?;
-    write_whole(&mut all, TEXT)?;
-    Ok(all.as_slice() == TEXT)
+fn fills_a_vector(alloc: Global) -> bool {
+    let mut all = Vec::new(alloc);
+    write_whole(&mut all, TEXT) == Ok(()) && all.as_slice() == TEXT
 }
 
 #[test]
-fn writes_a_text_into_a_vector(rt: HostRuntime) -> Result<(), Fail> {
-    assert!(rt; fills_a_vector(rt.alloc())?);
-    Ok(())
+fn writes_bytes_into_a_vector(rt: HostRuntime) {
+    assert!(rt; fills_a_vector(rt.alloc()));
 }
 
-// Whether a writer of this room takes as much of the text, and fails once where that is not all.
-fn fills(alloc: Global, room: usize, when_full: WhenFull) -> Result<bool, AllocError> {
-    let mut writer = NarrowWriter::new(alloc, room, when_full)?;
+// Whether a writer of this room takes as much of the text, and fails once where that is not all. Nothing more asks for no more room.
+fn fills(alloc: Global, room: usize, when_full: WhenFull) -> bool {
+    let mut writer = NarrowWriter::new(alloc, room, when_full);
     let answer = write_whole(&mut writer, TEXT);
-    let front = front_len(&writer.taken, TEXT);
-    if room < TEXT.len() {
-        let is_write = answer == Err(RunError::Write);
-        return Ok(is_write && front == Some(room) && writer.faults == Some(1));
-    }
-    // Nothing more asks for no more room.
-    let is_whole = answer.is_ok() && write_whole(&mut writer, &[]).is_ok();
-    Ok(is_whole && front == Some(room) && writer.taken.len() == room && writer.faults == Some(0))
+    let (expected, faults) = if room < TEXT.len() {
+        (Err(RunError::Write), 1)
+    } else {
+        (Ok(()), 0)
+    };
+    let is_right = answer == expected && write_whole(&mut writer, &[]) == Ok(());
+    is_right && is_front(&writer.taken, TEXT, room) && writer.faults == Some(faults)
 }
 
 #[test]
-fn writes_as_much_as_there_is_room(rt: HostRuntime) -> Result<(), Fail> {
+fn writes_as_much_as_there_is_room(rt: HostRuntime) {
     for room in 0..=TEXT.len() {
         for when_full in [WhenFull::Fails, WhenFull::TakesNone] {
-            assert!(rt; fills(rt.alloc(), room, when_full)?, "room for {room}");
+            assert!(rt; fills(rt.alloc(), room, when_full), "room for {room}");
         }
     }
-    Ok(())
 }

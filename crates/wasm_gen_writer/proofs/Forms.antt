@@ -1,4 +1,4 @@
--- Lists and frames of texts.
+-- Lists and frames of encodings.
 use Rattle.std.proofs.Common.{◌≡◌, ℕ, zero, suc, ◌+◌, ◌*◌, ◌^◌, ◌<◌, ◌≤◌, Bool, List, [], ◌∷◌, ◌++◌, length, map, Some, refl, sym, subst, ap, arith, length-append}
 use Rattle.std.specs.List.{AllByRecursion, flat_map, slice_get}
 use Rattle.std.specs.Option.{unwrap_or}
@@ -6,8 +6,8 @@ use Rattle.std.proofs.lemmas.List.{length-map, map-id}
 use Rattle.wasm_spec.specs.Bytes.{IsByte, AreBytes, IsU32, IsItems, IsList, IsFramed}
 use Rattle.wasm_spec.specs.Grammar.{IsContent, IsSection, section_id}
 use Rattle.wasm_spec.specs.Syntax.{Section}
-use Rattle.wasm_spec.specs.Shortest.{unsigned_text, list_text, framed_text, section_text}
-use Rattle.wasm_spec.proofs.UnsignedTexts.{at_most_five}
+use Rattle.wasm_spec.specs.Shortest.{unsigned_encoding, list_encoding, framed_encoding, section_encoding}
+use Rattle.wasm_spec.proofs.UnsignedEncodings.{at_most_five}
 use Rattle.wasm_gen_writer.proofs.Numbers.{number_spells, number_bytes}
 
 -- ---- what holds of each
@@ -35,56 +35,56 @@ all_at P (y ∷ ys) (suc i) x h e = all_at P ys i x h.1 e
 
 -- ---- the grammar
 
-items_are : {A B : Type 0} (IsA : List ℕ → A → Type 0) (text : B → List ℕ) (view : B → A) (P : B → Type 0) → ((x : B) → P x → IsA (text x) (view x))
-    → (xs : List B) → AllByRecursion P xs → IsItems IsA (flat_map text xs) (map view xs)
-items_are IsA text view P law [] h = refl
-items_are IsA text view P law (x ∷ xs) h = (text x, flat_map text xs, refl, law x h.0, items_are IsA text view P law xs h.1)
+items_are : {A B : Type 0} (IsA : List ℕ → A → Type 0) (bytes : B → List ℕ) (view : B → A) (P : B → Type 0) → ((x : B) → P x → IsA (bytes x) (view x))
+    → (xs : List B) → AllByRecursion P xs → IsItems IsA (flat_map bytes xs) (map view xs)
+items_are IsA bytes view P law [] h = refl
+items_are IsA bytes view P law (x ∷ xs) h = (bytes x, flat_map bytes xs, refl, law x h.0, items_are IsA bytes view P law xs h.1)
 
 -- a list, whose items have a view
-pub views_are : {A B : Type 0} (IsA : List ℕ → A → Type 0) (text : B → List ℕ) (view : B → A) (P : B → Type 0) → ((x : B) → P x → IsA (text x) (view x))
-    → (xs : List B) → AllByRecursion P xs → length xs < 2 ^ 32 → IsList IsA (list_text text xs) (map view xs)
-unfolding list_text
-views_are IsA text view P law xs h few =
-    let counted = subst (λ n. IsU32 (unsigned_text (length xs)) n) (sym (length-map xs view)) (number_spells (length xs) few) in
-    (unsigned_text (length xs), flat_map text xs, refl, counted, items_are IsA text view P law xs h)
+pub views_are : {A B : Type 0} (IsA : List ℕ → A → Type 0) (bytes : B → List ℕ) (view : B → A) (P : B → Type 0) → ((x : B) → P x → IsA (bytes x) (view x))
+    → (xs : List B) → AllByRecursion P xs → length xs < 2 ^ 32 → IsList IsA (list_encoding bytes xs) (map view xs)
+unfolding list_encoding
+views_are IsA bytes view P law xs h few =
+    let counted = subst (λ n. IsU32 (unsigned_encoding (length xs)) n) (sym (length-map xs view)) (number_spells (length xs) few) in
+    (unsigned_encoding (length xs), flat_map bytes xs, refl, counted, items_are IsA bytes view P law xs h)
 
 -- a list of the items themselves
-pub list_is : {A : Type 0} (IsA : List ℕ → A → Type 0) (text : A → List ℕ) (P : A → Type 0) → ((x : A) → P x → IsA (text x) x)
-    → (xs : List A) → AllByRecursion P xs → length xs < 2 ^ 32 → IsList IsA (list_text text xs) xs
-list_is IsA text P law xs h few =
-    subst (λ l. IsList IsA (list_text text xs) l) (map-id xs) (views_are IsA text (λ x. x) P law xs h few)
+pub list_is : {A : Type 0} (IsA : List ℕ → A → Type 0) (bytes : A → List ℕ) (P : A → Type 0) → ((x : A) → P x → IsA (bytes x) x)
+    → (xs : List A) → AllByRecursion P xs → length xs < 2 ^ 32 → IsList IsA (list_encoding bytes xs) xs
+list_is IsA bytes P law xs h few =
+    subst (λ l. IsList IsA (list_encoding bytes xs) l) (map-id xs) (views_are IsA bytes (λ x. x) P law xs h few)
 
-pub frame_is : {A : Type 0} (IsA : List ℕ → A → Type 0) (content : List ℕ) (x : A) → IsA content x → length content < 2 ^ 32 → IsFramed IsA (framed_text content) x
-unfolding framed_text
-frame_is IsA content x h few = (unsigned_text (length content), content, refl, number_spells (length content) few, h)
+pub frame_is : {A : Type 0} (IsA : List ℕ → A → Type 0) (content : List ℕ) (x : A) → IsA content x → length content < 2 ^ 32 → IsFramed IsA (framed_encoding content) x
+unfolding framed_encoding
+frame_is IsA content x h few = (unsigned_encoding (length content), content, refl, number_spells (length content) few, h)
 
-pub section_is : (compact : Bool) (content : List ℕ) (section : Section) → IsContent compact content section → length content < 2 ^ 32 → IsSection compact (section_text (section_id section) content) section
-unfolding section_text
-section_is compact content section h few = (framed_text content, refl, frame_is (IsContent compact) content section h few)
+pub section_is : (compact : Bool) (content : List ℕ) (section : Section) → IsContent compact content section → length content < 2 ^ 32 → IsSection compact (section_encoding (section_id section) content) section
+unfolding section_encoding
+section_is compact content section h few = (framed_encoding content, refl, frame_is (IsContent compact) content section h few)
 
-texts_bytes : {A : Type 0} (text : A → List ℕ) (P : A → Type 0) → ((x : A) → P x → AreBytes (text x)) → (xs : List A) → AllByRecursion P xs → AreBytes (flat_map text xs)
-texts_bytes text P law [] h = tt
-texts_bytes text P law (x ∷ xs) h = all_append IsByte (text x) (flat_map text xs) (law x h.0) (texts_bytes text P law xs h.1)
+encodings_bytes : {A : Type 0} (bytes : A → List ℕ) (P : A → Type 0) → ((x : A) → P x → AreBytes (bytes x)) → (xs : List A) → AllByRecursion P xs → AreBytes (flat_map bytes xs)
+encodings_bytes bytes P law [] h = tt
+encodings_bytes bytes P law (x ∷ xs) h = all_append IsByte (bytes x) (flat_map bytes xs) (law x h.0) (encodings_bytes bytes P law xs h.1)
 
-pub list_bytes : {A : Type 0} (text : A → List ℕ) (P : A → Type 0) → ((x : A) → P x → AreBytes (text x))
-    → (xs : List A) → AllByRecursion P xs → length xs < 2 ^ 32 → AreBytes (list_text text xs)
-unfolding list_text
-list_bytes text P law xs h few =
-    all_append IsByte (unsigned_text (length xs)) (flat_map text xs) (number_bytes (length xs) few) (texts_bytes text P law xs h)
+pub list_bytes : {A : Type 0} (bytes : A → List ℕ) (P : A → Type 0) → ((x : A) → P x → AreBytes (bytes x))
+    → (xs : List A) → AllByRecursion P xs → length xs < 2 ^ 32 → AreBytes (list_encoding bytes xs)
+unfolding list_encoding
+list_bytes bytes P law xs h few =
+    all_append IsByte (unsigned_encoding (length xs)) (flat_map bytes xs) (number_bytes (length xs) few) (encodings_bytes bytes P law xs h)
 
 -- ---- lengths
 
 one_more : (most n : ℕ) → most + most * n ≡ most * suc n
 one_more most n = omega arith
 
-texts_length : {A : Type 0} (text : A → List ℕ) (P : A → Type 0) (most : ℕ) → ((x : A) → P x → length (text x) ≤ most)
-    → (xs : List A) → AllByRecursion P xs → length (flat_map text xs) ≤ most * length xs
-texts_length text P most law [] h = omega arith
-texts_length text P most law (x ∷ xs) h =
-    omega (arith, length-append (text x) (flat_map text xs), law x h.0, texts_length text P most law xs h.1, one_more most (length xs))
+encodings_length : {A : Type 0} (bytes : A → List ℕ) (P : A → Type 0) (most : ℕ) → ((x : A) → P x → length (bytes x) ≤ most)
+    → (xs : List A) → AllByRecursion P xs → length (flat_map bytes xs) ≤ most * length xs
+encodings_length bytes P most law [] h = omega arith
+encodings_length bytes P most law (x ∷ xs) h =
+    omega (arith, length-append (bytes x) (flat_map bytes xs), law x h.0, encodings_length bytes P most law xs h.1, one_more most (length xs))
 
-pub list_length : {A : Type 0} (text : A → List ℕ) (P : A → Type 0) (most : ℕ) → ((x : A) → P x → length (text x) ≤ most)
-    → (xs : List A) → AllByRecursion P xs → length xs < 2 ^ 32 → length (list_text text xs) ≤ 5 + most * length xs
-unfolding list_text
-list_length text P most law xs h few =
-    omega (arith, length-append (unsigned_text (length xs)) (flat_map text xs), at_most_five (length xs) few, texts_length text P most law xs h)
+pub list_length : {A : Type 0} (bytes : A → List ℕ) (P : A → Type 0) (most : ℕ) → ((x : A) → P x → length (bytes x) ≤ most)
+    → (xs : List A) → AllByRecursion P xs → length xs < 2 ^ 32 → length (list_encoding bytes xs) ≤ 5 + most * length xs
+unfolding list_encoding
+list_length bytes P most law xs h few =
+    omega (arith, length-append (unsigned_encoding (length xs)) (flat_map bytes xs), at_most_five (length xs) few, encodings_length bytes P most law xs h)

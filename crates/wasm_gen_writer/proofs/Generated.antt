@@ -10,9 +10,9 @@ use Rattle.wasm_smith.specs.Config.{AreFeaturesOf}
 use Rattle.wasm_smith.specs.Made.{Made}
 use Rattle.wasm_smith.specs.Types.{Config}
 use Rattle.wasm_smith.specs.Validity.{IsValidByIndex}
-use Rattle.wasm_gen_writer.specs.Texts.{body_text, module_text}
+use Rattle.wasm_gen_writer.specs.Encodings.{body_encoding, module_encoding}
 use Rattle.wasm_gen_writer.specs.Written.{sections_with, IsGenerated}
-use Rattle.wasm_gen_writer.proofs.SectionTexts.{bodies_written, is_supported, module_reads}
+use Rattle.wasm_gen_writer.proofs.SectionEncodings.{bodies_written, module_reads}
 use Rattle.wasm_gen_writer.proofs.Validity.{is_valid}
 
 pub all_fit : (xs : List ℕ) → ((i : ℕ) → Fits w32 (get_or xs i 0)) → AllByRecursion (λ index. index < 2 ^ 32) xs
@@ -21,15 +21,14 @@ all_fit (x ∷ xs) h = (omega (arith, h 0), all_fit xs (λ i. h (suc i)))
 
 pub is_generated : (c : Config) (m : Made) (bytes : List ℕ) → IsWithinBounds c m → IsPlainModule m → length m.locals ≡ length m.funcs
     → AllByRecursion (λ index. index < 2 ^ 32) m.funcs → length m.types ≤ most Types → length m.funcs ≤ most Functions
-    → ((features : Features) → AreFeaturesOf c features → IsValidByIndex features m) → bytes ≡ module_text m → IsGenerated c m bytes
+    → ((features : Features) → AreFeaturesOf c features → IsValidByIndex features m) → bytes ≡ module_encoding m → IsGenerated c m bytes
 is_generated c m bytes b plain pairs indexes few_types few_funcs v e =
     let written = bodies_written c m b plain in
     record {
-      bodies = map body_text m.locals;
+      bodies = map body_encoding m.locals;
       unreachable = written;
-      reads = λ compact. subst (λ l. IsModule compact l (sections_with m (map body_text m.locals))) (sym e) (module_reads c m b plain pairs indexes few_types few_funcs compact);
-      supported = is_supported m (map body_text m.locals) plain;
-      valid = λ features h. is_valid c m features (map body_text m.locals) b few_types few_funcs (v features h) written;
+      reads = λ compact. subst (λ l. IsModule compact l (sections_with m (map body_encoding m.locals))) (sym e) (module_reads c m b plain pairs indexes few_types few_funcs compact);
+      valid = λ features h. is_valid c m features (map body_encoding m.locals) b plain few_types few_funcs (v features h) written;
       within = b;
       shortest = e;
     }

@@ -1,11 +1,11 @@
-mod BodyTexts
+mod BodyEncodings
 mod Forms
 mod Generated
-mod Judged
+mod Typed
 mod Numbers
-mod RunTexts
-mod SectionTexts
-mod TypeTexts
+mod RunEncodings
+mod SectionEncodings
+mod TypeEncodings
 pub mod Validity
 mod Values
 mod Writing

@@ -1,26 +1,26 @@
--- Texts of numbers.
+-- Encodings of numbers.
 use Rattle.std.proofs.Common.{ℕ, zero, suc, ◌+◌, ◌-◌, ◌*◌, ◌^◌, ◌<◌, ◌≤◌, List, [], ◌∷◌, length, arith}
 use Rattle.wasm_spec.specs.Bytes.{AreBytes, IsUnsigned, IsU32}
-use Rattle.wasm_spec.specs.Shortest.{unsigned_text}
+use Rattle.wasm_spec.specs.Shortest.{unsigned_encoding}
 use Rattle.wasm_spec.proofs.NumberLaws.{unsigned_spelled}
 
-pub number_spells : (n : ℕ) → n < 2 ^ 32 → IsU32 (unsigned_text n) n
+pub number_spells : (n : ℕ) → n < 2 ^ 32 → IsU32 (unsigned_encoding n) n
 number_spells n fits = unsigned_spelled 32 n fits
 
-padded : (more bits : ℕ) (text : List ℕ) (n : ℕ) → bits ≤ 7 * more + 7 → IsUnsigned bits text n → length text ≤ more + 1
+padded : (more bits : ℕ) (bytes : List ℕ) (n : ℕ) → bits ≤ 7 * more + 7 → IsUnsigned bits bytes n → length bytes ≤ more + 1
 padded more bits [] n few h = omega arith
 padded more bits (b ∷ []) n few h = omega arith
 padded zero bits (b ∷ c ∷ bs) n few h = absurd (omega (arith, few, h.2))
 padded (suc more) bits (b ∷ c ∷ bs) n few h = omega (arith, padded more (bits - 7) (c ∷ bs) h.3 (omega (arith, few)) h.5)
 
--- no text has more, and padding is no excuse
-pub padded_length : (text : List ℕ) (n : ℕ) → IsU32 text n → length text ≤ 5
-padded_length text n h = padded 4 32 text n (omega arith) h
+-- no encoding has more, and padding is no excuse
+pub padded_length : (bytes : List ℕ) (n : ℕ) → IsU32 bytes n → length bytes ≤ 5
+padded_length bytes n h = padded 4 32 bytes n (omega arith) h
 
-bytes_of : (bits : ℕ) (text : List ℕ) (n : ℕ) → IsUnsigned bits text n → AreBytes text
+bytes_of : (bits : ℕ) (bytes : List ℕ) (n : ℕ) → IsUnsigned bits bytes n → AreBytes bytes
 bytes_of bits [] n h = tt
 bytes_of bits (b ∷ []) n h = (omega (arith, h.0), tt)
 bytes_of bits (b ∷ c ∷ bs) n h = (h.1, bytes_of (bits - 7) (c ∷ bs) h.3 h.5)
 
-pub number_bytes : (n : ℕ) → n < 2 ^ 32 → AreBytes (unsigned_text n)
-number_bytes n fits = bytes_of 32 (unsigned_text n) n (number_spells n fits)
+pub number_bytes : (n : ℕ) → n < 2 ^ 32 → AreBytes (unsigned_encoding n)
+number_bytes n fits = bytes_of 32 (unsigned_encoding n) n (number_spells n fits)

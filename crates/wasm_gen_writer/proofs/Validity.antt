@@ -11,15 +11,16 @@ use Rattle.wasm_spec.specs.Limits.{Limit, Types, Groups, Imports, Functions, Glo
 use Rattle.wasm_spec.specs.Spaces.{sizes_of}
 use Rattle.wasm_spec.specs.Syntax.{TypeSection, FunctionSection, CodeSection, members, groups_of, types_of, bodies_of}
 use Rattle.wasm_spec.specs.Types.{ValType, FuncType, CompositeType, FuncComposite, StructComposite, ArrayComposite, ContComposite, SubType, RecGroup, Single}
-use Rattle.wasm_spec.specs.Validity.{func_type_of, func_type_at, is_past, is_passed, names_in, KeepRules, BodyAt, IsJudgedBody, IsValid}
+use Rattle.wasm_spec.specs.Validity.{func_type_of, func_type_at, is_past, is_passed, names_in, KeepRules, BodyAt, IsTypedBody, IsValid}
 use Rattle.wasm_smith.specs.Bounds.{IsSmall, IsWithinBounds}
 use Rattle.wasm_smith.specs.Made.{Made}
+use Rattle.wasm_smith.specs.Plain.{IsPlainModule}
 use Rattle.wasm_smith.specs.Types.{Config}
 use Rattle.wasm_smith.specs.Validity.{IsValidByIndex}
 use Rattle.wasm_gen_writer.specs.Written.{IsUnreachableBody, AreUnreachableBodies, unless_empty, sections_with}
 use Rattle.wasm_gen_writer.proofs.Forms.{all_at}
-use Rattle.wasm_gen_writer.proofs.SectionTexts.{sections, functions_are, bodies_are}
-use Rattle.wasm_gen_writer.proofs.Judged.{bodies_length, as_many, body_is_judged}
+use Rattle.wasm_gen_writer.proofs.SectionEncodings.{sections, functions_are, bodies_are, is_supported}
+use Rattle.wasm_gen_writer.proofs.Typed.{bodies_length, as_many, body_is_typed}
 
 -- ---- what the sections have
 
@@ -229,7 +230,7 @@ pair_at (types ∷ others) (body ∷ bodies) (suc i) h within =
     record { types = p.types; body = p.body; declared = p.declared; has = p.has; is = p.is }
 
 body_at : (features : Features) (m : Made) (bodies : List (List ℕ)) → IsValidByIndex features m → IsInLimits m bodies
-    → (place : ℕ) → place < length m.funcs → BodyAt (IsJudgedBody features) (sections_with m bodies) place
+    → (place : ℕ) → place < length m.funcs → BodyAt (IsTypedBody features) (sections_with m bodies) place
 body_at features m bodies v h place within =
     let index = at m.funcs place within in
     let named = all_at (λ index. is_some (func_type_at m.types index) ≡ true) m.funcs place index.0 v.funcs index.1 in
@@ -244,12 +245,12 @@ body_at features m bodies v h place within =
       typed = ap (λ (l : List ℕ). slice_get l place) (functions_are m.types m.funcs bodies) ∙ index.1;
       named = ap (λ (l : List (SubType ℕ)). func_type_at l index.0) (types_are m.types m.funcs bodies) ∙ type.1;
       has = ap (λ (l : List (List ℕ)). slice_get l place) (bodies_are m.types m.funcs bodies h.many) ∙ pair.has;
-      holds = λ is_below. body_is_judged features is_below type.0 pair.types pair.body (few_params m.types index.0 type.0 h.small type.1) few allowed pair.is;
+      holds = λ is_below. body_is_typed features is_below type.0 pair.types pair.body (few_params m.types index.0 type.0 h.small type.1) few allowed pair.is;
     }
 
-pub is_valid : (c : Config) (m : Made) (features : Features) (bodies : List (List ℕ)) → IsWithinBounds c m → length m.types ≤ most Types → length m.funcs ≤ most Functions
+pub is_valid : (c : Config) (m : Made) (features : Features) (bodies : List (List ℕ)) → IsWithinBounds c m → IsPlainModule m → length m.types ≤ most Types → length m.funcs ≤ most Functions
     → IsValidByIndex features m → AreUnreachableBodies m.locals bodies → IsValid features (sections_with m bodies)
-is_valid c m features bodies b few_types few_funcs v h =
+is_valid c m features bodies b plain few_types few_funcs v h =
     let kept : IsInLimits m bodies = record {
       types = few_types;
       funcs = few_funcs;
@@ -265,6 +266,7 @@ is_valid c m features bodies b few_types few_funcs v h =
       few_bytes = sizes_kept m bodies kept.many b.few_locals h;
     } in
     record {
+      supported = is_supported m bodies plain;
       fine = record {
         within_limits = limits_kept m bodies few;
         rules = rules_kept features m.types m.funcs bodies (groups_allowed features m.types v.types)

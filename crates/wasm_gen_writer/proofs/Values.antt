@@ -1,18 +1,18 @@
--- Texts of value types.
-use Rattle.std.proofs.Common.{◌≡◌, ℕ, ◌<◌, ◌≤◌, true, false, List, length, Some, refl, sym, ap, ◌∙◌, arith, inl, inr}
-use Rattle.std.specs.Option.{unwrap_or}
+-- Encodings of value types.
+use Rattle.std.proofs.Common.{◌≡◌, ◌≢◌, ◌⊎◌, ℕ, ◌<◌, ◌≤◌, Bool, true, false, List, length, Option, Some, refl, sym, subst, ap, ◌∙◌, arith, inl, inr}
+use Rattle.std.proofs.lemmas.Bool.{eq-eqb, eqb-true}
 use Rattle.wasm_spec.specs.Bodies.{IsLocalType}
 use Rattle.wasm_spec.specs.Supported.{is_supported_type}
 use Rattle.wasm_spec.specs.TypeGrammar.{heap_code, IsValType}
-use Rattle.wasm_spec.specs.Types.{AbstractHeapType, Func, Extern, Any, None, NoExtern, NoFunc, Eq, Struct, Array, I31, Exn, NoExn, Cont, NoCont, Abstract, Concrete, ValType, I32, I64, F32, F64, V128, Ref}
+use Rattle.wasm_spec.specs.Types.{AbstractHeapType, Func, Extern, Any, None, NoExtern, NoFunc, Eq, Struct, Array, I31, Exn, NoExn, Cont, NoCont, HeapType, Abstract, Concrete, ValType, I32, I64, F32, F64, V128, Ref}
 use Rattle.wasm_core.specs.TypeReading.{look_up, val_type_codes}
 use Rattle.wasm_smith.specs.Plain.{IsPlain}
 use Rattle.wasm_spec.specs.Bytes.{AreBytes}
-use Rattle.wasm_spec.specs.TypeTexts.{heap_text, ref_text, val_text}
-use Rattle.wasm_gen_writer.specs.Texts.{val_code}
+use Rattle.wasm_spec.specs.TypeEncodings.{heap_encoding, ref_encoding, val_encoding}
+use Rattle.wasm_gen_writer.specs.Encodings.{is_same_heap, is_same_type}
 
-pub value_is : (type : ValType ℕ) → IsPlain type → IsValType (val_text type) type
-unfolding val_text ref_text heap_text
+pub value_is : (type : ValType ℕ) → IsPlain type → IsValType (val_encoding type) type
+unfolding val_encoding ref_encoding heap_encoding
 value_is I32 h = refl
 value_is I64 h = refl
 value_is F32 h = refl
@@ -32,26 +32,26 @@ plain_supported (Ref true (Abstract heap)) h = refl
 plain_supported (Ref false (Abstract heap)) h = absurd cc
 plain_supported (Ref nullable (Concrete index)) h = absurd h
 
-pub local_is : (type : ValType ℕ) → IsPlain type → IsLocalType (val_text type) type
+pub local_is : (type : ValType ℕ) → IsPlain type → IsLocalType (val_encoding type) type
 local_is type h = (value_is type h, plain_supported type h)
 
--- each text of a supported type is one byte, or two
-pub value_length : (text : List ℕ) (type : ValType ℕ) → IsLocalType text type → length text ≤ 2
-value_length text I32 h = omega (arith, ap length h.0)
-value_length text I64 h = omega (arith, ap length h.0)
-value_length text F32 h = omega (arith, ap length h.0)
-value_length text F64 h = omega (arith, ap length h.0)
-value_length text V128 h = omega (arith, ap length h.0)
-value_length text (Ref true (Abstract heap)) h = elim h.0 [
+-- each encoding of a supported type is one byte, or two
+pub value_length : (bytes : List ℕ) (type : ValType ℕ) → IsLocalType bytes type → length bytes ≤ 2
+value_length bytes I32 h = omega (arith, ap length h.0)
+value_length bytes I64 h = omega (arith, ap length h.0)
+value_length bytes F32 h = omega (arith, ap length h.0)
+value_length bytes F64 h = omega (arith, ap length h.0)
+value_length bytes V128 h = omega (arith, ap length h.0)
+value_length bytes (Ref true (Abstract heap)) h = elim h.0 [
   | inl m ↦ omega (arith, ap length m.1, ap length m.2)
   | inr e ↦ omega (arith, ap length e)
 ]
-value_length text (Ref true (Concrete index)) h = let f = h.1 in absurd cc
-value_length text (Ref false heap) h = let f = h.1 in absurd cc
+value_length bytes (Ref true (Concrete index)) h = let f = h.1 in absurd cc
+value_length bytes (Ref false heap) h = let f = h.1 in absurd cc
 
 -- the one that is written is one byte
-pub plain_length : (type : ValType ℕ) → IsPlain type → length (val_text type) ≡ 1
-unfolding val_text ref_text heap_text
+pub plain_length : (type : ValType ℕ) → IsPlain type → length (val_encoding type) ≡ 1
+unfolding val_encoding ref_encoding heap_encoding
 plain_length I32 h = refl
 plain_length I64 h = refl
 plain_length F32 h = refl
@@ -77,9 +77,9 @@ heap_is_byte Array = omega arith
 heap_is_byte Exn = omega arith
 heap_is_byte Cont = omega arith
 
--- the byte of a plain type is all of its text
-pub value_bytes : (type : ValType ℕ) → IsPlain type → AreBytes (val_text type)
-unfolding val_text ref_text heap_text
+-- the byte of a plain type is all of its encoding
+pub value_bytes : (type : ValType ℕ) → IsPlain type → AreBytes (val_encoding type)
+unfolding val_encoding ref_encoding heap_encoding
 value_bytes I32 h = (omega arith, tt)
 value_bytes I64 h = (omega arith, tt)
 value_bytes F32 h = (omega arith, tt)
@@ -105,16 +105,97 @@ heap_found Array = refl
 heap_found Exn = refl
 heap_found Cont = refl
 
-found : (type : ValType ℕ) → IsPlain type → look_up val_type_codes (val_code type) ≡ Some type
-found I32 h = refl
-found I64 h = refl
-found F32 h = refl
-found F64 h = refl
-found V128 h = refl
-found (Ref true (Abstract heap)) h = heap_found heap
-found (Ref false (Abstract heap)) h = absurd cc
-found (Ref nullable (Concrete index)) h = absurd h
+-- ---- which types are one
 
--- types of one code are one type
-pub same_type : (s t : ValType ℕ) → IsPlain s → IsPlain t → val_code s ≡ val_code t → s ≡ t
-same_type s t p q e = ap (λ o. unwrap_or o s) (sym (found s p) ∙ ap (look_up val_type_codes) e ∙ found t q)
+heap_in : AbstractHeapType → Option (ValType ℕ) → AbstractHeapType
+heap_in other (Some (Ref true (Abstract heap))) = heap
+heap_in other _ = other
+
+heap_same : (a b : AbstractHeapType) → heap_code a ≡ heap_code b → a ≡ b
+unfolding heap_in
+heap_same a b e = ap (heap_in a) (sym (heap_found a) ∙ ap (look_up val_type_codes) e ∙ heap_found b)
+
+same_heap : (a b : HeapType ℕ) → is_same_heap a b ≡ true → a ≡ b
+unfolding is_same_heap
+same_heap (Abstract a) (Abstract b) e = ap (λ h. Abstract h) (heap_same a b (eqb-true _ _ e))
+same_heap (Abstract a) (Concrete b) e = absurd cc
+same_heap (Concrete a) (Abstract b) e = absurd cc
+same_heap (Concrete a) (Concrete b) e = ap (λ i. Concrete i) (eqb-true a b e)
+
+heap_is_itself : (a : HeapType ℕ) → is_same_heap a a ≡ true
+unfolding is_same_heap
+heap_is_itself (Abstract a) = eq-eqb _ _ refl
+heap_is_itself (Concrete a) = eq-eqb a a refl
+
+pub same_type : (s t : ValType ℕ) → is_same_type s t ≡ true → s ≡ t
+unfolding is_same_type
+same_type I32 I32 e = refl
+same_type I32 I64 e = absurd cc
+same_type I32 F32 e = absurd cc
+same_type I32 F64 e = absurd cc
+same_type I32 V128 e = absurd cc
+same_type I32 (Ref true b) e = absurd cc
+same_type I32 (Ref false b) e = absurd cc
+same_type I64 I32 e = absurd cc
+same_type I64 I64 e = refl
+same_type I64 F32 e = absurd cc
+same_type I64 F64 e = absurd cc
+same_type I64 V128 e = absurd cc
+same_type I64 (Ref true b) e = absurd cc
+same_type I64 (Ref false b) e = absurd cc
+same_type F32 I32 e = absurd cc
+same_type F32 I64 e = absurd cc
+same_type F32 F32 e = refl
+same_type F32 F64 e = absurd cc
+same_type F32 V128 e = absurd cc
+same_type F32 (Ref true b) e = absurd cc
+same_type F32 (Ref false b) e = absurd cc
+same_type F64 I32 e = absurd cc
+same_type F64 I64 e = absurd cc
+same_type F64 F32 e = absurd cc
+same_type F64 F64 e = refl
+same_type F64 V128 e = absurd cc
+same_type F64 (Ref true b) e = absurd cc
+same_type F64 (Ref false b) e = absurd cc
+same_type V128 I32 e = absurd cc
+same_type V128 I64 e = absurd cc
+same_type V128 F32 e = absurd cc
+same_type V128 F64 e = absurd cc
+same_type V128 V128 e = refl
+same_type V128 (Ref true b) e = absurd cc
+same_type V128 (Ref false b) e = absurd cc
+same_type (Ref true a) I32 e = absurd cc
+same_type (Ref true a) I64 e = absurd cc
+same_type (Ref true a) F32 e = absurd cc
+same_type (Ref true a) F64 e = absurd cc
+same_type (Ref true a) V128 e = absurd cc
+same_type (Ref true a) (Ref true b) e = ap (λ h. Ref true h) (same_heap a b e)
+same_type (Ref true a) (Ref false b) e = absurd cc
+same_type (Ref false a) I32 e = absurd cc
+same_type (Ref false a) I64 e = absurd cc
+same_type (Ref false a) F32 e = absurd cc
+same_type (Ref false a) F64 e = absurd cc
+same_type (Ref false a) V128 e = absurd cc
+same_type (Ref false a) (Ref true b) e = absurd cc
+same_type (Ref false a) (Ref false b) e = ap (λ h. Ref false h) (same_heap a b e)
+
+is_itself : (t : ValType ℕ) → is_same_type t t ≡ true
+unfolding is_same_type
+is_itself I32 = refl
+is_itself I64 = refl
+is_itself F32 = refl
+is_itself F64 = refl
+is_itself V128 = refl
+is_itself (Ref true a) = heap_is_itself a
+is_itself (Ref false a) = heap_is_itself a
+
+pub other_type : (s t : ValType ℕ) → is_same_type s t ≡ false → s ≢ t
+other_type s t e same = let one = subst (λ u. is_same_type s u ≡ true) same (is_itself s) in absurd cc
+
+-- either they are, or not
+pub same_or_other : (s t : ValType ℕ) → (is_same_type s t ≡ true) ⊎ (is_same_type s t ≡ false)
+same_or_other s t = by_test (is_same_type s t)
+  where
+    by_test : (b : Bool) → (b ≡ true) ⊎ (b ≡ false)
+    by_test true = inl refl
+    by_test false = inr refl

@@ -1,3 +1,3 @@
 pub mod Measured
-pub mod Texts
+pub mod Encodings
 pub mod Written

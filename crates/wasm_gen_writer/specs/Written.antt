@@ -5,7 +5,6 @@ use Rattle.wasm_spec.specs.Bodies.{Run, IsRun}
 use Rattle.wasm_spec.specs.Bytes.{IsList}
 use Rattle.wasm_spec.specs.Features.{Features}
 use Rattle.wasm_spec.specs.Grammar.{IsModule}
-use Rattle.wasm_spec.specs.Supported.{IsSupported}
 use Rattle.wasm_spec.specs.Syntax.{Section, TypeSection, FunctionSection, CodeSection}
 use Rattle.wasm_spec.specs.Types.{ValType, Single}
 use Rattle.wasm_spec.specs.Validity.{IsValid}
@@ -13,7 +12,7 @@ use Rattle.wasm_smith.specs.Bounds.{IsWithinBounds}
 use Rattle.wasm_smith.specs.Config.{AreFeaturesOf}
 use Rattle.wasm_smith.specs.Made.{Made}
 use Rattle.wasm_smith.specs.Types.{Config}
-use Rattle.wasm_gen_writer.specs.Texts.{module_text}
+use Rattle.wasm_gen_writer.specs.Encodings.{module_encoding}
 
 -- runs of locals of which none is empty and no two neighbours have one type
 abbrev pub AreMerged : List Run → Type 0
@@ -24,9 +23,9 @@ AreMerged (run ∷ next ∷ runs) = (0 < run.count) × (run.type ≢ next.type) 
 -- A body of these locals and the one operator `unreachable`.
 pub record IsUnreachableBody (locals : List (ValType ℕ)) (body : List ℕ) : Type 0 where
   pub runs : List Run
-  pub text : List ℕ
-  pub is : body ≡ text ++ 0x00 ∷ 0x0b ∷ []
-  pub declared : IsList IsRun text runs
+  pub encoding : List ℕ
+  pub is : body ≡ encoding ++ 0x00 ∷ 0x0b ∷ []
+  pub declared : IsList IsRun encoding runs
   pub merged : AreMerged runs
   pub locals_are : flat_map (λ run. replicate run.count run.type) runs ≡ locals
 
@@ -46,13 +45,12 @@ sections_with m bodies =
     ++ unless_empty m.funcs (FunctionSection m.funcs)
     ++ unless_empty m.funcs (CodeSection bodies)
 
--- The bytes read as a made module, whether compact imports are on or not. Its bodies are `unreachable`, it is supported, valid under the features of
--- the configuration and within its bounds. The bytes are its shortest text.
+-- The bytes read as a made module, whether compact imports are on or not. Its bodies are `unreachable`, it is valid under the features of the
+-- configuration and within its bounds. The bytes are its shortest encoding.
 pub record IsGenerated (c : Config) (m : Made) (bytes : List ℕ) : Type 0 where
   pub bodies : List (List ℕ)
   pub unreachable : AreUnreachableBodies m.locals bodies
   pub reads : (compact : Bool) → IsModule compact bytes (sections_with m bodies)
-  pub supported : IsSupported (sections_with m bodies)
   pub valid : (features : Features) → AreFeaturesOf c features → IsValid features (sections_with m bodies)
   pub within : IsWithinBounds c m
-  pub shortest : bytes ≡ module_text m
+  pub shortest : bytes ≡ module_encoding m

@@ -1,4 +1,4 @@
-//! The bytes of made modules: a private part of `wasm_gen`, until the encoder writes them.
+//! The bytes of made modules: a private part of `wasm_gen`.
 #![tactic(auto)]
 
 mod bodies;

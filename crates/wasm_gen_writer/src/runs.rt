@@ -2,15 +2,15 @@
 //! Section").
 
 ghost use Rattle.std.specs.Prelude.{◌≡◌, ◌<◌, ◌+◌, [], ◌∷◌, length, map, IfSome, IfNone};
-ghost use Rattle.wasm_core.specs.CoreTypes.{val_type};
-ghost use Rattle.wasm_gen_writer.specs.Texts.{val_code, run_text, runs_of};
+ghost use Rattle.wasm_core.specs.CoreTypes.{heap_type, val_type};
+ghost use Rattle.wasm_gen_writer.specs.Encodings.{is_same_heap, is_same_type, run_encoding, runs_of};
 
 use std::marker::Model;
 use wasm_core::encode_error::EncodeError;
+use wasm_core::encoding::{Encoding, add_sizes};
 use wasm_core::leb128::{len_u64, put_u64};
-use wasm_core::text::{Text, add_sizes};
-use wasm_core::type_texts::heap_code_of;
-use wasm_core::types::{HeapType, RefType, ValType};
+use wasm_core::type_encodings::heap_code_of;
+use wasm_core::types::{HeapType, ValType};
 
 /// So many locals of one type.
 #[derive(Drop)]
@@ -28,53 +28,52 @@ impl Model for Run {
     ghost view = { λ r. record { count = r.count; type = val_type r.kind } };
 }
 
-impl Text for Run {
-    ghost text = { run_text };
+impl Encoding for Run {
+    ghost encoding = { run_encoding };
 
-    #[tactic(auto, using(wasm_spec::proofs::ListTexts::parts), unfolding(crate::specs::Texts::run_text, wasm_core::specs::CoreTexts::val_type_text))]
+    #[tactic(auto, using(wasm_spec::proofs::ListEncodings::parts), unfolding(crate::specs::Encodings::run_encoding, wasm_core::specs::CoreEncodings::val_type_encoding))]
     fn size(&self) -> Result<u64, EncodeError> {
         add_sizes(len_u64(self.count) as u64, self.kind.size()?)
     }
 
-    #[tactic(auto, using(wasm_spec::proofs::ListTexts::parts), unfolding(crate::specs::Texts::run_text, wasm_core::specs::CoreTexts::val_type_text))]
+    #[tactic(auto, using(wasm_spec::proofs::ListEncodings::parts), unfolding(crate::specs::Encodings::run_encoding, wasm_core::specs::CoreEncodings::val_type_encoding))]
     fn put(&self, sink: &mut Vec<u8>) {
         put_u64(sink, self.count);
         self.kind.put(sink);
     }
 }
 
-// The byte that a value type is, or begins with where it is written out.
-fn code_of(value: ValType) -> u8
-    ensures { result ≡ val_code (val_type value) }
+// Whether two heap types are one.
+#[tactic(auto, unfolding(crate::specs::Encodings::is_same_heap))]
+fn is_same_heap(a: HeapType, b: HeapType) -> bool
+    ensures { result ≡ is_same_heap (heap_type a) (heap_type b) }
 {
-    match value {
-        ValType::I32 => 0x7f,
-        ValType::I64 => 0x7e,
-        ValType::F32 => 0x7d,
-        ValType::F64 => 0x7c,
-        ValType::V128 => 0x7b,
-        ValType::Ref(
-            RefType {
-                nullable: true,
-                heap_type: HeapType::Abstract(heap),
-            },
-        ) => heap_code_of(heap),
-        ValType::Ref(
-            RefType {
-                nullable: true,
-                heap_type: HeapType::Concrete(_),
-            },
-        ) => 0x63,
-        ValType::Ref(
-            RefType {
-                nullable: false,
-                ..
-            },
-        ) => 0x64,
+    match (a, b) {
+        (HeapType::Abstract(a), HeapType::Abstract(b)) => heap_code_of(a) == heap_code_of(b),
+        (HeapType::Concrete(a), HeapType::Concrete(b)) => a == b,
+        _ => false,
     }
 }
 
-/// The first run of the locals, and the locals behind it.
+// Whether two value types are one. (What `==` says of them isn't tied to the types of the specification.)
+#[tactic(auto, unfolding(crate::specs::Encodings::is_same_type))]
+fn is_same_type(a: ValType, b: ValType) -> bool
+    ensures { result ≡ is_same_type (val_type a) (val_type b) }
+{
+    match (a, b) {
+        (ValType::I32, ValType::I32)
+        | (ValType::I64, ValType::I64)
+        | (ValType::F32, ValType::F32)
+        | (ValType::F64, ValType::F64)
+        | (ValType::V128, ValType::V128) => true,
+        (ValType::Ref(a), ValType::Ref(b)) => {
+            a.nullable == b.nullable && is_same_heap(a.heap_type, b.heap_type)
+        }
+        _ => false,
+    }
+}
+
+/// The first run of the locals, and the locals after it.
 #[tactic(auto, using(crate::proofs::Writing::run_steps))]
 pub fn split_run(locals: &[ValType]) -> Option<(Run, &[ValType])>
     ensures runs { IfSome result (λ x. runs_of (map val_type locals.now) ≡ x.0 ∷ runs_of (map val_type x.1.now)) }
@@ -85,12 +84,12 @@ pub fn split_run(locals: &[ValType]) -> Option<(Run, &[ValType])>
     let kind = *first;
     let mut count = 1;
     let mut rest = others;
-    while let Some((next, behind)) = rest.split_first() {
-        if code_of(*next) != code_of(kind) {
+    while let Some((next, after)) = rest.split_first() {
+        if !is_same_type(*next, kind) {
             return Some((Run { count, kind }, rest));
         }
         count += 1;
-        rest = behind;
+        rest = after;
     }
     Some((Run { count, kind }, rest))
 }

@@ -1,15 +1,15 @@
 //! The sections of a made module, as they are written (Core Specification, Binary Format, "Modules").
 
 ghost use Rattle.std.specs.Prelude.{length};
-ghost use Rattle.wasm_gen_writer.specs.Texts.{entry_text};
-ghost use Rattle.wasm_spec.specs.Shortest.{unsigned_text, list_text, framed_text};
-ghost use Rattle.wasm_spec.specs.TypeTexts.{sub_text};
+ghost use Rattle.wasm_gen_writer.specs.Encodings.{entry_encoding};
+ghost use Rattle.wasm_spec.specs.Shortest.{unsigned_encoding, list_encoding, framed_encoding};
+ghost use Rattle.wasm_spec.specs.TypeEncodings.{sub_encoding};
 
 use crate::bodies::{bodies_size, put_bodies};
 use std::marker::Model;
 use wasm_core::encode::{Encode, Section};
 use wasm_core::encode_error::EncodeError;
-use wasm_core::text::{Text, encode_framed, framed_len, list_size, put_list};
+use wasm_core::encoding::{Encoding, encode_framed, framed_len, list_size, put_list};
 use wasm_core::types::{SubType, ValType};
 
 /// The type section: each type is a group by itself.
@@ -40,8 +40,8 @@ impl<'a> MadeTypes<'a> {
     }
 }
 
-impl<'a> Text for MadeTypes<'a> {
-    ghost text = { list_text sub_text };
+impl<'a> Encoding for MadeTypes<'a> {
+    ghost encoding = { list_encoding sub_encoding };
 
     #[tactic(auto, using(wasm_core::proofs::WritingLaws::sub_types))]
     fn size(&self) -> Result<u64, EncodeError> {
@@ -55,9 +55,9 @@ impl<'a> Text for MadeTypes<'a> {
 }
 
 impl<'a> Encode for MadeTypes<'a> {
-    ghost text = { λ types. framed_text (list_text sub_text types) };
+    ghost encoding = { λ types. framed_encoding (list_encoding sub_encoding types) };
 
-    ghost longest = { λ types. length (list_text sub_text types) };
+    ghost longest = { λ types. length (list_encoding sub_encoding types) };
 
     fn encode(&self, sink: &mut Vec<u8>) -> Result<(), EncodeError> {
         encode_framed(self, sink)
@@ -101,8 +101,8 @@ impl<'a> MadeFunctions<'a> {
     }
 }
 
-impl<'a> Text for MadeFunctions<'a> {
-    ghost text = { list_text unsigned_text };
+impl<'a> Encoding for MadeFunctions<'a> {
+    ghost encoding = { list_encoding unsigned_encoding };
 
     fn size(&self) -> Result<u64, EncodeError> {
         list_size(self.funcs)
@@ -114,9 +114,9 @@ impl<'a> Text for MadeFunctions<'a> {
 }
 
 impl<'a> Encode for MadeFunctions<'a> {
-    ghost text = { λ funcs. framed_text (list_text unsigned_text funcs) };
+    ghost encoding = { λ funcs. framed_encoding (list_encoding unsigned_encoding funcs) };
 
-    ghost longest = { λ funcs. length (list_text unsigned_text funcs) };
+    ghost longest = { λ funcs. length (list_encoding unsigned_encoding funcs) };
 
     fn encode(&self, sink: &mut Vec<u8>) -> Result<(), EncodeError> {
         encode_framed(self, sink)
@@ -145,33 +145,33 @@ impl<'a> Model for MadeBodies<'a> {
     ghost use Rattle.std.specs.Prelude.{ℕ, ◌<◌, ◌^◌, List, length, map};
     ghost use Rattle.std.specs.List.{AllByRecursion};
     ghost use Rattle.wasm_core.specs.CoreTypes.{val_type};
-    ghost use Rattle.wasm_gen_writer.specs.Texts.{body_text};
+    ghost use Rattle.wasm_gen_writer.specs.Encodings.{body_encoding};
     ghost use Rattle.wasm_spec.specs.Types as spec;
 
     ghost Value = { List (List (spec.ValType ℕ)) };
 
     ghost view = { λ s. map (λ ls. map val_type ls.items) s.locals.now };
 
-    ghost invariant = { λ s. AllByRecursion (λ ls. length (body_text ls) < 2 ^ 32) (map (λ ls. map val_type ls.items) s.locals.now) };
+    ghost invariant = { λ s. AllByRecursion (λ ls. length (body_encoding ls) < 2 ^ 32) (map (λ ls. map val_type ls.items) s.locals.now) };
 }
 
 impl<'a> MadeBodies<'a> {
     ghost use Rattle.std.specs.Prelude.{◌≡◌, ◌<◌, ◌^◌, length, map};
     ghost use Rattle.std.specs.List.{AllByRecursion};
     ghost use Rattle.wasm_core.specs.CoreTypes.{val_type};
-    ghost use Rattle.wasm_gen_writer.specs.Texts.{body_text};
+    ghost use Rattle.wasm_gen_writer.specs.Encodings.{body_encoding};
 
     /// The section of bodies with these locals.
     pub fn new(locals: &'a [Vec<ValType>]) -> Self
-        requires { AllByRecursion (λ ls. length (body_text ls) < 2 ^ 32) (map (λ ls. map val_type ls.items) locals.now) }
+        requires { AllByRecursion (λ ls. length (body_encoding ls) < 2 ^ 32) (map (λ ls. map val_type ls.items) locals.now) }
         ensures { result ≡ map (λ ls. map val_type ls.items) locals.now }
     {
         MadeBodies { locals }
     }
 }
 
-impl<'a> Text for MadeBodies<'a> {
-    ghost text = { list_text entry_text };
+impl<'a> Encoding for MadeBodies<'a> {
+    ghost encoding = { list_encoding entry_encoding };
 
     #[tactic(auto, using(crate::proofs::Writing::bodies_mapped))]
     fn size(&self) -> Result<u64, EncodeError> {
@@ -185,9 +185,9 @@ impl<'a> Text for MadeBodies<'a> {
 }
 
 impl<'a> Encode for MadeBodies<'a> {
-    ghost text = { λ locals. framed_text (list_text entry_text locals) };
+    ghost encoding = { λ locals. framed_encoding (list_encoding entry_encoding locals) };
 
-    ghost longest = { λ locals. length (list_text entry_text locals) };
+    ghost longest = { λ locals. length (list_encoding entry_encoding locals) };
 
     fn encode(&self, sink: &mut Vec<u8>) -> Result<(), EncodeError> {
         encode_framed(self, sink)

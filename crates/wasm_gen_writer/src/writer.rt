@@ -2,7 +2,7 @@
 
 ghost use Rattle.std.specs.Prelude.{◌≡◌, ◌≤◌, ◌<◌, ◌^◌, length, IfOk, IfErr};
 ghost use Rattle.std.specs.List.{AllByRecursion};
-ghost use Rattle.wasm_gen_writer.specs.Texts.{module_text};
+ghost use Rattle.wasm_gen_writer.specs.Encodings.{module_encoding};
 ghost use Rattle.wasm_smith.specs.Bounds.{IsWithinBounds};
 ghost use Rattle.wasm_smith.specs.Plain.{IsPlainModule};
 ghost use Rattle.wasm_spec.specs.Limits.{Types, Functions, most};
@@ -25,7 +25,7 @@ pub fn write_module(alloc: Global, made: &Made) -> Result<Vec<u8>, EncodeError>
     requires few_types { length made.now.made.types ≤ most Types }
     requires few_funcs { length made.now.made.funcs ≤ most Functions }
     requires indexes { AllByRecursion (λ index. index < 2 ^ 32) made.now.made.funcs }
-    ensures written { IfOk result (λ bytes. bytes.items ≡ module_text made.now.made) }
+    ensures written { IfOk result (λ bytes. bytes.items ≡ module_encoding made.now.made) }
     ensures memory_alone { IfErr result (λ e. e ≡ EncodeError.Memory) }
 {
     let mut module = Module::new(alloc)?;

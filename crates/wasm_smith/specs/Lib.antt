@@ -1,9 +1,9 @@
 pub mod ErrorCases
 pub mod Types
 pub use Rattle.wasm_smith_source.specs.Draws
-pub use Rattle.wasm_smith_types.specs.Config
-pub use Rattle.wasm_smith_types.specs.Defaults
-pub use Rattle.wasm_smith_types.specs.PlainConfig
+pub use Rattle.wasm_smith_config.specs.Config
+pub use Rattle.wasm_smith_config.specs.Defaults
+pub use Rattle.wasm_smith_config.specs.SupportedConfig
 pub use Rattle.wasm_smith_module.specs.Made
 pub use Rattle.wasm_smith_module.specs.Validity
 pub use Rattle.wasm_smith_module.specs.Bounds

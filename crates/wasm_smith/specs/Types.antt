@@ -1,4 +1,4 @@
 -- The types of the parts, under the name of this crate.
-pub use Rattle.wasm_smith_types.specs.declared.config.Config.{Config}
-pub use Rattle.wasm_smith_types.specs.declared.error.Error.{Error}
+pub use Rattle.wasm_smith_config.specs.declared.config.Config.{Config}
+pub use Rattle.wasm_smith_config.specs.declared.error.Error.{Error}
 pub use Rattle.wasm_smith_module.specs.declared.module.Module.{Module}

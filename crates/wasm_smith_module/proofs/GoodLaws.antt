@@ -1,8 +1,8 @@
 -- What a good configuration keeps.
 use Rattle.std.proofs.Common.{◌≤◌, ◌^◌, [], arith}
 use Rattle.std.proofs.lemmas.Bool.{ltb-false}
-use Rattle.wasm_smith_types.specs.Config.{IsGood, at_least}
-use Rattle.wasm_smith_types.specs.declared.config.Config.{Config}
+use Rattle.wasm_smith_config.specs.Config.{IsGood, at_least}
+use Rattle.wasm_smith_config.specs.declared.config.Config.{Config}
 
 pub types_fine : (c : Config) → IsGood c → c.min_types ≤ c.max_types
 types_fine c good = ltb-false c.max_types c.min_types (good 0 (at_least [] 0 0) (omega arith))

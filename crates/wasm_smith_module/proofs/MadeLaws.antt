@@ -7,10 +7,10 @@ use Rattle.wasm_core_types.specs.declared.types.SubType.{SubType}
 use Rattle.wasm_core_types.specs.SubTypes.{sub_type}
 use Rattle.wasm_spec.specs.Types as spec
 use Rattle.wasm_smith_source.specs.Draws.{bool_at}
-use Rattle.wasm_smith_types.specs.Config.{IsGood, NamesBad, fields}
-use Rattle.wasm_smith_types.specs.declared.config.Config.{Config}
-use Rattle.wasm_smith_types.specs.declared.error.Error.{Error}
-use Rattle.wasm_smith_types.specs.declared.error.Error.TheVariants.{IncorrectFormat, EmptyChoose, NotEnoughData, BadConfig, BadShape, TypeSize, Memory, TooLong}
+use Rattle.wasm_smith_config.specs.Config.{IsGood, NamesBad, fields}
+use Rattle.wasm_smith_config.specs.declared.config.Config.{Config}
+use Rattle.wasm_smith_config.specs.declared.error.Error.{Error}
+use Rattle.wasm_smith_config.specs.declared.error.Error.TheVariants.{IncorrectFormat, EmptyChoose, NotEnoughData, BadConfig, BadShape, TypeSize, Memory, TooLong}
 use Rattle.wasm_smith_module.specs.Building.{IsBuilt, IsEnd}
 use Rattle.wasm_smith_module.specs.Generating.{offers, max_results, type_at, types_at, funcs_at, module_at}
 use Rattle.wasm_smith_module.specs.Made.{Made, ModuleValue}
@@ -19,7 +19,7 @@ use Rattle.wasm_smith_module.specs.Plain.{IsPlainModule}
 use Rattle.wasm_smith_module.specs.Promise.{IsMadeFor, IsReason, IsBadConfig, HasNoType}
 use Rattle.wasm_smith_module.specs.Validity.{IsValidByIndex}
 use Rattle.wasm_spec.specs.Features.{Features}
-use Rattle.wasm_smith_types.specs.Config.{AreFeaturesOf}
+use Rattle.wasm_smith_config.specs.Config.{AreFeaturesOf}
 use Rattle.wasm_smith_module.proofs.GoodLaws.{types_fine, funcs_fine, types_small}
 use Rattle.wasm_smith_module.proofs.ListLaws.{grow_none}
 use Rattle.wasm_smith_module.proofs.ValidLaws as valid

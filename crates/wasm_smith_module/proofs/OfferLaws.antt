@@ -14,7 +14,7 @@ use Rattle.wasm_smith_module.proofs.ListLaws.{index_below}
 use Rattle.wasm_smith_module.specs.Generating.{Offers, reference_at, value_at}
 use Rattle.wasm_smith_module.specs.Offered.{kind}
 use Rattle.wasm_smith_module.specs.declared.value_types.Kind.{Kind}
-use Rattle.wasm_smith_module.specs.declared.value_types.Kind.TheVariants.{Plain, Reference}
+use Rattle.wasm_smith_module.specs.declared.value_types.Kind.TheVariants.{NumberOrVector, Reference}
 
 get_map : {A B : Type 0} (f : A → B) (xs : List A) (i : ℕ) → slice_get (map f xs) i ≡ option_map f (slice_get xs i)
 get_map f [] i = refl
@@ -65,10 +65,10 @@ reference_chosen kinds heaps o s t heap is e = rw (sym is, choose_seen abstract_
 
 -- ---- a value type
 
-pub value_plain : (kinds : List Kind) (heaps : List AbstractHeapType) (o : Offers) (s t : List ℕ) (type : ValType) → record { kinds = map kind kinds; heaps = map abstract_heap_type heaps } ≡ o → choose_at kinds s ≡ (Some (Plain type), t)
+pub value_plain : (kinds : List Kind) (heaps : List AbstractHeapType) (o : Offers) (s t : List ℕ) (type : ValType) → record { kinds = map kind kinds; heaps = map abstract_heap_type heaps } ≡ o → choose_at kinds s ≡ (Some (NumberOrVector type), t)
     → value_at o s ≡ (val_type type, t)
 unfolding value_at
-value_plain kinds heaps o s t type is e = rw (sym is, choose_seen kind kinds s t (Some (Plain type)) e) refl
+value_plain kinds heaps o s t type is e = rw (sym is, choose_seen kind kinds s t (Some (NumberOrVector type)) e) refl
 
 pub value_reference : (kinds : List Kind) (heaps : List AbstractHeapType) (o : Offers) (s t : List ℕ) → record { kinds = map kind kinds; heaps = map abstract_heap_type heaps } ≡ o → choose_at kinds s ≡ (Some Reference, t)
     → value_at o s ≡ reference_at o t

@@ -9,12 +9,12 @@ use Rattle.wasm_spec.specs.Gates.{is_allowed, is_allowed_sub}
 use Rattle.wasm_spec.specs.Types.{AbstractHeapType, Func, Extern, Exn, Cont, NoCont, Abstract, ValType, I32, I64, F32, F64, V128, Ref, FuncType, FuncComposite, SubType}
 use Rattle.wasm_spec.specs.Types as spec
 use Rattle.wasm_spec.specs.Validity.{func_type_of, func_type_at}
-use Rattle.wasm_smith_types.specs.Config.{AreFeaturesOf}
-use Rattle.wasm_smith_types.specs.declared.config.Config.{Config}
+use Rattle.wasm_smith_config.specs.Config.{AreFeaturesOf}
+use Rattle.wasm_smith_config.specs.declared.config.Config.{Config}
 use Rattle.wasm_smith_source.specs.Draws.{int_at, choose_at}
 use Rattle.wasm_smith_module.specs.Bounds.{IsSmall}
 use Rattle.wasm_smith_module.specs.Plain.{IsPlain, IsPlainFunction}
-use Rattle.wasm_smith_module.specs.Generating.{Kind, Plain, Reference, Offers, offers, reference_to, reference_at, value_of, value_at, values_at, type_at, max_results, types_at, funcs_at, code_at}
+use Rattle.wasm_smith_module.specs.Generating.{Kind, NumberOrVector, Reference, Offers, offers, reference_to, reference_at, value_of, value_at, values_at, type_at, max_results, types_at, funcs_at, code_at}
 use Rattle.wasm_smith_module.proofs.ListLaws.{index_below, all_append, all_if, all_imply, all_pass, chosen, grow_all, grow_few, grow_enough, times_all, times_many}
 
 -- ---- value types
@@ -38,7 +38,7 @@ IsOffered c (Ref nullable (Abstract heap)) = (nullable ≡ true) × IsTrue c.ref
 IsOffered c (Ref nullable (spec.Concrete index)) = ⊥
 
 abbrev IsOfferedKind : Config → Kind → Type 0
-IsOfferedKind c (Plain type) = IsOffered c type
+IsOfferedKind c (NumberOrVector type) = IsOffered c type
 IsOfferedKind c Reference = IsTrue c.reference_types_enabled
 
 kinds_offered : (c : Config) → AllByRecursion (IsOfferedKind c) (offers c).kinds
@@ -47,10 +47,10 @@ kinds_offered c = (
   tt,
   (
     tt,
-    all_append (IsOfferedKind c) (cond c.allow_floats (Plain F32 ∷ Plain F64 ∷ []) [] ++ cond c.simd_enabled (Plain V128 ∷ []) []) (cond c.reference_types_enabled (Reference ∷ []) [])
-        (all_append (IsOfferedKind c) (cond c.allow_floats (Plain F32 ∷ Plain F64 ∷ []) []) (cond c.simd_enabled (Plain V128 ∷ []) [])
-        (all_if (IsOfferedKind c) c.allow_floats (Plain F32 ∷ Plain F64 ∷ []) (λ h. (tt, (tt, tt))))
-        (all_if (IsOfferedKind c) c.simd_enabled (Plain V128 ∷ []) (λ h. (h, tt))))
+    all_append (IsOfferedKind c) (cond c.allow_floats (NumberOrVector F32 ∷ NumberOrVector F64 ∷ []) [] ++ cond c.simd_enabled (NumberOrVector V128 ∷ []) []) (cond c.reference_types_enabled (Reference ∷ []) [])
+        (all_append (IsOfferedKind c) (cond c.allow_floats (NumberOrVector F32 ∷ NumberOrVector F64 ∷ []) []) (cond c.simd_enabled (NumberOrVector V128 ∷ []) [])
+        (all_if (IsOfferedKind c) c.allow_floats (NumberOrVector F32 ∷ NumberOrVector F64 ∷ []) (λ h. (tt, (tt, tt))))
+        (all_if (IsOfferedKind c) c.simd_enabled (NumberOrVector V128 ∷ []) (λ h. (h, tt))))
         (all_if (IsOfferedKind c) c.reference_types_enabled (Reference ∷ []) (λ h. (h, tt))),
   ),
 )
@@ -76,7 +76,7 @@ unfolding reference_at
 reference_offered c s on = to_offered c (choose_at (offers c).heaps s).0 on (λ heap e. chosen (IsOfferedHeap c) (offers c).heaps s heap (heaps_offered c) e)
 
 of_offered : (c : Config) (o : Option Kind) (s : List ℕ) → ((k : Kind) → o ≡ Some k → IsOfferedKind c k) → IsOffered c (value_of (offers c) o s).0
-of_offered c (Some (Plain type)) s p = p (Plain type) refl
+of_offered c (Some (NumberOrVector type)) s p = p (NumberOrVector type) refl
 of_offered c (Some Reference) s p = reference_offered c s (p Reference refl)
 of_offered c None s p = tt
 

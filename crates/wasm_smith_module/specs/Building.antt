@@ -1,8 +1,8 @@
 -- What drawing a module gives, whatever the configuration is.
 use Rattle.std.specs.Prelude.{◌≡◌, ⊤, ℕ, ◌<◌, ◌≤◌, List, length}
-use Rattle.wasm_smith_types.specs.declared.config.Config.{Config}
-use Rattle.wasm_smith_types.specs.declared.error.Error.{Error}
-use Rattle.wasm_smith_types.specs.declared.error.Error.TheVariants.{IncorrectFormat, EmptyChoose, NotEnoughData, BadConfig, BadShape, TypeSize, Memory, TooLong}
+use Rattle.wasm_smith_config.specs.declared.config.Config.{Config}
+use Rattle.wasm_smith_config.specs.declared.error.Error.{Error}
+use Rattle.wasm_smith_config.specs.declared.error.Error.TheVariants.{IncorrectFormat, EmptyChoose, NotEnoughData, BadConfig, BadShape, TypeSize, Memory, TooLong}
 use Rattle.wasm_smith_module.specs.Generating.{module_at}
 use Rattle.wasm_smith_module.specs.Made.{ModuleValue}
 

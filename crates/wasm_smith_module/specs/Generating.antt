@@ -1,14 +1,14 @@
 -- What the steps of the generator draw, each from the bytes that are left: what is made, and the bytes that are left then.
 use Rattle.std.specs.Prelude.{ℕ, ◌-◌, true, List, [], ◌∷◌, ◌++◌, length, Option, Some, None, ◌==◌, if◌then◌else◌}
 use Rattle.wasm_spec.specs.Types.{AbstractHeapType, Func, Extern, Exn, Cont, NoCont, Abstract, ValType, I32, I64, F32, F64, V128, Ref, FuncComposite, SubType}
-use Rattle.wasm_smith_types.specs.declared.config.Config.{Config}
+use Rattle.wasm_smith_config.specs.declared.config.Config.{Config}
 use Rattle.wasm_smith_source.specs.Draws.{int_at, choose_at}
 use Rattle.wasm_smith_module.specs.Growing.{grow_at, times_at}
 use Rattle.wasm_smith_module.specs.Made.{Made}
 
 -- what is drawn first of a value type: a number or vector type, or that it is a reference
 pub data Kind : Type 0 where
-  Plain : ValType ℕ → Kind
+  NumberOrVector : ValType ℕ → Kind
   Reference : Kind
 
 -- what value types, and then what references refer to, are drawn from
@@ -18,7 +18,7 @@ pub record Offers : Type 0 where
 
 unfoldable pub offers : Config → Offers
 offers c = record {
-  kinds = Plain I32 ∷ Plain I64 ∷ (if c.allow_floats then (Plain F32 ∷ Plain F64 ∷ []) else []) ++ (if c.simd_enabled then (Plain V128 ∷ []) else []) ++ (if c.reference_types_enabled then (Reference ∷ []) else []);
+  kinds = NumberOrVector I32 ∷ NumberOrVector I64 ∷ (if c.allow_floats then (NumberOrVector F32 ∷ NumberOrVector F64 ∷ []) else []) ++ (if c.simd_enabled then (NumberOrVector V128 ∷ []) else []) ++ (if c.reference_types_enabled then (Reference ∷ []) else []);
   heaps = Func ∷ Extern ∷ (if c.exceptions_enabled then (Exn ∷ []) else []) ++ (if c.stack_switching_enabled then (Cont ∷ NoCont ∷ []) else []);
 }
 
@@ -32,7 +32,7 @@ unfoldable pub reference_at : Offers → List ℕ → ValType ℕ × List ℕ
 reference_at o s = (reference_to (choose_at o.heaps s).0, (choose_at o.heaps s).1)
 
 abbrev pub value_of : Offers → Option Kind → List ℕ → ValType ℕ × List ℕ
-value_of o (Some (Plain type)) s = (type, s)
+value_of o (Some (NumberOrVector type)) s = (type, s)
 value_of o (Some Reference) s = reference_at o s
 value_of o None s = (I32, s)
 

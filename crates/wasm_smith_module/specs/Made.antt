@@ -1,7 +1,7 @@
 -- What a made module has.
 use Rattle.std.specs.Prelude.{ℕ, List}
 use Rattle.wasm_spec.specs.Types.{SubType, ValType}
-use Rattle.wasm_smith_types.specs.declared.config.Config.{Config}
+use Rattle.wasm_smith_config.specs.declared.config.Config.{Config}
 
 -- Types, each a group by itself; the index of each function's type; the locals of each function. References are type indexes. Every body is
 -- `unreachable`.

@@ -2,8 +2,8 @@
 use Rattle.wasm_core_types.specs.CoreTypes.{val_type}
 use Rattle.wasm_smith_module.specs.Generating as spec
 use Rattle.wasm_smith_module.specs.declared.value_types.Kind.{Kind}
-use Rattle.wasm_smith_module.specs.declared.value_types.Kind.TheVariants.{Plain, Reference}
+use Rattle.wasm_smith_module.specs.declared.value_types.Kind.TheVariants.{NumberOrVector, Reference}
 
 abbrev pub kind : Kind → spec.Kind
-kind (Plain type) = spec.Plain (val_type type)
+kind (NumberOrVector type) = spec.NumberOrVector (val_type type)
 kind Reference = spec.Reference

@@ -1,4 +1,4 @@
--- Which types are made so far.
+-- Which types are made.
 use Rattle.std.specs.Prelude.{◌≡◌, ⊤, ℕ, true, []}
 use Rattle.std.specs.List.{AllByRecursion}
 use Rattle.wasm_spec.specs.Types.{Abstract, Concrete, ValType, I32, I64, F32, F64, V128, Ref, CompositeType, FuncComposite, StructComposite, ArrayComposite, ContComposite, SubType}

@@ -2,16 +2,16 @@
 use Rattle.std.specs.Prelude.{◌≡◌, ◌⊎◌, ⊤, ℕ, false, List, length, ◌<◌}
 use Rattle.wasm_spec.specs.Features.{Features}
 use Rattle.wasm_smith_source.specs.Draws.{bool_at}
-use Rattle.wasm_smith_types.specs.Config.{AreFeaturesOf, IsGood, IsBadField}
-use Rattle.wasm_smith_types.specs.declared.config.Config.{Config}
-use Rattle.wasm_smith_types.specs.declared.error.Error.{Error}
-use Rattle.wasm_smith_types.specs.declared.error.Error.TheVariants.{IncorrectFormat, EmptyChoose, NotEnoughData, BadConfig, BadShape, TypeSize, Memory, TooLong}
+use Rattle.wasm_smith_config.specs.Config.{AreFeaturesOf, IsGood, IsBadField}
+use Rattle.wasm_smith_config.specs.declared.config.Config.{Config}
+use Rattle.wasm_smith_config.specs.declared.error.Error.{Error}
+use Rattle.wasm_smith_config.specs.declared.error.Error.TheVariants.{IncorrectFormat, EmptyChoose, NotEnoughData, BadConfig, BadShape, TypeSize, Memory, TooLong}
 use Rattle.wasm_smith_module.specs.Bounds.{IsWithinBounds}
 use Rattle.wasm_smith_module.specs.Made.{ModuleValue}
 use Rattle.wasm_smith_module.specs.Plain.{IsPlainModule}
 use Rattle.wasm_smith_module.specs.Validity.{IsValidByIndex}
 
--- A module made for a good configuration is valid under the configuration's features, within its bounds, and of types that are made so far. Each function has
+-- A module made for a good configuration is valid under the configuration's features, within its bounds, and of supported types. Each function has
 -- its locals.
 pub record IsMadeFor (c : Config) (m : ModuleValue) : Type 0 where
   pub good : IsGood c

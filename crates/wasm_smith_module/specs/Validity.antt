@@ -8,7 +8,7 @@ use Rattle.wasm_spec.specs.Validity.{func_type_at}
 use Rattle.wasm_smith_module.specs.Made.{Made}
 
 -- The types are allowed, each function's type is a function type, each function has its locals, and these are allowed. (Types with supertypes,
--- and references to types, are not made yet: `Plain` says so.)
+-- and references to types, are not made: `Plain` says so.)
 pub record IsValidByIndex (features : Features) (m : Made) : Type 0 where
   pub types : AllByRecursion (λ type. is_allowed_sub features type ≡ true) m.types
   pub funcs : AllByRecursion (λ index. is_some (func_type_at m.types index) ≡ true) m.funcs

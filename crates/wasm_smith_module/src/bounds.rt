@@ -3,7 +3,7 @@
 ghost use Rattle.std.specs.Prelude.{◌≡◌};
 ghost use Rattle.wasm_smith_module.specs.Generating.{max_results};
 
-use wasm_smith_types::config::Config;
+use wasm_smith_config::config::Config;
 
 /// The most parameters of a function type.
 pub const MAX_PARAMS: usize = 20;

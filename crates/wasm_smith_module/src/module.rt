@@ -1,7 +1,7 @@
 //! Modules as they are made.
 
 ghost use Rattle.std.specs.Prelude.{IfOk, IfErr};
-ghost use Rattle.wasm_smith_types.specs.Config.{IsGood};
+ghost use Rattle.wasm_smith_config.specs.Config.{IsGood};
 ghost use Rattle.wasm_smith_module.specs.Building.{IsBuilt, IsEnd};
 
 use crate::steps::{code, funcs, types};
@@ -9,9 +9,9 @@ use crate::value_types::Offers;
 use std::alloc::Global;
 use std::marker::Model;
 use wasm_core_types::types::{SubType, ValType};
+use wasm_smith_config::config::Config;
+use wasm_smith_config::error::Error;
 use wasm_smith_source::unstructured::Unstructured;
-use wasm_smith_types::config::Config;
-use wasm_smith_types::error::Error;
 
 /// A module that is made: types, each a group by itself, and functions, each of one of the types and with locals of its
 /// own. Every body is `unreachable`. Contracts see it as its configuration and what it has.
@@ -63,7 +63,7 @@ impl Module {
     ghost use Rattle.std.specs.Prelude.{◌≡◌, map, IfOk, IfErr};
     ghost use Rattle.wasm_core_types.specs.CoreTypes.{val_type};
     ghost use Rattle.wasm_core_types.specs.SubTypes.{sub_type};
-    ghost use Rattle.wasm_smith_types.specs.Config.{sanitized};
+    ghost use Rattle.wasm_smith_config.specs.Config.{sanitized};
     ghost use Rattle.wasm_smith_module.specs.Generating.{module_at};
     ghost use Rattle.wasm_smith_module.specs.Promise.{IsMadeFor, IsReason, IsBadConfig};
 

@@ -11,14 +11,14 @@ use crate::growing::grows;
 use std::alloc::{AllocError, Global};
 use std::marker::Model;
 use wasm_core_types::types::{AbstractHeapType, HeapType, RefType, ValType};
+use wasm_smith_config::config::Config;
 use wasm_smith_source::unstructured::Unstructured;
-use wasm_smith_types::config::Config;
 
 /// What is drawn first of a value type.
 #[derive(Clone, Copy, Debug)]
 pub enum Kind {
     /// This number or vector type.
-    Plain(ValType),
+    NumberOrVector(ValType),
     /// A reference, to what is drawn next.
     Reference,
 }
@@ -48,13 +48,16 @@ fn offered_kinds(alloc: Global, config: &Config) -> Result<Vec<Kind>, AllocError
     ensures offered { IfOk result (λ kinds. map kind kinds.items ≡ (offers config.now).kinds) }
     ensures some { IfOk result (λ kinds. 0 < length kinds.items) }
 {
-    let mut kinds = vec![in alloc; Kind::Plain(ValType::I32), Kind::Plain(ValType::I64)]?;
+    let mut kinds = vec![in alloc;
+        Kind::NumberOrVector(ValType::I32),
+        Kind::NumberOrVector(ValType::I64),
+    ]?;
     if config.allow_floats {
-        kinds.push(Kind::Plain(ValType::F32))?;
-        kinds.push(Kind::Plain(ValType::F64))?;
+        kinds.push(Kind::NumberOrVector(ValType::F32))?;
+        kinds.push(Kind::NumberOrVector(ValType::F64))?;
     }
     if config.simd_enabled {
-        kinds.push(Kind::Plain(ValType::V128))?;
+        kinds.push(Kind::NumberOrVector(ValType::V128))?;
     }
     if config.reference_types_enabled {
         kinds.push(Kind::Reference)?;
@@ -106,7 +109,7 @@ impl Offers {
         ensures { IsDrawn val_type result source.new (value_at self.now source.old) }
     {
         match *source.choose(&self.kinds).unwrap() {
-            Kind::Plain(type_) => type_,
+            Kind::NumberOrVector(type_) => type_,
             Kind::Reference => self.reference(source),
         }
     }

@@ -12,7 +12,7 @@ power k = let e : k + 1 ≡ suc k = omega arith in rw e (omega (arith, pow-suc 2
 pub power_most : (k : ℕ) → k ≤ 8 → 256 ^ k ≤ 2 ^ 64
 power_most k le = let some : 0 < 256 = omega arith in pow-le-pow_right some le
 
--- one byte more, in front of the others or behind them
+-- one byte more, in front of the others or after them
 pub room : (n b i : ℕ) → n < 256 ^ i → b < 256 → n * 256 + b < 256 ^ (i + 1)
 room n b i low byte =
     let e = power i in

@@ -8,7 +8,7 @@ use Rattle.std.proofs.lemmas.Bool.{cases_lt, le-leb}
 use Rattle.wasm_smith_source.specs.Draws.{bytes_at, len_at, text_at}
 use Rattle.wasm_smith_source.specs.Texts.{IsLongestText}
 
--- at a length: it is the longest up to n that is a text
+-- at a length: it is the longest up to n that is an encoding
 pub up_to_is_text : (bytes : List ℕ) (n : ℕ) → IsUtf8 (take (valid_len_up_to bytes n) bytes)
 up_to_is_text bytes zero = ([], (refl, refl))
 up_to_is_text bytes (suc n) = by_test (is_utf8 (take (suc n) bytes)) refl (up_to_is_text bytes n)

@@ -1,10 +1,10 @@
--- What holds of a text that is drawn.
+-- What holds of an encoding that is drawn.
 use Rattle.std.specs.Prelude.{◌≡◌, ℕ, ◌<◌, ◌≤◌, List, ◌++◌, length, take, min}
 use Rattle.std.specs.Str.{IsUtf8}
 use Rattle.wasm_smith_source.specs.Draws.{len_at}
 
--- A text is taken from the front of what drawing a length leaves. It is at most that long, and at most max; no longer front within
--- these is a text.
+-- An encoding is taken from the front of what drawing a length leaves. It is at most that long, and at most max; no longer front within
+-- these is an encoding.
 pub record IsLongestText (max : ℕ) (old text new : List ℕ) : Type 0 where
   pub parts : text ++ new ≡ (len_at old).1
   pub utf8 : IsUtf8 text

@@ -17,7 +17,7 @@ fn text_front(bytes: &[u8]) -> &str
     }
 }
 
-/// A text of at most `max` bytes: the longest at the front of so many bytes as
+/// An encoding of at most `max` bytes: the longest at the front of so many bytes as
 /// [`arbitrary_len`](Unstructured::arbitrary_len) draws, or of `max` where that is less.
 #[tactic(auto, unfolding(crate::specs::Draws::text_at, crate::specs::Draws::bytes_at))]
 pub fn limited_str<'a>(source: &mut Unstructured<'a>, max: usize) -> &'a str

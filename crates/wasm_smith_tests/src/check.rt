@@ -1,198 +1,75 @@
 //! Which configurations are allowed.
 
+use crate::settings::config_of;
+use std::alloc::Global;
+use std::test::Fail;
 use wasm_smith::config::Config;
 use wasm_smith::error::Error;
-use wasm_smith::plain::plain_config;
+use wasm_smith::supported::supported_config;
+use wasm_test_rows::fields::two_fields;
+use wasm_test_rows::rows::check_rows;
 
-// Sets a minimum above its maximum, and says which.
-fn raise_minimum(config: &mut Config, turn: usize) -> &'static str {
-    match turn {
-        0 => {
-            config.min_types = 101;
-            "min_types"
-        }
-        1 => {
-            config.min_imports = 101;
-            "min_imports"
-        }
-        2 => {
-            config.min_tags = 101;
-            "min_tags"
-        }
-        3 => {
-            config.min_funcs = 101;
-            "min_funcs"
-        }
-        4 => {
-            config.min_globals = 101;
-            "min_globals"
-        }
-        5 => {
-            config.min_exports = 101;
-            "min_exports"
-        }
-        6 => {
-            config.min_element_segments = 101;
-            "min_element_segments"
-        }
-        7 => {
-            config.min_elements = 101;
-            "min_elements"
-        }
-        8 => {
-            config.min_data_segments = 101;
-            "min_data_segments"
-        }
-        9 => {
-            config.min_tables = 101;
-            "min_tables"
-        }
-        10 => {
-            config.min_memories = 101;
-            "min_memories"
-        }
-        _ => "",
+// Whether the answer is `allowed`, or names this field.
+fn is_answer(answer: Result<(), Error>, expected: &str) -> bool {
+    match answer {
+        Ok(()) => expected == "allowed",
+        Err(Error::BadConfig(name)) => name == expected,
+        Err(_) => false,
     }
 }
 
-// Sets a maximum too high, and says which.
-fn raise_maximum(config: &mut Config, turn: usize) -> &'static str {
-    match turn {
-        0 => {
-            config.max_types = 0x8000_0001;
-            "max_types"
-        }
-        1 => {
-            config.max_funcs = 0x8000_0001;
-            "max_funcs"
-        }
-        2 => {
-            config.max_elements = 0x8000_0001;
-            "max_elements"
-        }
-        3 => {
-            config.max_instructions = 0x8000_0001;
-            "max_instructions"
-        }
-        4 => {
-            config.max_type_size = 0x8000_0001;
-            "max_type_size"
-        }
-        5 => {
-            config.max_memory32_bytes = 0x1_0000_0001;
-            "max_memory32_bytes"
-        }
-        6 => {
-            config.max_memory64_bytes = 0x1_0000_0000_0000_0001;
-            "max_memory64_bytes"
-        }
-        _ => "",
-    }
-}
+// In what a configuration is not the plain one, and the field that is named.
+const CHECKED: &str = "
+    | allowed
+    min_funcs=2147483648 max_funcs=2147483648 max_instructions=2147483648 max_table_elements=18446744073709551615 | allowed
+    // Minimums above their maximums.
+    min_types=101 | min_types
+    min_imports=101 | min_imports
+    min_tags=101 | min_tags
+    min_funcs=101 | min_funcs
+    min_globals=101 | min_globals
+    min_exports=101 | min_exports
+    min_element_segments=101 | min_element_segments
+    min_elements=101 | min_elements
+    min_data_segments=101 | min_data_segments
+    min_tables=101 | min_tables
+    min_memories=101 | min_memories
+    // Maximums that are too large.
+    max_types=2147483649 | max_types
+    max_funcs=2147483649 | max_funcs
+    max_elements=2147483649 | max_elements
+    max_instructions=2147483649 | max_instructions
+    max_type_size=2147483649 | max_type_size
+    max_memory32_bytes=4294967297 | max_memory32_bytes
+    max_memory64_bytes=18446744073709551617 | max_memory64_bytes
+    // What can't be made.
+    max_imports=1 | max_imports
+    max_tags=1 | max_tags
+    max_globals=1 | max_globals
+    max_exports=1 | max_exports
+    max_element_segments=1 | max_element_segments
+    max_data_segments=1 | max_data_segments
+    max_tables=1 | max_tables
+    max_memories=1 | max_memories
+    gc_enabled=yes | gc_enabled
+    allow_start_export=yes | allow_start_export
+    export_everything=yes | export_everything
+    allow_invalid_funcs=yes | allow_invalid_funcs
+    generate_custom_sections=yes | generate_custom_sections
+";
 
-// Asks for something that is not made yet, and says by which field.
-fn ask_for_more(config: &mut Config, turn: usize) -> &'static str {
-    match turn {
-        0 => {
-            config.max_imports = 1;
-            "max_imports"
-        }
-        1 => {
-            config.max_tags = 1;
-            "max_tags"
-        }
-        2 => {
-            config.max_globals = 1;
-            "max_globals"
-        }
-        3 => {
-            config.max_exports = 1;
-            "max_exports"
-        }
-        4 => {
-            config.max_element_segments = 1;
-            "max_element_segments"
-        }
-        5 => {
-            config.max_data_segments = 1;
-            "max_data_segments"
-        }
-        6 => {
-            config.max_tables = 1;
-            "max_tables"
-        }
-        7 => {
-            config.max_memories = 1;
-            "max_memories"
-        }
-        8 => {
-            config.gc_enabled = true;
-            "gc_enabled"
-        }
-        9 => {
-            config.allow_start_export = true;
-            "allow_start_export"
-        }
-        10 => {
-            config.export_everything = true;
-            "export_everything"
-        }
-        11 => {
-            config.allow_invalid_funcs = true;
-            "allow_invalid_funcs"
-        }
-        12 => {
-            config.generate_custom_sections = true;
-            "generate_custom_sections"
-        }
-        _ => "",
-    }
-}
-
-// Whether the configuration is refused by this field.
-fn is_refused(config: &Config, name: &'static str) -> bool {
-    config.check() == Err(Error::BadConfig(name))
-}
-
-#[test]
-fn allows_what_is_made(rt: HostRuntime) {
-    let mut config = plain_config();
-    assert!(rt; config.check().is_ok(), "the plain one");
-    config.min_funcs = 0x8000_0000;
-    config.max_funcs = 0x8000_0000;
-    config.max_instructions = 0x8000_0000;
-    config.max_table_elements = u64::MAX;
-    assert!(rt; config.check().is_ok(), "the largest counts");
+fn holds(_alloc: Global, row: &str) -> Option<bool> {
+    let (settings, expected) = two_fields(row)?;
+    let config = config_of(supported_config(), settings)?;
+    Some(is_answer(config.check(), expected))
 }
 
 #[test]
 fn names_a_field_of_the_default(rt: HostRuntime) {
-    assert!(rt; is_refused(&Config::default(), "max_imports"));
+    assert!(rt; is_answer(Config::default().check(), "max_imports"));
 }
 
 #[test]
-fn names_a_minimum_above_its_maximum(rt: HostRuntime) {
-    for turn in 0..11 {
-        let mut config = plain_config();
-        let name = raise_minimum(&mut config, turn);
-        assert!(rt; is_refused(&config, name), "{name}");
-    }
-}
-
-#[test]
-fn names_a_maximum_that_is_too_large(rt: HostRuntime) {
-    for turn in 0..7 {
-        let mut config = plain_config();
-        let name = raise_maximum(&mut config, turn);
-        assert!(rt; is_refused(&config, name), "{name}");
-    }
-}
-
-#[test]
-fn names_what_is_not_made_yet(rt: HostRuntime) {
-    for turn in 0..13 {
-        let mut config = plain_config();
-        let name = ask_for_more(&mut config, turn);
-        assert!(rt; is_refused(&config, name), "{name}");
-    }
+fn bad_fields_are_named(rt: HostRuntime) -> Result<(), Fail> {
+    Ok(check_rows(rt.alloc(), CHECKED, 33, holds)?)
 }

@@ -1,104 +1,12 @@
 //! Configurations put in order, and the features that they ask for.
 
+use crate::settings::config_of;
+use std::alloc::Global;
+use std::test::Fail;
 use wasm_core::features::{Flags, WasmFeatures};
 use wasm_smith::config::Config;
-
-// A configuration of which no feature is on.
-fn bare() -> Config {
-    let mut config = Config::default();
-    config.bulk_memory_enabled = false;
-    config.exceptions_enabled = false;
-    config.extended_const_enabled = false;
-    config.gc_enabled = false;
-    config.memory64_enabled = false;
-    config.multi_value_enabled = false;
-    config.reference_types_enabled = false;
-    config.relaxed_simd_enabled = false;
-    config.saturating_float_to_int_enabled = false;
-    config.sign_extension_ops_enabled = false;
-    config.simd_enabled = false;
-    config.tail_call_enabled = false;
-    config
-}
-
-// Turns something on, and says which bits that adds to the features.
-fn turn_on(config: &mut Config, turn: usize) -> u32 {
-    match turn {
-        0 => {
-            config.saturating_float_to_int_enabled = true;
-            0x2
-        }
-        1 => {
-            config.sign_extension_ops_enabled = true;
-            0x4
-        }
-        2 => {
-            config.reference_types_enabled = true;
-            0x8
-        }
-        3 => {
-            config.multi_value_enabled = true;
-            0x10
-        }
-        4 => {
-            config.bulk_memory_enabled = true;
-            0x20
-        }
-        5 => {
-            config.simd_enabled = true;
-            0x40
-        }
-        6 => {
-            config.relaxed_simd_enabled = true;
-            0x80
-        }
-        7 => {
-            config.threads_enabled = true;
-            0x100
-        }
-        8 => {
-            config.tail_call_enabled = true;
-            0x200
-        }
-        9 => {
-            config.exceptions_enabled = true;
-            0x1000
-        }
-        10 => {
-            config.memory64_enabled = true;
-            0x2000
-        }
-        11 => {
-            config.extended_const_enabled = true;
-            0x4000
-        }
-        12 => {
-            config.gc_enabled = true;
-            0x1_8000
-        }
-        13 => {
-            config.custom_page_sizes_enabled = true;
-            0x4_0000
-        }
-        14 => {
-            config.compact_imports_enabled = true;
-            0x8_0000
-        }
-        15 => {
-            config.wide_arithmetic_enabled = true;
-            0x10_0000
-        }
-        16 => {
-            config.stack_switching_enabled = true;
-            0x20_0000
-        }
-        17 => {
-            config.max_memories = 2;
-            0x800
-        }
-        _ => 0,
-    }
-}
+use wasm_test_rows::fields::two_fields;
+use wasm_test_rows::rows::check_rows;
 
 // Whether the counts of the configuration are those of the default.
 fn has_default_counts(config: &Config) -> bool {
@@ -116,9 +24,9 @@ fn has_default_counts(config: &Config) -> bool {
 #[test]
 fn has_its_defaults(rt: HostRuntime) {
     let config = Config::default();
-    assert!(rt; config.gc_enabled && config.allow_start_export && config.relaxed_simd_enabled);
-    assert!(rt; !config.threads_enabled && !config.export_everything && !config.disallow_traps);
-    assert!(rt; has_default_counts(&config), "counts");
+    let are_on = config.gc_enabled && config.allow_start_export && config.relaxed_simd_enabled;
+    let are_off = !config.threads_enabled && !config.export_everything && !config.disallow_traps;
+    assert!(rt; are_on && are_off && has_default_counts(&config));
 }
 
 #[test]
@@ -148,12 +56,54 @@ fn has_the_features_of_the_default(rt: HostRuntime) {
     assert!(rt; Config::default().features() == features);
 }
 
-#[test]
-fn has_a_feature_for_each_switch(rt: HostRuntime) {
-    assert!(rt; bare().features().bits() == 0x2_0401, "none");
-    for turn in 0..18 {
-        let mut config = bare();
-        let bits = turn_on(&mut config, turn);
-        assert!(rt; config.features().bits() == 0x2_0401 | bits, "{bits:x}");
+// A configuration of which no feature is on.
+fn bare() -> Option<Config> {
+    let settings = "bulk_memory_enabled=no exceptions_enabled=no extended_const_enabled=no \
+            gc_enabled=no memory64_enabled=no multi_value_enabled=no \
+            reference_types_enabled=no relaxed_simd_enabled=no saturating_float_to_int_enabled=no \
+            sign_extension_ops_enabled=no simd_enabled=no tail_call_enabled=no";
+    config_of(Config::default(), settings)
+}
+
+// What is turned on, and the features that it adds to those of a bare configuration.
+const SWITCHES: &str = "
+    |
+    saturating_float_to_int_enabled=yes | SATURATING_FLOAT_TO_INT
+    sign_extension_ops_enabled=yes | SIGN_EXTENSION
+    reference_types_enabled=yes | REFERENCE_TYPES
+    multi_value_enabled=yes | MULTI_VALUE
+    bulk_memory_enabled=yes | BULK_MEMORY
+    simd_enabled=yes | SIMD
+    relaxed_simd_enabled=yes | RELAXED_SIMD
+    threads_enabled=yes | THREADS
+    tail_call_enabled=yes | TAIL_CALL
+    exceptions_enabled=yes | EXCEPTIONS
+    memory64_enabled=yes | MEMORY64
+    extended_const_enabled=yes | EXTENDED_CONST
+    gc_enabled=yes | FUNCTION_REFERENCES GC
+    custom_page_sizes_enabled=yes | CUSTOM_PAGE_SIZES
+    compact_imports_enabled=yes | COMPACT_IMPORTS
+    wide_arithmetic_enabled=yes | WIDE_ARITHMETIC
+    stack_switching_enabled=yes | STACK_SWITCHING
+    max_memories=2 | MULTI_MEMORY
+";
+
+// Features with spaces between them.
+fn features_of(names: &str) -> Option<WasmFeatures> {
+    let mut features = WasmFeatures::empty();
+    for name in names.split_whitespace() {
+        features.insert(WasmFeatures::from_name(name)?);
     }
+    Some(features)
+}
+
+fn holds(_alloc: Global, row: &str) -> Option<bool> {
+    let (settings, names) = two_fields(row)?;
+    let config = config_of(bare()?, settings)?;
+    Some(config.features().bits() == 0x2_0401 | features_of(names)?.bits())
+}
+
+#[test]
+fn has_a_feature_for_each_switch(rt: HostRuntime) -> Result<(), Fail> {
+    Ok(check_rows(rt.alloc(), SWITCHES, 19, holds)?)
 }

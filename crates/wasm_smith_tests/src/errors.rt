@@ -1,35 +1,54 @@
-//! The texts of errors.
+//! What errors print.
 
 use std::alloc::{AllocError, Global};
 use std::test::Fail;
 use wasm_smith::error::Error;
+use wasm_smith_source::error::{EmptyChoose, NotEnoughData};
+use wasm_test_rows::fields::two_fields;
+use wasm_test_rows::rows::check_rows;
+use wasm_test_rows::shown::displays;
 
-// Errors, each with its text.
-const ROWS: [(Error, &str); 8] = [
-    (Error::IncorrectFormat, "incorrect format"),
-    (Error::EmptyChoose, "nothing to choose from"),
-    (Error::NotEnoughData, "not enough data"),
-    (
-        Error::BadConfig("max_types"),
-        "bad configuration: max_types",
-    ),
-    (Error::BadShape("tables"), "bad shape: tables"),
-    (Error::TypeSize, "type size"),
-    (Error::Memory, "out of memory"),
-    (Error::TooLong, "too long"),
-];
+// Errors and what they print.
+const PRINTED: &str = "
+    IncorrectFormat | incorrect format
+    EmptyChoose | nothing to choose from
+    NotEnoughData | not enough data
+    BadConfig | bad configuration: max_types
+    BadShape | bad shape: tables
+    TypeSize | type size
+    Memory | out of memory
+    TooLong | too long
+    // Those of a source.
+    choose | nothing to choose from
+    bytes | not enough data
+";
 
-// Whether the error shows this text.
-fn shows(alloc: Global, error: Error, text: &str) -> Result<bool, AllocError> {
-    Ok(error.to_string(alloc)?.as_str() == text)
+fn error_of(name: &str) -> Option<Error> {
+    match name {
+        "IncorrectFormat" => Some(Error::IncorrectFormat),
+        "EmptyChoose" => Some(Error::EmptyChoose),
+        "NotEnoughData" => Some(Error::NotEnoughData),
+        "BadConfig" => Some(Error::BadConfig("max_types")),
+        "BadShape" => Some(Error::BadShape("tables")),
+        "TypeSize" => Some(Error::TypeSize),
+        "Memory" => Some(Error::Memory),
+        "TooLong" => Some(Error::TooLong),
+        _ => None,
+    }
+}
+
+fn holds(alloc: Global, row: &str) -> Option<bool> {
+    let (name, text) = two_fields(row)?;
+    match name {
+        "choose" => Some(displays(alloc, &EmptyChoose, text)),
+        "bytes" => Some(displays(alloc, &NotEnoughData, text)),
+        _ => Some(displays(alloc, &error_of(name)?, text)),
+    }
 }
 
 #[test]
-fn has_its_text(rt: HostRuntime) -> Result<(), Fail> {
-    for (error, text) in ROWS {
-        assert!(rt; shows(rt.alloc(), error, text)?, "{text}");
-    }
-    Ok(())
+fn errors_print_their_causes(rt: HostRuntime) -> Result<(), Fail> {
+    Ok(check_rows(rt.alloc(), PRINTED, 10, holds)?)
 }
 
 #[test]

@@ -10,6 +10,8 @@ mod errors;
 #[cfg(test)]
 mod module;
 #[cfg(test)]
+mod settings;
+#[cfg(test)]
 mod unstructured;
 #[cfg(test)]
 mod witness;

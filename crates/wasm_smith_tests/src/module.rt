@@ -1,117 +1,55 @@
 //! Modules made of bytes.
 
+use crate::settings::config_of;
 use std::alloc::Global;
 use std::test::Fail;
-use wasm_core::types::{AbstractHeapType, CompositeType, HeapType, RefType, SubType, ValType};
 use wasm_smith::config::Config;
-use wasm_smith::error::Error;
 use wasm_smith::module::Module;
-use wasm_smith::plain::plain_config;
+use wasm_smith::supported::supported_config;
 use wasm_smith::unstructured::Unstructured;
+use wasm_test_rows::fields::four_fields;
+use wasm_test_rows::rows::check_rows;
+use wasm_test_rows::shown::{debugs, debugs_same, displays};
+use wasm_test_rows::types::sub_types_of;
+use wasm_test_rows::values::bytes_of;
 
-const EXN: ValType = ValType::Ref(RefType {
-    nullable: true,
-    heap_type: HeapType::Abstract(AbstractHeapType::Exn),
-});
+// In what a configuration is not the plain one, the bytes, the types that are made, and the functions with their locals. Where no module is made, the
+// third field is `refused`, and then there is the cause.
+const MADE: &str = "
+    | | | ([], [])
+    | 01 00 00 00 01 | func -> | ([0], [[]])
+    | 01 01 00 00 00 00 01 | func i32 -> | ([0], [[]])
+    | 01 00 00 00 01 00 01 04 | func -> | ([0], [[V128]])
+    | 01 00 01 05 02 | func -> exn? | ([], [])
+    min_types=2 | | func ->, func -> | ([], [])
+    max_types=0 min_funcs=1 | | refused | incorrect format
+    min_types=1 max_types=0 | | refused | bad configuration: min_types
+";
 
-// The parameters and results of a function type.
-type Signature = (&'static [ValType], &'static [ValType]);
-
-// The plain configuration with these bounds.
-fn bounded(min_types: u32, max_types: u32, min_funcs: u32) -> Config {
-    let mut config = plain_config();
-    config.min_types = min_types;
-    config.max_types = max_types;
-    config.min_funcs = min_funcs;
-    config
+// Whether a module has this configuration, these types, and these functions and locals.
+fn has_parts(alloc: Global, module: &Module, config: Config, types: &str, rest: &str) -> bool {
+    let parts = (module.funcs(), module.locals());
+    module.config() == &config
+        && debugs_same(alloc, &Some(module.types()), &sub_types_of(alloc, types))
+        && debugs(alloc, &parts, rest)
 }
 
-fn made(alloc: Global, config: Config, bytes: &[u8]) -> Result<Module, Error> {
-    Module::new(alloc, config, &mut Unstructured::new(bytes))
-}
-
-fn is_func(type_: &SubType, (params, results): Signature) -> bool {
-    match &type_.composite_type {
-        CompositeType::Func(func) => {
-            type_.is_final
-                && type_.supertype_idx.is_none()
-                && func.params() == params
-                && func.results() == results
-        }
-        _ => false,
+// Whether what is expected is made of the bytes, or the cause of the refusal is.
+fn makes(alloc: Global, config: Config, bytes: &[u8], types: &str, rest: &str) -> bool {
+    match Module::new(alloc, config, &mut Unstructured::new(bytes)) {
+        Ok(module) => has_parts(alloc, &module, config, types, rest),
+        Err(error) => types == "refused" && displays(alloc, &error, rest),
     }
 }
 
-fn are_funcs(types: &[SubType], signatures: &[Signature]) -> bool {
-    for (type_, signature) in types.iter().zip(signatures) {
-        if !is_func(type_, *signature) {
-            return false;
-        }
-    }
-    types.len() == signatures.len()
-}
-
-fn are_locals(found: &[Vec<ValType>], expected: &[&[ValType]]) -> bool {
-    for (locals, wanted) in found.iter().zip(expected) {
-        if locals.as_slice() != *wanted {
-            return false;
-        }
-    }
-    found.len() == expected.len()
-}
-
-// How many types are owed, the bytes, and the types, functions and their locals that are made.
-const MODULES: [(u32, &[u8], &[Signature], &[u32], &[&[ValType]]); 6] = [
-    (0, &[], &[], &[], &[]),
-    (0, &[1, 0, 0, 0, 1], &[(&[], &[])], &[0], &[&[]]),
-    (
-        0,
-        &[1, 1, 0, 0, 0, 0, 1],
-        &[(&[ValType::I32], &[])],
-        &[0],
-        &[&[]],
-    ),
-    (
-        0,
-        &[1, 0, 0, 0, 1, 0, 1, 4],
-        &[(&[], &[])],
-        &[0],
-        &[&[ValType::V128]],
-    ),
-    (0, &[1, 0, 1, 5, 2], &[(&[], &[EXN])], &[], &[]),
-    (2, &[], &[(&[], &[]), (&[], &[])], &[], &[]),
-];
-
-// Whether these types, functions and locals are made of the bytes.
-fn makes(
-    alloc: Global,
-    (config, bytes): (Config, &[u8]),
-    types: &[Signature],
-    funcs: &[u32],
-    locals: &[&[ValType]],
-) -> Result<bool, Error> {
-    let module = made(alloc, config, bytes)?;
-    let are_made = are_funcs(module.types(), types) && module.funcs() == funcs;
-    Ok(are_made && are_locals(module.locals(), locals) && *module.config() == config)
+fn holds(alloc: Global, row: &str) -> Option<bool> {
+    let (settings, bytes, types, rest) = four_fields(row)?;
+    let config = config_of(supported_config(), settings)?;
+    let bytes = bytes_of(alloc, bytes)?;
+    Some(makes(alloc, config, &bytes, types, rest))
 }
 
 #[test]
 fn modules_are_made_of_bytes(rt: HostRuntime) -> Result<(), Fail> {
-    for (min_types, bytes, types, funcs, locals) in MODULES {
-        let seed = (bounded(min_types, 100, 0), bytes);
-        assert!(rt; makes(rt.alloc(), seed, types, funcs, locals)?, "{bytes:?}");
-    }
-    Ok(())
-}
-
-#[test]
-fn functions_are_owed_though_there_is_no_type(rt: HostRuntime) {
-    let refusal = made(rt.alloc(), bounded(0, 0, 1), &[]).err();
-    assert!(rt; refusal == Some(Error::IncorrectFormat));
-}
-
-#[test]
-fn more_types_are_owed_than_there_may_be(rt: HostRuntime) {
-    let refusal = made(rt.alloc(), bounded(1, 0, 0), &[]).err();
-    assert!(rt; refusal == Some(Error::BadConfig("min_types")));
+    Ok(check_rows(rt.alloc(), MADE, 8, holds)?)
 }

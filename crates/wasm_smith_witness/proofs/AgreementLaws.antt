@@ -4,8 +4,8 @@ use Rattle.std.specs.Prelude.{◌&&◌, ◌==◌, nat_le, nat_lt}
 use Rattle.std.specs.List.{AllByRecursion, list_all}
 use Rattle.std.proofs.lemmas.Bool.{and_from, lt-ltb, le-leb}
 use Rattle.wasm_spec.specs.Types.{AbstractHeapType, Exn, Cont, NoCont, Abstract, Concrete, ValType, I32, I64, F32, F64, V128, Ref, FuncType, CompositeType, FuncComposite, StructComposite, ArrayComposite, ContComposite, SubType}
-use Rattle.wasm_smith_types.specs.declared.config.Config.{Config}
-use Rattle.wasm_smith_module.specs.Generating.{Kind, Plain, Reference, offers, max_results}
+use Rattle.wasm_smith_config.specs.declared.config.Config.{Config}
+use Rattle.wasm_smith_module.specs.Generating.{Kind, NumberOrVector, Reference, offers, max_results}
 use Rattle.wasm_smith_module.proofs.ListLaws.{all_append, all_if, all_get}
 use Rattle.wasm_smith_witness.specs.Family.{IsMember, is_enabled_heap, is_enabled, is_member_function, is_member_composite, is_member_group, types_of}
 use Rattle.wasm_smith_witness.specs.Spelling.{SpellsInt, SpellsChoice, SpellsEach, SpellsValue, SpellsFunction, SpellsComposite, SpellsGroup, SpellsFunctions, Spells}
@@ -14,7 +14,7 @@ use Rattle.wasm_smith_witness.proofs.ReachLaws.{singles}
 -- ---- what is offered
 
 abbrev IsEnabledKind : Config → Kind → Type 0
-IsEnabledKind c (Plain type) = is_enabled c type ≡ true
+IsEnabledKind c (NumberOrVector type) = is_enabled c type ≡ true
 IsEnabledKind c Reference = c.reference_types_enabled ≡ true
 
 kinds_enabled : (c : Config) → AllByRecursion (IsEnabledKind c) (offers c).kinds
@@ -23,10 +23,10 @@ kinds_enabled c = (
   refl,
   (
     refl,
-    all_append (IsEnabledKind c) (cond c.allow_floats (Plain F32 ∷ Plain F64 ∷ []) [] ++ cond c.simd_enabled (Plain V128 ∷ []) []) (cond c.reference_types_enabled (Reference ∷ []) [])
-        (all_append (IsEnabledKind c) (cond c.allow_floats (Plain F32 ∷ Plain F64 ∷ []) []) (cond c.simd_enabled (Plain V128 ∷ []) [])
-        (all_if (IsEnabledKind c) c.allow_floats (Plain F32 ∷ Plain F64 ∷ []) (λ on. (on, (on, tt))))
-        (all_if (IsEnabledKind c) c.simd_enabled (Plain V128 ∷ []) (λ on. (on, tt))))
+    all_append (IsEnabledKind c) (cond c.allow_floats (NumberOrVector F32 ∷ NumberOrVector F64 ∷ []) [] ++ cond c.simd_enabled (NumberOrVector V128 ∷ []) []) (cond c.reference_types_enabled (Reference ∷ []) [])
+        (all_append (IsEnabledKind c) (cond c.allow_floats (NumberOrVector F32 ∷ NumberOrVector F64 ∷ []) []) (cond c.simd_enabled (NumberOrVector V128 ∷ []) [])
+        (all_if (IsEnabledKind c) c.allow_floats (NumberOrVector F32 ∷ NumberOrVector F64 ∷ []) (λ on. (on, (on, tt))))
+        (all_if (IsEnabledKind c) c.simd_enabled (NumberOrVector V128 ∷ []) (λ on. (on, tt))))
         (all_if (IsEnabledKind c) c.reference_types_enabled (Reference ∷ []) (λ on. (on, tt))),
   ),
 )
@@ -52,9 +52,9 @@ heap_enabled c heap s h = all_get (λ x. is_enabled_heap c x ≡ true) (offers c
 value_enabled : (c : Config) (type : ValType ℕ) (s : List ℕ) → SpellsValue (offers c) type s → is_enabled c type ≡ true
 value_enabled c I32 s h = refl
 value_enabled c I64 s h = refl
-value_enabled c F32 s h = kind_enabled c (Plain F32) s h
-value_enabled c F64 s h = kind_enabled c (Plain F64) s h
-value_enabled c V128 s h = kind_enabled c (Plain V128) s h
+value_enabled c F32 s h = kind_enabled c (NumberOrVector F32) s h
+value_enabled c F64 s h = kind_enabled c (NumberOrVector F64) s h
+value_enabled c V128 s h = kind_enabled c (NumberOrVector V128) s h
 value_enabled c (Ref nullable (Abstract heap)) s h = and_from (nullable && c.reference_types_enabled) (is_enabled_heap c heap) (and_from nullable c.reference_types_enabled h.3 (kind_enabled c Reference h.0 h.4)) (heap_enabled c heap h.1 h.5)
 value_enabled c (Ref nullable (Concrete index)) s h = absurd h
 

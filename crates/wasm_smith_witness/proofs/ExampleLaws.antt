@@ -1,10 +1,10 @@
 -- Spellings of worked examples.
 use Rattle.std.proofs.Common.{◌≡◌, ℕ, zero, suc, ◌-◌, ◌<◌, ◌%◌, Bool, true, false, cond, [], ◌∷◌, refl, arith}
 use Rattle.wasm_smith_source.specs.Draws.{width, least_from}
-use Rattle.wasm_smith_types.specs.declared.config.Config.{Config}
+use Rattle.wasm_smith_config.specs.declared.config.Config.{Config}
 use Rattle.wasm_smith_module.specs.Generating.{offers, max_results}
-use Rattle.wasm_smith_witness.specs.Examples.{one_function}
-use Rattle.wasm_smith_witness.specs.Spelling.{SpellsEnd, SpellsInt, SpellsList, SpellsValue, Spells}
+use Rattle.wasm_smith_witness.specs.Examples.{no_values, one_function, two_functions}
+use Rattle.wasm_smith_witness.specs.Spelling.{SpellsEnd, SpellsInt, SpellsList, SpellsGroup, SpellsValue, Spells}
 
 end_spelled : (room byte : ℕ) → 0 < room → byte % 2 ≡ 0 → SpellsEnd room (byte ∷ [])
 end_spelled zero byte some even = absurd (omega (arith, some))
@@ -37,3 +37,31 @@ small_spelled c a b d e f types funcs pa pb pd pe pf =
       );
       spells_funcs = ((f ∷ [], [], [], refl, (f, refl, pf), first_of_one, refl), omega (arith, funcs));
     }
+
+-- a type without parameters and results
+type_spelled : (c : Config) → SpellsGroup (offers c) (max_results c) no_values (0 ∷ 0 ∷ [])
+type_spelled c =
+    let params : SpellsList (SpellsValue (offers c)) 20 [] (0 ∷ []) = ([], 0 ∷ [], refl, refl, (0, refl, refl), omega arith) in
+    let results : SpellsList (SpellsValue (offers c)) (max_results c) [] (0 ∷ []) = ([], 0 ∷ [], refl, refl, end_spelled (max_results c - 0) 0 (some_of c.multi_value_enabled) refl, omega arith) in
+    (refl, refl, (0 ∷ [], 0 ∷ [], refl, params, results))
+
+second_of_two : (byte : ℕ) → byte < 256 → byte % 2 ≡ 1 → SpellsInt 0 1 1 (byte ∷ [])
+unfolding width least_from
+second_of_two byte small odd = (refl, omega (arith, odd))
+
+pub second_spelled : (c : Config) (byte : ℕ) → 2 < c.max_types → 0 < c.max_funcs → byte < 256 → byte % 2 ≡ 1
+    → Spells c two_functions (1 ∷ []) (1 ∷ 0 ∷ 0 ∷ 1 ∷ 0 ∷ 0 ∷ 0 ∷ 1 ∷ byte ∷ [])
+second_spelled c byte types funcs small odd = record {
+  front = 1 ∷ 0 ∷ 0 ∷ 1 ∷ 0 ∷ 0 ∷ 0 ∷ [];
+  back = 1 ∷ byte ∷ [];
+  parts = refl;
+  spells_groups = (
+    1 ∷ 0 ∷ 0 ∷ 1 ∷ 0 ∷ 0 ∷ [],
+    0 ∷ [],
+    refl,
+    (1 ∷ [], 0 ∷ 0 ∷ [], 1 ∷ 0 ∷ 0 ∷ [], refl, (1, refl, refl), type_spelled c, (1 ∷ [], 0 ∷ 0 ∷ [], [], refl, (1, refl, refl), type_spelled c, refl)),
+    end_spelled (c.max_types - 2) 0 (omega (arith, types)) refl,
+    omega (arith, types),
+  );
+  spells_funcs = ((1 ∷ [], byte ∷ [], [], refl, (1, refl, refl), second_of_two byte small odd, refl), omega (arith, funcs));
+}

@@ -4,10 +4,10 @@ use Rattle.std.specs.Prelude.{◌&&◌}
 use Rattle.std.specs.List.{list_all}
 use Rattle.std.proofs.lemmas.Bool.{and_parts}
 use Rattle.wasm_spec.specs.Types.{SubType}
-use Rattle.wasm_smith_types.specs.Config.{IsGood, NamesBad, AreGood, HasBad, Field, fields}
-use Rattle.wasm_smith_types.specs.declared.config.Config.{Config}
-use Rattle.wasm_smith_types.specs.declared.error.Error.{Error}
-use Rattle.wasm_smith_types.specs.declared.error.Error.TheVariants.{IncorrectFormat, EmptyChoose, NotEnoughData, BadConfig, BadShape, TypeSize, Memory, TooLong}
+use Rattle.wasm_smith_config.specs.Config.{IsGood, NamesBad, AreGood, HasBad, Field, fields}
+use Rattle.wasm_smith_config.specs.declared.config.Config.{Config}
+use Rattle.wasm_smith_config.specs.declared.error.Error.{Error}
+use Rattle.wasm_smith_config.specs.declared.error.Error.TheVariants.{IncorrectFormat, EmptyChoose, NotEnoughData, BadConfig, BadShape, TypeSize, Memory, TooLong}
 use Rattle.wasm_smith_witness.specs.Family.{is_member_group, types_of}
 
 -- ---- lists

@@ -6,12 +6,12 @@ use Rattle.std.proofs.lemmas.Bool.Decides.{eqb_tells}
 use Rattle.std.proofs.lemmas.Option.{slice_get_within}
 use Rattle.wasm_spec.specs.Types.{Abstract, Concrete, ValType, I32, I64, F32, F64, V128, Ref, CompositeType, FuncComposite, StructComposite, ArrayComposite, ContComposite, SubType}
 use Rattle.wasm_smith_source.specs.Draws.{bool_at, width, int_at, choose_at}
-use Rattle.wasm_smith_types.specs.declared.config.Config.{Config}
+use Rattle.wasm_smith_config.specs.declared.config.Config.{Config}
 use Rattle.wasm_smith_module.specs.Growing.{grows_from, grow_from, grow_at, times_at}
-use Rattle.wasm_smith_module.specs.Generating.{Plain, Reference, Offers, offers, reference_at, value_at, values_at, type_at, max_results, types_at, funcs_at, code_at, module_at}
+use Rattle.wasm_smith_module.specs.Generating.{NumberOrVector, Reference, Offers, offers, reference_at, value_at, values_at, type_at, max_results, types_at, funcs_at, code_at, module_at}
 use Rattle.wasm_smith_module.proofs.GrowLaws.{with_front}
 use Rattle.wasm_smith_module.specs.Made.{Made}
-use Rattle.wasm_smith_witness.specs.Family.{IsAskable, types_of, plain}
+use Rattle.wasm_smith_witness.specs.Family.{IsAskable, types_of, bare}
 use Rattle.wasm_smith_witness.specs.Spelling.{SpellsBool, SpellsInt, SpellsChoice, SpellsEach, SpellsEnd, SpellsList, SpellsReference, SpellsValue, SpellsComposite, SpellsType, SpellsGroup, SpellsFunctions, Spells}
 
 -- ---- draws
@@ -51,11 +51,11 @@ reference_reach o nullable (Concrete index) s rest h = absurd h
 value_reach : (o : Offers) (type : ValType ℕ) (s rest : List ℕ) → SpellsValue o type s → value_at o (s ++ rest) ≡ (type, rest)
 unfolding value_at
 value_reach o (Ref nullable heap) s rest h = reference_reach o nullable heap s rest h
-value_reach o I32 s rest h = rw (choice_reach o.kinds (Plain I32) s rest h) refl
-value_reach o I64 s rest h = rw (choice_reach o.kinds (Plain I64) s rest h) refl
-value_reach o F32 s rest h = rw (choice_reach o.kinds (Plain F32) s rest h) refl
-value_reach o F64 s rest h = rw (choice_reach o.kinds (Plain F64) s rest h) refl
-value_reach o V128 s rest h = rw (choice_reach o.kinds (Plain V128) s rest h) refl
+value_reach o I32 s rest h = rw (choice_reach o.kinds (NumberOrVector I32) s rest h) refl
+value_reach o I64 s rest h = rw (choice_reach o.kinds (NumberOrVector I64) s rest h) refl
+value_reach o F32 s rest h = rw (choice_reach o.kinds (NumberOrVector F32) s rest h) refl
+value_reach o F64 s rest h = rw (choice_reach o.kinds (NumberOrVector F64) s rest h) refl
+value_reach o V128 s rest h = rw (choice_reach o.kinds (NumberOrVector V128) s rest h) refl
 
 -- ---- one after the other
 
@@ -208,12 +208,12 @@ no_min_types c asked = asked.nothing_owed.0
 pub no_min_funcs : (c : Config) → IsAskable c → c.min_funcs ≡ 0
 no_min_funcs c asked = asked.nothing_owed.1.1.1.0
 
-pub whole_reach : (c : Config) (groups : List (List (SubType ℕ))) (funcs s : List ℕ) → IsAskable c → Spells c groups funcs s → module_at c s ≡ (plain groups funcs, [])
+pub whole_reach : (c : Config) (groups : List (List (SubType ℕ))) (funcs s : List ℕ) → IsAskable c → Spells c groups funcs s → module_at c s ≡ (bare groups funcs, [])
 unfolding module_at
 whole_reach c groups funcs s asked h =
     rw (h.parts, types_reach c (no_min_types c asked) groups h.front h.back h.spells_groups, funcs_reach c (no_min_funcs c asked) (length (types_of groups)) funcs h.back h.spells_funcs, code_reach (offers c) funcs) refl
 
-pub module_reach : (c : Config) (groups : List (List (SubType ℕ))) (funcs s : List ℕ) → IsAskable c → Spells c groups funcs s → (module_at c s).0 ≡ plain groups funcs
+pub module_reach : (c : Config) (groups : List (List (SubType ℕ))) (funcs s : List ℕ) → IsAskable c → Spells c groups funcs s → (module_at c s).0 ≡ bare groups funcs
 module_reach c groups funcs s asked h = ap (λ (d : Made × List ℕ). d.0) (whole_reach c groups funcs s asked h)
 
 -- ---- with an even byte, and any bytes, after the spelling

@@ -13,8 +13,8 @@ use lib.Arith.{mod-mul}
 use Rattle.wasm_spec.specs.Types.{AbstractHeapType, Func, Extern, Exn, Cont, NoCont, Abstract, Concrete, ValType, I32, I64, F32, F64, V128, Ref, FuncType, CompositeType, FuncComposite, StructComposite, ArrayComposite, ContComposite, SubType}
 use Rattle.wasm_smith_source.specs.Draws.{least_from, width, big_number}
 use Rattle.wasm_smith_source.proofs.NumberLaws.{width_least, power}
-use Rattle.wasm_smith_types.specs.declared.config.Config.{Config}
-use Rattle.wasm_smith_module.specs.Generating.{Kind, Plain, Reference, offers, max_results}
+use Rattle.wasm_smith_config.specs.declared.config.Config.{Config}
+use Rattle.wasm_smith_module.specs.Generating.{Kind, NumberOrVector, Reference, offers, max_results}
 use Rattle.wasm_smith_module.proofs.GoodLaws.{types_small}
 use Rattle.wasm_smith_witness.specs.Family.{IsAskable, IsMember, IsInFamily, is_enabled_heap, is_enabled, is_member_function, is_member_composite, is_member_group, types_of}
 use Rattle.wasm_smith_witness.specs.Spelling.{SpellsInt, SpellsChoice, SpellsEach, SpellsEnd, SpellsList, SpellsValue, SpellsFunction, SpellsComposite, SpellsGroup, SpellsFunctions, Spells}
@@ -86,7 +86,7 @@ choice_word xs x i e some few =
 -- ---- places among what is offered
 
 abbrev kinds_of : Bool → Bool → Bool → List Kind
-kinds_of f s r = Plain I32 ∷ Plain I64 ∷ (cond f (Plain F32 ∷ Plain F64 ∷ []) []) ++ (cond s (Plain V128 ∷ []) []) ++ (cond r (Reference ∷ []) [])
+kinds_of f s r = NumberOrVector I32 ∷ NumberOrVector I64 ∷ (cond f (NumberOrVector F32 ∷ NumberOrVector F64 ∷ []) []) ++ (cond s (NumberOrVector V128 ∷ []) []) ++ (cond r (Reference ∷ []) [])
 
 kinds_many : (f s r : Bool) → (1 < length (kinds_of f s r)) × (length (kinds_of f s r) ≤ 256)
 kinds_many true true true = (omega arith, omega arith)
@@ -98,11 +98,11 @@ kinds_many false true false = (omega arith, omega arith)
 kinds_many false false true = (omega arith, omega arith)
 kinds_many false false false = (omega arith, omega arith)
 
-float_at : (f s r : Bool) → f ≡ true → (slice_get (kinds_of f s r) 2 ≡ Some (Plain F32)) × (slice_get (kinds_of f s r) 3 ≡ Some (Plain F64))
+float_at : (f s r : Bool) → f ≡ true → (slice_get (kinds_of f s r) 2 ≡ Some (NumberOrVector F32)) × (slice_get (kinds_of f s r) 3 ≡ Some (NumberOrVector F64))
 float_at true s r e = (refl, refl)
 float_at false s r e = absurd cc
 
-vector_at : (f s r : Bool) → s ≡ true → slice_get (kinds_of f s r) (cond f 4 2) ≡ Some (Plain V128)
+vector_at : (f s r : Bool) → s ≡ true → slice_get (kinds_of f s r) (cond f 4 2) ≡ Some (NumberOrVector V128)
 vector_at true true r e = refl
 vector_at false true r e = refl
 vector_at f false r e = absurd cc
@@ -154,11 +154,11 @@ heap_spells c _ on = absurd cc
 
 value_spells : (c : Config) (type : ValType ℕ) → is_enabled c type ≡ true → SpellsValue (offers c) type (value_word c type)
 unfolding value_word heap_word
-value_spells c I32 on = kind_spells c (Plain I32) 0 refl
-value_spells c I64 on = kind_spells c (Plain I64) 1 refl
-value_spells c F32 on = kind_spells c (Plain F32) 2 (float_at c.allow_floats c.simd_enabled c.reference_types_enabled on).0
-value_spells c F64 on = kind_spells c (Plain F64) 3 (float_at c.allow_floats c.simd_enabled c.reference_types_enabled on).1
-value_spells c V128 on = kind_spells c (Plain V128) (cond c.allow_floats 4 2) (vector_at c.allow_floats c.simd_enabled c.reference_types_enabled on)
+value_spells c I32 on = kind_spells c (NumberOrVector I32) 0 refl
+value_spells c I64 on = kind_spells c (NumberOrVector I64) 1 refl
+value_spells c F32 on = kind_spells c (NumberOrVector F32) 2 (float_at c.allow_floats c.simd_enabled c.reference_types_enabled on).0
+value_spells c F64 on = kind_spells c (NumberOrVector F64) 3 (float_at c.allow_floats c.simd_enabled c.reference_types_enabled on).1
+value_spells c V128 on = kind_spells c (NumberOrVector V128) (cond c.allow_floats 4 2) (vector_at c.allow_floats c.simd_enabled c.reference_types_enabled on)
 value_spells c (Ref nullable (Abstract heap)) on =
     let place = cond c.allow_floats 4 2 + cond c.simd_enabled 1 0 in
     let both = and_parts (nullable && c.reference_types_enabled) (is_enabled_heap c heap) on in

@@ -2,9 +2,9 @@
 use Rattle.std.specs.Prelude.{◌≡◌, ℕ, ◌≤◌, Bool, true, false, ◌&&◌, IsTrue, nat_le, nat_lt, ◌==◌, List, [], ◌∷◌, ◌++◌, length, map}
 use Rattle.std.specs.List.{AllByRecursion, list_all}
 use Rattle.wasm_spec.specs.Types.{AbstractHeapType, Func, Extern, Exn, Cont, NoCont, Abstract, Concrete, ValType, I32, I64, F32, F64, V128, Ref, FuncType, CompositeType, FuncComposite, StructComposite, ArrayComposite, ContComposite, SubType}
-use Rattle.wasm_smith_types.specs.Config.{IsGood}
-use Rattle.wasm_smith_types.specs.Defaults.{least_counts}
-use Rattle.wasm_smith_types.specs.declared.config.Config.{Config}
+use Rattle.wasm_smith_config.specs.Config.{IsGood}
+use Rattle.wasm_smith_config.specs.Defaults.{least_counts}
+use Rattle.wasm_smith_config.specs.declared.config.Config.{Config}
 use Rattle.wasm_smith_module.specs.Generating.{max_results}
 use Rattle.wasm_smith_module.specs.Made.{Made}
 
@@ -80,5 +80,5 @@ pub record IsInFamily (c : Config) (groups : List (List (SubType ℕ))) (funcs :
   pub member : IsMember c groups funcs
 
 -- the module with these types and functions, without locals
-abbrev pub plain : List (List (SubType ℕ)) → List ℕ → Made
-plain groups funcs = record { types = types_of groups; funcs = funcs; locals = map (λ _. []) funcs }
+abbrev pub bare : List (List (SubType ℕ)) → List ℕ → Made
+bare groups funcs = record { types = types_of groups; funcs = funcs; locals = map (λ _. []) funcs }

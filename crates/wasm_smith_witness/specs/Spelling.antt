@@ -3,8 +3,8 @@
 use Rattle.std.specs.Prelude.{◌≡◌, ℕ, zero, suc, ◌+◌, ◌-◌, ◌%◌, ◌≤◌, Bool, true, false, List, [], ◌∷◌, ◌++◌, length, Some, slice_get}
 use Rattle.wasm_spec.specs.Types.{HeapType, Abstract, Concrete, ValType, Ref, FuncType, CompositeType, FuncComposite, StructComposite, ArrayComposite, ContComposite, SubType}
 use Rattle.wasm_smith_source.specs.Draws.{big_number, width}
-use Rattle.wasm_smith_types.specs.declared.config.Config.{Config}
-use Rattle.wasm_smith_module.specs.Generating.{Plain, Reference, Offers, offers, max_results}
+use Rattle.wasm_smith_config.specs.declared.config.Config.{Config}
+use Rattle.wasm_smith_module.specs.Generating.{NumberOrVector, Reference, Offers, offers, max_results}
 use Rattle.wasm_smith_witness.specs.Family.{types_of}
 
 -- ---- draws
@@ -50,7 +50,7 @@ SpellsReference o nullable (Concrete index) s = ⊥
 
 abbrev pub SpellsValue : Offers → ValType ℕ → List ℕ → Type 0
 SpellsValue o (Ref nullable heap) s = SpellsReference o nullable heap s
-SpellsValue o type s = SpellsChoice o.kinds (Plain type) s
+SpellsValue o type s = SpellsChoice o.kinds (NumberOrVector type) s
 
 -- the parameters, and then the results
 abbrev pub SpellsFunction : Offers → ℕ → FuncType ℕ → List ℕ → Type 0

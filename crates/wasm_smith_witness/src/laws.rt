@@ -4,18 +4,18 @@ ghost use Rattle.std.specs.Prelude.{◌≡◌, ◌<◌, ◌%◌, ◌++◌, [], �
 ghost use Rattle.wasm_spec.specs.Types.{SubType};
 ghost use Rattle.wasm_smith_module.specs.Generating.{module_at};
 ghost use Rattle.wasm_smith_module.specs.Promise.{IsReason};
-ghost use Rattle.wasm_smith_types.specs.declared.config.Config.{Config};
-ghost use Rattle.wasm_smith_types.specs.declared.error.Error.{Error};
-ghost use Rattle.wasm_smith_types.specs.declared.error.Error.TheVariants.{Memory};
-ghost use Rattle.wasm_smith_witness.specs.Family.{IsAskable, IsMember, plain, types_of};
-ghost use Rattle.wasm_smith_witness.specs.Examples.{one_function};
+ghost use Rattle.wasm_smith_config.specs.declared.config.Config.{Config};
+ghost use Rattle.wasm_smith_config.specs.declared.error.Error.{Error};
+ghost use Rattle.wasm_smith_config.specs.declared.error.Error.TheVariants.{Memory};
+ghost use Rattle.wasm_smith_witness.specs.Family.{IsAskable, IsMember, bare, types_of};
+ghost use Rattle.wasm_smith_witness.specs.Examples.{one_function, two_functions};
 ghost use Rattle.wasm_smith_witness.specs.Spelling.{Spells};
 
 /// From each spelling of a list exactly that list is made, with no locals, and nothing of the spelling is left. `c` is a
 /// configuration after `sanitize`.
 pub fn reach()
     ensures exact { (c : Config) (groups : List (List (SubType ℕ))) (funcs s : List ℕ) → IsAskable c
-        → Spells c groups funcs s → module_at c s ≡ (plain groups funcs, []) }
+        → Spells c groups funcs s → module_at c s ≡ (bare groups funcs, []) }
 
     // The types stay whatever follows. The functions stay where an even byte and any others follow: where a function could
     // follow, that byte says that none does.
@@ -32,14 +32,16 @@ pub fn agreement()
         → IsMember c groups funcs → (s : List ℕ) × Spells c groups funcs s }
 {}
 
-/// With a configuration with which lists can be asked for, only want of memory keeps a module from being made.
+/// With a configuration with which lists can be asked for, a module isn't made only when memory runs out.
 pub fn total()
     ensures { (c : Config) (s : List ℕ) (e : Error) → IsAskable c → IsReason c s e → e ≡ Memory }
 {}
 
 /// A function of one type without parameters and results is spelled by any five bytes of these parities, where there may be
-/// more than one type.
+/// more than one type; and the second of two such types, where there may be more than two, by any odd byte.
 pub fn small_spellings()
-    ensures { (c : Config) (a b d e f : ℕ) → 1 < c.max_types → 0 < c.max_funcs → a % 2 ≡ 1 → b % 2 ≡ 0 → d % 2 ≡ 0 → e % 2 ≡ 0
+    ensures one_type { (c : Config) (a b d e f : ℕ) → 1 < c.max_types → 0 < c.max_funcs → a % 2 ≡ 1 → b % 2 ≡ 0 → d % 2 ≡ 0 → e % 2 ≡ 0
         → f % 2 ≡ 1 → Spells c one_function (0 ∷ []) (a ∷ b ∷ d ∷ e ∷ f ∷ []) }
+    ensures second_of_two { (c : Config) (byte : ℕ) → 2 < c.max_types → 0 < c.max_funcs → byte < 256 → byte % 2 ≡ 1
+        → Spells c two_functions (1 ∷ []) (1 ∷ 0 ∷ 0 ∷ 1 ∷ 0 ∷ 0 ∷ 0 ∷ 1 ∷ byte ∷ []) }
 {}

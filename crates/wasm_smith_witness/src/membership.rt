@@ -5,15 +5,15 @@ ghost use Rattle.std.specs.List.{list_all};
 ghost use Rattle.wasm_core_types.specs.CoreTypes.{abstract_heap_type, val_type, heap_type};
 ghost use Rattle.wasm_core_types.specs.SubTypes.{composite_type, sub_type};
 ghost use Rattle.wasm_spec.specs.Types as spec;
-ghost use Rattle.wasm_smith_types.specs.Defaults.{least_counts};
+ghost use Rattle.wasm_smith_config.specs.Defaults.{least_counts};
 ghost use Rattle.wasm_smith_witness.specs.Family.{IsAskable, IsMember, is_enabled_heap, is_enabled, is_member_function, is_member_composite, is_member_type, is_member_group, types_of};
 ghost use Rattle.wasm_smith_witness.specs.Groups.{group_of};
 
 use wasm_core_types::types::{
     AbstractHeapType, CompositeType, FuncType, HeapType, RefType, SubType, ValType,
 };
+use wasm_smith_config::config::Config;
 use wasm_smith_module::bounds::{MAX_PARAMS, max_results};
-use wasm_smith_types::config::Config;
 
 fn is_enabled_heap(config: &Config, heap: AbstractHeapType) -> bool
     ensures { result ≡ is_enabled_heap config.now (abstract_heap_type heap) }

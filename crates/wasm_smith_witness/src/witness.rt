@@ -1,7 +1,7 @@
 //! A seed for a list of groups and functions.
 
 ghost use Rattle.std.specs.Prelude.{IfOk, MatchOption, map};
-ghost use Rattle.wasm_smith_types.specs.Config.{sanitized};
+ghost use Rattle.wasm_smith_config.specs.Config.{sanitized};
 ghost use Rattle.wasm_smith_witness.specs.Family.{IsInFamily};
 ghost use Rattle.wasm_smith_witness.specs.Groups.{group_of};
 ghost use Rattle.wasm_smith_witness.specs.Spelling.{Spells};
@@ -10,7 +10,7 @@ use crate::membership::{is_askable, is_member};
 use crate::words::{push_funcs, push_groups};
 use std::alloc::{AllocError, Global};
 use wasm_core_types::types::SubType;
-use wasm_smith_types::config::Config;
+use wasm_smith_config::config::Config;
 
 /// A seed from which exactly these groups and functions are made for the configuration, without locals; `None` where
 /// they can't be asked for.

@@ -10,9 +10,9 @@ use std::alloc::AllocError;
 use wasm_core_types::types::{
     AbstractHeapType, CompositeType, FuncType, HeapType, SubType, ValType,
 };
+use wasm_smith_config::config::Config;
 use wasm_smith_module::bounds::{MAX_PARAMS, max_results};
 use wasm_smith_source::number::width;
-use wasm_smith_types::config::Config;
 
 // That there is one more thing.
 const MORE: u8 = 1;

@@ -1,8 +1,8 @@
--- Reading back the texts that are written, whatever their size: so that equal texts are those of equal values.
+-- Reading back the encodings that are written, whatever their size: so that equal encodings are those of equal values.
 use Rattle.std.proofs.Common.{◌≡◌, ℕ, zero, suc, ◌+◌, ◌-◌, ◌*◌, ◌/◌, ◌%◌, ◌≤◌, true, false, cond, ltb, List, [], ◌∷◌, ◌++◌, length, Option, Some, None, pos, inl, inr, refl, sym, ap, ◌∙◌, arith, append_assoc}
 use Rattle.std.proofs.lemmas.Bool.{le-ltb, lt-ltb, cases_lt}
 use Rattle.std.specs.List.{flat_map}
-use Rattle.wasm_spec.specs.Shortest.{unsigned_bytes, unsigned_text, signed_bytes, magnitude_text, signed_text, list_text}
+use Rattle.wasm_spec.specs.Shortest.{unsigned_bytes, unsigned_encoding, signed_bytes, magnitude_encoding, signed_encoding, list_encoding}
 
 -- what is read from the front of some bytes, and the rest of them
 abbrev pub Reader : Type 0 → Type 0
@@ -13,16 +13,16 @@ abbrev pub ◌>>=◌ : {A B : Type 0} → Option A → (A → Option B) → Opti
 (Some x) >>= f = f x
 None >>= f = None
 
--- each text is read back, whatever follows
+-- each encoding is read back, whatever follows
 abbrev pub Decodes : {A : Type 0} → (A → List ℕ) → Reader A → Type 0
-Decodes {A} text a_at = (x : A) (rest : List ℕ) → a_at (text x ++ rest) ≡ Some (x, rest)
+Decodes {A} bytes a_at = (x : A) (rest : List ℕ) → a_at (bytes x ++ rest) ≡ Some (x, rest)
 
 abbrev done : {A : Type 0} → A → Option A
 done x = Some x
 
--- so equal texts are of equal values, and end at one place
-pub apart : {A : Type 0} (text : A → List ℕ) (a_at : Reader A) → Decodes text a_at → (x y : A) (r s : List ℕ) → text x ++ r ≡ text y ++ s → (x ≡ y) × (r ≡ s)
-apart {A = A} text a_at law x y r s e =
+-- so equal encodings are of equal values, and end at one place
+pub apart : {A : Type 0} (bytes : A → List ℕ) (a_at : Reader A) → Decodes bytes a_at → (x y : A) (r s : List ℕ) → bytes x ++ r ≡ bytes y ++ s → (x ≡ y) × (r ≡ s)
+apart {A = A} bytes a_at law x y r s e =
     let both : done (x, r) ≡ done (y, s) = sym (law x r) ∙ ap a_at e ∙ law y s in
     (ap (λ (o : Option (A × List ℕ)). first x o) both, ap (λ (o : Option (A × List ℕ)). second r o) both)
   where
@@ -52,8 +52,8 @@ unsigned_from (suc f) n rest small =
           rw (t, u, unsigned_from f (n / 128) rest (omega arith)) (ap (λ (k : ℕ). Some (k, rest)) (omega arith))
     ]
 
-pub unsigned_decodes : Decodes unsigned_text unsigned_at
-unfolding unsigned_text
+pub unsigned_decodes : Decodes unsigned_encoding unsigned_at
+unfolding unsigned_encoding
 unsigned_decodes n rest = unsigned_from n n rest (omega arith)
 
 -- a signed number that is not negative
@@ -77,11 +77,11 @@ index_from (suc f) n rest small =
           rw (t, u, index_from f (n / 128) rest (omega arith)) (ap (λ (k : ℕ). Some (k, rest)) (omega arith))
     ]
 
-abbrev pub index_text : ℕ → List ℕ
-index_text n = signed_text (pos n)
+abbrev pub index_encoding : ℕ → List ℕ
+index_encoding n = signed_encoding (pos n)
 
-pub index_decodes : Decodes index_text index_at
-unfolding magnitude_text
+pub index_decodes : Decodes index_encoding index_at
+unfolding magnitude_encoding
 index_decodes n rest = index_from n n rest (omega arith)
 
 -- ---- lists and frames
@@ -93,12 +93,12 @@ items_at a_at (suc n) bytes = a_at bytes >>= λ x. items_at a_at n x.1 >>= λ xs
 unfoldable pub list_at : {A : Type 0} → Reader A → Reader (List A)
 list_at a_at bytes = unsigned_at bytes >>= λ n. items_at a_at n.0 n.1
 
-items_decode : {A : Type 0} (text : A → List ℕ) (a_at : Reader A) → Decodes text a_at → (xs : List A) (rest : List ℕ) → items_at a_at (length xs) (flat_map text xs ++ rest) ≡ Some (xs, rest)
+items_decode : {A : Type 0} (bytes : A → List ℕ) (a_at : Reader A) → Decodes bytes a_at → (xs : List A) (rest : List ℕ) → items_at a_at (length xs) (flat_map bytes xs ++ rest) ≡ Some (xs, rest)
 unfolding items_at
-items_decode text a_at law [] rest = refl
-items_decode text a_at law (x ∷ xs) rest = rw (append_assoc (text x) (flat_map text xs) rest, law x (flat_map text xs ++ rest), items_decode text a_at law xs rest) refl
+items_decode bytes a_at law [] rest = refl
+items_decode bytes a_at law (x ∷ xs) rest = rw (append_assoc (bytes x) (flat_map bytes xs) rest, law x (flat_map bytes xs ++ rest), items_decode bytes a_at law xs rest) refl
 
-pub list_decodes : {A : Type 0} (text : A → List ℕ) (a_at : Reader A) → Decodes text a_at → Decodes (list_text text) (list_at a_at)
-unfolding list_text list_at
-list_decodes text a_at law xs rest =
-    rw (append_assoc (unsigned_text (length xs)) (flat_map text xs) rest, unsigned_decodes (length xs) (flat_map text xs ++ rest)) (items_decode text a_at law xs rest)
+pub list_decodes : {A : Type 0} (bytes : A → List ℕ) (a_at : Reader A) → Decodes bytes a_at → Decodes (list_encoding bytes) (list_at a_at)
+unfolding list_encoding list_at
+list_decodes bytes a_at law xs rest =
+    rw (append_assoc (unsigned_encoding (length xs)) (flat_map bytes xs) rest, unsigned_decodes (length xs) (flat_map bytes xs ++ rest)) (items_decode bytes a_at law xs rest)

@@ -1,14 +1,14 @@
--- Reading back the texts of types that are written.
+-- Reading back the encodings of types that are written.
 use Rattle.std.proofs.Common.{◌≡◌, ℕ, ◌%◌, ◌+◌, ◌<◌, ◌≤◌, Bool, true, false, cond, ltb, List, [], ◌∷◌, ◌++◌, Option, Some, None, inl, inr, refl, ap, ◌∙◌, arith, append_assoc}
 use Rattle.std.specs.Prelude.{◌==◌, if◌then◌else◌}
 use Rattle.std.proofs.lemmas.Bool.{le-ltb, lt-ltb, cases_lt}
-use Rattle.wasm_spec.specs.Shortest.{unsigned_text, list_text}
+use Rattle.wasm_spec.specs.Shortest.{unsigned_encoding, list_encoding}
 use Rattle.wasm_spec.specs.TypeGrammar.{heap_code}
-use Rattle.wasm_spec.specs.TypeTexts.{heap_text, ref_text, val_text, storage_text, field_text, func_text, composite_text, sub_text_of, sub_text}
+use Rattle.wasm_spec.specs.TypeEncodings.{heap_encoding, ref_encoding, val_encoding, storage_encoding, field_encoding, func_encoding, composite_encoding, sub_encoding_of, sub_encoding}
 use Rattle.wasm_spec.specs.Types.{AbstractHeapType, HeapType, Abstract, Concrete, ValType, I32, I64, F32, F64, V128, Ref, StorageType, I8, I16, Val, FieldType, FuncType, CompositeType, FuncComposite, StructComposite, ArrayComposite, ContComposite, SubType}
 use Rattle.wasm_spec.specs.Types as types
-use Rattle.wasm_spec.proofs.Decoding.{Reader, ◌>>=◌, Decodes, unsigned_at, unsigned_decodes, index_text, index_at, index_decodes, list_at, list_decodes}
-use Rattle.wasm_spec.proofs.SignedTexts.{magnitude_last, magnitude_more}
+use Rattle.wasm_spec.proofs.Decoding.{Reader, ◌>>=◌, Decodes, unsigned_at, unsigned_decodes, index_encoding, index_at, index_decodes, list_at, list_decodes}
+use Rattle.wasm_spec.proofs.SignedEncodings.{magnitude_last, magnitude_more}
 
 -- the abstract heap type of a byte
 heap_of : ℕ → Option AbstractHeapType
@@ -64,21 +64,21 @@ concrete_first : (bytes : List ℕ) (b : ℕ) (rest : List ℕ) → bytes ≡ b 
 unfolding heap_at abstract_or
 concrete_first bytes b rest e none = rw (e, none) refl
 
-concrete_heap : (index : ℕ) (rest : List ℕ) → heap_at (index_text index ++ rest) ≡ Some (Concrete index, rest)
+concrete_heap : (index : ℕ) (rest : List ℕ) → heap_at (index_encoding index ++ rest) ≡ Some (Concrete index, rest)
 unfolding concrete_of
 concrete_heap index rest =
-    let read : concrete_of (index_text index ++ rest) ≡ Some (Concrete index, rest) = rw (index_decodes index rest) refl in
+    let read : concrete_of (index_encoding index ++ rest) ≡ Some (Concrete index, rest) = rw (index_decodes index rest) refl in
     elim (cases_lt index 64) [
       | inl low ↦
           let e = ap (λ (l : List ℕ). l ++ rest) (magnitude_last false index low) in
-          concrete_first (index_text index ++ rest) (index % 128) rest e (low_none (index % 128) (omega arith)) ∙ read
+          concrete_first (index_encoding index ++ rest) (index % 128) rest e (low_none (index % 128) (omega arith)) ∙ read
       | inr high ↦
           let e = ap (λ (l : List ℕ). l ++ rest) (magnitude_more false index high) in
-          concrete_first (index_text index ++ rest) (index % 128 + 128) _ e (high_none (index % 128 + 128) (omega arith)) ∙ read
+          concrete_first (index_encoding index ++ rest) (index % 128 + 128) _ e (high_none (index % 128 + 128) (omega arith)) ∙ read
     ]
 
-heap_decodes : Decodes heap_text heap_at
-unfolding heap_text
+heap_decodes : Decodes heap_encoding heap_at
+unfolding heap_encoding
 heap_decodes (Abstract heap) rest = abstract_heap heap rest
 heap_decodes (Concrete index) rest = concrete_heap index rest
 
@@ -112,8 +112,8 @@ abstract_val types.NoExn rest = refl
 abstract_val types.Cont rest = refl
 abstract_val types.NoCont rest = refl
 
-val_decodes : Decodes val_text val_at
-unfolding val_text ref_text heap_text val_at
+val_decodes : Decodes val_encoding val_at
+unfolding val_encoding ref_encoding heap_encoding val_at
 val_decodes I32 rest = refl
 val_decodes I64 rest = refl
 val_decodes F32 rest = refl
@@ -147,8 +147,8 @@ abstract_storage types.NoExn rest = refl
 abstract_storage types.Cont rest = refl
 abstract_storage types.NoCont rest = refl
 
-storage_decodes : Decodes storage_text storage_at
-unfolding storage_text val_text ref_text heap_text storage_at val_at
+storage_decodes : Decodes storage_encoding storage_at
+unfolding storage_encoding val_encoding ref_encoding heap_encoding storage_at val_at
 storage_decodes I8 rest = refl
 storage_decodes I16 rest = refl
 storage_decodes (Val I32) rest = refl
@@ -167,10 +167,10 @@ mutable_at element (b ∷ rest) = Some (record { element_type = element; mutable
 field_at : Reader (FieldType ℕ)
 field_at bytes = storage_at bytes >>= λ x. mutable_at x.0 x.1
 
-field_decodes : Decodes field_text field_at
-unfolding field_text field_at mutable_at
+field_decodes : Decodes field_encoding field_at
+unfolding field_encoding field_at mutable_at
 field_decodes field rest =
-    rw (append_assoc (storage_text field.element_type) ((cond field.mutable 0x01 0x00) ∷ []) rest, storage_decodes field.element_type ((cond field.mutable 0x01 0x00) ∷ rest))
+    rw (append_assoc (storage_encoding field.element_type) ((cond field.mutable 0x01 0x00) ∷ []) rest, storage_decodes field.element_type ((cond field.mutable 0x01 0x00) ∷ rest))
     (ap (λ (m : Bool). Some (record { element_type = field.element_type; mutable = m }, rest)) (told field.mutable))
   where
     told : (m : Bool) → (cond m 0x01 0x00 == 0x01) ≡ m
@@ -180,13 +180,13 @@ field_decodes field rest =
 func_from : Reader (FuncType ℕ)
 func_from bytes = list_at val_at bytes >>= λ params. list_at val_at params.1 >>= λ results. Some (record { params = params.0; results = results.0 }, results.1)
 
-func_from_decodes : (type : FuncType ℕ) (rest : List ℕ) → func_from ((list_text val_text type.params ++ list_text val_text type.results) ++ rest) ≡ Some (type, rest)
+func_from_decodes : (type : FuncType ℕ) (rest : List ℕ) → func_from ((list_encoding val_encoding type.params ++ list_encoding val_encoding type.results) ++ rest) ≡ Some (type, rest)
 unfolding func_from
 func_from_decodes type rest =
     rw (
-      append_assoc (list_text val_text type.params) (list_text val_text type.results) rest,
-      list_decodes val_text val_at val_decodes type.params (list_text val_text type.results ++ rest),
-      list_decodes val_text val_at val_decodes type.results rest,
+      append_assoc (list_encoding val_encoding type.params) (list_encoding val_encoding type.results) rest,
+      list_decodes val_encoding val_at val_decodes type.params (list_encoding val_encoding type.results ++ rest),
+      list_decodes val_encoding val_at val_decodes type.results rest,
     ) refl
 
 composite_at : Reader (CompositeType ℕ)
@@ -198,10 +198,10 @@ composite_at (b ∷ rest) =
     else if b == 0x5d then (index_at rest >>= λ x. Some (ContComposite x.0, x.1))
     else None
 
-composite_decodes : Decodes composite_text composite_at
-unfolding composite_text func_text composite_at
+composite_decodes : Decodes composite_encoding composite_at
+unfolding composite_encoding func_encoding composite_at
 composite_decodes (FuncComposite type) rest = rw (func_from_decodes type rest) refl
-composite_decodes (StructComposite fields) rest = rw (list_decodes field_text field_at field_decodes fields rest) refl
+composite_decodes (StructComposite fields) rest = rw (list_decodes field_encoding field_at field_decodes fields rest) refl
 composite_decodes (ArrayComposite field) rest = rw (field_decodes field rest) refl
 composite_decodes (ContComposite index) rest = rw (index_decodes index rest) refl
 
@@ -209,12 +209,12 @@ below : Bool → Reader (SubType ℕ)
 below final bytes = list_at unsigned_at bytes >>= λ supers. composite_at supers.1 >>= λ x. Some (record { is_final = final; supertypes = supers.0; composite_type = x.0 }, x.1)
 
 below_decodes : (final : Bool) (supers : List ℕ) (type : CompositeType ℕ) (rest : List ℕ)
-    → below final ((list_text unsigned_text supers ++ composite_text type) ++ rest) ≡ Some (record { is_final = final; supertypes = supers; composite_type = type }, rest)
+    → below final ((list_encoding unsigned_encoding supers ++ composite_encoding type) ++ rest) ≡ Some (record { is_final = final; supertypes = supers; composite_type = type }, rest)
 unfolding below
 below_decodes final supers type rest =
     rw (
-      append_assoc (list_text unsigned_text supers) (composite_text type) rest,
-      list_decodes unsigned_text unsigned_at unsigned_decodes supers (composite_text type ++ rest),
+      append_assoc (list_encoding unsigned_encoding supers) (composite_encoding type) rest,
+      list_decodes unsigned_encoding unsigned_at unsigned_decodes supers (composite_encoding type ++ rest),
       composite_decodes type rest,
     ) refl
 
@@ -224,33 +224,33 @@ sub_at (b ∷ rest) =
     if b == 0x50 then below false rest else if b == 0x4f then below true rest
     else (composite_at (b ∷ rest) >>= λ x. Some (record { is_final = true; supertypes = []; composite_type = x.0 }, x.1))
 
-alone : (type : CompositeType ℕ) (rest : List ℕ) → sub_at (composite_text type ++ rest) ≡ Some (record { is_final = true; supertypes = []; composite_type = type }, rest)
-unfolding composite_text func_text composite_at sub_at
+alone : (type : CompositeType ℕ) (rest : List ℕ) → sub_at (composite_encoding type ++ rest) ≡ Some (record { is_final = true; supertypes = []; composite_type = type }, rest)
+unfolding composite_encoding func_encoding composite_at sub_at
 alone (FuncComposite type) rest = rw (func_from_decodes type rest) refl
-alone (StructComposite fields) rest = rw (list_decodes field_text field_at field_decodes fields rest) refl
+alone (StructComposite fields) rest = rw (list_decodes field_encoding field_at field_decodes fields rest) refl
 alone (ArrayComposite field) rest = rw (field_decodes field rest) refl
 alone (ContComposite index) rest = rw (index_decodes index rest) refl
 
 sub_of_decodes : (final : Bool) (supers : List ℕ) (type : CompositeType ℕ) (rest : List ℕ)
-    → sub_at (sub_text_of final supers type ++ rest) ≡ Some (record { is_final = final; supertypes = supers; composite_type = type }, rest)
-unfolding sub_text_of sub_at
+    → sub_at (sub_encoding_of final supers type ++ rest) ≡ Some (record { is_final = final; supertypes = supers; composite_type = type }, rest)
+unfolding sub_encoding_of sub_at
 sub_of_decodes true [] type rest = alone type rest
 sub_of_decodes true (index ∷ indexes) type rest = below_decodes true (index ∷ indexes) type rest
 sub_of_decodes false indexes type rest = below_decodes false indexes type rest
 
-pub sub_decodes : Decodes sub_text sub_at
+pub sub_decodes : Decodes sub_encoding sub_at
 sub_decodes type rest = sub_of_decodes type.is_final type.supertypes type.composite_type rest
 
--- whether a type's text begins with the byte of a group
+-- whether a type's encoding begins with the byte of a group
 unfoldable pub group_or : {A : Type 0} → Reader A → Reader A → Reader A
 group_or grouped single [] = None
 group_or grouped single (b ∷ rest) = if b == 0x4e then grouped rest else single (b ∷ rest)
 
-pub no_group : {A : Type 0} (grouped single : Reader A) (type : SubType ℕ) (rest : List ℕ) → group_or grouped single (sub_text type ++ rest) ≡ single (sub_text type ++ rest)
-unfolding sub_text_of composite_text func_text group_or
+pub no_group : {A : Type 0} (grouped single : Reader A) (type : SubType ℕ) (rest : List ℕ) → group_or grouped single (sub_encoding type ++ rest) ≡ single (sub_encoding type ++ rest)
+unfolding sub_encoding_of composite_encoding func_encoding group_or
 no_group grouped single type rest = by_form type.is_final type.supertypes type.composite_type
   where
-    by_form : (final : Bool) (supers : List ℕ) (composite : CompositeType ℕ) → group_or grouped single (sub_text_of final supers composite ++ rest) ≡ single (sub_text_of final supers composite ++ rest)
+    by_form : (final : Bool) (supers : List ℕ) (composite : CompositeType ℕ) → group_or grouped single (sub_encoding_of final supers composite ++ rest) ≡ single (sub_encoding_of final supers composite ++ rest)
     by_form true [] (FuncComposite func) = refl
     by_form true [] (StructComposite fields) = refl
     by_form true [] (ArrayComposite field) = refl

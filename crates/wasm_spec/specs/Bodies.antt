@@ -13,12 +13,12 @@ use Rattle.wasm_spec.specs.Supported.{is_supported_type}
 use Rattle.wasm_spec.specs.TypeGrammar.{IsValType}
 use Rattle.wasm_spec.specs.Types.{ValType, I32, I64, F32, F64, V128, Ref, FuncType}
 
--- what a body is judged under: the features, and whether the first value type is below the second
+-- what a body is typed under: the features, and whether the first value type is below the second
 pub record Context (R : Type 0) : Type 0 where
   pub features : Features
   pub is_below : ValType R → ValType R → Bool
 
--- an operand: of a type, or unknown behind an operator that never goes on, or unknown but a reference
+-- an operand: of a type, or unknown after an operator that never goes on, or unknown but a reference
 pub data Operand (R : Type 0) : Type 0 where
   Known : ValType R → Operand R
   Unknown : Operand R
@@ -58,7 +58,7 @@ abbrev pub all_taken : {R : Type 0} → Context R → List (ValType R) → State
 all_taken cx [] s = Some s
 all_taken cx (t ∷ ts) s = option_and_then (all_taken cx ts) (taken cx t s)
 
--- nothing is known behind an operator that never goes on
+-- nothing is known after an operator that never goes on
 abbrev pub nothing_known : {R : Type 0} → State R → State R
 nothing_known s = record s { known = []; is_open = true }
 
@@ -73,7 +73,7 @@ pub data Code : Type 0 where
   done : Code
   plain : Operator → Code → Code
 
--- the operators of the code in the order of the text, and then those that follow
+-- the operators of the code in the order of the encoding, and then those that follow
 abbrev pub flat : Code → List Operator → List Operator
 flat done after = after
 flat (plain operator rest) after = operator ∷ flat rest after
@@ -100,12 +100,12 @@ pub record Run : Type 0 where
   pub count : ℕ
   pub type : ValType ℕ
 
--- the types that locals may have so far
+-- the types of locals that are supported
 abbrev pub IsLocalType : List ℕ → ValType ℕ → Type 0
-IsLocalType text type = IsValType text type × (is_supported_type type ≡ true)
+IsLocalType bytes type = IsValType bytes type × (is_supported_type type ≡ true)
 
 abbrev pub IsRun : List ℕ → Run → Type 0
-IsRun text run = IsPair IsU32 IsLocalType text (run.count, run.type)
+IsRun bytes run = IsPair IsU32 IsLocalType bytes (run.count, run.type)
 
 -- how many locals a function has, its parameters counted
 abbrev pub local_count : {R : Type 0} → FuncType R → List Run → ℕ
@@ -115,14 +115,14 @@ local_count type runs = length type.params + sum_by (λ run. run.count) runs
 abbrev pub AreAllowed : {R : Type 0} → Context R → List Run → Type 0
 AreAllowed cx runs = AllByRecursion (λ run. is_allowed cx.features run.type ≡ true) runs
 
--- the text is that of runs of locals which the features allow, within the limit on locals
-pub record AreLocals {R : Type 0} (cx : Context R) (type : FuncType R) (text : List ℕ) (runs : List Run) : Type 0 where
-  pub declared : IsList IsRun text runs
+-- the encoding is that of runs of locals which the features allow, within the limit on locals
+pub record AreLocals {R : Type 0} (cx : Context R) (type : FuncType R) (bytes : List ℕ) (runs : List Run) : Type 0 where
+  pub declared : IsList IsRun bytes runs
   pub allowed : AreAllowed cx runs
   pub within : ¬ (IsPassedBy Locals (local_count type runs))
 
--- The operators are those of a body of a function of this type with these locals, the last one being its end. (No operator asks for a
--- local yet.)
+-- The operators are those of a body of a function of this type with these locals, the last one being its end. (No supported operator
+-- asks for a local.)
 pub record IsBodyOf {R : Type 0} (cx : Context R) (type : FuncType R) (runs : List Run) (operators : List Operator) : Type 0 where
   pub code : Code
   pub last : State R
@@ -134,41 +134,41 @@ pub record IsBodyOf {R : Type 0} (cx : Context R) (type : FuncType R) (runs : Li
 pub record IsFunctionBody {R : Type 0} (cx : Context R) (type : FuncType R) (bytes : List ℕ) : Type 0 where
   pub runs : List Run
   pub operators : List Operator
-  pub locals_text : List ℕ
-  pub code_text : List ℕ
-  pub begins : bytes ≡ locals_text ++ code_text
-  pub locals : AreLocals cx type locals_text runs
-  pub spelled : IsOperators cx.features code_text operators
+  pub locals_encoding : List ℕ
+  pub code_encoding : List ℕ
+  pub begins : bytes ≡ locals_encoding ++ code_encoding
+  pub locals : AreLocals cx type locals_encoding runs
+  pub spelled : IsOperators cx.features code_encoding operators
   pub typed : IsBodyOf cx type runs operators
 
 -- The parameters and the first runs of locals, of types that the features allow, add up past the limit, whatever follows.
 pub record HasManyLocals {R : Type 0} (cx : Context R) (type : FuncType R) (bytes : List ℕ) : Type 0 where
   pub stated : ℕ
   pub runs : List Run
-  pub count_text : List ℕ
-  pub runs_text : List ℕ
+  pub count_encoding : List ℕ
+  pub runs_encoding : List ℕ
   pub rest : List ℕ
-  pub begins : bytes ≡ count_text ++ (runs_text ++ rest)
-  pub counted : IsU32 count_text stated
+  pub begins : bytes ≡ count_encoding ++ (runs_encoding ++ rest)
+  pub counted : IsU32 count_encoding stated
   pub among : length runs ≤ stated
-  pub declared : IsItems IsRun runs_text runs
+  pub declared : IsItems IsRun runs_encoding runs
   pub allowed : AreAllowed cx runs
   pub passes : IsPassedBy Locals (local_count type runs)
 
--- Behind locals that keep the rules stand operators that some body begins with and doesn't end with, and then a code that no operator
+-- After locals that keep the rules stand operators that some body begins with and doesn't end with, and then a code that no operator
 -- begins with, whatever the features.
 pub record HasOtherOperator {R : Type 0} (cx : Context R) (type : FuncType R) (bytes : List ℕ) : Type 0 where
   pub runs : List Run
   pub operators : List Operator
   pub ending : List Operator
   pub other : List ℕ
-  pub locals_text : List ℕ
-  pub code_text : List ℕ
+  pub locals_encoding : List ℕ
+  pub code_encoding : List ℕ
   pub rest : List ℕ
-  pub begins : bytes ≡ locals_text ++ (code_text ++ (other ++ rest))
-  pub locals : AreLocals cx type locals_text runs
-  pub spelled : IsOperators cx.features code_text operators
+  pub begins : bytes ≡ locals_encoding ++ (code_encoding ++ (other ++ rest))
+  pub locals : AreLocals cx type locals_encoding runs
+  pub spelled : IsOperators cx.features code_encoding operators
   pub goes_on : ending ≢ []
   pub typed : IsBodyOf cx type runs (operators ++ ending)
   pub is_code : IsCode other
-  pub is_other : (features : Features) (operator : Operator) (text : List ℕ) → ¬ (IsOperator features (other ++ text) operator)
+  pub is_other : (features : Features) (operator : Operator) (encoding : List ℕ) → ¬ (IsOperator features (other ++ encoding) operator)

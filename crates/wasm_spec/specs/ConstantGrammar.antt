@@ -6,30 +6,30 @@ use Rattle.wasm_spec.specs.Constants.{ConstantOperator, I32Const, I64Const, F32C
 use Rattle.wasm_spec.specs.TypeGrammar.{IsHeapType}
 
 -- An operator: its code, and what it has (Instructions, "Numeric Instructions", "Vector Instructions", "Reference Instructions", "Variable
--- Instructions", "Aggregate Instructions"). The second code behind 0xfb or 0xfd is a u32.
+-- Instructions", "Aggregate Instructions"). The second code after 0xfb or 0xfd is a u32.
 abbrev pub IsConstantOperator : List ℕ → ConstantOperator → Type 0
-IsConstantOperator text (I32Const n) = IsMarked 0x41 IsS32 text n
-IsConstantOperator text (I64Const n) = IsMarked 0x42 IsS64 text n
-IsConstantOperator text (F32Const bits) = IsMarked 0x43 IsF32 text bits
-IsConstantOperator text (F64Const bits) = IsMarked 0x44 IsF64 text bits
-IsConstantOperator text (V128Const bytes) = IsMarked 0xfd (IsNumbered 12 (IsBytesOf 16)) text bytes
-IsConstantOperator text (RefNull heap) = IsMarked 0xd0 IsHeapType text heap
-IsConstantOperator text (RefFunc function) = IsMarked 0xd2 IsU32 text function
-IsConstantOperator text (GlobalGet global) = IsMarked 0x23 IsU32 text global
-IsConstantOperator text I32Add = text ≡ 0x6a ∷ []
-IsConstantOperator text I32Sub = text ≡ 0x6b ∷ []
-IsConstantOperator text I32Mul = text ≡ 0x6c ∷ []
-IsConstantOperator text I64Add = text ≡ 0x7c ∷ []
-IsConstantOperator text I64Sub = text ≡ 0x7d ∷ []
-IsConstantOperator text I64Mul = text ≡ 0x7e ∷ []
-IsConstantOperator text (StructNew type) = IsMarked 0xfb (IsNumbered 0 IsU32) text type
-IsConstantOperator text (StructNewDefault type) = IsMarked 0xfb (IsNumbered 1 IsU32) text type
-IsConstantOperator text (ArrayNew type) = IsMarked 0xfb (IsNumbered 6 IsU32) text type
-IsConstantOperator text (ArrayNewDefault type) = IsMarked 0xfb (IsNumbered 7 IsU32) text type
-IsConstantOperator text (ArrayNewFixed type count) = IsMarked 0xfb (IsNumbered 8 (IsPair IsU32 IsU32)) text (type, count)
-IsConstantOperator text AnyConvertExtern = IsMarked 0xfb IsU32 text 26
-IsConstantOperator text ExternConvertAny = IsMarked 0xfb IsU32 text 27
-IsConstantOperator text RefI31 = IsMarked 0xfb IsU32 text 28
+IsConstantOperator encoding (I32Const n) = IsMarked 0x41 IsS32 encoding n
+IsConstantOperator encoding (I64Const n) = IsMarked 0x42 IsS64 encoding n
+IsConstantOperator encoding (F32Const bits) = IsMarked 0x43 IsF32 encoding bits
+IsConstantOperator encoding (F64Const bits) = IsMarked 0x44 IsF64 encoding bits
+IsConstantOperator encoding (V128Const bytes) = IsMarked 0xfd (IsNumbered 12 (IsBytesOf 16)) encoding bytes
+IsConstantOperator encoding (RefNull heap) = IsMarked 0xd0 IsHeapType encoding heap
+IsConstantOperator encoding (RefFunc function) = IsMarked 0xd2 IsU32 encoding function
+IsConstantOperator encoding (GlobalGet global) = IsMarked 0x23 IsU32 encoding global
+IsConstantOperator encoding I32Add = encoding ≡ 0x6a ∷ []
+IsConstantOperator encoding I32Sub = encoding ≡ 0x6b ∷ []
+IsConstantOperator encoding I32Mul = encoding ≡ 0x6c ∷ []
+IsConstantOperator encoding I64Add = encoding ≡ 0x7c ∷ []
+IsConstantOperator encoding I64Sub = encoding ≡ 0x7d ∷ []
+IsConstantOperator encoding I64Mul = encoding ≡ 0x7e ∷ []
+IsConstantOperator encoding (StructNew type) = IsMarked 0xfb (IsNumbered 0 IsU32) encoding type
+IsConstantOperator encoding (StructNewDefault type) = IsMarked 0xfb (IsNumbered 1 IsU32) encoding type
+IsConstantOperator encoding (ArrayNew type) = IsMarked 0xfb (IsNumbered 6 IsU32) encoding type
+IsConstantOperator encoding (ArrayNewDefault type) = IsMarked 0xfb (IsNumbered 7 IsU32) encoding type
+IsConstantOperator encoding (ArrayNewFixed type count) = IsMarked 0xfb (IsNumbered 8 (IsPair IsU32 IsU32)) encoding (type, count)
+IsConstantOperator encoding AnyConvertExtern = IsMarked 0xfb IsU32 encoding 26
+IsConstantOperator encoding ExternConvertAny = IsMarked 0xfb IsU32 encoding 27
+IsConstantOperator encoding RefI31 = IsMarked 0xfb IsU32 encoding 28
 
 -- the byte that ends an expression
 abbrev pub end_code : ℕ
@@ -37,5 +37,5 @@ end_code = 0x0b
 
 -- the operators, and the end (Instructions, "Expressions")
 abbrev pub IsConstantExpression : List ℕ → ConstantExpression → Type 0
-IsConstantExpression text operators =
-    (body : List ℕ) × (text ≡ body ++ (end_code ∷ [])) × IsItems IsConstantOperator body operators
+IsConstantExpression bytes operators =
+    (body : List ℕ) × (bytes ≡ body ++ (end_code ∷ [])) × IsItems IsConstantOperator body operators

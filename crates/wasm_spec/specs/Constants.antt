@@ -9,7 +9,7 @@ pub data ConstantOperator : Type 0 where
   -- of floats the bits, as a number
   F32Const : ℕ → ConstantOperator
   F64Const : ℕ → ConstantOperator
-  -- sixteen bytes, as they stand in the text
+  -- sixteen bytes, as they stand in the encoding
   V128Const : List ℕ → ConstantOperator
   RefNull : HeapType ℕ → ConstantOperator
   -- a function index

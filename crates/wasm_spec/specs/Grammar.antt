@@ -1,4 +1,4 @@
--- The grammar of modules: which bytes are a text of which sections. Core Specification 3.0, Binary Format, "Modules". Of the features one
+-- The grammar of modules: which bytes are an encoding of which sections. Core Specification 3.0, Binary Format, "Modules". Of the features one
 -- alone decides how bytes read: whether compact imports are on.
 use Rattle.std.specs.Prelude.{◌≡◌, ◌<◌, ⊤, ℕ, Bool, List, [], ◌∷◌, ◌++◌, length, Option, Some, None}
 use Rattle.std.specs.List.{AllByRecursion}
@@ -30,24 +30,24 @@ section_id (TagSection indexes) = 13
 
 -- what stands in the frame of a section (Modules, "Custom Section", "Type Section", and so on)
 abbrev pub IsContent : Bool → List ℕ → Section → Type 0
-IsContent compact text (Custom name contents) = IsPair IsName IsBytes text (name, contents)
-IsContent compact text (TypeSection groups) = IsList IsRecGroup text groups
-IsContent compact text (ImportSection imports) = IsList (IsImport compact) text imports
-IsContent compact text (FunctionSection indexes) = IsList IsU32 text indexes
-IsContent compact text (TableSection tables) = IsList IsTable text tables
-IsContent compact text (MemorySection types) = IsList IsMemoryType text types
-IsContent compact text (TagSection indexes) = IsList IsTagType text indexes
-IsContent compact text (GlobalSection globals) = IsList IsGlobal text globals
-IsContent compact text (ExportSection exports) = IsList IsExport text exports
-IsContent compact text (StartSection function) = IsU32 text function
-IsContent compact text (ElementSection segments) = IsList IsElementSegment text segments
-IsContent compact text (DataCountSection count) = IsU32 text count
-IsContent compact text (CodeSection bodies) = IsList IsBody text bodies
-IsContent compact text (DataSection segments) = IsList IsDataSegment text segments
+IsContent compact bytes (Custom name contents) = IsPair IsName IsBytes bytes (name, contents)
+IsContent compact bytes (TypeSection groups) = IsList IsRecGroup bytes groups
+IsContent compact bytes (ImportSection imports) = IsList (IsImport compact) bytes imports
+IsContent compact bytes (FunctionSection indexes) = IsList IsU32 bytes indexes
+IsContent compact bytes (TableSection tables) = IsList IsTable bytes tables
+IsContent compact bytes (MemorySection types) = IsList IsMemoryType bytes types
+IsContent compact bytes (TagSection indexes) = IsList IsTagType bytes indexes
+IsContent compact bytes (GlobalSection globals) = IsList IsGlobal bytes globals
+IsContent compact bytes (ExportSection exports) = IsList IsExport bytes exports
+IsContent compact bytes (StartSection function) = IsU32 bytes function
+IsContent compact bytes (ElementSection segments) = IsList IsElementSegment bytes segments
+IsContent compact bytes (DataCountSection count) = IsU32 bytes count
+IsContent compact bytes (CodeSection bodies) = IsList IsBody bytes bodies
+IsContent compact bytes (DataSection segments) = IsList IsDataSegment bytes segments
 
 -- a section: its id, and its content in a frame (Modules, "Sections")
 abbrev pub IsSection : Bool → List ℕ → Section → Type 0
-IsSection compact text section = IsMarked (section_id section) (IsFramed (IsContent compact)) text section
+IsSection compact bytes section = IsMarked (section_id section) (IsFramed (IsContent compact)) bytes section
 
 -- The place of a section in the order of a module (Modules, "Modules"). These are no ids. A custom section stands anywhere.
 abbrev pub place_of : Section → Option ℕ
@@ -66,30 +66,30 @@ place_of (DataCountSection count) = Some 11
 place_of (CodeSection bodies) = Some 12
 place_of (DataSection segments) = Some 13
 
--- a place that a section has comes behind the last one
-abbrev pub IsBehind : ℕ → Option ℕ → Type 0
-IsBehind last None = ⊤
-IsBehind last (Some place) = last < place
+-- a place that a section has comes after the last one
+abbrev pub ComesAfter : ℕ → Option ℕ → Type 0
+ComesAfter last None = ⊤
+ComesAfter last (Some place) = last < place
 
 abbrev pub last_place : ℕ → Option ℕ → ℕ
 last_place last None = last
 last_place last (Some place) = place
 
--- the place of the last section that has one, behind this place
+-- the place of the last section that has one, after this place
 abbrev pub last_of : ℕ → List Section → ℕ
 last_of last [] = last
 last_of last (section ∷ sections) = last_of (last_place last (place_of section)) sections
 
--- the sections stand in their order behind a place, none of them twice
+-- the sections stand in their order after a place, none of them twice
 abbrev pub AreOrdered : ℕ → List Section → Type 0
 AreOrdered last [] = ⊤
-AreOrdered last (section ∷ sections) = IsBehind last (place_of section) × AreOrdered (last_place last (place_of section)) sections
+AreOrdered last (section ∷ sections) = ComesAfter last (place_of section) × AreOrdered (last_place last (place_of section)) sections
 
 -- A module: the header, and its sections up to the end, in their order, with as many bodies as functions, and where a data count stands, as
 -- many data segments (Modules, "Modules"). A section that is absent has none.
-pub record IsModule (compact : Bool) (text : List ℕ) (sections : List Section) : Type 0 where
+pub record IsModule (compact : Bool) (bytes : List ℕ) (sections : List Section) : Type 0 where
   pub body : List ℕ
-  pub begins : text ≡ header ++ body
+  pub begins : bytes ≡ header ++ body
   pub holds : IsItems (IsSection compact) body sections
   pub ordered : AreOrdered 0 sections
   pub agreeing : length (functions_of sections) ≡ length (bodies_of sections)

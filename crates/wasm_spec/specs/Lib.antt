@@ -10,10 +10,11 @@ pub mod Limits
 pub mod ModuleParts
 pub mod Operators
 pub mod Shortest
+pub mod SmallIndexes
 pub mod Spaces
 pub mod Supported
 pub mod Syntax
+pub mod TypeEncodings
 pub mod TypeGrammar
-pub mod TypeTexts
 pub mod Types
 pub mod Validity

@@ -74,6 +74,6 @@ most Length = 4294967295
 abbrev pub IsPassedBy : Limit → ℕ → Type 0
 IsPassedBy limit n = most limit < n
 
--- A number of another kind: the most types that one judge holds over all of its modules.
+-- A number of another kind: the most types that one validator holds over all of its modules.
 abbrev pub total_of_types : ℕ
 total_of_types = 1048576

@@ -10,87 +10,87 @@ use Rattle.wasm_spec.specs.Types.{TableType, funcref}
 -- ---- imports and exports
 
 abbrev pub IsImportItem : List ℕ → ImportItem → Type 0
-IsImportItem text item = IsPair IsName IsExternalType text (item.name, item.type)
+IsImportItem bytes item = IsPair IsName IsExternalType bytes (item.name, item.type)
 
 -- An import: the module's name, its own name, and its type (Modules, "Import Section"). Only where compact imports are on, any number may share
--- the module's name, or that and the type: behind that name stand a byte 00, where the own name would begin, and a code that is no kind.
+-- the module's name, or that and the type: after that name stand a byte 00, where the own name would begin, and a code that is no kind.
 abbrev pub IsImport : Bool → List ℕ → ImportEntry → Type 0
-IsImport compact text (Import origin name type) = IsPair IsName (IsPair IsName IsExternalType) text (origin, (name, type))
-IsImport compact text (CompactItems origin items) =
-    (compact ≡ true) × IsPair IsName (IsMarked 0x00 (IsMarked 0x7f (IsList IsImportItem))) text (origin, items)
-IsImport compact text (CompactNames origin type names) =
-    (compact ≡ true) × IsPair IsName (IsMarked 0x00 (IsMarked 0x7e (IsPair IsExternalType (IsList IsName)))) text (origin, (type, names))
+IsImport compact bytes (Import origin name type) = IsPair IsName (IsPair IsName IsExternalType) bytes (origin, (name, type))
+IsImport compact bytes (CompactItems origin items) =
+    (compact ≡ true) × IsPair IsName (IsMarked 0x00 (IsMarked 0x7f (IsList IsImportItem))) bytes (origin, items)
+IsImport compact bytes (CompactNames origin type names) =
+    (compact ≡ true) × IsPair IsName (IsMarked 0x00 (IsMarked 0x7e (IsPair IsExternalType (IsList IsName)))) bytes (origin, (type, names))
 
 -- (Modules, "Export Section")
 abbrev pub IsExport : List ℕ → Export → Type 0
-IsExport text export = IsPair IsName (IsPair IsExternalKind IsU32) text (export.name, (export.kind, export.index))
+IsExport bytes export = IsPair IsName (IsPair IsExternalKind IsU32) bytes (export.name, (export.kind, export.index))
 
 -- ---- tables and globals
 
--- a table's type alone, or behind two bytes the type and an initialiser (Modules, "Table Section")
+-- a table's type alone, or after two bytes the type and an initialiser (Modules, "Table Section")
 abbrev pub IsTableWith : Option ConstantExpression → List ℕ → TableType ℕ → Type 0
-IsTableWith None text type = IsTableType text type
-IsTableWith (Some initialiser) text type = IsMarked 0x40 (IsMarked 0x00 (IsPair IsTableType IsConstantExpression)) text (type, initialiser)
+IsTableWith None bytes type = IsTableType bytes type
+IsTableWith (Some initialiser) bytes type = IsMarked 0x40 (IsMarked 0x00 (IsPair IsTableType IsConstantExpression)) bytes (type, initialiser)
 
 abbrev pub IsTable : List ℕ → Table → Type 0
-IsTable text table = IsTableWith table.initialiser text table.type
+IsTable bytes table = IsTableWith table.initialiser bytes table.type
 
 -- (Modules, "Global Section")
 abbrev pub IsGlobal : List ℕ → Global → Type 0
-IsGlobal text global = IsPair IsGlobalType IsConstantExpression text (global.type, global.initialiser)
+IsGlobal bytes global = IsPair IsGlobalType IsConstantExpression bytes (global.type, global.initialiser)
 
 -- ---- segments
 
 abbrev pub IsFunctionItems : List ℕ → List ℕ → Type 0
-IsFunctionItems text functions = IsList IsU32 text functions
+IsFunctionItems bytes functions = IsList IsU32 bytes functions
 
--- behind the kind of element, which says that functions follow
+-- after the kind of element, which says that functions follow
 abbrev pub IsKindAndItems : List ℕ → List ℕ → Type 0
-IsKindAndItems text functions = IsMarked 0x00 IsFunctionItems text functions
+IsKindAndItems bytes functions = IsMarked 0x00 IsFunctionItems bytes functions
 
 abbrev pub IsExpressionItems : List ℕ → List ConstantExpression → Type 0
-IsExpressionItems text expressions = IsList IsConstantExpression text expressions
+IsExpressionItems bytes expressions = IsList IsConstantExpression bytes expressions
 
 -- The eight forms of element segments (Modules, "Element Section"). Where an active one doesn't write its table, the type of its expressions isn't
 -- written either, and is that of references to any function; with another type the table is written, also where it is table 0.
 abbrev pub IsElementOf : ElementMode → List ℕ → ElementItems → Type 0
-IsElementOf (ActiveElement None offset) text (FunctionItems functions) =
-    IsNumbered 0 (IsPair IsConstantExpression IsFunctionItems) text (offset, functions)
-IsElementOf PassiveElement text (FunctionItems functions) =
-    IsNumbered 1 IsKindAndItems text functions
-IsElementOf (ActiveElement (Some table) offset) text (FunctionItems functions) =
-    IsNumbered 2 (IsPair IsU32 (IsPair IsConstantExpression IsKindAndItems)) text (table, (offset, functions))
-IsElementOf DeclaredElement text (FunctionItems functions) =
-    IsNumbered 3 IsKindAndItems text functions
-IsElementOf (ActiveElement None offset) text (ExpressionItems type expressions) =
-    (type ≡ funcref) × IsNumbered 4 (IsPair IsConstantExpression IsExpressionItems) text (offset, expressions)
-IsElementOf PassiveElement text (ExpressionItems type expressions) =
-    IsNumbered 5 (IsPair IsRefType IsExpressionItems) text (type, expressions)
-IsElementOf (ActiveElement (Some table) offset) text (ExpressionItems type expressions) =
-    IsNumbered 6 (IsPair IsU32 (IsPair IsConstantExpression (IsPair IsRefType IsExpressionItems))) text (table, (offset, (type, expressions)))
-IsElementOf DeclaredElement text (ExpressionItems type expressions) =
-    IsNumbered 7 (IsPair IsRefType IsExpressionItems) text (type, expressions)
+IsElementOf (ActiveElement None offset) bytes (FunctionItems functions) =
+    IsNumbered 0 (IsPair IsConstantExpression IsFunctionItems) bytes (offset, functions)
+IsElementOf PassiveElement bytes (FunctionItems functions) =
+    IsNumbered 1 IsKindAndItems bytes functions
+IsElementOf (ActiveElement (Some table) offset) bytes (FunctionItems functions) =
+    IsNumbered 2 (IsPair IsU32 (IsPair IsConstantExpression IsKindAndItems)) bytes (table, (offset, functions))
+IsElementOf DeclaredElement bytes (FunctionItems functions) =
+    IsNumbered 3 IsKindAndItems bytes functions
+IsElementOf (ActiveElement None offset) bytes (ExpressionItems type expressions) =
+    (type ≡ funcref) × IsNumbered 4 (IsPair IsConstantExpression IsExpressionItems) bytes (offset, expressions)
+IsElementOf PassiveElement bytes (ExpressionItems type expressions) =
+    IsNumbered 5 (IsPair IsRefType IsExpressionItems) bytes (type, expressions)
+IsElementOf (ActiveElement (Some table) offset) bytes (ExpressionItems type expressions) =
+    IsNumbered 6 (IsPair IsU32 (IsPair IsConstantExpression (IsPair IsRefType IsExpressionItems))) bytes (table, (offset, (type, expressions)))
+IsElementOf DeclaredElement bytes (ExpressionItems type expressions) =
+    IsNumbered 7 (IsPair IsRefType IsExpressionItems) bytes (type, expressions)
 
 abbrev pub IsElementSegment : List ℕ → ElementSegment → Type 0
-IsElementSegment text segment = IsElementOf segment.mode text segment.items
+IsElementSegment bytes segment = IsElementOf segment.mode bytes segment.items
 
 -- the bytes of a data segment: how many, and they themselves
 abbrev pub IsContents : List ℕ → List ℕ → Type 0
-IsContents text contents = IsFramed IsBytes text contents
+IsContents bytes contents = IsFramed IsBytes bytes contents
 
 -- the three forms of data segments (Modules, "Data Section")
 abbrev pub IsDataOf : DataMode → List ℕ → List ℕ → Type 0
-IsDataOf (ActiveData None offset) text contents = IsNumbered 0 (IsPair IsConstantExpression IsContents) text (offset, contents)
-IsDataOf PassiveData text contents = IsNumbered 1 IsContents text contents
-IsDataOf (ActiveData (Some memory) offset) text contents =
-    IsNumbered 2 (IsPair IsU32 (IsPair IsConstantExpression IsContents)) text (memory, (offset, contents))
+IsDataOf (ActiveData None offset) bytes contents = IsNumbered 0 (IsPair IsConstantExpression IsContents) bytes (offset, contents)
+IsDataOf PassiveData bytes contents = IsNumbered 1 IsContents bytes contents
+IsDataOf (ActiveData (Some memory) offset) bytes contents =
+    IsNumbered 2 (IsPair IsU32 (IsPair IsConstantExpression IsContents)) bytes (memory, (offset, contents))
 
 abbrev pub IsDataSegment : List ℕ → DataSegment → Type 0
-IsDataSegment text segment = IsDataOf segment.mode text segment.contents
+IsDataSegment bytes segment = IsDataOf segment.mode bytes segment.contents
 
 -- ---- bodies
 
--- A function's body is the bytes of its frame; what they say is asked where bodies are judged. (In the standard it is part of the grammar
+-- A function's body is the bytes of its frame; what they say is asked where bodies are typed. (In the standard it is part of the grammar
 -- of modules: Modules, "Code Section".)
 abbrev pub IsBody : List ℕ → List ℕ → Type 0
-IsBody text body = IsFramed IsBytes text body
+IsBody bytes body = IsFramed IsBytes bytes body

@@ -25,65 +25,65 @@ heap_code Cont = 0x68
 
 -- The type index of a concrete heap type: a signed number, which is not negative. Whether it names a type is a matter of validity.
 abbrev pub IsHeapIndex : List ℕ → ℕ → Type 0
-IsHeapIndex text index = IsS33 text (pos index)
+IsHeapIndex bytes index = IsS33 bytes (pos index)
 
 -- (Types, "Heap Types"); an abstract one is its single byte, which is no signed number that could be padded
 abbrev pub IsHeapType : List ℕ → HeapType ℕ → Type 0
-IsHeapType text (Abstract heap) = text ≡ heap_code heap ∷ []
-IsHeapType text (Concrete index) = IsHeapIndex text index
+IsHeapType bytes (Abstract heap) = bytes ≡ heap_code heap ∷ []
+IsHeapType bytes (Concrete index) = IsHeapIndex bytes index
 
 -- The byte of an abstract heap type, alone, is the nullable reference to it (Types, "Reference Types"). A concrete one has no such byte.
 abbrev pub IsBareHeap : List ℕ → HeapType ℕ → Type 0
-IsBareHeap text (Abstract heap) = text ≡ heap_code heap ∷ []
-IsBareHeap text (Concrete index) = ⊥
+IsBareHeap bytes (Abstract heap) = bytes ≡ heap_code heap ∷ []
+IsBareHeap bytes (Concrete index) = ⊥
 
 -- a reference, which may be null or not (Types, "Reference Types")
 abbrev pub IsReference : Bool → List ℕ → HeapType ℕ → Type 0
-IsReference true text heap = IsMarked 0x63 IsHeapType text heap ⊎ IsBareHeap text heap
-IsReference false text heap = IsMarked 0x64 IsHeapType text heap
+IsReference true bytes heap = IsMarked 0x63 IsHeapType bytes heap ⊎ IsBareHeap bytes heap
+IsReference false bytes heap = IsMarked 0x64 IsHeapType bytes heap
 
 abbrev pub IsRefType : List ℕ → RefType ℕ → Type 0
-IsRefType text type = IsReference type.nullable text type.heap_type
+IsRefType bytes type = IsReference type.nullable bytes type.heap_type
 
 -- a value type (Types, "Number Types", "Vector Types", "Reference Types", "Value Types")
 abbrev pub IsValType : List ℕ → ValType ℕ → Type 0
-IsValType text I32 = text ≡ 0x7f ∷ []
-IsValType text I64 = text ≡ 0x7e ∷ []
-IsValType text F32 = text ≡ 0x7d ∷ []
-IsValType text F64 = text ≡ 0x7c ∷ []
-IsValType text V128 = text ≡ 0x7b ∷ []
-IsValType text (Ref nullable heap) = IsReference nullable text heap
+IsValType bytes I32 = bytes ≡ 0x7f ∷ []
+IsValType bytes I64 = bytes ≡ 0x7e ∷ []
+IsValType bytes F32 = bytes ≡ 0x7d ∷ []
+IsValType bytes F64 = bytes ≡ 0x7c ∷ []
+IsValType bytes V128 = bytes ≡ 0x7b ∷ []
+IsValType bytes (Ref nullable heap) = IsReference nullable bytes heap
 
 -- (Types, "Result Types")
 abbrev pub IsResultType : List ℕ → List (ValType ℕ) → Type 0
-IsResultType text types = IsList IsValType text types
+IsResultType bytes types = IsList IsValType bytes types
 
 -- ---- composite and recursive types
 
 -- what a field holds: a packed number or a value (Types, "Composite Types")
 abbrev pub IsStorageType : List ℕ → StorageType ℕ → Type 0
-IsStorageType text I8 = text ≡ 0x78 ∷ []
-IsStorageType text I16 = text ≡ 0x77 ∷ []
-IsStorageType text (Val type) = IsValType text type
+IsStorageType bytes I8 = bytes ≡ 0x78 ∷ []
+IsStorageType bytes I16 = bytes ≡ 0x77 ∷ []
+IsStorageType bytes (Val type) = IsValType bytes type
 
 -- whether a field or a global can be set, as a single byte (Types, "Composite Types", "Global Types")
 abbrev pub IsMutability : List ℕ → Bool → Type 0
-IsMutability text false = text ≡ 0x00 ∷ []
-IsMutability text true = text ≡ 0x01 ∷ []
+IsMutability bytes false = bytes ≡ 0x00 ∷ []
+IsMutability bytes true = bytes ≡ 0x01 ∷ []
 
 abbrev pub IsFieldType : List ℕ → FieldType ℕ → Type 0
-IsFieldType text field = IsPair IsStorageType IsMutability text (field.element_type, field.mutable)
+IsFieldType bytes field = IsPair IsStorageType IsMutability bytes (field.element_type, field.mutable)
 
 -- a function type: the types of its parameters and of its results (Types, "Composite Types")
 abbrev pub IsFuncType : List ℕ → FuncType ℕ → Type 0
-IsFuncType text type = IsMarked 0x60 (IsPair IsResultType IsResultType) text (type.params, type.results)
+IsFuncType bytes type = IsMarked 0x60 (IsPair IsResultType IsResultType) bytes (type.params, type.results)
 
 -- (Types, "Composite Types"); a continuation type names its function type as a heap type would
 abbrev pub IsCompositeType : List ℕ → CompositeType ℕ → Type 0
-IsCompositeType text (FuncComposite type) = IsFuncType text type
-IsCompositeType text (StructComposite fields) = IsMarked 0x5f (IsList IsFieldType) text fields
-IsCompositeType text (ArrayComposite field) = IsMarked 0x5e IsFieldType text field
-IsCompositeType text (ContComposite function) = IsMarked 0x5d IsHeapIndex text function
+IsCompositeType bytes (FuncComposite type) = IsFuncType bytes type
+IsCompositeType bytes (StructComposite fields) = IsMarked 0x5f (IsList IsFieldType) bytes fields
+IsCompositeType bytes (ArrayComposite field) = IsMarked 0x5e IsFieldType bytes field
+IsCompositeType bytes (ContComposite function) = IsMarked 0x5d IsHeapIndex bytes function
 
 -- what a sub type that is written out begins with: whether it is final
 abbrev pub sub_code : Bool → ℕ
@@ -92,14 +92,14 @@ sub_code false = 0x50
 
 -- Any number of supertypes and a composite type; or a composite type alone, which is final and has no supertypes (Types, "Recursive Types").
 abbrev pub IsSubType : List ℕ → SubType ℕ → Type 0
-IsSubType text type =
-    IsMarked (sub_code type.is_final) (IsPair (IsList IsU32) IsCompositeType) text (type.supertypes, type.composite_type)
-    ⊎ ((type.is_final ≡ true) × (type.supertypes ≡ []) × IsCompositeType text type.composite_type)
+IsSubType bytes type =
+    IsMarked (sub_code type.is_final) (IsPair (IsList IsU32) IsCompositeType) bytes (type.supertypes, type.composite_type)
+    ⊎ ((type.is_final ≡ true) × (type.supertypes ≡ []) × IsCompositeType bytes type.composite_type)
 
 -- a list of sub types, or a sub type alone (Types, "Recursive Types")
 abbrev pub IsRecGroup : List ℕ → RecGroup ℕ → Type 0
-IsRecGroup text (Single type) = IsSubType text type
-IsRecGroup text (Group types) = IsMarked 0x4e (IsList IsSubType) text types
+IsRecGroup bytes (Single type) = IsSubType bytes type
+IsRecGroup bytes (Group types) = IsMarked 0x4e (IsList IsSubType) bytes types
 
 -- ---- limits, and what is imported
 
@@ -111,29 +111,29 @@ limits_flags limits =
 
 -- The flags as a single byte, and the parts that they announce (Types, "Limits"). Both bounds have 64 bits, whatever the flags.
 abbrev pub IsLimits : List ℕ → Limits → Type 0
-IsLimits text limits =
-    IsMarked (limits_flags limits) (IsPair IsU64 (IsPair (IsOptional IsU64) (IsOptional IsU32))) text
+IsLimits bytes limits =
+    IsMarked (limits_flags limits) (IsPair IsU64 (IsPair (IsOptional IsU64) (IsOptional IsU32))) bytes
     (limits.minimum, (limits.maximum, limits.page_size_log2))
 
 -- (Types, "Memory Types")
 abbrev pub IsMemoryType : List ℕ → MemoryType → Type 0
-IsMemoryType text type = IsLimits text type
+IsMemoryType bytes type = IsLimits bytes type
 
 -- a table is never shared, and has no pages
 abbrev pub IsTableLimits : List ℕ → Limits → Type 0
-IsTableLimits text limits = IsLimits text limits × (limits.shared ≡ false) × (is_some limits.page_size_log2 ≡ false)
+IsTableLimits bytes limits = IsLimits bytes limits × (limits.shared ≡ false) × (is_some limits.page_size_log2 ≡ false)
 
 -- (Types, "Table Types")
 abbrev pub IsTableType : List ℕ → TableType ℕ → Type 0
-IsTableType text type = IsPair IsRefType IsTableLimits text (type.element_type, type.limits)
+IsTableType bytes type = IsPair IsRefType IsTableLimits bytes (type.element_type, type.limits)
 
 -- (Types, "Global Types")
 abbrev pub IsGlobalType : List ℕ → GlobalType ℕ → Type 0
-IsGlobalType text type = IsPair IsValType IsMutability text (type.value_type, type.mutable)
+IsGlobalType bytes type = IsPair IsValType IsMutability bytes (type.value_type, type.mutable)
 
 -- the type index of a tag's function type (Types, "Tag Types")
 abbrev pub IsTagType : List ℕ → ℕ → Type 0
-IsTagType text function = IsMarked 0x00 IsU32 text function
+IsTagType bytes function = IsMarked 0x00 IsU32 bytes function
 
 -- the byte of a kind (Types, "External Types", and Modules, "Export Section")
 abbrev pub kind_code : ExternalKind → ℕ
@@ -144,16 +144,16 @@ kind_code GlobalKind = 0x03
 kind_code TagKind = 0x04
 
 abbrev pub IsExternalKind : List ℕ → ExternalKind → Type 0
-IsExternalKind text kind = text ≡ kind_code kind ∷ []
+IsExternalKind bytes kind = bytes ≡ kind_code kind ∷ []
 
--- what stands behind the byte of the kind
+-- what stands after the byte of the kind
 abbrev pub IsOfKind : List ℕ → ExternalType ℕ → Type 0
-IsOfKind text (FuncExternal function) = IsU32 text function
-IsOfKind text (TableExternal type) = IsTableType text type
-IsOfKind text (MemoryExternal type) = IsMemoryType text type
-IsOfKind text (GlobalExternal type) = IsGlobalType text type
-IsOfKind text (TagExternal function) = IsTagType text function
+IsOfKind bytes (FuncExternal function) = IsU32 bytes function
+IsOfKind bytes (TableExternal type) = IsTableType bytes type
+IsOfKind bytes (MemoryExternal type) = IsMemoryType bytes type
+IsOfKind bytes (GlobalExternal type) = IsGlobalType bytes type
+IsOfKind bytes (TagExternal function) = IsTagType bytes function
 
 -- (Types, "External Types")
 abbrev pub IsExternalType : List ℕ → ExternalType ℕ → Type 0
-IsExternalType text type = IsMarked (kind_code (kind_of type)) IsOfKind text type
+IsExternalType bytes type = IsMarked (kind_code (kind_of type)) IsOfKind bytes type

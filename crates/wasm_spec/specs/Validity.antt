@@ -1,5 +1,5 @@
--- Which modules are valid, of those that are supported. Core Specification 3.0, Validation, "Modules", and appendix "Implementation Limitations".
--- The rules and limits of other sections and types aren't here yet: of modules that have such ones nothing here says that they are valid.
+-- Which modules are valid. Core Specification 3.0, Validation, "Modules", and appendix "Implementation Limitations".
+-- Rules and limits are those of supported sections, and a valid module has no others (`Supported`).
 use Rattle.std.specs.Prelude.{◌≡◌, ◌⊎◌, ◌+◌, ◌<◌, ⊤, ℕ, Bool, true, false, List, [], ◌∷◌, ◌++◌, length, nat_lt, Option, Some, None, is_some, MatchOption}
 use Rattle.std.specs.List.{EachIndex, SomeIndex, list_all, list_any, filter_map, flat_map, slice_get}
 use Rattle.std.specs.Option.{option_and_then}
@@ -43,7 +43,7 @@ abbrev pub func_types_of : List Section → List (FuncType ℕ)
 func_types_of sections = filter_map func_type_of (types_of sections)
 
 -- Whether some number that the sections state or add up to passes a limit. What only sections and types have that aren't supported is not
--- counted, and the locals of a function are counted where its body is judged.
+-- counted, and the locals of a function are counted where its body is typed.
 abbrev pub is_passed : Limit → List Section → Bool
 is_passed Types sections = is_past Types (sizes_of sections).types
 is_passed Groups sections = is_past Groups (length (groups_of sections))
@@ -69,7 +69,7 @@ is_passed Length sections = false
 
 -- ---- rules
 
--- What a section has to keep behind the sections before it: the types of a type section are allowed, and what a function section names are
+-- What a section has to keep after the sections before it: the types of a type section are allowed, and what a function section names are
 -- function types. Custom sections have no rule, and those on bodies stand apart. The rules of sections that aren't supported are missing, and so
 -- are those on type indexes in types.
 abbrev pub keeps_rule : Features → List Section → Section → Bool
@@ -77,7 +77,7 @@ keeps_rule features before (TypeSection groups) = list_all (is_allowed_group fea
 keeps_rule features before (FunctionSection indexes) = list_all (λ index. is_some (func_type_at (types_of before) index)) indexes
 keeps_rule features before _ = true
 
--- each section keeps its rule behind these and those before it
+-- each section keeps its rule after these and those before it
 abbrev pub KeepRules : Features → List Section → List Section → Type 0
 KeepRules features before [] = ⊤
 KeepRules features before (section ∷ sections) =
@@ -103,23 +103,23 @@ EachBody Holds sections = EachIndex (functions_of sections) (BodyAt Holds sectio
 abbrev pub SomeBody : (FuncType ℕ → List ℕ → Type 0) → List Section → Type 0
 SomeBody Holds sections = SomeIndex (functions_of sections) (BodyAt Holds sections)
 
--- Something is so of a body in its context, whatever value type is below what: no operator asks that yet.
+-- Something is so of a body in its context, whatever value type is below what: no supported operator asks that.
 abbrev pub InContext : Features → (Context ℕ → Type 0) → Type 0
 InContext features Holds = (is_below : ValType ℕ → ValType ℕ → Bool) → Holds (record { features = features; is_below = is_below })
 
--- a body keeps its judgement
-abbrev pub IsJudgedBody : Features → FuncType ℕ → List ℕ → Type 0
-IsJudgedBody features type body = InContext features (λ cx. IsFunctionBody cx type body)
+-- a body is well typed
+abbrev pub IsTypedBody : Features → FuncType ℕ → List ℕ → Type 0
+IsTypedBody features type body = InContext features (λ cx. IsFunctionBody cx type body)
 
 -- a body has too many locals
 abbrev pub IsBodyPast : Features → FuncType ℕ → List ℕ → Type 0
 IsBodyPast features type body = InContext features (λ cx. HasManyLocals cx type body)
 
--- a body has a code without an operator behind operators of a body
+-- a body has a code without an operator after operators of a body
 abbrev pub IsOtherBody : Features → FuncType ℕ → List ℕ → Type 0
 IsOtherBody features type body = InContext features (λ cx. HasOtherOperator cx type body)
 
--- a body breaks its judgement otherwise
+-- a body isn't well typed for another reason
 abbrev pub IsBrokenBody : Features → FuncType ℕ → List ℕ → Type 0
 IsBrokenBody features type body =
     InContext features (λ cx. (¬ (IsFunctionBody cx type body)) × (¬ (HasManyLocals cx type body)) × (¬ (HasOtherOperator cx type body)))
@@ -131,10 +131,11 @@ pub record AreFine (features : Features) (sections : List Section) : Type 0 wher
   pub within_limits : (limit : Limit) → is_passed limit sections ≡ false
   pub rules : KeepRules features [] sections
 
--- Supported sections that read as a module are those of a valid one under a set of features.
+-- Sections that read as a module are those of a valid one under a set of features.
 pub record IsValid (features : Features) (sections : List Section) : Type 0 where
+  pub supported : IsSupported sections
   pub fine : AreFine features sections
-  pub bodies : EachBody (IsJudgedBody features) sections
+  pub bodies : EachBody (IsTypedBody features) sections
 
 -- ---- the front of a module
 
@@ -151,21 +152,21 @@ counted _ sections = None
 
 -- The bytes begin with a section of this id, in whose content this number of entries stands first.
 pub record StatesCount (id number : ℕ) (bytes : List ℕ) : Type 0 where
-  pub size_text : List ℕ
-  pub count_text : List ℕ
+  pub size_encoding : List ℕ
+  pub count_encoding : List ℕ
   pub entries : List ℕ
   pub rest : List ℕ
-  pub begins : bytes ≡ id ∷ (size_text ++ ((count_text ++ entries) ++ rest))
-  pub sized : IsU32 size_text (length (count_text ++ entries))
-  pub stated : IsU32 count_text number
+  pub begins : bytes ≡ id ∷ (size_encoding ++ ((count_encoding ++ entries) ++ rest))
+  pub sized : IsU32 size_encoding (length (count_encoding ++ entries))
+  pub stated : IsU32 count_encoding number
 
--- Behind these sections another one may stand, and states a number of entries that passes a limit, theirs added, whether or not its content is
+-- After these sections another one may stand, and states a number of entries that passes a limit, theirs added, whether or not its content is
 -- so many entries.
 abbrev pub StatesPast : Limit → List Section → List ℕ → Type 0
 StatesPast limit sections bytes = MatchOption (counted limit sections) ⊥
     (λ c. (last_of 0 sections < c.place) × (number : ℕ) × IsPassedBy limit (c.entries + number) × StatesCount c.id number bytes)
 
--- The bytes begin with the header and complete sections, in order, that pass a limit, or behind which a section states a number that does,
+-- The bytes begin with the header and complete sections, in order, that pass a limit, or after which a section states a number that does,
 -- whatever follows. The sections are supported.
 pub record BeginsPast (features : Features) (limit : Limit) (bytes : List ℕ) : Type 0 where
   pub sections : List Section

@@ -75,7 +75,7 @@ pub fn imports_and_exports()
     ensures tag { (compact : Bool) → IsImport compact (0x01 ∷ 0x6d ∷ 0x01 ∷ 0x65 ∷ 0x04 ∷ 0x00 ∷ 0x05 ∷ [])
         (Import (0x6d ∷ []) (0x65 ∷ []) (TagExternal 5)) }
 
-    // An empty name begins like a compact group, but a kind stands behind it.
+    // An empty name begins like a compact group, but a kind stands after it.
     ensures no_name { (compact : Bool) → IsImport compact (0x01 ∷ 0x6d ∷ 0x00 ∷ 0x00 ∷ 0x05 ∷ [])
         (Import (0x6d ∷ []) [] (FuncExternal 5)) }
     ensures padded_name { (compact : Bool) → IsImport compact (0x01 ∷ 0x6d ∷ 0x80 ∷ 0x00 ∷ 0x00 ∷ 0x05 ∷ [])
@@ -281,15 +281,15 @@ pub fn wrong_entries()
     ensures data_form_3 { (rest : List ℕ) (segment : DataSegment) → ¬ (IsDataSegment (0x03 ∷ rest) segment) }
 
     // Expressions of another type than references to functions need a written table.
-    ensures other_type { (text : List ℕ) (offset : ConstantExpression) (expressions : List ConstantExpression)
-        → ¬ (IsElementSegment text (record { mode = ActiveElement None offset; items = ExpressionItems (record { nullable = true; heap_type = Abstract Extern }) expressions })) }
+    ensures other_type { (bytes : List ℕ) (offset : ConstantExpression) (expressions : List ConstantExpression)
+        → ¬ (IsElementSegment bytes (record { mode = ActiveElement None offset; items = ExpressionItems (record { nullable = true; heap_type = Abstract Extern }) expressions })) }
 {}
 
 /// A data count is the number of data segments, also where there is no data section.
 pub fn wrong_counts()
-    ensures too_many { (compact : Bool) (text : List ℕ) (segment : DataSegment)
-        → ¬ (IsModule compact text (DataCountSection 2 ∷ DataSection (segment ∷ []) ∷ [])) }
-    ensures no_data { (compact : Bool) (text : List ℕ) → ¬ (IsModule compact text (DataCountSection 1 ∷ [])) }
-    ensures late { (compact : Bool) (text : List ℕ) (bodies : List (List ℕ)) → ¬ (IsModule compact text (CodeSection bodies ∷ DataCountSection 0 ∷ [])) }
-    ensures late_tags { (compact : Bool) (text : List ℕ) → ¬ (IsModule compact text (GlobalSection [] ∷ TagSection [] ∷ [])) }
+    ensures too_many { (compact : Bool) (bytes : List ℕ) (segment : DataSegment)
+        → ¬ (IsModule compact bytes (DataCountSection 2 ∷ DataSection (segment ∷ []) ∷ [])) }
+    ensures no_data { (compact : Bool) (bytes : List ℕ) → ¬ (IsModule compact bytes (DataCountSection 1 ∷ [])) }
+    ensures late { (compact : Bool) (bytes : List ℕ) (bodies : List (List ℕ)) → ¬ (IsModule compact bytes (CodeSection bodies ∷ DataCountSection 0 ∷ [])) }
+    ensures late_tags { (compact : Bool) (bytes : List ℕ) → ¬ (IsModule compact bytes (GlobalSection [] ∷ TagSection [] ∷ [])) }
 {}

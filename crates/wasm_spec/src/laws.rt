@@ -32,7 +32,7 @@ pub fn small_modules()
     // The header alone is a module without sections.
     ensures empty { (compact : Bool) → IsModule compact (0x00 ∷ 0x61 ∷ 0x73 ∷ 0x6d ∷ 0x01 ∷ 0x00 ∷ 0x00 ∷ 0x00 ∷ []) [] }
 
-    // A custom section with an empty name and nothing behind it.
+    // A custom section with an empty name and nothing after it.
     ensures custom { (compact : Bool) → IsModule compact (header ++ (0x00 ∷ 0x01 ∷ 0x00 ∷ [])) (Custom [] [] ∷ []) }
 
     // The same with its size in two bytes, and a section "a" with the byte 7.
@@ -65,13 +65,13 @@ pub fn order()
     ensures late_types { (groups : List (RecGroup ℕ)) (indexes : List ℕ) → ¬ (AreOrdered 0 (FunctionSection indexes ∷ TypeSection groups ∷ [])) }
     ensures late_functions { (indexes : List ℕ) (bodies : List (List ℕ)) → ¬ (AreOrdered 0 (CodeSection bodies ∷ FunctionSection indexes ∷ [])) }
     ensures twice { (name contents a b : List ℕ) → ¬ (AreOrdered 0 (FunctionSection a ∷ Custom name contents ∷ FunctionSection b ∷ [])) }
-    ensures no_body { (compact : Bool) (text indexes : List ℕ) (index : ℕ) → ¬ (IsModule compact text (FunctionSection (index ∷ indexes) ∷ CodeSection [] ∷ [])) }
-    ensures no_function { (compact : Bool) (text body : List ℕ) → ¬ (IsModule compact text (CodeSection (body ∷ []) ∷ [])) }
+    ensures no_body { (compact : Bool) (bytes indexes : List ℕ) (index : ℕ) → ¬ (IsModule compact bytes (FunctionSection (index ∷ indexes) ∷ CodeSection [] ∷ [])) }
+    ensures no_function { (compact : Bool) (bytes body : List ℕ) → ¬ (IsModule compact bytes (CodeSection (body ∷ []) ∷ [])) }
 {}
 
-/// The text of a module is bytes; and what modules show.
+/// The encoding of a module is bytes; and what modules show.
 pub fn modules()
-    ensures bytes { (compact : Bool) (text : List ℕ) (sections : List Section) → IsModule compact text sections → AreBytes text }
+    ensures bytes { (compact : Bool) (encoding : List ℕ) (sections : List Section) → IsModule compact encoding sections → AreBytes encoding }
 
     // One type, two functions, and their bodies.
     ensures spaces { (type : SubType ℕ) (a b : ℕ) (bodies : List (List ℕ)) (name contents : List ℕ)
@@ -161,7 +161,7 @@ pub fn fronts()
     ensures invalid { (features : Features) (rest : List ℕ) → BeginsInvalid features (header ++ (0x03 ∷ 0x02 ∷ 0x01 ∷ 0x00 ∷ rest)) }
 {}
 
-/// Small bodies: a body may end at once where it has no results, and with any results behind `unreachable`.
+/// Small bodies: a body may end at once where it has no results, and with any results after `unreachable`.
 pub fn bodies()
     ensures empty { (cx : Context ℕ) → IsFunctionBody cx (record { params = []; results = [] }) (0x00 ∷ 0x0b ∷ []) }
     ensures unreachable { (cx : Context ℕ) (type : FuncType ℕ) → length type.params ≤ 50000 → IsFunctionBody cx type (0x00 ∷ 0x00 ∷ 0x0b ∷ []) }
@@ -171,6 +171,6 @@ pub fn bodies()
         → ¬ (IsBodyOf cx (record { params = []; results = I32 ∷ [] }) runs (End ∷ [])) }
 
     // The 50,000 locals that a function may have count its parameters.
-    ensures many_locals { (cx : Context ℕ) (type : FuncType ℕ) (text : List ℕ) → length type.params ≡ 1
-        → ¬ (AreLocals cx type text (record { count = 50000; type = I32 } ∷ [])) }
+    ensures many_locals { (cx : Context ℕ) (type : FuncType ℕ) (bytes : List ℕ) → length type.params ≡ 1
+        → ¬ (AreLocals cx type bytes (record { count = 50000; type = I32 } ∷ [])) }
 {}

@@ -4,7 +4,10 @@
 //! contracts are theorems on the definitions.
 #![tactic(auto)]
 
+pub mod gate_examples;
 pub mod grammar_examples;
 pub mod laws;
 pub mod number_laws;
-pub mod type_text_examples;
+pub mod section_examples;
+pub mod type_encoding_examples;
+pub mod type_laws;

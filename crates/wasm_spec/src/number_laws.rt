@@ -2,15 +2,15 @@
 
 ghost use Rattle.std.specs.Prelude.{◌<◌, ◌-◌, ◌^◌, ℕ, ℤ, pos, negsuc, [], ◌∷◌};
 ghost use Rattle.wasm_spec.specs.Bytes.{IsUnsigned, IsU32, IsU64, IsSigned, IsS32, IsS33, IsS64, IsF32, IsF64, IsShortest};
-ghost use Rattle.wasm_spec.specs.Shortest.{unsigned_text, signed_text};
+ghost use Rattle.wasm_spec.specs.Shortest.{unsigned_encoding, signed_encoding};
 
-/// What is written of a number is its shortest text, at any width that the number has.
+/// What is written of a number is its shortest encoding, at any width that the number has.
 pub fn shortest_numbers()
-    ensures unsigned { (bits n : ℕ) → n < 2 ^ bits → IsShortest (IsUnsigned bits) (unsigned_text n) n }
-    ensures positive { (bits n : ℕ) → n < 2 ^ (bits - 1) → IsShortest (IsSigned bits) (signed_text (pos n)) (pos n) }
+    ensures unsigned { (bits n : ℕ) → n < 2 ^ bits → IsShortest (IsUnsigned bits) (unsigned_encoding n) n }
+    ensures positive { (bits n : ℕ) → n < 2 ^ (bits - 1) → IsShortest (IsSigned bits) (signed_encoding (pos n)) (pos n) }
 
     // `negsuc n` is -(n + 1).
-    ensures negative { (bits n : ℕ) → n < 2 ^ (bits - 1) → IsShortest (IsSigned bits) (signed_text (negsuc n)) (negsuc n) }
+    ensures negative { (bits n : ℕ) → n < 2 ^ (bits - 1) → IsShortest (IsSigned bits) (signed_encoding (negsuc n)) (negsuc n) }
 {}
 
 /// Unsigned numbers, read by hand.

@@ -6,6 +6,16 @@ pub fn is_row(line: &str) -> bool {
     !row.is_empty() && !row.starts_with("//")
 }
 
+/// How many rows a table has.
+pub fn count_of_rows(table: &str) -> usize {
+    table.lines().filter(|line| is_row(line)).count()
+}
+
+/// Whether a word is among those of a field.
+pub fn has_word(field: &str, word: &str) -> bool {
+    field.split_whitespace().any(|it| it == word)
+}
+
 /// The fields of a row of two, without the spaces around them.
 pub fn two_fields(row: &str) -> Option<(&str, &str)> {
     let (first, second) = row.split_once('|')?;
@@ -28,7 +38,7 @@ pub fn four_fields(row: &str) -> Option<(&str, &str, &str, &str)> {
 
 #[cfg(test)]
 mod tests {
-    use crate::fields::{four_fields, is_row, three_fields, two_fields};
+    use crate::fields::{count_of_rows, four_fields, has_word, is_row, three_fields, two_fields};
 
     #[test]
     fn fields_are_set_apart(rt: HostRuntime) {
@@ -42,6 +52,8 @@ mod tests {
             two_fields("a") == None && three_fields("a|b") == None,
             "too few"
         );
+        assert!(rt; count_of_rows("\na|b\n  // c\n\n d") == 2, "two rows");
+        assert!(rt; has_word("a or b", "b") && !has_word("ab", "b"), "words");
         assert!(rt; is_row(" a") && !is_row("  // a") && !is_row("  "), "rows");
     }
 }

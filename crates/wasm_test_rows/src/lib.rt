@@ -3,4 +3,9 @@
 #![tactic(auto)]
 
 pub mod fields;
+pub mod limits;
+pub mod repeats;
+pub mod rows;
+pub mod shown;
+pub mod types;
 pub mod values;

@@ -2,14 +2,31 @@
 
 use std::alloc::Global;
 
-/// Bytes in hexadecimal digits, two for each, with spaces between them or none.
-pub fn bytes_of(alloc: Global, field: &str) -> Option<Vec<u8>> {
-    let mut bytes = Vec::new(alloc);
-    for digits in field.split_whitespace() {
-        let some = hex::decode(alloc, digits).ok()?;
+// Appends bytes in hexadecimal digits so many times.
+fn push_bytes(alloc: Global, bytes: &mut Vec<u8>, digits: &str, count: u32) -> Option<()> {
+    let some = hex::decode(alloc, digits).ok()?;
+    for _ in 0..count {
         bytes.extend_from_slice(&some).ok()?;
     }
+    Some(())
+}
+
+/// Bytes in hexadecimal digits, two for each, with spaces between them or none. They may be followed by how often they stand there: `00*254`.
+pub fn bytes_of(alloc: Global, field: &str) -> Option<Vec<u8>> {
+    let mut bytes = Vec::new(alloc);
+    for word in field.split_whitespace() {
+        let (digits, count) = word.split_once('*').unwrap_or((word, "1"));
+        push_bytes(alloc, &mut bytes, digits, count.parse().ok()?)?;
+    }
     Some(bytes)
+}
+
+/// Whether the bytes of a field are these.
+pub fn are_bytes(alloc: Global, field: &str, bytes: &[u8]) -> bool {
+    match bytes_of(alloc, field) {
+        Some(found) => found.as_slice() == bytes,
+        None => false,
+    }
 }
 
 /// A number in decimal digits.
@@ -20,6 +37,19 @@ pub fn number_of(field: &str) -> Option<u64> {
 /// The same with a sign.
 pub fn signed_of(field: &str) -> Option<i64> {
     field.parse().ok()
+}
+
+/// Numbers with spaces between them. A number may be followed by how often it stands there: `0*20`.
+pub fn numbers_of(alloc: Global, field: &str) -> Option<Vec<u32>> {
+    let mut numbers = Vec::new(alloc);
+    for word in field.split_whitespace() {
+        let (digits, count) = word.split_once('*').unwrap_or((word, "1"));
+        let number = digits.parse().ok()?;
+        for _ in 0..count.parse::<u32>().ok()? {
+            numbers.push(number).ok()?;
+        }
+    }
+    Some(numbers)
 }
 
 /// Whether something is so: `yes` or `no`.
@@ -33,7 +63,7 @@ pub fn bool_of(field: &str) -> Option<bool> {
 
 #[cfg(test)]
 mod tests {
-    use crate::values::{bool_of, bytes_of, number_of, signed_of};
+    use crate::values::{are_bytes, bool_of, bytes_of, number_of, numbers_of, signed_of};
 
     #[test]
     fn values_are_read(rt: HostRuntime) {
@@ -49,11 +79,17 @@ mod tests {
             bool_of("yes") == Some(true) && bool_of("no") == Some(false) && bool_of("") == None,
             "yes or no"
         );
-        let bytes = bytes_of(rt.alloc(), "01 fe a0b1");
         assert!(rt;
-            bytes.is_some_and(|it| it.as_slice() == [0x01, 0xfe, 0xa0, 0xb1].as_slice()),
+            are_bytes(rt.alloc(), "01 fe a0b1 20*2", b"\x01\xfe\xa0\xb1  "),
             "bytes"
         );
+        assert!(rt; bytes_of(rt.alloc(), "01*").is_none(), "no count");
         assert!(rt; bytes_of(rt.alloc(), "01 f").is_none(), "half a byte");
+        let numbers = numbers_of(rt.alloc(), "7 0*3");
+        assert!(rt;
+            numbers.is_some_and(|it| it.as_slice() == [7, 0, 0, 0].as_slice()),
+            "a list"
+        );
+        assert!(rt; numbers_of(rt.alloc(), "7 *").is_none(), "no number");
     }
 }

@@ -1,4 +1,4 @@
-//! The judge of WebAssembly modules and what it stands on, in one place. The parts are `wasmparser_parser`
+//! The validator of WebAssembly modules and what it stands on, in one place. The parts are `wasmparser_parser`
 //! and `wasmparser_validator`.
 #![tactic(auto)]
 
@@ -6,4 +6,4 @@ pub use wasmparser_parser::{
     code_section, core_type_reader, core_types, custom, error, function_section, raw_section,
     type_section,
 };
-pub use wasmparser_validator::{body, gates, judge, types, validator_id};
+pub use wasmparser_validator::{body, gates, types, validator, validator_id};

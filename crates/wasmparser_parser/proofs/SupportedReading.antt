@@ -29,7 +29,7 @@ passing test read = read >>= λ x. when (test x.0) x
 abbrev as_seen : {A B C : Type 0} → (A → B) → Option (A × C) → Option (B × C)
 as_seen view read = read >>= λ a. Some (view a.0, a.1)
 
--- what is read, and what is read behind it
+-- what is read, and what is read after it
 abbrev both_as : {A B C : Type 0} → (A → B → C) → Option (A × List ℕ) → ReadingOf B → Option (C × List ℕ)
 both_as make first second = first >>= λ x. second x.1 >>= λ y. Some (make x.0 y.0, y.1)
 
@@ -162,7 +162,7 @@ short_tested b rest = by_type (look_up val_type_codes b) refl
     by_type None e = refl
     by_type (Some type) e = rw (all_supported val_type_codes b type refl e) refl
 
--- behind 64 stands no type that is supported
+-- after 64 stands no type that is supported
 not_null : (rest : List ℕ) → supported_type_at (0x64 ∷ rest) ≡ None
 unfolding supported_type_at val_type_at
 not_null rest = unviewed is_supported_type (λ heap. Ref false heap) (heap_type_at rest) (λ heap. refl)
@@ -187,7 +187,7 @@ null_none : (b : ℕ) (rest : List ℕ) → look_up heap_codes b ≡ None → su
 unfolding supported_type_at val_type_at heap_type_at
 null_none b rest e = rw e (no_index (heap_index_at (b ∷ rest)))
 
--- behind 63, an abstract heap type
+-- after 63, an abstract heap type
 null_type : (rest : List ℕ) → supported_type_at (0x63 ∷ rest) ≡ as_seen null_to (abstract_heap_at rest)
 unfolding supported_type_at val_type_at heap_type_at abstract_heap_at byte_at
 null_type [] = refl
@@ -380,7 +380,7 @@ alone_tested None = refl
 alone_tested (Some (zero, after)) = viewed is_alone is_supported_composite (with_supers []) (composite_type_at after) (λ c. refl)
 alone_tested (Some (suc m, after)) = rw (ne_eqb (suc m) 0 (λ e. absurd (omega (arith, e)))) (supers m (unsigned_at 32 after))
 
--- the group of a function type behind a count of no supertypes
+-- the group of a function type after a count of no supertypes
 counted_group : (read : Option (ℕ × List ℕ)) → as_seen as_single (as_seen (below true) (if_none read (λ rest. as_seen (with_supers []) (passing is_supported_composite (composite_type_at rest)))))
     ≡ if_none read (λ rest. func_groups (supported_func_at rest))
 counted_group None = refl

@@ -1,4 +1,4 @@
--- The texts of refusals.
+-- What refusals are called.
 use Rattle.std.specs.Prelude.{ℕ, List, codes}
 use Rattle.wasmparser_parser.specs.declared.error.ErrorKind.{ErrorKind}
 use Rattle.wasmparser_parser.specs.declared.error.ErrorKind.TheVariants.{Malformed, Invalid, Limit, Operator, Body, Total, Order, Failed, Memory}

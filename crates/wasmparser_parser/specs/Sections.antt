@@ -17,7 +17,7 @@ pub record Framed : Type 0 where
   pub id : ℕ
   pub content : Part
 
--- the part lies in what a reader has before it: it begins at the reader's place or behind that, and ends by the end of the input
+-- the part lies in what a reader has before it: it begins at the reader's place or after that, and ends by the end of the input
 pub record IsInside (old : Input) (part : Part) : Type 0 where
   pub from : old.position ≤ part.position
   pub to : part.position + length part.bytes ≤ end old

@@ -1,4 +1,4 @@
--- What is read so far of types and sections: what is supported, each as it reads. Bytes of which something else reads are refused as those of
+-- What is read of types and sections: what is supported, each as it reads. Bytes of which something else reads are refused as those of
 -- which nothing does.
 use Rattle.std.specs.Prelude.{ℕ, List, false, Option, Some, None, if◌then◌else◌}
 use Rattle.wasm_core_read.specs.ModuleReading.{content_of}

@@ -16,7 +16,7 @@ use std::marker::Model;
 use wasm_core_read::binary_reader::BinaryReader;
 use wasm_core_read::malformed::Malformed;
 
-/// The body of a function: its locals and its expression, not yet read. Contracts see it as its bytes and the
+/// The body of a function: its locals and its expression, unread. Contracts see it as its bytes and the
 /// place of the first of them in the input.
 #[derive(Debug, Drop)]
 pub struct FunctionBody<'a> {
@@ -100,7 +100,7 @@ fn read_bodies<'a>(
     Ok(bodies)
 }
 
-/// Reads the content of a code section: the bodies, each behind its size (Core Specification, 5.5.13).
+/// Reads the content of a code section: the bodies, each after its size (Core Specification, 5.5.13).
 #[tactic(auto, unfolding(wasm_core_read::specs::ModuleReading::content_of, crate::specs::SupportedReading::supported_content))]
 pub fn read_code_section<'a>(
     alloc: Global,

@@ -1,4 +1,4 @@
-//! Reading types, so far those that are supported. All others are refused as bytes that don't read.
+//! Reading the types that are supported. All others are refused as bytes that don't read.
 
 ghost use Rattle.std.specs.Prelude.{◌≡◌, true, map};
 ghost use Rattle.std.specs.Option.{option_map};
@@ -110,7 +110,7 @@ pub fn read_val_types(alloc: Global, reader: &mut BinaryReader<'_>) -> Result<Ve
     Ok(types)
 }
 
-/// Reads what a function type has behind its first byte: the lists of its parameters' and its results' types.
+/// Reads what a function type has after its first byte: the lists of its parameters' and its results' types.
 #[tactic(auto, unfolding(crate::specs::SupportedReading::supported_signature_at))]
 pub(crate) fn read_signature(
     alloc: Global,

@@ -35,7 +35,7 @@ pub enum AbstractHeapType {
     NoCont,
 }
 
-/// What a reference refers to. Types of the module's own don't read yet.
+/// What a reference refers to. References to types of the module's own aren't supported.
 #[derive(Clone, Copy, Debug, PartialEq, Eq, Hash)]
 pub enum HeapType {
     /// A heap type that is no type of the module's own.

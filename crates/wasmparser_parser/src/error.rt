@@ -1,4 +1,4 @@
-//! What a judge answers when it refuses a module.
+//! What a validator answers when it refuses a module.
 
 ghost use Rattle.std.specs.Prelude.{◌≡◌};
 ghost use Rattle.wasmparser_parser.specs.declared.error.ErrorKind.TheVariants as kinds;
@@ -8,7 +8,7 @@ use thiserror::Error;
 use wasm_core_base::limits::Limit;
 use wasm_core_read::malformed::Malformed;
 
-/// Why a module is refused. Its text is the kind in lower case, without the case of a limit.
+/// Why a module is refused. It is shown as its kind in lower case, without the case of a limit.
 #[derive(Clone, Copy, Debug, PartialEq, Eq, Hash, Error)]
 #[error("{}", self.name())]
 pub enum ErrorKind {
@@ -22,11 +22,11 @@ pub enum ErrorKind {
     Operator,
     /// A body's bytes or its typing are wrong otherwise.
     Body,
-    /// The judge has no room for the module's types.
+    /// The validator has no room for the module's types.
     Total,
     /// A call comes where its section can't stand.
     Order,
-    /// The judge refused a module before.
+    /// The validator refused a module before.
     Failed,
     /// Memory ran out.
     Memory,

@@ -48,7 +48,8 @@ fn read_rec_groups(alloc: Global, reader: &mut BinaryReader<'_>) -> Result<Vec<F
     Ok(types)
 }
 
-/// Reads the content of a type section: a list of types, so far of function types (Core Specification, 5.5.4).
+/// Reads the content of a type section: a list of supported types, which are function types (Core Specification, Binary Format, Modules,
+/// "Type Section").
 #[tactic(auto, using(crate::proofs::SupportedReading::types_content))]
 pub fn read_type_section(alloc: Global, section: &RawSection<'_>) -> Result<Vec<FuncType>, Error>
     ensures { AnswersAllOrFills (λ v. type_section v.items) (at_front section.now.content) result (supported_content 1 section.now.content.bytes) }

@@ -1,148 +1,110 @@
 //! Function bodies.
 
-use std::alloc::{AllocError, Global};
+use std::alloc::Global;
 use std::test::Fail;
 use wasm_core::features::{Flags, WasmFeatures};
-use wasm_core::limits::Limit;
+use wasm_test_rows::fields::four_fields;
+use wasm_test_rows::rows::check_rows;
+use wasm_test_rows::values::bytes_of;
 use wasmparser::body::validate_body;
 use wasmparser::code_section::FunctionBody;
 use wasmparser::core_types::{FuncType, ValType};
 use wasmparser::error::{Error, ErrorKind};
 
-const BROKEN: Option<ErrorKind> = Some(ErrorKind::Body);
-
-const OPERATOR: Option<ErrorKind> = Some(ErrorKind::Operator);
-
-const LOCALS: Option<ErrorKind> = Some(ErrorKind::Limit(Limit::Locals));
+// How many parameters and results of i32 a function has, the features, a body, and the kind of its refusal, or `valid`. `all SIMD` are all features
+// but that one.
+const BODIES: &str = "
+    // A function that has to leave nothing, and one that has to leave a number.
+    0 0 | default | 00 00 0b | valid
+    1 1 | default | 00 00 0b | valid
+    0 0 | default | 00 00 00 0b | valid
+    1 1 | default | 00 00 00 0b | valid
+    0 0 | default | 00 0b | valid
+    1 1 | default | 00 0b | Body
+    0 0 | default | 00 | Body
+    1 1 | default | 00 | Body
+    0 0 | default | | Body
+    1 1 | default | | Body
+    0 0 | default | 00 00 0b 0b | Body
+    1 1 | default | 00 00 0b 0b | Body
+    0 0 | default | 00 fe 03 00 0b | Operator
+    1 1 | default | 00 fe 03 00 0b | Operator
+    0 0 | default | 00 01 0b | Operator
+    1 1 | default | 00 01 0b | Operator
+    0 0 | default | 00 0b 06 | Body
+    1 1 | default | 00 0b 06 | Body
+    // Locals that ask for a feature. A run of none asks too.
+    0 0 | all | 01 01 7b 00 0b | valid
+    0 0 | all SIMD | 01 01 7b 00 0b | Body
+    0 0 | all | 01 00 7b 00 0b | valid
+    0 0 | all SIMD | 01 00 7b 00 0b | Body
+    0 0 | all | 01 02 63 70 00 0b | valid
+    0 0 | all REFERENCE_TYPES | 01 02 63 70 00 0b | Body
+    // Types of locals that can't be, under all features.
+    0 0 | all | 01 02 63 00 00 0b | Body
+    0 0 | all | 01 02 64 70 00 0b | Body
+    0 0 | all | 01 02 63 | Body
+    // 50,000 locals in one run and in two, and one more.
+    0 0 | default | 01 d0 86 03 7f 00 0b | valid
+    0 0 | default | 01 d1 86 03 7f 00 0b | Limit(Locals)
+    0 0 | default | 02 cf 86 03 7f 01 7e 0b | valid
+    0 0 | default | 02 cf 86 03 7f 02 7e 0b | Limit(Locals)
+    // A run of 2^32 - 1, whatever follows.
+    0 0 | default | 02 ff ff ff ff 0f 7f ff ff ff ff 0f 7f 0b | Limit(Locals)
+    0 0 | default | 01 ff ff ff ff 0f | Body
+    // Parameters are locals: 49,000 and 49,001 more, and parameters alone.
+    1000 0 | default | 01 e8 fe 02 7f 0b | valid
+    1000 0 | default | 01 e9 fe 02 7f 0b | Limit(Locals)
+    50001 0 | default | 00 0b | Limit(Locals)
+";
 
 // The function type with so many parameters and results of i32.
-fn func_type(alloc: Global, params: usize, results: usize) -> Result<FuncType, AllocError> {
-    let params = vec![in alloc; ValType::I32; params]?;
-    let results = vec![in alloc; ValType::I32; results]?;
-    Ok(FuncType::new(params, results))
+fn func_type_of(alloc: Global, counts: &str) -> Option<FuncType> {
+    let (params, results) = counts.split_once(' ')?;
+    let results = results.parse().ok()?;
+    let params = vec![in alloc; ValType::I32; params.parse().ok()?].ok()?;
+    Some(FuncType::new(params, vec![in alloc; ValType::I32; results].ok()?))
 }
 
-// Why a body of such a function, at this place, is refused, if it is.
-fn judged(
-    alloc: Global,
-    (params, results): (usize, usize),
-    features: WasmFeatures,
-    (bytes, place): (&[u8], u32),
-) -> Result<Option<Error>, AllocError> {
-    let ty = func_type(alloc, params, results)?;
-    Ok(validate_body(&ty, &FunctionBody::new(bytes, u64::from(place)), features).err())
-}
-
-// What kind of refusal that is.
-fn refusal(
-    alloc: Global,
-    counts: (usize, usize),
-    features: WasmFeatures,
-    bytes: &[u8],
-) -> Result<Option<ErrorKind>, AllocError> {
-    match judged(alloc, counts, features, (bytes, 0))? {
-        Some(error) => Ok(Some(error.kind)),
-        None => Ok(None),
+fn features_of(field: &str) -> Option<WasmFeatures> {
+    match field {
+        "default" => Some(WasmFeatures::default()),
+        "all" => Some(WasmFeatures::all()),
+        _ => {
+            let missing = WasmFeatures::from_name(field.strip_prefix("all ")?)?;
+            Some(WasmFeatures::all().difference(missing))
+        }
     }
 }
 
-// Bodies, and their refusals where they have to leave nothing, and a number.
-const BODIES: [(&[u8], Option<ErrorKind>, Option<ErrorKind>); 9] = [
-    (&[0x00, 0x00, 0x0b], None, None),
-    (&[0x00, 0x00, 0x00, 0x0b], None, None),
-    (&[0x00, 0x0b], None, BROKEN),
-    (&[0x00], BROKEN, BROKEN),
-    (&[], BROKEN, BROKEN),
-    (&[0x00, 0x00, 0x0b, 0x0b], BROKEN, BROKEN),
-    (&[0x00, 0xfe, 0x03, 0x00, 0x0b], OPERATOR, OPERATOR),
-    (&[0x00, 0x01, 0x0b], OPERATOR, OPERATOR),
-    (&[0x00, 0x0b, 0x06], BROKEN, BROKEN),
-];
-
-#[test]
-fn bodies_without_locals(rt: HostRuntime) -> Result<(), Fail> {
-    let features = WasmFeatures::default();
-    for (bytes, without, with) in BODIES {
-        let nothing = refusal(rt.alloc(), (0, 0), features, bytes)?;
-        let number = refusal(rt.alloc(), (1, 1), features, bytes)?;
-        assert!(rt; nothing == without && number == with, "{bytes:?}");
+// Whether the answer is the one that is expected.
+fn is_answer(alloc: Global, answer: Result<(), Error>, expected: &str) -> bool {
+    match answer {
+        Ok(()) => expected == "valid",
+        Err(Error { kind, .. }) => {
+            format!(in alloc; "{kind:?}").is_ok_and(|it| it.as_str() == expected)
+        }
     }
-    Ok(())
 }
 
-// Bodies whose local asks for a feature. A run of none asks too.
-const GATED: [(&[u8], WasmFeatures); 3] = [
-    (&[0x01, 0x01, 0x7b, 0x00, 0x0b], WasmFeatures::SIMD),
-    (&[0x01, 0x00, 0x7b, 0x00, 0x0b], WasmFeatures::SIMD),
-    (
-        &[0x01, 0x02, 0x63, 0x70, 0x00, 0x0b],
-        WasmFeatures::REFERENCE_TYPES,
-    ),
-];
-
-#[test]
-fn locals_keep_their_gates(rt: HostRuntime) -> Result<(), Fail> {
-    let all = WasmFeatures::all();
-    for (bytes, gate) in GATED {
-        let open = refusal(rt.alloc(), (0, 0), all, bytes)?;
-        let closed = refusal(rt.alloc(), (0, 0), all.difference(gate), bytes)?;
-        assert!(rt; open == None && closed == BROKEN, "{bytes:?}");
-    }
-    Ok(())
-}
-
-// Types of locals that can't be, under all features.
-const NO_LOCALS: [&[u8]; 3] = [
-    &[0x01, 0x02, 0x63, 0x00, 0x00, 0x0b],
-    &[0x01, 0x02, 0x64, 0x70, 0x00, 0x0b],
-    &[0x01, 0x02, 0x63],
-];
-
-#[test]
-fn locals_have_types_that_are_written_out(rt: HostRuntime) -> Result<(), Fail> {
-    for bytes in NO_LOCALS {
-        let found = refusal(rt.alloc(), (0, 0), WasmFeatures::all(), bytes)?;
-        assert!(rt; found == BROKEN, "{bytes:?}");
-    }
-    Ok(())
-}
-
-// How many parameters there are, the body, and its refusal.
-const LIMITS: [(usize, &[u8], Option<ErrorKind>); 9] = [
-    // 50,000 in one run and in two, and one more.
-    (0, &[0x01, 0xd0, 0x86, 0x03, 0x7f, 0x00, 0x0b], None),
-    (0, &[0x01, 0xd1, 0x86, 0x03, 0x7f, 0x00, 0x0b], LOCALS),
-    (0, &[0x02, 0xcf, 0x86, 0x03, 0x7f, 0x01, 0x7e, 0x0b], None),
-    (0, &[0x02, 0xcf, 0x86, 0x03, 0x7f, 0x02, 0x7e, 0x0b], LOCALS),
-    // A run of 2^32 - 1, whatever follows.
-    (
-        0,
-        &[
-            0x02, 0xff, 0xff, 0xff, 0xff, 0x0f, 0x7f, 0xff, 0xff, 0xff, 0xff, 0x0f, 0x7f, 0x0b,
-        ],
-        LOCALS,
-    ),
-    (0, &[0x01, 0xff, 0xff, 0xff, 0xff, 0x0f], BROKEN),
-    // Parameters are locals: 49,000 and 49,001 more, and parameters alone.
-    (1000, &[0x01, 0xe8, 0xfe, 0x02, 0x7f, 0x0b], None),
-    (1000, &[0x01, 0xe9, 0xfe, 0x02, 0x7f, 0x0b], LOCALS),
-    (50_001, &[0x00, 0x0b], LOCALS),
-];
-
-#[test]
-fn locals_keep_their_limit(rt: HostRuntime) -> Result<(), Fail> {
-    for (params, bytes, expected) in LIMITS {
-        let found = refusal(rt.alloc(), (params, 0), WasmFeatures::default(), bytes)?;
-        assert!(rt; found == expected, "{params} and {bytes:?}");
-    }
-    Ok(())
+fn holds(alloc: Global, row: &str) -> Option<bool> {
+    let (counts, features, bytes, expected) = four_fields(row)?;
+    let features = features_of(features)?;
+    let bytes = bytes_of(alloc, bytes)?;
+    let ty = func_type_of(alloc, counts)?;
+    let answer = validate_body(&ty, &FunctionBody::new(&bytes, 0), features);
+    Some(is_answer(alloc, answer, expected))
 }
 
 #[test]
-fn refusal_stands_in_the_body(rt: HostRuntime) -> Result<(), Fail> {
-    let body: &[u8] = &[0x00, 0x00, 0xfe];
-    let refusal = judged(rt.alloc(), (0, 0), WasmFeatures::default(), (body, 100))?;
-    let error = refusal.ok_or("an operator is unknown")?;
-    assert!(rt; error.offset == 102, "{error:?}");
-    Ok(())
+fn bodies_have_their_answers(rt: HostRuntime) -> Result<(), Fail> {
+    Ok(check_rows(rt.alloc(), BODIES, 36, holds)?)
+}
+
+#[test]
+fn refusal_stands_in_the_body(rt: HostRuntime) {
+    let ty = FuncType::new(Vec::new(rt.alloc()), Vec::new(rt.alloc()));
+    let body = FunctionBody::new(b"\0\0\xfe", 100);
+    let refusal = validate_body(&ty, &body, WasmFeatures::default());
+    assert!(rt; refusal.is_err_and(|it| it.offset == 102 && it.kind == ErrorKind::Operator));
 }

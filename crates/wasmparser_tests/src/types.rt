@@ -4,114 +4,86 @@ use std::alloc::Global;
 use std::test::Fail;
 use wasm_core::binary_reader::BinaryReader;
 use wasm_core::features::{Flags, WasmFeatures};
+use wasm_test_rows::fields::three_fields;
+use wasm_test_rows::rows::check_rows;
+use wasm_test_rows::values::bytes_of;
 use wasmparser::core_type_reader::{read_func_type, read_val_type, read_val_types};
 use wasmparser::core_types::{AbstractHeapType, FuncType, HeapType, RefType, ValType};
 use wasmparser::error::{Error, ErrorKind};
 use wasmparser::gates::is_allowed;
 
-// The reference to a heap type.
-fn reference(nullable: bool, heap_type: AbstractHeapType) -> ValType {
-    ValType::Ref(RefType {
-        nullable,
-        heap_type: HeapType::Abstract(heap_type),
-    })
-}
+// Bytes, the value type that they are, if they are one, and a feature that it asks for. `Func?` is a reference that may be null.
+const VALUE_TYPES: &str = "
+    7f | I32 |
+    7e | I64 |
+    7d | F32 | FLOATS
+    7c | F64 | FLOATS
+    7b | V128 | SIMD
+    // References that may be null.
+    75 | NoCont? | GC_TYPES
+    74 | NoExn? | EXCEPTIONS
+    73 | NoFunc? | GC
+    72 | NoExtern? |
+    71 | None? |
+    70 | Func? | REFERENCE_TYPES
+    6f | Extern? | GC_TYPES
+    6e | Any? | GC
+    6d | Eq? |
+    6c | I31? |
+    6b | Struct? |
+    6a | Array? |
+    69 | Exn? | EXCEPTIONS
+    68 | Cont? | STACK_SWITCHING
+    // The same, written out.
+    63 75 | NoCont? |
+    63 74 | NoExn? |
+    63 73 | NoFunc? |
+    63 72 | NoExtern? |
+    63 71 | None? |
+    63 70 | Func? |
+    63 6f | Extern? |
+    63 6e | Any? |
+    63 6d | Eq? |
+    63 6c | I31? |
+    63 6b | Struct? |
+    63 6a | Array? |
+    63 69 | Exn? |
+    63 68 | Cont? |
+    // Other bytes.
+    00 | none |
+    60 | none |
+    63 | none |
+    64 | none |
+    67 | none |
+    76 | none |
+    77 | none |
+    78 | none |
+    7a | none |
+    80 | none |
+    ff | none |
+    63 7f | none |
+    63 63 70 | none |
+    63 f0 7f | none |
+    63 00 | none |
+    64 70 | none |
+    | none |
+";
 
-// The value type that the bytes begin with, if they do.
-fn type_of(bytes: &[u8]) -> Option<ValType> {
-    read_val_type(&mut BinaryReader::new(bytes, 0)).ok()
-}
-
-// The codes of numbers and vectors.
-const NUMBERS: [(u8, ValType); 5] = [
-    (0x7f, ValType::I32),
-    (0x7e, ValType::I64),
-    (0x7d, ValType::F32),
-    (0x7c, ValType::F64),
-    (0x7b, ValType::V128),
-];
-
-// The codes of references that may be null.
-const REFERENCES: [(u8, AbstractHeapType); 14] = [
-    (0x75, AbstractHeapType::NoCont),
-    (0x74, AbstractHeapType::NoExn),
-    (0x73, AbstractHeapType::NoFunc),
-    (0x72, AbstractHeapType::NoExtern),
-    (0x71, AbstractHeapType::None),
-    (0x70, AbstractHeapType::Func),
-    (0x6f, AbstractHeapType::Extern),
-    (0x6e, AbstractHeapType::Any),
-    (0x6d, AbstractHeapType::Eq),
-    (0x6c, AbstractHeapType::I31),
-    (0x6b, AbstractHeapType::Struct),
-    (0x6a, AbstractHeapType::Array),
-    (0x69, AbstractHeapType::Exn),
-    (0x68, AbstractHeapType::Cont),
-];
-
-// Bytes that no value type is.
-const NO_TYPES: [&[u8]; 17] = [
-    &[0x00],
-    &[0x60],
-    &[0x63],
-    &[0x64],
-    &[0x67],
-    &[0x76],
-    &[0x77],
-    &[0x78],
-    &[0x7a],
-    &[0x80],
-    &[0xff],
-    &[0x63, 0x7f],
-    &[0x63, 0x63, 0x70],
-    &[0x63, 0xf0, 0x7f],
-    &[0x63, 0x00],
-    &[0x64, 0x70],
-    &[],
-];
-
-#[test]
-fn value_types_read(rt: HostRuntime) {
-    for (code, ty) in NUMBERS {
-        assert!(rt; type_of(&[code]) == Some(ty), "{code:x}");
-    }
-    for bytes in NO_TYPES {
-        assert!(rt; type_of(bytes) == None, "{bytes:?}");
+// How a type is shown.
+fn expected(alloc: Global, name: &str) -> Option<String> {
+    match name.strip_suffix('?') {
+        Some(heap) => {
+            format!(in alloc; "Ref(RefType {{ nullable: true, heap_type: Abstract({heap}) }})").ok()
+        }
+        None => format!(in alloc; "{name}").ok(),
     }
 }
 
-#[test]
-fn nullable_references_are_written_out_too(rt: HostRuntime) {
-    for (code, heap_type) in REFERENCES {
-        let expected = Some(reference(true, heap_type));
-        assert!(rt; type_of(&[code]) == expected, "{code:x}");
-        assert!(rt; type_of(&[0x63, code]) == expected, "63 {code:x}");
-    }
+// Whether the type has this name.
+fn has_name(alloc: Global, ty: ValType, name: &str) -> Option<bool> {
+    let shown = format!(in alloc; "{ty:?}").ok()?;
+    Some(expected(alloc, name)?.as_str() == shown.as_str())
 }
-
-// Numbers and vectors, and the features that they ask for.
-const NUMBER_GATES: [(ValType, WasmFeatures); 3] = [
-    (ValType::F32, WasmFeatures::FLOATS),
-    (ValType::F64, WasmFeatures::FLOATS),
-    (ValType::V128, WasmFeatures::SIMD),
-];
-
-// References, whether they may be null, and a feature that they ask for.
-const REFERENCE_GATES: [(bool, AbstractHeapType, WasmFeatures); 9] = [
-    (true, AbstractHeapType::Func, WasmFeatures::REFERENCE_TYPES),
-    (true, AbstractHeapType::Extern, WasmFeatures::GC_TYPES),
-    (true, AbstractHeapType::Any, WasmFeatures::GC),
-    (true, AbstractHeapType::NoFunc, WasmFeatures::GC),
-    (true, AbstractHeapType::Exn, WasmFeatures::EXCEPTIONS),
-    (true, AbstractHeapType::NoExn, WasmFeatures::EXCEPTIONS),
-    (true, AbstractHeapType::Cont, WasmFeatures::STACK_SWITCHING),
-    (true, AbstractHeapType::NoCont, WasmFeatures::GC_TYPES),
-    (
-        false,
-        AbstractHeapType::Func,
-        WasmFeatures::FUNCTION_REFERENCES,
-    ),
-];
 
 // Whether the type is allowed, and is not without the feature.
 fn has_gate(ty: ValType, gate: WasmFeatures) -> bool {
@@ -119,126 +91,126 @@ fn has_gate(ty: ValType, gate: WasmFeatures) -> bool {
     is_allowed(all, ty) && !is_allowed(all.difference(gate), ty)
 }
 
+// The value type that the bytes begin with, if they do.
+fn type_of(bytes: &[u8]) -> Option<ValType> {
+    read_val_type(&mut BinaryReader::new(bytes, 0)).ok()
+}
+
+fn holds(alloc: Global, row: &str) -> Option<bool> {
+    let (bytes, name, gate) = three_fields(row)?;
+    let found = type_of(&bytes_of(alloc, bytes)?);
+    if name == "none" {
+        return Some(found == None);
+    }
+    let ty = found?;
+    let is_gated = gate.is_empty() || has_gate(ty, WasmFeatures::from_name(gate)?);
+    Some(is_gated && has_name(alloc, ty, name)?)
+}
+
 #[test]
-fn each_type_has_its_gate(rt: HostRuntime) {
-    for (ty, gate) in NUMBER_GATES {
-        assert!(rt; has_gate(ty, gate), "{ty:?}");
-    }
-    for (nullable, heap_type, gate) in REFERENCE_GATES {
-        let ty = reference(nullable, heap_type);
-        assert!(rt; has_gate(ty, gate), "{ty:?}");
-    }
+fn value_types_read_and_have_their_gates(rt: HostRuntime) -> Result<(), Fail> {
+    Ok(check_rows(rt.alloc(), VALUE_TYPES, 50, holds)?)
+}
+
+fn function_reference(nullable: bool) -> ValType {
+    ValType::Ref(RefType {
+        nullable,
+        heap_type: HeapType::Abstract(AbstractHeapType::Func),
+    })
 }
 
 #[test]
 fn some_types_ask_for_no_more(rt: HostRuntime) {
     let none = WasmFeatures::empty();
-    assert!(rt; is_allowed(none, ValType::I32), "i32");
-    assert!(rt; is_allowed(none, ValType::I64), "i64");
-    let function = reference(true, AbstractHeapType::Func);
-    assert!(rt;
-        is_allowed(WasmFeatures::REFERENCE_TYPES, function),
-        "funcref"
-    );
+    assert!(rt; is_allowed(none, ValType::I32) && is_allowed(none, ValType::I64));
+    let is_enough = is_allowed(WasmFeatures::REFERENCE_TYPES, function_reference(true));
+    let is_gated = has_gate(function_reference(false), WasmFeatures::FUNCTION_REFERENCES);
+    assert!(rt; is_enough && is_gated);
 }
 
-// Whether the function type has these parameters and results.
-fn has_parts(ty: &FuncType, params: &[ValType], results: &[ValType]) -> bool {
-    ty.params() == params && ty.results() == results
+// Whether a function type keeps its parameters and results.
+fn keeps_parts(alloc: Global, params: &[ValType], results: &[ValType]) -> Option<bool> {
+    let kept = params.to_vec(alloc).ok()?;
+    let ty = FuncType::new(kept, results.to_vec(alloc).ok()?);
+    Some(ty.params() == params && ty.results() == results)
 }
 
 #[test]
-fn function_types_keep_their_parts(rt: HostRuntime) -> Result<(), Fail> {
-    let params = [ValType::I32, ValType::F64];
-    let results = [ValType::V128];
-    let ty = FuncType::new(params.to_vec(rt.alloc())?, results.to_vec(rt.alloc())?);
-    assert!(rt; has_parts(&ty, &params, &results), "{ty:?}");
-    Ok(())
+fn function_types_keep_their_parts(rt: HostRuntime) {
+    let params: &[ValType] = &[ValType::I32, ValType::F64];
+    assert!(rt; keeps_parts(rt.alloc(), params, &[ValType::V128]) == Some(true));
 }
 
-// Whether a function type of these parts is read from a place to an end, and so many bytes are left.
-fn reads(
-    alloc: Global,
-    (bytes, place): (&[u8], u32),
-    (params, results): (&[ValType], &[ValType]),
-    (end, left): (u64, usize),
-) -> Result<bool, Error> {
+// The place of the first byte, bytes, and the parameters and results that are read, the place of the reader then, how many bytes are left, and whether
+// that is the end; or the kind of the refusal.
+const FUNCTION_TYPES: &str = "
+    9 | 60 02 7f 7c 81 00 70 60 | [I32, F64] [Ref(RefType { nullable: true, heap_type: Abstract(Func) })] 16 1 false
+    0 | 60 00 00 | [] [] 3 0 true
+    7 | | Malformed
+    7 | 5f 00 00 | Malformed
+    7 | 60 | Malformed
+    7 | 60 00 | Malformed
+    7 | 60 01 7f | Malformed
+    7 | 60 01 00 00 | Malformed
+    7 | 60 00 02 7f | Malformed
+    7 | 60 00 01 60 | Malformed
+    7 | 60 ff ff ff ff 1f 00 | Malformed
+    7 | 5f 00 | Malformed
+";
+
+// A function type as it is read, and where that leaves the reader.
+fn shown(alloc: Global, ty: &FuncType, reader: &BinaryReader<'_>) -> Option<String> {
+    let (params, results) = (ty.params(), ty.results());
+    let (place, left) = (reader.original_position(), reader.bytes_remaining());
+    let is_end = reader.eof();
+    format!(in alloc; "{params:?} {results:?} {place} {left} {is_end}").ok()
+}
+
+// What is read of the bytes, or the kind of the refusal.
+fn read(alloc: Global, bytes: &[u8], place: u32) -> Option<String> {
     let mut reader = BinaryReader::new(bytes, u64::from(place));
-    let ty = read_func_type(alloc, &mut reader)?;
-    let stands = reader.original_position() == end && reader.bytes_remaining() == left;
-    Ok(has_parts(&ty, params, results) && stands && reader.eof() == (left == 0))
+    match read_func_type(alloc, &mut reader) {
+        Ok(ty) => shown(alloc, &ty, &reader),
+        Err(Error { kind, .. }) => format!(in alloc; "{kind:?}").ok(),
+    }
+}
+
+fn reads(alloc: Global, row: &str) -> Option<bool> {
+    let (place, bytes, expected) = three_fields(row)?;
+    let place = place.parse().ok()?;
+    let bytes = bytes_of(alloc, bytes)?;
+    Some(read(alloc, &bytes, place)?.as_str() == expected)
 }
 
 #[test]
 fn function_types_read(rt: HostRuntime) -> Result<(), Fail> {
-    let bytes: &[u8] = &[0x60, 0x02, 0x7f, 0x7c, 0x81, 0x00, 0x70, 0x60];
-    let params: &[ValType] = &[ValType::I32, ValType::F64];
-    let results: &[ValType] = &[reference(true, AbstractHeapType::Func)];
-    assert!(rt;
-        reads(rt.alloc(), (bytes, 9), (params, results), (16, 1))?,
-        "three types"
-    );
-    assert!(rt;
-        reads(rt.alloc(), (&[0x60, 0x00, 0x00], 0), (&[], &[]), (3, 0))?,
-        "none"
-    );
-    Ok(())
-}
-
-// Bytes that no function type is.
-const NO_FUNC_TYPES: [&[u8]; 10] = [
-    &[],
-    &[0x5f, 0x00, 0x00],
-    &[0x60],
-    &[0x60, 0x00],
-    &[0x60, 0x01, 0x7f],
-    &[0x60, 0x01, 0x00, 0x00],
-    &[0x60, 0x00, 0x02, 0x7f],
-    &[0x60, 0x00, 0x01, 0x60],
-    &[0x60, 0xff, 0xff, 0xff, 0xff, 0x1f, 0x00],
-    &[0x5f, 0x00],
-];
-
-// Why the bytes at the place 7 are no function type.
-fn refusal(alloc: Global, bytes: &[u8]) -> Option<Error> {
-    read_func_type(alloc, &mut BinaryReader::new(bytes, 7)).err()
+    Ok(check_rows(rt.alloc(), FUNCTION_TYPES, 12, reads)?)
 }
 
 #[test]
-fn other_bytes_are_no_function_type(rt: HostRuntime) {
-    for bytes in NO_FUNC_TYPES {
-        let found = refusal(rt.alloc(), bytes);
-        let is_malformed = matches!(&found, Some(e) if e.kind == ErrorKind::Malformed);
-        assert!(rt; is_malformed, "{bytes:?}");
-    }
-    let expected = Error {
-        offset: 7,
-        kind: ErrorKind::Malformed,
-    };
-    assert!(rt;
-        refusal(rt.alloc(), &[0x5f, 0x00]) == Some(expected),
-        "a structure"
-    );
+fn structures_are_refused_at_their_place(rt: HostRuntime) {
+    let mut reader = BinaryReader::new(b"\x5f\0", 7);
+    let refusal = read_func_type(rt.alloc(), &mut reader);
+    assert!(rt; refusal.is_err_and(|it| it.offset == 7 && it.kind == ErrorKind::Malformed));
 }
 
-// Whether these types are read, and so many bytes are left.
-fn reads_list(alloc: Global, bytes: &[u8], types: &[ValType], left: usize) -> Result<bool, Error> {
+// Whether these types are read, and a byte is left.
+fn reads_list(alloc: Global, bytes: &[u8], types: &[ValType]) -> bool {
     let mut reader = BinaryReader::new(bytes, 0);
-    let read = read_val_types(alloc, &mut reader)?;
-    Ok(read.as_slice() == types && reader.bytes_remaining() == left)
+    let read = read_val_types(alloc, &mut reader);
+    read.is_ok_and(|it| it.as_slice() == types) && reader.bytes_remaining() == 1
 }
 
 #[test]
-fn lists_of_value_types_read(rt: HostRuntime) -> Result<(), Fail> {
+fn lists_of_value_types_read(rt: HostRuntime) {
     let types: &[ValType] = &[ValType::I32, ValType::I32, ValType::V128];
-    assert!(rt; reads_list(rt.alloc(), &[0x03, 0x7f, 0x7f, 0x7b, 0x7e], types, 1)?);
-    Ok(())
+    assert!(rt; reads_list(rt.alloc(), b"\x03\x7f\x7f\x7b\x7e", types));
 }
 
 // A count that the bytes can't hold takes no memory beforehand.
 #[test]
 fn lists_end_with_their_bytes(rt: HostRuntime) {
-    let most = [0xff, 0xff, 0xff, 0xff, 0x0f, 0x7f];
-    let refusal = read_val_types(rt.alloc(), &mut BinaryReader::new(&most, 0)).err();
-    assert!(rt; matches!(&refusal, Some(e) if e.offset == 6), "{refusal:?}");
+    let mut reader = BinaryReader::new(b"\xff\xff\xff\xff\x0f\x7f", 0);
+    let read = read_val_types(rt.alloc(), &mut reader);
+    assert!(rt; read.is_err_and(|it| it.offset == 6));
 }

@@ -1,4 +1,4 @@
--- The bodies of a module one after the other, as a loop judges them.
+-- The bodies of a module one after the other, as a loop validates them.
 use Rattle.std.proofs.Common.{◌≡◌, ℕ, zero, suc, ◌<◌, ◌+◌, List, [], ◌∷◌, get_or, length, refl, subst, arith, inl, inr}
 use Rattle.std.specs.List.{AllByRecursion}
 use Rattle.std.proofs.lemmas.Option.{slice_get_read, slice_get-get_or}

@@ -11,12 +11,12 @@ use Rattle.wasm_spec.specs.Limits as spec
 use Rattle.wasm_spec.specs.Supported.{is_supported_section, IsSupported}
 use Rattle.wasm_spec.specs.Syntax.{Section, Custom, TypeSection, FunctionSection, CodeSection, members, types_in, functions_in, bodies_in, types_of, functions_of, bodies_of}
 use Rattle.wasm_spec.specs.Validity.{func_type_at, is_past, names_in, KeepRules}
-use Rattle.wasmparser_validator.specs.Sections.{Progress, Judgement, Accepted, Unread, Past, Broken, unless, funcs_in, rule_fault, fault, after, at_last}
-use Rattle.wasmparser_validator.proofs.FaultLaws.{chosen, Reaches, funcs_within, singles, snoc, is_behind_from, types_after, functions_after, bodies_after, last_after, functions_reached, bodies_reached}
+use Rattle.wasmparser_validator.specs.Sections.{Progress, Outcome, Accepted, Unread, Past, Broken, unless, funcs_in, rule_fault, fault, after, at_last}
+use Rattle.wasmparser_validator.proofs.FaultLaws.{chosen, Reaches, funcs_within, singles, snoc, is_after_from, types_after, functions_after, bodies_after, last_after, functions_reached, bodies_reached}
 
 -- ---- order
 
--- no functions come behind their place
+-- no functions come after their place
 no_functions : (last : ℕ) (sections : List Section) → 3 ≤ last → IsSupported sections → AreOrdered last sections → functions_of sections ≡ []
 no_functions last [] late all h = refl
 no_functions last (Custom name contents ∷ sections) late all h = no_functions last sections late all h.1
@@ -25,22 +25,22 @@ no_functions last (FunctionSection indexes ∷ sections) late all h = absurd (om
 no_functions last (CodeSection bodies ∷ sections) late all h = no_functions 12 sections (omega arith) all h.1
 no_functions last (section ∷ sections) late all h = absurd cc
 
--- as many bodies as functions in the end: the bodies so far are no more than the functions
+-- as many bodies as functions in the end: the bodies that were met are no more than the functions
 enough : (p : Progress) (bodies : List (List ℕ)) (sections : List Section) → IsSupported sections → AreOrdered 12 sections → length p.functions + length (functions_of sections) ≡ length p.bodies + length (bodies ++ bodies_of sections)
     → ltb (length p.functions) (length p.bodies + length bodies) ≡ false
 enough p bodies sections all ordered paired =
     le-ltb _ _ (omega (arith, paired, length-append bodies (bodies_of sections), ap length (no_functions 12 sections (omega arith) all ordered)))
 
--- ---- judging a list of sections
+-- ---- validating a list of sections
 
-unfoldable pub judge_list : Features → Progress → List Section → Judgement
-judge_list features p [] = at_last p
-judge_list features p (section ∷ sections) = unless (fault features p section) (judge_list features (after p section) sections)
+unfoldable pub validate_list : Features → Progress → List Section → Outcome
+validate_list features p [] = at_last p
+validate_list features p (section ∷ sections) = unless (fault features p section) (validate_list features (after p section) sections)
 
-pub judge_reached : (features : Features) (p : Progress) (sections : List Section) (q : Progress) → Reaches features p sections q → judge_list features p sections ≡ at_last q
-unfolding judge_list
-judge_reached features p [] q r = ap at_last r
-judge_reached features p (section ∷ sections) q r = rw r.0 (judge_reached features (after p section) sections q r.1)
+pub validate_reached : (features : Features) (p : Progress) (sections : List Section) (q : Progress) → Reaches features p sections q → validate_list features p sections ≡ at_last q
+unfolding validate_list
+validate_reached features p [] q r = ap at_last r
+validate_reached features p (section ∷ sections) q r = rw r.0 (validate_reached features (after p section) sections q r.1)
 
 -- ---- no fault of reading
 
@@ -84,8 +84,8 @@ paired_after p section sections paired =
     )
 
 pub is_read : (features : Features) (p : Progress) (sections : List Section) → IsSupported sections → AreOrdered p.last sections
-    → length p.functions + length (functions_of sections) ≡ length p.bodies + length (bodies_of sections) → judge_list features p sections ≢ Unread
-unfolding judge_list
+    → length p.functions + length (functions_of sections) ≡ length p.bodies + length (bodies_of sections) → validate_list features p sections ≢ Unread
+unfolding validate_list
 is_read features p [] all ordered paired e =
     let t : eqb (length p.functions) (length p.bodies) ≡ true = eq-eqb _ _ (omega (arith, paired)) in
     let f : Accepted p ≡ Unread = (rw t at e) in
@@ -96,15 +96,15 @@ is_read features p (section ∷ sections) all ordered paired e =
     both : (is_supported_section section ≡ true) × (list_all is_supported_section sections ≡ true)
     both = and_parts (is_supported_section section) (list_all is_supported_section sections) all
 
-    by_fault : (x : Option Judgement) → rule_fault features p section ≡ x → judge_list features (after p section) sections ≢ Unread → ⊥
-    by_fault None f more = more (rw (both.0, is_behind_from p.last (place_of section) ordered.0, f) at e)
+    by_fault : (x : Option Outcome) → rule_fault features p section ≡ x → validate_list features (after p section) sections ≢ Unread → ⊥
+    by_fault None f more = more (rw (both.0, is_after_from p.last (place_of section) ordered.0, f) at e)
     by_fault (Some j) f more =
-        let g : j ≡ Unread = (rw (both.0, is_behind_from p.last (place_of section) ordered.0, f) at e) in
+        let g : j ≡ Unread = (rw (both.0, is_after_from p.last (place_of section) ordered.0, f) at e) in
         no_unread features p section sections all ordered paired (f ∙ ap (λ x. Some x) g)
 
 -- ---- no fault at all
 
--- what sections behind those before have to keep
+-- what sections after those before have to keep
 pub record Meets (features : Features) (p : Progress) (before sections : List Section) : Type 0 where
   pub supported : IsSupported sections
   pub ordered : AreOrdered p.last sections
@@ -166,12 +166,12 @@ reaches features p before (section ∷ sections) m =
     let more = reaches features (after p section) (before ++ section ∷ []) sections (next features p before section sections m) in
     let f = fault_free features p before section sections m in
     let s = (and_parts (is_supported_section section) (list_all is_supported_section sections) m.supported).0 in
-    (more.0, (rw (s, is_behind_from p.last (place_of section) m.ordered.0, f) refl, more.1))
+    (more.0, (rw (s, is_after_from p.last (place_of section) m.ordered.0, f) refl, more.1))
 
-pub accepts : (features : Features) (p : Progress) (before sections : List Section) → Meets features p before sections → (q : Progress) × (judge_list features p sections ≡ Accepted q)
+pub accepts : (features : Features) (p : Progress) (before sections : List Section) → Meets features p before sections → (q : Progress) × (validate_list features p sections ≡ Accepted q)
 accepts features p before sections m =
     let r = reaches features p before sections m in
     let same : length r.0.functions ≡ length r.0.bodies = omega (arith, m.paired, ap length (functions_reached features p sections r.0 r.1), ap length (bodies_reached features p sections r.0 r.1), length-append p.functions (functions_of sections), length-append p.bodies (bodies_of sections)) in
     let t : eqb (length r.0.functions) (length r.0.bodies) ≡ true = eq-eqb _ _ same in
     let one : at_last r.0 ≡ Accepted r.0 = rw t refl in
-    (r.0, judge_reached features p sections r.0 r.1 ∙ one)
+    (r.0, validate_reached features p sections r.0 r.1 ∙ one)

@@ -7,10 +7,10 @@ use Rattle.std.proofs.lemmas.Grind.{flat_map-append}
 use Rattle.std.proofs.lemmas.List.{append-nil}
 use Rattle.std.proofs.lemmas.List.Elements.{filter_map-append}
 use Rattle.std.proofs.lemmas.List.Folds.{list_any-append}
-use Rattle.wasm_core_read.specs.ModuleReading.{is_behind}
+use Rattle.wasm_core_read.specs.ModuleReading.{is_after}
 use Rattle.wasm_spec.specs.Features.{Features}
 use Rattle.wasm_spec.specs.Gates.{is_allowed_group}
-use Rattle.wasm_spec.specs.Grammar.{place_of, last_place, last_of, IsBehind, AreOrdered}
+use Rattle.wasm_spec.specs.Grammar.{place_of, last_place, last_of, ComesAfter, AreOrdered}
 use Rattle.wasm_spec.specs.Limits as spec
 use Rattle.wasm_spec.specs.Limits.{Limit}
 use Rattle.wasm_spec.specs.Spaces.{sizes_of}
@@ -18,7 +18,7 @@ use Rattle.wasm_spec.specs.Supported.{is_supported_group, is_supported_section, 
 use Rattle.wasm_spec.specs.Syntax.{Section, Custom, TypeSection, FunctionSection, CodeSection, members, groups_in, types_in, functions_in, bodies_in, groups_of, types_of, functions_of, bodies_of}
 use Rattle.wasm_spec.specs.Types.{FuncType, SubType, RecGroup, Single, Group}
 use Rattle.wasm_spec.specs.Validity.{func_type_of, func_type_at, func_types_of, is_past, names_in, is_passed, keeps_rule, KeepRules}
-use Rattle.wasmparser_validator.specs.Sections.{Progress, Judgement, Unread, Past, Broken, funcs_in, rule_fault, place_fault, fault, after}
+use Rattle.wasmparser_validator.specs.Sections.{Progress, Outcome, Unread, Past, Broken, funcs_in, rule_fault, place_fault, fault, after}
 use Rattle.wasmparser_validator.proofs.SupportedLaws.{supported_with}
 
 -- ---- tests
@@ -29,15 +29,15 @@ chosen true x y z e = inl (refl, e)
 chosen false x y z e = inr (refl, e)
 
 -- no fault where a test that makes one fails
-passed : (b : Bool) (j : Judgement) (others : Option Judgement) → cond b (Some j) others ≡ None → (b ≡ false) × (others ≡ None)
+passed : (b : Bool) (j : Outcome) (others : Option Outcome) → cond b (Some j) others ≡ None → (b ≡ false) × (others ≡ None)
 passed true j others e = absurd cc
 passed false j others e = (refl, e)
 
-kept : (b : Bool) (j : Judgement) (others : Option Judgement) → cond b others (Some j) ≡ None → (b ≡ true) × (others ≡ None)
+kept : (b : Bool) (j : Outcome) (others : Option Outcome) → cond b others (Some j) ≡ None → (b ≡ true) × (others ≡ None)
 kept true j others e = (refl, e)
 kept false j others e = absurd cc
 
--- ---- what is known behind sections
+-- ---- what is known after sections
 
 pub types_after : (p : Progress) (section : Section) → (after p section).types ≡ p.types ++ types_in section
 types_after p (Custom name contents) = sym (append-nil p.types)
@@ -64,7 +64,7 @@ last_after p (TypeSection groups) = refl
 last_after p (FunctionSection indexes) = refl
 last_after p section = refl
 
--- sections without a fault lead from what is known before them to what is known behind them
+-- sections without a fault lead from what is known before them to what is known after them
 abbrev pub Reaches : Features → Progress → List Section → Progress → Type 0
 Reaches features p [] q = p ≡ q
 Reaches features p (section ∷ sections) q = (fault features p section ≡ None) × Reaches features (after p section) sections q
@@ -86,21 +86,21 @@ bodies_reached = reached (λ p. p.bodies) bodies_in bodies_after
 
 -- ---- order
 
-pub behind_from : (last : ℕ) (place : Option ℕ) → is_behind last place ≡ true → IsBehind last place
-behind_from last None e = tt
-behind_from last (Some place) e = ltb-true last place e
+pub after_from : (last : ℕ) (place : Option ℕ) → is_after last place ≡ true → ComesAfter last place
+after_from last None e = tt
+after_from last (Some place) e = ltb-true last place e
 
-pub is_behind_from : (last : ℕ) (place : Option ℕ) → IsBehind last place → is_behind last place ≡ true
-is_behind_from last None h = refl
-is_behind_from last (Some place) h = lt-ltb last place h
+pub is_after_from : (last : ℕ) (place : Option ℕ) → ComesAfter last place → is_after last place ≡ true
+is_after_from last None h = refl
+is_after_from last (Some place) h = lt-ltb last place h
 
 -- what a section without a fault keeps: its place, and the rest; and it is supported
 pub no_fault : (features : Features) (p : Progress) (section : Section) → fault features p section ≡ None
-    → IsBehind p.last (place_of section) × (rule_fault features p section ≡ None) × (is_supported_section section ≡ true)
+    → ComesAfter p.last (place_of section) × (rule_fault features p section ≡ None) × (is_supported_section section ≡ true)
 no_fault features p section e =
     let s = kept (is_supported_section section) Unread (place_fault features p section) e in
-    let k = kept (is_behind p.last (place_of section)) Unread (rule_fault features p section) s.1 in
-    (behind_from p.last (place_of section) k.0, k.1, s.0)
+    let k = kept (is_after p.last (place_of section)) Unread (rule_fault features p section) s.1 in
+    (after_from p.last (place_of section) k.0, k.1, s.0)
 
 pub supported_reached : (features : Features) (p : Progress) (sections : List Section) (q : Progress) → Reaches features p sections q → IsSupported sections
 supported_reached features p [] q r = refl

@@ -1,9 +1,9 @@
 pub mod BodiesLaws
-pub mod BodyJudgingLaws
+pub mod BodyValidationLaws
 pub mod BodyLaws
 pub mod CompleteLaws
 pub mod FaultLaws
-pub mod JudgingLaws
+pub mod ValidationLaws
 pub mod RefusalLaws
 pub mod SectionLaws
 pub mod SectionsLaws

@@ -1,51 +1,51 @@
--- What a judgement of sections says of the bytes.
+-- What a outcome of sections says of the bytes.
 use Rattle.std.proofs.Common.{◌≡◌, ◌≢◌, ◌⊎◌, inl, inr, ℕ, ◌+◌, ◌<◌, ◌≤◌, Bool, true, false, cond, ltb, eqb, List, [], ◌∷◌, ◌++◌, length, drop, Option, Some, None, refl, sym, ap, subst, ◌∙◌, append_assoc, arith}
 use Rattle.std.specs.Prelude.{is_some}
 use Rattle.std.specs.List.{list_all, list_any}
 use Rattle.std.proofs.lemmas.Bool.{eqb-true, ltb-false, ltb-true}
 use Rattle.std.proofs.lemmas.List.{append-nil}
-use Rattle.wasm_core_read.specs.ModuleReading.{frame_at, is_behind}
+use Rattle.wasm_core_read.specs.ModuleReading.{frame_at, is_after}
 use Rattle.wasm_core_read.specs.Reading.{unsigned_at}
-use Rattle.wasm_core_read.proofs.ReadingLaws.{behind, joined, reads_frame, frame_bytes, unsigned_found}
+use Rattle.wasm_core_read.proofs.ReadingLaws.{rest_bytes, joined, reads_frame, frame_bytes, unsigned_found}
 use Rattle.wasm_spec.specs.Bytes.{AreBytes, IsU32, IsItems}
 use Rattle.wasm_spec.specs.Features.{Features, CompactImports, has}
 use Rattle.wasm_spec.specs.Gates.{is_allowed_group}
-use Rattle.wasm_spec.specs.Grammar.{header, place_of, last_place, IsBehind, AreOrdered, IsSection, IsModule}
+use Rattle.wasm_spec.specs.Grammar.{header, place_of, last_place, ComesAfter, AreOrdered, IsSection, IsModule}
 use Rattle.wasm_spec.specs.Limits.{Limit, IsPassedBy}
 use Rattle.wasm_spec.specs.Limits as spec
 use Rattle.wasm_spec.specs.Supported.{is_supported_section, IsSupported}
 use Rattle.wasm_spec.specs.Syntax.{Section, Custom, TypeSection, FunctionSection, CodeSection}
 use Rattle.wasm_spec.specs.Validity.{func_type_at, is_past, StatesCount, StatesPast, BeginsPast, BeginsInvalid, AreFine}
-use Rattle.wasmparser_validator.specs.Sections.{Progress, Judgement, Accepted, Unread, Past, Broken, at_first, funcs_in, fault, rule_fault, place_fault, after, stated, at_last, judge_module}
-use Rattle.wasmparser_validator.proofs.FaultLaws.{Reaches, Known, behind_from, last_after, last_reached, types_reached, functions_reached, bodies_reached, supported_reached, ordered_reached, rules_reached, no_limit, past_cause, broken_cause, last_rule, types_count, sizes_types, sizes_functions, funcs_by_section}
+use Rattle.wasmparser_validator.specs.Sections.{Progress, Outcome, Accepted, Unread, Past, Broken, at_first, funcs_in, fault, rule_fault, place_fault, after, stated, at_last, validate_module}
+use Rattle.wasmparser_validator.proofs.FaultLaws.{Reaches, Known, after_from, last_after, last_reached, types_reached, functions_reached, bodies_reached, supported_reached, ordered_reached, rules_reached, no_limit, past_cause, broken_cause, last_rule, types_count, sizes_types, sizes_functions, funcs_by_section}
 use Rattle.wasmparser_validator.proofs.CompleteLaws.{accepts, is_read}
 use Rattle.wasmparser_validator.proofs.SupportedLaws.{supported_with, no_data_counts}
-use Rattle.wasmparser_validator.proofs.JudgingLaws.{as_list, module_stop, same_module}
+use Rattle.wasmparser_validator.proofs.ValidationLaws.{as_list, module_stop, same_module}
 
 -- ---- faults
 
--- the judgements that a fault or a stated number can be
-abbrev IsFault : Judgement → Type 0
+-- the outcomes that a fault or a stated number can be
+abbrev IsFault : Outcome → Type 0
 IsFault (Accepted p) = ⊥
 IsFault Unread = Unit {0}
 IsFault (Past limit) = Unit {0}
 IsFault Broken = Unit {0}
 
 -- each way of a choice is one
-either : (b : Bool) (x y : Option Judgement) (j : Judgement) → ((x ≡ Some j) → IsFault j) → ((y ≡ Some j) → IsFault j) → cond b x y ≡ Some j → IsFault j
+either : (b : Bool) (x y : Option Outcome) (j : Outcome) → ((x ≡ Some j) → IsFault j) → ((y ≡ Some j) → IsFault j) → cond b x y ≡ Some j → IsFault j
 either true x y j f g e = f e
 either false x y j f g e = g e
 
-named : (k j : Judgement) → IsFault k → Some k ≡ Some j → IsFault j
+named : (k j : Outcome) → IsFault k → Some k ≡ Some j → IsFault j
 named k j h e = subst IsFault (inside k j e) h
   where
-    inside : (a b : Judgement) → Some a ≡ Some b → a ≡ b
+    inside : (a b : Outcome) → Some a ≡ Some b → a ≡ b
     inside a b e = cc
 
-nothing : (j : Judgement) → None ≡ Some j → IsFault j
+nothing : (j : Outcome) → None ≡ Some j → IsFault j
 nothing j e = absurd cc
 
-a_fault : (features : Features) (p : Progress) (section : Section) (j : Judgement) → rule_fault features p section ≡ Some j → IsFault j
+a_fault : (features : Features) (p : Progress) (section : Section) (j : Outcome) → rule_fault features p section ≡ Some j → IsFault j
 a_fault features p (Custom name contents) j e = either (is_past spec.Name (length name)) _ _ j (named (Past spec.Name) j tt) (nothing j) e
 a_fault features p (TypeSection groups) j e =
     either (is_past spec.Groups (length p.types + length groups)) _ _ j (named (Past spec.Groups) j tt)
@@ -61,27 +61,27 @@ a_fault features p (CodeSection bodies) j e =
 a_fault features p section j e = absurd cc
 
 -- a fault of a section that isn't one of reading comes in order, and the section is supported
-in_order : (features : Features) (p : Progress) (section : Section) (j : Judgement) → j ≢ Unread → fault features p section ≡ Some j
-    → (is_behind p.last (place_of section) ≡ true) × (rule_fault features p section ≡ Some j) × (is_supported_section section ≡ true)
+in_order : (features : Features) (p : Progress) (section : Section) (j : Outcome) → j ≢ Unread → fault features p section ≡ Some j
+    → (is_after p.last (place_of section) ≡ true) × (rule_fault features p section ≡ Some j) × (is_supported_section section ≡ true)
 in_order features p section j ne e =
     let s = picked (is_supported_section section) (place_fault features p section) e in
-    let b = picked (is_behind p.last (place_of section)) (rule_fault features p section) s.1 in
+    let b = picked (is_after p.last (place_of section)) (rule_fault features p section) s.1 in
     (b.0, b.1, s.0)
   where
-    inside : (a b : Judgement) → Some a ≡ Some b → b ≡ a
+    inside : (a b : Outcome) → Some a ≡ Some b → b ≡ a
     inside a b e = cc
 
-    picked : (b : Bool) (x : Option Judgement) → cond b x (Some Unread) ≡ Some j → (b ≡ true) × (x ≡ Some j)
+    picked : (b : Bool) (x : Option Outcome) → cond b x (Some Unread) ≡ Some j → (b ≡ true) × (x ≡ Some j)
     picked true x e = (refl, e)
     picked false x e = absurd (ne (inside Unread j e))
 
 -- what a stated number can come to, and for which limit
-stated_past : (p : Progress) (id : ℕ) (read : Option (ℕ × List ℕ)) (j : Judgement) → j ≢ Unread → stated p id read ≡ j
+stated_past : (p : Progress) (id : ℕ) (read : Option (ℕ × List ℕ)) (j : Outcome) → j ≢ Unread → stated p id read ≡ j
     → (n : ℕ) × (rest : List ℕ) × (read ≡ Some (n, rest)) × (((id ≡ 1) × (j ≡ Past spec.Groups) × (1000000 < length p.types + n) × (p.last < 1)) ⊎ ((id ≡ 3) × (j ≡ Past spec.Functions) × (1000000 < length p.functions + n) × (p.last < 3)))
 stated_past p id None j ne e = absurd (ne (sym e))
 stated_past p id (Some x) j ne e = (x.0, x.1, refl, by_id (eqb id 1) (eqb id 3) refl refl e)
   where
-    sort : (b c : Bool) (k : Judgement) → cond b (cond c k Unread) Unread ≡ j → (c ≡ true) × (k ≡ j) × (b ≡ true)
+    sort : (b c : Bool) (k : Outcome) → cond b (cond c k Unread) Unread ≡ j → (c ≡ true) × (k ≡ j) × (b ≡ true)
     sort true true k e = (refl, e, refl)
     sort true false k e = absurd (ne (sym e))
     sort false c k e = absurd (ne (sym e))
@@ -113,7 +113,7 @@ accepted_is p q e = by_count (eqb (length p.functions) (length p.bodies)) refl e
     by_count true f e = (inside p q e, eqb-true _ _ f)
     by_count false f e = absurd cc
 
-pub accepted_whole : (features : Features) (bytes : List ℕ) (q : Progress) → AreBytes bytes → judge_module features bytes ≡ Accepted q → Whole features bytes q
+pub accepted_whole : (features : Features) (bytes : List ℕ) (q : Progress) → AreBytes bytes → validate_module features bytes ≡ Accepted q → Whole features bytes q
 accepted_whole features bytes q are e =
     let m = module_stop features bytes (Accepted q) are (λ f. cc) e in
     let s = m.1 in
@@ -148,18 +148,18 @@ fine_whole features sections q r = record { within_limits = no_limit features at
 
 -- ---- fronts of modules that are refused
 
-ordered_more : (last : ℕ) (sections : List Section) (section : Section) (features : Features) (p q : Progress) → last ≡ p.last → Reaches features p sections q → is_behind q.last (place_of section) ≡ true
+ordered_more : (last : ℕ) (sections : List Section) (section : Section) (features : Features) (p q : Progress) → last ≡ p.last → Reaches features p sections q → is_after q.last (place_of section) ≡ true
     → AreOrdered last (sections ++ section ∷ [])
-ordered_more last [] section features p q l r b = (behind_from last (place_of section) (ap (λ n. is_behind n (place_of section)) (l ∙ ap (λ x. x.last) r) ∙ b), tt)
+ordered_more last [] section features p q l r b = (after_from last (place_of section) (ap (λ n. is_after n (place_of section)) (l ∙ ap (λ x. x.last) r) ∙ b), tt)
 ordered_more last (other ∷ sections) section features p q l r b =
     let o = ordered_reached features p (other ∷ sections) q r in
-    (subst (λ n. IsBehind n (place_of other)) (sym l) o.0, ordered_more (last_place last (place_of other)) sections section features (after p other) q (ap (λ n. last_place n (place_of other)) l ∙ sym (last_after p other)) r.1 b)
+    (subst (λ n. ComesAfter n (place_of other)) (sym l) o.0, ordered_more (last_place last (place_of other)) sections section features (after p other) q (ap (λ n. last_place n (place_of other)) l ∙ sym (last_after p other)) r.1 b)
 
-items_more : (compact : Bool) (front text : List ℕ) (sections : List Section) (section : Section) → IsItems (IsSection compact) front sections → IsSection compact text section
-    → IsItems (IsSection compact) (front ++ text) (sections ++ section ∷ [])
-items_more compact front text [] section h is = (text, [], ap (λ l. l ++ text) h ∙ sym (append-nil text), is, refl)
-items_more compact front text (other ∷ sections) section h is =
-    (h.0, h.1 ++ text, ap (λ l. l ++ text) h.2 ∙ append_assoc h.0 h.1 text, h.3, items_more compact h.1 text sections section h.4 is)
+items_more : (compact : Bool) (front bytes : List ℕ) (sections : List Section) (section : Section) → IsItems (IsSection compact) front sections → IsSection compact bytes section
+    → IsItems (IsSection compact) (front ++ bytes) (sections ++ section ∷ [])
+items_more compact front bytes [] section h is = (bytes, [], ap (λ l. l ++ bytes) h ∙ sym (append-nil bytes), is, refl)
+items_more compact front bytes (other ∷ sections) section h is =
+    (h.0, h.1 ++ bytes, ap (λ l. l ++ bytes) h.2 ∙ append_assoc h.0 h.1 bytes, h.3, items_more compact h.1 bytes sections section h.4 is)
 
 known_at : (features : Features) (sections : List Section) (q : Progress) → Reaches features at_first sections q → Known q sections
 known_at features sections q r = record { types = types_reached features at_first sections q r; functions = functions_reached features at_first sections q r; supported = supported_reached features at_first sections q r }
@@ -173,8 +173,8 @@ states bytes id content others n after are e f =
     let c = unsigned_found 32 content n after (frame_bytes bytes (id, content) others are e).0 f in
     let whole : x.1 ≡ c.0 ++ after = sym x.4.1 ∙ c.1 in
     record {
-      size_text = x.0;
-      count_text = c.0;
+      size_encoding = x.0;
+      count_encoding = c.0;
       entries = after;
       rest = others;
       begins = t.1 ∙ ap (λ l. l ++ others) (w.1 ∙ ap (λ l. id ∷ l) (x.2 ∙ ap (λ l. x.0 ++ l) whole)) ∙ ap (λ l. id ∷ l) (append_assoc x.0 (c.0 ++ after) others);
@@ -182,12 +182,12 @@ states bytes id content others n after are e f =
       stated = c.2;
     }
 
-pub past_module : (features : Features) (limit : Limit) (bytes : List ℕ) → AreBytes bytes → judge_module features bytes ≡ Past limit → BeginsPast features limit bytes
+pub past_module : (features : Features) (limit : Limit) (bytes : List ℕ) → AreBytes bytes → validate_module features bytes ≡ Past limit → BeginsPast features limit bytes
 past_module features limit bytes are e =
     let m = module_stop features bytes (Past limit) are (λ f. cc) e in
     let s = m.1 in
     let known = known_at features s.sections s.reached s.reaches in
-    let rest_are = behind (drop 8 bytes) s.front s.rest (behind bytes header (drop 8 bytes) are m.0) s.begins in
+    let rest_are = rest_bytes (drop 8 bytes) s.front s.rest (rest_bytes bytes header (drop 8 bytes) are m.0) s.begins in
     elim s.ends [
       | inl at_end ↦ absurd (not_past (eqb (length s.reached.functions) (length s.reached.bodies)) s.reached at_end.1)
       | inr other ↦ elim other [
@@ -228,7 +228,7 @@ past_module features limit bytes are e =
     not_past true p e = absurd cc
     not_past false p e = absurd cc
 
-pub broken_module : (features : Features) (bytes : List ℕ) → AreBytes bytes → judge_module features bytes ≡ Broken → BeginsInvalid features bytes
+pub broken_module : (features : Features) (bytes : List ℕ) → AreBytes bytes → validate_module features bytes ≡ Broken → BeginsInvalid features bytes
 broken_module features bytes are e =
     let m = module_stop features bytes Broken are (λ f. cc) e in
     let s = m.1 in
@@ -258,9 +258,9 @@ broken_module features bytes are e =
 -- ---- modules that read, and those that are fine
 
 body_bytes : (compact : Bool) (bytes : List ℕ) (sections : List Section) → AreBytes bytes → (m : IsModule compact bytes sections) → AreBytes m.body
-body_bytes compact bytes sections are m = behind bytes header m.body are m.begins
+body_bytes compact bytes sections are m = rest_bytes bytes header m.body are m.begins
 
-pub read_module : (compact : Bool) (features : Features) (bytes : List ℕ) (sections : List Section) → AreBytes bytes → IsModule compact bytes sections → IsSupported sections → judge_module features bytes ≢ Unread
+pub read_module : (compact : Bool) (features : Features) (bytes : List ℕ) (sections : List Section) → AreBytes bytes → IsModule compact bytes sections → IsSupported sections → validate_module features bytes ≢ Unread
 read_module compact features bytes sections are m all e =
     is_read features at_first sections all m.ordered (omega (arith, m.agreeing))
     (sym (as_list compact features at_first m.body sections (body_bytes compact bytes sections are m) m.holds all) ∙ sym (same_module features bytes m.body m.begins) ∙ e)
@@ -269,7 +269,7 @@ below : (a b : ℕ) → ltb a b ≡ false → b ≤ a
 below a b e = ltb-false a b e
 
 pub fine_module : (compact : Bool) (features : Features) (bytes : List ℕ) (sections : List Section) → AreBytes bytes → IsModule compact bytes sections → IsSupported sections → AreFine features sections
-    → (q : Progress) × (judge_module features bytes ≡ Accepted q)
+    → (q : Progress) × (validate_module features bytes ≡ Accepted q)
 fine_module compact features bytes sections are m all fine =
     let a = accepts features at_first [] sections (record {
       supported = all;

@@ -1,4 +1,4 @@
--- Judging the content of one section, step by step as the code does.
+-- Validation the content of one section, step by step as the code does.
 use Rattle.std.proofs.Common.{◌≡◌, ◌≢◌, ℕ, zero, suc, ◌+◌, ◌<◌, ◌≤◌, Bool, true, false, ◌&&◌, cond, ltb, List, [], ◌∷◌, ◌++◌, map, length, Option, Some, None, Err, refl, sym, ap, subst, ◌∙◌, arith, inl, inr}
 use Rattle.std.specs.List.{AllByRecursion, filter_map, flat_map, list_all, list_any}
 use Rattle.std.specs.Option.{option_map}
@@ -26,18 +26,18 @@ use Rattle.wasmparser_parser.specs.declared.error.ErrorKind.{ErrorKind}
 use Rattle.wasmparser_parser.specs.declared.error.ErrorKind.TheVariants as kinds
 use Rattle.wasmparser_validator.proofs.BodyLaws.{neq-eqb}
 use Rattle.wasmparser_validator.proofs.SupportedLaws.{supported_passes, supported_id, supported_groups, supported_functions, supported_bodies}
-use Rattle.wasmparser_validator.specs.Sections.{Progress, EndsBy, func_sub, Judgement, Unread, Past, Broken, unless, types_fault, place_fault, after, stated, judge_content, Names, JudgesContent, JudgesTypes}
+use Rattle.wasmparser_validator.specs.Sections.{Progress, EndsBy, func_sub, Outcome, Unread, Past, Broken, unless, types_fault, place_fault, after, stated, validate_content, Names, ValidatesContent, ValidatesTypes}
 
 -- ---- contents in general
 
-unread : (features : Features) (p : Progress) (id : ℕ) (content : List ℕ) (others : Progress → Judgement) → supported_content id content ≡ None
-    → judge_content features p id content others ≡ stated p id (unsigned_at 32 content)
-unfolding judge_content
+unread : (features : Features) (p : Progress) (id : ℕ) (content : List ℕ) (others : Progress → Outcome) → supported_content id content ≡ None
+    → validate_content features p id content others ≡ stated p id (unsigned_at 32 content)
+unfolding validate_content
 unread features p id content others e = rw e refl
 
-pub one_section : (features : Features) (p : Progress) (id : ℕ) (content : List ℕ) (others : Progress → Judgement) (section : Section) → supported_content id content ≡ Some section
-    → judge_content features p id content others ≡ unless (place_fault features p section) (others (after p section))
-unfolding judge_content
+pub one_section : (features : Features) (p : Progress) (id : ℕ) (content : List ℕ) (others : Progress → Outcome) (section : Section) → supported_content id content ≡ Some section
+    → validate_content features p id content others ≡ unless (place_fault features p section) (others (after p section))
+unfolding validate_content
 one_section features p id content others section e = rw (e, supported_passes id content section e) refl
 
 -- the number that stands first
@@ -64,26 +64,26 @@ none_1 : (content : List ℕ) → first content ≡ None → supported_content 1
 unfolding supported_content content_of list_at
 none_1 content e = rw (first_none (unsigned_at 32 content) e) refl
 
-pub types_no_count : (features : Features) (p : Progress) (content : List ℕ) (others : Progress → Judgement) → first content ≡ None → judge_content features p 1 content others ≡ Unread
+pub types_no_count : (features : Features) (p : Progress) (content : List ℕ) (others : Progress → Outcome) → first content ≡ None → validate_content features p 1 content others ≡ Unread
 types_no_count features p content others e = unread features p 1 content others (none_1 content e) ∙ stated_none p 1 content e
 
 late_1 : (p : Progress) (read : Option (ℕ × List ℕ)) → ltb p.last 1 ≡ false → stated p 1 read ≡ Unread
 late_1 p None t = refl
 late_1 p (Some n) t = rw t refl
 
-pub types_late : (features : Features) (p : Progress) (content : List ℕ) (others : Progress → Judgement) → 1 ≤ p.last → judge_content features p 1 content others ≡ Unread
+pub types_late : (features : Features) (p : Progress) (content : List ℕ) (others : Progress → Outcome) → 1 ≤ p.last → validate_content features p 1 content others ≡ Unread
 types_late features p content others late = cases (supported_content 1 content) refl
   where
     t : ltb p.last 1 ≡ false
     t = le-ltb p.last 1 late
 
-    cases : (read : Option Section) → supported_content 1 content ≡ read → judge_content features p 1 content others ≡ Unread
+    cases : (read : Option Section) → supported_content 1 content ≡ read → validate_content features p 1 content others ≡ Unread
     cases None e = unread features p 1 content others e ∙ late_1 p (unsigned_at 32 content) t
     cases (Some (TypeSection groups)) e = one_section features p 1 content others (TypeSection groups) e ∙ rw t refl
     cases (Some section) e = let i = supported_id 1 content section e in absurd (omega (arith, i))
 
-pub types_many : (features : Features) (p : Progress) (content : List ℕ) (others : Progress → Judgement) (n : ℕ) → p.last < 1 → first content ≡ Some n → 1000000 < length p.types + n
-    → judge_content features p 1 content others ≡ Past spec.Groups
+pub types_many : (features : Features) (p : Progress) (content : List ℕ) (others : Progress → Outcome) (n : ℕ) → p.last < 1 → first content ≡ Some n → 1000000 < length p.types + n
+    → validate_content features p 1 content others ≡ Past spec.Groups
 types_many features p content others n early e many = cases (supported_content 1 content) refl
   where
     t : ltb p.last 1 ≡ true
@@ -92,7 +92,7 @@ types_many features p content others n early e many = cases (supported_content 1
     u : ltb 1000000 (length p.types + n) ≡ true
     u = lt-ltb _ _ many
 
-    cases : (read : Option Section) → supported_content 1 content ≡ read → judge_content features p 1 content others ≡ Past spec.Groups
+    cases : (read : Option Section) → supported_content 1 content ≡ read → validate_content features p 1 content others ≡ Past spec.Groups
     cases None f = let s = first_some (unsigned_at 32 content) n e in unread features p 1 content others f ∙ rw (s.1, t, u) refl
     cases (Some (TypeSection groups)) f =
         let c = supported_groups content groups f in
@@ -100,8 +100,8 @@ types_many features p content others n early e many = cases (supported_content 1
         one_section features p 1 content others (TypeSection groups) f ∙ rw (t, same, u) refl
     cases (Some section) f = let i = supported_id 1 content section f in absurd (omega (arith, i))
 
-pub types_unread : (features : Features) (p : Progress) (content : List ℕ) (others : Progress → Judgement) (n : ℕ) → p.last < 1 → first content ≡ Some n → length p.types + n ≤ 1000000
-    → supported_content 1 content ≡ None → judge_content features p 1 content others ≡ Unread
+pub types_unread : (features : Features) (p : Progress) (content : List ℕ) (others : Progress → Outcome) (n : ℕ) → p.last < 1 → first content ≡ Some n → length p.types + n ≤ 1000000
+    → supported_content 1 content ≡ None → validate_content features p 1 content others ≡ Unread
 types_unread features p content others n early e few f =
     let t : ltb p.last 1 ≡ true = lt-ltb p.last 1 early in
     let u : ltb 1000000 (length p.types + n) ≡ false = le-ltb _ _ few in
@@ -120,9 +120,9 @@ allowed_of : (features : Features) (types : List (FuncType ℕ)) → list_all (i
 allowed_of features [] = refl
 allowed_of features (type ∷ types) = ap (λ b. is_allowed_func features type && b) (allowed_of features types)
 
-pub types_read : (features : Features) (p : Progress) (content : List ℕ) (others : Progress → Judgement) (n : ℕ) (types : List (FuncType ℕ)) → p.last < 1 → first content ≡ Some n
+pub types_read : (features : Features) (p : Progress) (content : List ℕ) (others : Progress → Outcome) (n : ℕ) (types : List (FuncType ℕ)) → p.last < 1 → first content ≡ Some n
     → length p.types + n ≤ 1000000 → supported_content 1 content ≡ Some (type_section types)
-    → judge_content features p 1 content others ≡ unless (types_fault features types) (others (record p { last = 1; types = p.types ++ map func_sub types }))
+    → validate_content features p 1 content others ≡ unless (types_fault features types) (others (record p { last = 1; types = p.types ++ map func_sub types }))
 types_read features p content others n types early e few f =
     let t : ltb p.last 1 ≡ true = lt-ltb p.last 1 early in
     let c = supported_groups content (map func_group types) f in
@@ -131,17 +131,17 @@ types_read features p content others n types early e few f =
     one_section features p 1 content others (type_section types) f ∙ rw (t, same, u, subs_of types, funcs_of types, allowed_of features types) refl
 
 pub types_refused : (features : Features) (p q : Progress) (content : Part) (e : Error) (n : ℕ) (types slice : List (FuncType ℕ)) (offset : ℕ) → p.last < 1 → first content.bytes ≡ Some n
-    → length p.types + n ≤ 1000000 → supported_content 1 content.bytes ≡ Some (type_section types) → slice ≡ types → offset ≡ content.position → JudgesTypes features slice offset (Err e)
-    → JudgesContent features p 1 content (Err e) q
+    → length p.types + n ≤ 1000000 → supported_content 1 content.bytes ≡ Some (type_section types) → slice ≡ types → offset ≡ content.position → ValidatesTypes features slice offset (Err e)
+    → ValidatesContent features p 1 content (Err e) q
 types_refused features p q content e n types slice offset early k few f same place h =
     let g : types_fault features types ≡ Some h.0 = ap (types_fault features) (sym same) ∙ h.1 in
-    let one : (others : Progress → Judgement) → judge_content features p 1 content.bytes others ≡ h.0 = λ others.
+    let one : (others : Progress → Outcome) → validate_content features p 1 content.bytes others ≡ h.0 = λ others.
     types_read features p content.bytes others n types early k few f ∙ ap (λ fault. unless fault (others (record p { last = 1; types = p.types ++ map func_sub types }))) g in
     (λ others. subst (Names e.kind e.offset) (sym (one others)) h.2, omega (arith, h.3, place))
 
 pub types_accepted : (features : Features) (p : Progress) (content : List ℕ) (n : ℕ) (types slice : List (FuncType ℕ)) (all : List (SubType ℕ)) → p.last < 1 → first content ≡ Some n
     → length p.types + n ≤ 1000000 → supported_content 1 content ≡ Some (type_section types) → slice ≡ types → types_fault features slice ≡ None → all ≡ p.types ++ map func_sub types
-    → (others : Progress → Judgement) → judge_content features p 1 content others ≡ others (record p { last = 1; types = all })
+    → (others : Progress → Outcome) → validate_content features p 1 content others ≡ others (record p { last = 1; types = all })
 types_accepted features p content n types slice all early k few f same fine is others =
     let g : types_fault features types ≡ None = ap (types_fault features) (sym same) ∙ fine in
     types_read features p content others n types early k few f ∙ ap (λ fault. unless fault (others (record p { last = 1; types = p.types ++ map func_sub types }))) g
@@ -153,26 +153,26 @@ none_3 : (content : List ℕ) → first content ≡ None → supported_content 3
 unfolding supported_content content_of list_at
 none_3 content e = rw (first_none (unsigned_at 32 content) e) refl
 
-pub functions_no_count : (features : Features) (p : Progress) (content : List ℕ) (others : Progress → Judgement) → first content ≡ None → judge_content features p 3 content others ≡ Unread
+pub functions_no_count : (features : Features) (p : Progress) (content : List ℕ) (others : Progress → Outcome) → first content ≡ None → validate_content features p 3 content others ≡ Unread
 functions_no_count features p content others e = unread features p 3 content others (none_3 content e) ∙ stated_none p 3 content e
 
 late_3 : (p : Progress) (read : Option (ℕ × List ℕ)) → ltb p.last 3 ≡ false → stated p 3 read ≡ Unread
 late_3 p None t = refl
 late_3 p (Some n) t = rw t refl
 
-pub functions_late : (features : Features) (p : Progress) (content : List ℕ) (others : Progress → Judgement) → 3 ≤ p.last → judge_content features p 3 content others ≡ Unread
+pub functions_late : (features : Features) (p : Progress) (content : List ℕ) (others : Progress → Outcome) → 3 ≤ p.last → validate_content features p 3 content others ≡ Unread
 functions_late features p content others late = cases (supported_content 3 content) refl
   where
     t : ltb p.last 3 ≡ false
     t = le-ltb p.last 3 late
 
-    cases : (read : Option Section) → supported_content 3 content ≡ read → judge_content features p 3 content others ≡ Unread
+    cases : (read : Option Section) → supported_content 3 content ≡ read → validate_content features p 3 content others ≡ Unread
     cases None e = unread features p 3 content others e ∙ late_3 p (unsigned_at 32 content) t
     cases (Some (FunctionSection indexes)) e = one_section features p 3 content others (FunctionSection indexes) e ∙ rw t refl
     cases (Some section) e = let i = supported_id 3 content section e in absurd (omega (arith, i))
 
-pub functions_many : (features : Features) (p : Progress) (content : List ℕ) (others : Progress → Judgement) (n : ℕ) → p.last < 3 → first content ≡ Some n → 1000000 < length p.functions + n
-    → judge_content features p 3 content others ≡ Past spec.Functions
+pub functions_many : (features : Features) (p : Progress) (content : List ℕ) (others : Progress → Outcome) (n : ℕ) → p.last < 3 → first content ≡ Some n → 1000000 < length p.functions + n
+    → validate_content features p 3 content others ≡ Past spec.Functions
 functions_many features p content others n early e many = cases (supported_content 3 content) refl
   where
     t : ltb p.last 3 ≡ true
@@ -181,7 +181,7 @@ functions_many features p content others n early e many = cases (supported_conte
     u : ltb 1000000 (length p.functions + n) ≡ true
     u = lt-ltb _ _ many
 
-    cases : (read : Option Section) → supported_content 3 content ≡ read → judge_content features p 3 content others ≡ Past spec.Functions
+    cases : (read : Option Section) → supported_content 3 content ≡ read → validate_content features p 3 content others ≡ Past spec.Functions
     cases None f = let s = first_some (unsigned_at 32 content) n e in unread features p 3 content others f ∙ rw (s.1, t, u) refl
     cases (Some (FunctionSection indexes)) f =
         let c = supported_functions content indexes f in
@@ -189,8 +189,8 @@ functions_many features p content others n early e many = cases (supported_conte
         one_section features p 3 content others (FunctionSection indexes) f ∙ rw (t, same, u) refl
     cases (Some section) f = let i = supported_id 3 content section f in absurd (omega (arith, i))
 
-pub functions_unread : (features : Features) (p : Progress) (content : List ℕ) (others : Progress → Judgement) (n : ℕ) → p.last < 3 → first content ≡ Some n → length p.functions + n ≤ 1000000
-    → supported_content 3 content ≡ None → judge_content features p 3 content others ≡ Unread
+pub functions_unread : (features : Features) (p : Progress) (content : List ℕ) (others : Progress → Outcome) (n : ℕ) → p.last < 3 → first content ≡ Some n → length p.functions + n ≤ 1000000
+    → supported_content 3 content ≡ None → validate_content features p 3 content others ≡ Unread
 functions_unread features p content others n early e few f =
     let t : ltb p.last 3 ≡ true = lt-ltb p.last 3 early in
     let u : ltb 1000000 (length p.functions + n) ≡ false = le-ltb _ _ few in
@@ -213,10 +213,10 @@ name_types : (types : List (FuncType ℕ)) (indexes : List ℕ) → list_all (λ
 name_types types [] = refl
 name_types types (index ∷ indexes) = rw (names_type types index, name_types types indexes) refl
 
-pub functions_read : (features : Features) (p : Progress) (content : List ℕ) (others : Progress → Judgement) (n : ℕ) (types : List (FuncType ℕ)) (indexes : List ℕ) (below : Bool) → p.last < 3
+pub functions_read : (features : Features) (p : Progress) (content : List ℕ) (others : Progress → Outcome) (n : ℕ) (types : List (FuncType ℕ)) (indexes : List ℕ) (below : Bool) → p.last < 3
     → first content ≡ Some n → length p.functions + n ≤ 1000000 → supported_content 3 content ≡ Some (FunctionSection indexes) → p.types ≡ map func_sub types
     → list_all (λ index. nat_lt index (length types)) indexes ≡ below
-    → judge_content features p 3 content others ≡ cond below (others (record p { last = 3; functions = p.functions ++ indexes })) Broken
+    → validate_content features p 3 content others ≡ cond below (others (record p { last = 3; functions = p.functions ++ indexes })) Broken
 functions_read features p content others n types indexes below early e few f known all =
     let t : ltb p.last 3 ≡ true = lt-ltb p.last 3 early in
     let c = supported_functions content indexes f in
@@ -232,14 +232,14 @@ functions_read features p content others n types indexes below early e few f kno
 pub functions_accepted : (features : Features) (p : Progress) (content : List ℕ) (n most : ℕ) (types : List (FuncType ℕ)) (indexes slice all : List ℕ) → p.last < 3 → first content ≡ Some n
     → length p.functions + n ≤ 1000000 → supported_content 3 content ≡ Some (FunctionSection indexes) → p.types ≡ map func_sub types → slice ≡ indexes
     → most ≡ length types → list_all (λ index. nat_lt index most) slice ≡ true → all ≡ p.functions ++ indexes
-    → (others : Progress → Judgement) → judge_content features p 3 content others ≡ others (record p { last = 3; functions = all })
+    → (others : Progress → Outcome) → validate_content features p 3 content others ≡ others (record p { last = 3; functions = all })
 functions_accepted features p content n most types indexes slice all early k few f known same many below is others =
     functions_read features p content others n types indexes true early k few f known (ap (λ m. list_all (λ index. nat_lt index m) indexes) (sym many) ∙ ap (list_all (λ index. nat_lt index most)) (sym same) ∙ below)
     ∙ ap (λ l. others (record p { last = 3; functions = l })) (sym is)
 
 pub functions_refused : (features : Features) (p : Progress) (content : List ℕ) (n most : ℕ) (types : List (FuncType ℕ)) (indexes slice : List ℕ) → p.last < 3 → first content ≡ Some n
     → length p.functions + n ≤ 1000000 → supported_content 3 content ≡ Some (FunctionSection indexes) → p.types ≡ map func_sub types → slice ≡ indexes
-    → most ≡ length types → list_all (λ index. nat_lt index most) slice ≡ false → (others : Progress → Judgement) → judge_content features p 3 content others ≡ Broken
+    → most ≡ length types → list_all (λ index. nat_lt index most) slice ≡ false → (others : Progress → Outcome) → validate_content features p 3 content others ≡ Broken
 functions_refused features p content n most types indexes slice early k few f known same many below others =
     functions_read features p content others n types indexes false early k few f known (ap (λ m. list_all (λ index. nat_lt index m) indexes) (sym many) ∙ ap (list_all (λ index. nat_lt index most)) (sym same) ∙ below)
 
@@ -249,29 +249,29 @@ none_10 : (content : List ℕ) → first content ≡ None → supported_content 
 unfolding supported_content content_of list_at
 none_10 content e = rw (first_none (unsigned_at 32 content) e) refl
 
-pub bodies_unread : (features : Features) (p : Progress) (content : List ℕ) (others : Progress → Judgement) → supported_content 10 content ≡ None → judge_content features p 10 content others ≡ Unread
+pub bodies_unread : (features : Features) (p : Progress) (content : List ℕ) (others : Progress → Outcome) → supported_content 10 content ≡ None → validate_content features p 10 content others ≡ Unread
 bodies_unread features p content others f = unread features p 10 content others f ∙ nothing (unsigned_at 32 content)
   where
     nothing : (read : Option (ℕ × List ℕ)) → stated p 10 read ≡ Unread
     nothing None = refl
     nothing (Some n) = refl
 
-pub bodies_no_count : (features : Features) (p : Progress) (content : List ℕ) (others : Progress → Judgement) → first content ≡ None → judge_content features p 10 content others ≡ Unread
+pub bodies_no_count : (features : Features) (p : Progress) (content : List ℕ) (others : Progress → Outcome) → first content ≡ None → validate_content features p 10 content others ≡ Unread
 bodies_no_count features p content others e = bodies_unread features p content others (none_10 content e)
 
-pub bodies_late : (features : Features) (p : Progress) (content : List ℕ) (others : Progress → Judgement) → 12 ≤ p.last → judge_content features p 10 content others ≡ Unread
+pub bodies_late : (features : Features) (p : Progress) (content : List ℕ) (others : Progress → Outcome) → 12 ≤ p.last → validate_content features p 10 content others ≡ Unread
 bodies_late features p content others late = cases (supported_content 10 content) refl
   where
     t : ltb p.last 12 ≡ false
     t = le-ltb p.last 12 late
 
-    cases : (read : Option Section) → supported_content 10 content ≡ read → judge_content features p 10 content others ≡ Unread
+    cases : (read : Option Section) → supported_content 10 content ≡ read → validate_content features p 10 content others ≡ Unread
     cases None e = bodies_unread features p content others e
     cases (Some (CodeSection bodies)) e = one_section features p 10 content others (CodeSection bodies) e ∙ rw t refl
     cases (Some section) e = let i = supported_id 10 content section e in absurd (omega (arith, i))
 
-pub bodies_many : (features : Features) (p : Progress) (content : List ℕ) (others : Progress → Judgement) (n : ℕ) → p.last < 12 → first content ≡ Some n → length p.functions < length p.bodies + n
-    → judge_content features p 10 content others ≡ Unread
+pub bodies_many : (features : Features) (p : Progress) (content : List ℕ) (others : Progress → Outcome) (n : ℕ) → p.last < 12 → first content ≡ Some n → length p.functions < length p.bodies + n
+    → validate_content features p 10 content others ≡ Unread
 bodies_many features p content others n early e many = cases (supported_content 10 content) refl
   where
     t : ltb p.last 12 ≡ true
@@ -280,7 +280,7 @@ bodies_many features p content others n early e many = cases (supported_content 
     u : ltb (length p.functions) (length p.bodies + n) ≡ true
     u = lt-ltb _ _ many
 
-    cases : (read : Option Section) → supported_content 10 content ≡ read → judge_content features p 10 content others ≡ Unread
+    cases : (read : Option Section) → supported_content 10 content ≡ read → validate_content features p 10 content others ≡ Unread
     cases None f = bodies_unread features p content others f
     cases (Some (CodeSection bodies)) f =
         let c = supported_bodies content bodies f in
@@ -292,16 +292,16 @@ large : (bodies : List Part) → list_any (λ body. is_past spec.BodySize (lengt
 large [] = refl
 large (body ∷ bodies) = rw (large bodies) refl
 
-pub bodies_read : (features : Features) (p : Progress) (content : List ℕ) (others : Progress → Judgement) (n : ℕ) (bodies : List Part) (past : Bool) → p.last < 12 → first content ≡ Some n
+pub bodies_read : (features : Features) (p : Progress) (content : List ℕ) (others : Progress → Outcome) (n : ℕ) (bodies : List Part) (past : Bool) → p.last < 12 → first content ≡ Some n
     → length p.bodies + n ≤ length p.functions → supported_content 10 content ≡ Some (code_section bodies) → list_any (λ body. is_past spec.BodySize (length body.bytes)) bodies ≡ past
-    → judge_content features p 10 content others ≡ cond past (Past spec.BodySize) (others (record p { last = 12; bodies = p.bodies ++ map (λ body. body.bytes) bodies }))
+    → validate_content features p 10 content others ≡ cond past (Past spec.BodySize) (others (record p { last = 12; bodies = p.bodies ++ map (λ body. body.bytes) bodies }))
 bodies_read features p content others n bodies past early e few f all =
     let t : ltb p.last 12 ≡ true = lt-ltb p.last 12 early in
-    let texts = map (λ body. body.bytes) bodies in
-    let c = supported_bodies content texts f in
-    let same : length texts ≡ n = same_first content n (length texts) c.0 e c.1 in
+    let encodings = map (λ body. body.bytes) bodies in
+    let c = supported_bodies content encodings f in
+    let same : length encodings ≡ n = same_first content n (length encodings) c.0 e c.1 in
     let u : ltb (length p.functions) (length p.bodies + n) ≡ false = le-ltb _ _ few in
-    let v : list_any (λ body. is_past spec.BodySize (length body)) texts ≡ past = large bodies ∙ all in
+    let v : list_any (λ body. is_past spec.BodySize (length body)) encodings ≡ past = large bodies ∙ all in
     one_section features p 10 content others (code_section bodies) f ∙ rw (t, same, u, v) (either past)
   where
     either : (b : Bool) → unless (cond b (Some (Past spec.BodySize)) None) (others (record p { last = 12; bodies = p.bodies ++ map (λ body. body.bytes) bodies }))
@@ -312,14 +312,14 @@ bodies_read features p content others n bodies past early e few f all =
 pub bodies_accepted : (features : Features) (p : Progress) (content : List ℕ) (n : ℕ) (bodies slice : List Part) (all : List (List ℕ)) → p.last < 12 → first content ≡ Some n
     → length p.bodies + n ≤ length p.functions → supported_content 10 content ≡ Some (code_section bodies) → slice ≡ bodies → list_any (λ body. is_past spec.BodySize (length body.bytes)) slice ≡ false
     → all ≡ p.bodies ++ map (λ body. body.bytes) bodies
-    → (others : Progress → Judgement) → judge_content features p 10 content others ≡ others (record p { last = 12; bodies = all })
+    → (others : Progress → Outcome) → validate_content features p 10 content others ≡ others (record p { last = 12; bodies = all })
 bodies_accepted features p content n bodies slice all early k few f same small is others =
     bodies_read features p content others n bodies false early k few f (ap (list_any (λ body. is_past spec.BodySize (length body.bytes))) (sym same) ∙ small)
     ∙ ap (λ l. others (record p { last = 12; bodies = l })) (sym is)
 
 pub bodies_refused : (features : Features) (p : Progress) (content : List ℕ) (n : ℕ) (bodies slice : List Part) → p.last < 12 → first content ≡ Some n
     → length p.bodies + n ≤ length p.functions → supported_content 10 content ≡ Some (code_section bodies) → slice ≡ bodies → list_any (λ body. is_past spec.BodySize (length body.bytes)) slice ≡ true
-    → (others : Progress → Judgement) → judge_content features p 10 content others ≡ Past spec.BodySize
+    → (others : Progress → Outcome) → validate_content features p 10 content others ≡ Past spec.BodySize
 bodies_refused features p content n bodies slice early k few f same large others =
     bodies_read features p content others n bodies true early k few f (ap (list_any (λ body. is_past spec.BodySize (length body.bytes))) (sym same) ∙ large)
 
@@ -334,21 +334,21 @@ inside_by content place (part ∷ parts) h a = (omega (arith, h, a.0.to), inside
 
 -- ---- custom sections, and sections of other ids
 
-pub custom_unread : (features : Features) (p : Progress) (content : List ℕ) (others : Progress → Judgement) → supported_content 0 content ≡ None → judge_content features p 0 content others ≡ Unread
+pub custom_unread : (features : Features) (p : Progress) (content : List ℕ) (others : Progress → Outcome) → supported_content 0 content ≡ None → validate_content features p 0 content others ≡ Unread
 custom_unread features p content others e = unread features p 0 content others e ∙ nothing (unsigned_at 32 content)
   where
     nothing : (read : Option (ℕ × List ℕ)) → stated p 0 read ≡ Unread
     nothing None = refl
     nothing (Some n) = refl
 
-pub custom_long : (features : Features) (p : Progress) (content name contents : List ℕ) (others : Progress → Judgement) → supported_content 0 content ≡ Some (Custom name contents) → 100000 < length name
-    → judge_content features p 0 content others ≡ Past spec.Name
+pub custom_long : (features : Features) (p : Progress) (content name contents : List ℕ) (others : Progress → Outcome) → supported_content 0 content ≡ Some (Custom name contents) → 100000 < length name
+    → validate_content features p 0 content others ≡ Past spec.Name
 custom_long features p content name contents others e long =
     let t : ltb 100000 (length name) ≡ true = lt-ltb _ _ long in
     one_section features p 0 content others (Custom name contents) e ∙ rw t refl
 
-pub custom_fine : (features : Features) (p : Progress) (content name contents : List ℕ) (others : Progress → Judgement) → supported_content 0 content ≡ Some (Custom name contents) → length name ≤ 100000
-    → judge_content features p 0 content others ≡ others p
+pub custom_fine : (features : Features) (p : Progress) (content name contents : List ℕ) (others : Progress → Outcome) → supported_content 0 content ≡ Some (Custom name contents) → length name ≤ 100000
+    → validate_content features p 0 content others ≡ others p
 custom_fine features p content name contents others e fits =
     let t : ltb 100000 (length name) ≡ false = le-ltb _ _ fits in
     one_section features p 0 content others (Custom name contents) e ∙ rw t refl
@@ -367,7 +367,7 @@ none_other id content a b c d = cases (supported_content id content) refl
     cases None e = refl
     cases (Some section) e = absurd (no_section section (supported_passes id content section e) (supported_id id content section e))
 
-pub other_id : (features : Features) (p : Progress) (id : ℕ) (content : List ℕ) (others : Progress → Judgement) → id ≢ 0 → id ≢ 1 → id ≢ 3 → id ≢ 10 → judge_content features p id content others ≡ Unread
+pub other_id : (features : Features) (p : Progress) (id : ℕ) (content : List ℕ) (others : Progress → Outcome) → id ≢ 0 → id ≢ 1 → id ≢ 3 → id ≢ 10 → validate_content features p id content others ≡ Unread
 other_id features p id content others a b c d = unread features p id content others (none_other id content a b c d) ∙ nothing (unsigned_at 32 content)
   where
     nothing : (read : Option (ℕ × List ℕ)) → stated p id read ≡ Unread
@@ -378,19 +378,19 @@ other_id features p id content others a b c d = unread features p id content oth
 
 -- what is refused, at a place of the content
 pub refuse : (features : Features) (p q : Progress) (id : ℕ) (content : Part) (e : Error) (offset : ℕ) (kind : ErrorKind) → e ≡ record { offset = offset; kind = kind }
-    → ((others : Progress → Judgement) → Names kind offset (judge_content features p id content.bytes others)) → offset ≤ content.position + length content.bytes
-    → JudgesContent features p id content (Err e) q
+    → ((others : Progress → Outcome) → Names kind offset (validate_content features p id content.bytes others)) → offset ≤ content.position + length content.bytes
+    → ValidatesContent features p id content (Err e) q
 refuse features p q id content e offset kind is named place =
-    subst (λ (x : Error). ((others : Progress → Judgement) → Names x.kind x.offset (judge_content features p id content.bytes others)) × (x.offset ≤ content.position + length content.bytes))
+    subst (λ (x : Error). ((others : Progress → Outcome) → Names x.kind x.offset (validate_content features p id content.bytes others)) × (x.offset ≤ content.position + length content.bytes))
     (sym is) (named, place)
 
 -- what doesn't read, or memory ran out
 pub unread_or_memory : (features : Features) (p q : Progress) (id : ℕ) (content : Part) (e : Error) (read : Option Section) → IsRefusal e.kind e.offset ((read ≡ None) × IsWithin (at_front content) e.offset)
-    → (read ≡ None → (others : Progress → Judgement) → judge_content features p id content.bytes others ≡ Unread) → JudgesContent features p id content (Err e) q
+    → (read ≡ None → (others : Progress → Outcome) → validate_content features p id content.bytes others ≡ Unread) → ValidatesContent features p id content (Err e) q
 unread_or_memory features p q id content e read refused unread = by_kind e.kind e.offset refused
   where
     by_kind : (kind : ErrorKind) (offset : ℕ) → IsRefusal kind offset ((read ≡ None) × IsWithin (at_front content) offset)
-        → ((others : Progress → Judgement) → Names kind offset (judge_content features p id content.bytes others)) × (offset ≤ content.position + length content.bytes)
+        → ((others : Progress → Outcome) → Names kind offset (validate_content features p id content.bytes others)) × (offset ≤ content.position + length content.bytes)
     by_kind kinds.Malformed offset h = (unread h.0, h.1.to)
     by_kind kinds.Memory offset h = (λ others. h, omega (arith, h))
     by_kind kinds.Invalid offset h = absurd h

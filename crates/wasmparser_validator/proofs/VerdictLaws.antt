@@ -1,4 +1,4 @@
--- The whole promise: from what the sections and the bodies are judged to what is answered.
+-- The whole promise: from what the sections and the bodies are validated to what is answered.
 use Rattle.std.proofs.Common.{◌≡◌, ◌≢◌, ◌⊎◌, inl, inr, ℕ, zero, suc, ◌+◌, ◌<◌, ◌≤◌, Bool, true, false, List, [], ◌∷◌, map, length, Some, Ok, Err, refl, sym, ap, subst, ◌∙◌, arith, length-append}
 use Rattle.std.specs.List.{AllByRecursion, list_all, slice_get}
 use Rattle.std.proofs.lemmas.Bool.{and_parts}
@@ -14,14 +14,14 @@ use Rattle.wasm_spec.specs.Spaces.{Sizes, no_items, together, added_by, sizes_of
 use Rattle.wasm_spec.specs.Supported.{is_supported_section, IsSupported}
 use Rattle.wasm_spec.specs.Syntax.{Section, Custom, TypeSection, FunctionSection, CodeSection, types_in, functions_in, types_of, functions_of, bodies_of}
 use Rattle.wasm_spec.specs.Types.{ValType, FuncType}
-use Rattle.wasm_spec.specs.Validity.{func_type_at, BodyAt, IsJudgedBody, IsBodyPast, IsOtherBody, IsBrokenBody, IsValid, HasBody}
+use Rattle.wasm_spec.specs.Validity.{func_type_at, BodyAt, IsTypedBody, IsBodyPast, IsOtherBody, IsBrokenBody, IsValid, HasBody}
 use Rattle.wasmparser_parser.specs.Sections.{Part}
 use Rattle.wasmparser_parser.specs.declared.error.Error.{Error}
 use Rattle.wasmparser_parser.specs.declared.error.ErrorKind.{ErrorKind}
 use Rattle.wasmparser_parser.specs.declared.error.ErrorKind.TheVariants as kinds
-use Rattle.wasmparser_validator.specs.Bodies.{HasBodyAt, JudgesBodies}
-use Rattle.wasmparser_validator.specs.Judging.{IsNamed, IsJudged}
-use Rattle.wasmparser_validator.specs.Sections.{Progress, Judgement, Accepted, Past, EndsBy, at_first, func_sub, Names, judge_module}
+use Rattle.wasmparser_validator.specs.Bodies.{HasBodyAt, ValidatesBodies}
+use Rattle.wasmparser_validator.specs.Validation.{IsNamed, IsValidated}
+use Rattle.wasmparser_validator.specs.Sections.{Progress, Outcome, Accepted, Past, EndsBy, at_first, func_sub, Names, validate_module}
 use Rattle.wasmparser_validator.proofs.FaultLaws.{types_reached, functions_reached, bodies_reached, types_bounded, functions_bounded, named_reached}
 use Rattle.wasmparser_validator.proofs.RefusalLaws.{Whole, accepted_whole, fine_whole, past_module, broken_module, read_module, fine_module}
 
@@ -103,11 +103,11 @@ known_whole features bytes types functions bodies last w = record {
   bodies_are = bodies_reached features at_first w.sections _ w.reaches;
 }
 
-pub judged_yes : (features : Features) (bytes : List ℕ) (types : List (FuncType ℕ)) (functions : List ℕ) (bodies : List Part) (last : ℕ) (shown : Sizes) (n m : ℕ) → AreBytes bytes
-    → judge_module features bytes ≡ Accepted (record { last = last; types = map func_sub types; functions = functions; bodies = map (λ b. b.bytes) bodies })
-    → JudgesBodies features types functions bodies (Ok tt) → shown ≡ record no_items { types = n; functions = m } → n ≡ length types → m ≡ length functions
-    → IsJudged features bytes (Ok shown)
-judged_yes features bytes types functions bodies last shown n m are e judged is t f =
+pub validated_yes : (features : Features) (bytes : List ℕ) (types : List (FuncType ℕ)) (functions : List ℕ) (bodies : List Part) (last : ℕ) (shown : Sizes) (n m : ℕ) → AreBytes bytes
+    → validate_module features bytes ≡ Accepted (record { last = last; types = map func_sub types; functions = functions; bodies = map (λ b. b.bytes) bodies })
+    → ValidatesBodies features types functions bodies (Ok tt) → shown ≡ record no_items { types = n; functions = m } → n ≡ length types → m ≡ length functions
+    → IsValidated features bytes (Ok shown)
+validated_yes features bytes types functions bodies last shown n m are e validated is t f =
     let w = accepted_whole features bytes _ are e in
     let k = known_whole features bytes types functions bodies last w in
     record {
@@ -115,12 +115,12 @@ judged_yes features bytes types functions bodies last shown n m are e judged is 
         w.sections,
         record {
           reads = w.reads;
-          supported = w.supported;
           valid = record {
+            supported = w.supported;
             fine = fine_whole features w.sections _ w.reaches;
             bodies = λ place lt.
-                let j = judged place (omega (arith, lt, ap length k.functions_are)) in
-                in_sections (IsJudgedBody features) types functions bodies w.sections place j.0 j.1 k j.2 (λ is_below. (j.3 is_below).right);
+                let j = validated place (omega (arith, lt, ap length k.functions_are)) in
+                in_sections (IsTypedBody features) types functions bodies w.sections place j.0 j.1 k j.2 (λ is_below. (j.3 is_below).right);
           };
         },
         shows shown n m w.sections w.supported is (t ∙ sym (length-map types func_sub) ∙ ap length k.types_are) (f ∙ ap length k.functions_are),
@@ -137,46 +137,46 @@ judged_yes features bytes types functions bodies last shown n m are e judged is 
       memory = tt;
     }
 
--- only want of memory refuses what is accepted
-only_memory : (kind : ErrorKind) (offset : ℕ) (judgement : Judgement) (q : Progress) → judgement ≡ Accepted q → Names kind offset judgement → kind ≡ kinds.Memory
-only_memory kinds.Malformed offset judgement q e n = let f = sym e ∙ n in absurd cc
-only_memory kinds.Invalid offset judgement q e n = let f = sym e ∙ n in absurd cc
-only_memory (kinds.Limit l) offset judgement q e n = let f = sym e ∙ n in absurd cc
-only_memory kinds.Operator offset judgement q e n = absurd n
-only_memory kinds.Body offset judgement q e n = absurd n
-only_memory kinds.Total offset judgement q e n = absurd n
-only_memory kinds.Order offset judgement q e n = absurd n
-only_memory kinds.Failed offset judgement q e n = absurd n
-only_memory kinds.Memory offset judgement q e n = refl
+-- what is to be accepted is refused only when memory runs out
+only_memory : (kind : ErrorKind) (offset : ℕ) (outcome : Outcome) (q : Progress) → outcome ≡ Accepted q → Names kind offset outcome → kind ≡ kinds.Memory
+only_memory kinds.Malformed offset outcome q e n = let f = sym e ∙ n in absurd cc
+only_memory kinds.Invalid offset outcome q e n = let f = sym e ∙ n in absurd cc
+only_memory (kinds.Limit l) offset outcome q e n = let f = sym e ∙ n in absurd cc
+only_memory kinds.Operator offset outcome q e n = absurd n
+only_memory kinds.Body offset outcome q e n = absurd n
+only_memory kinds.Total offset outcome q e n = absurd n
+only_memory kinds.Order offset outcome q e n = absurd n
+only_memory kinds.Failed offset outcome q e n = absurd n
+only_memory kinds.Memory offset outcome q e n = refl
 
-has_name : (kind : ErrorKind) (offset : ℕ) (judgement : Judgement) → Names kind offset judgement → IsNamed kind
-has_name kinds.Malformed offset judgement n = tt
-has_name kinds.Invalid offset judgement n = tt
-has_name (kinds.Limit l) offset judgement n = tt
-has_name kinds.Operator offset judgement n = absurd n
-has_name kinds.Body offset judgement n = absurd n
-has_name kinds.Total offset judgement n = absurd n
-has_name kinds.Order offset judgement n = absurd n
-has_name kinds.Failed offset judgement n = absurd n
-has_name kinds.Memory offset judgement n = tt
+has_name : (kind : ErrorKind) (offset : ℕ) (outcome : Outcome) → Names kind offset outcome → IsNamed kind
+has_name kinds.Malformed offset outcome n = tt
+has_name kinds.Invalid offset outcome n = tt
+has_name (kinds.Limit l) offset outcome n = tt
+has_name kinds.Operator offset outcome n = absurd n
+has_name kinds.Body offset outcome n = absurd n
+has_name kinds.Total offset outcome n = absurd n
+has_name kinds.Order offset outcome n = absurd n
+has_name kinds.Failed offset outcome n = absurd n
+has_name kinds.Memory offset outcome n = tt
 
 -- no section passes a limit that bodies alone can pass
-no_locals : (features : Features) (bytes : List ℕ) → AreBytes bytes → judge_module features bytes ≢ Past spec.Locals
+no_locals : (features : Features) (bytes : List ℕ) → AreBytes bytes → validate_module features bytes ≢ Past spec.Locals
 no_locals features bytes are e = elim (past_module features spec.Locals bytes are e).passes [ inl p ↦ absurd cc | inr p ↦ absurd p ]
 
-pub judged_no : (features : Features) (bytes : List ℕ) (e : Error) → AreBytes bytes → Names e.kind e.offset (judge_module features bytes) → e.offset ≤ length bytes → IsJudged features bytes (Err e)
-judged_no features bytes e are named place = record {
+pub validated_no : (features : Features) (bytes : List ℕ) (e : Error) → AreBytes bytes → Names e.kind e.offset (validate_module features bytes) → e.offset ≤ length bytes → IsValidated features bytes (Err e)
+validated_no features bytes e are named place = record {
   right = tt;
-  complete = λ sections m. let a = fine_module (has features CompactImports) features bytes sections are m.reads m.supported m.valid.fine in only_memory e.kind e.offset (judge_module features bytes) a.0 a.1 named;
-  malformed = λ k sections m s. read_module (has features CompactImports) features bytes sections are m s (subst (λ kind. Names kind e.offset (judge_module features bytes)) k named);
-  invalid = λ k. broken_module features bytes are (subst (λ kind. Names kind e.offset (judge_module features bytes)) k named);
-  limit = λ l other k. past_module features (views.limit l) bytes are (subst (λ kind. Names kind e.offset (judge_module features bytes)) k named);
-  locals = λ k. absurd (no_locals features bytes are (subst (λ kind. Names kind e.offset (judge_module features bytes)) k named));
-  operator = λ k. absurd (subst (λ kind. Names kind e.offset (judge_module features bytes)) k named);
-  body = λ k. absurd (subst (λ kind. Names kind e.offset (judge_module features bytes)) k named);
-  others = has_name e.kind e.offset (judge_module features bytes) named;
+  complete = λ sections m. let a = fine_module (has features CompactImports) features bytes sections are m.reads m.valid.supported m.valid.fine in only_memory e.kind e.offset (validate_module features bytes) a.0 a.1 named;
+  malformed = λ k sections m s. read_module (has features CompactImports) features bytes sections are m s (subst (λ kind. Names kind e.offset (validate_module features bytes)) k named);
+  invalid = λ k. broken_module features bytes are (subst (λ kind. Names kind e.offset (validate_module features bytes)) k named);
+  limit = λ l other k. past_module features (views.limit l) bytes are (subst (λ kind. Names kind e.offset (validate_module features bytes)) k named);
+  locals = λ k. absurd (no_locals features bytes are (subst (λ kind. Names kind e.offset (validate_module features bytes)) k named));
+  operator = λ k. absurd (subst (λ kind. Names kind e.offset (validate_module features bytes)) k named);
+  body = λ k. absurd (subst (λ kind. Names kind e.offset (validate_module features bytes)) k named);
+  others = has_name e.kind e.offset (validate_module features bytes) named;
   place = place;
-  memory = λ k. subst (λ kind. Names kind e.offset (judge_module features bytes)) k named;
+  memory = λ k. subst (λ kind. Names kind e.offset (validate_module features bytes)) k named;
 }
 
 -- ---- refusals of bodies
@@ -215,9 +215,9 @@ inside_all P (x ∷ bodies) zero body all e = subst P (some_is x body e) all.0
 inside_all P (x ∷ bodies) (suc place) body all e = inside_all P bodies place body all.1 e
 
 pub refused_body : (features : Features) (bytes : List ℕ) (types : List (FuncType ℕ)) (functions : List ℕ) (bodies : List Part) (last : ℕ) (e : Error) (place : ℕ) → AreBytes bytes
-    → judge_module features bytes ≡ Accepted (record { last = last; types = map func_sub types; functions = functions; bodies = map (λ b. b.bytes) bodies })
+    → validate_module features bytes ≡ Accepted (record { last = last; types = map func_sub types; functions = functions; bodies = map (λ b. b.bytes) bodies })
     → AllByRecursion (EndsBy place) bodies → place ≤ length bytes
-    → JudgesBodies features types functions bodies (Err e) → IsJudged features bytes (Err e)
+    → ValidatesBodies features types functions bodies (Err e) → IsValidated features bytes (Err e)
 unfolding in_sections
 refused_body features bytes types functions bodies last e place are accepted inside end refused =
     let w = accepted_whole features bytes _ are accepted in
@@ -241,7 +241,7 @@ refused_body features bytes types functions bodies last e place are accepted ins
           let there = valid.bodies refused.0 lt in
           let here = in_sections (λ type body. Unit {0}) types functions bodies w.sections refused.0 j.0 j.1 k j.2 tt in
           let one = same_body _ _ w.sections refused.0 there here in
-          let body : IsJudgedBody features j.0 j.1.bytes = subst (λ body. IsJudgedBody features j.0 body) one.1 (subst (λ type. IsJudgedBody features type there.body) one.0 there.holds) in
+          let body : IsTypedBody features j.0 j.1.bytes = subst (λ body. IsTypedBody features j.0 body) one.1 (subst (λ type. IsTypedBody features type there.body) one.0 there.holds) in
           let no = (j.3 nothing_below).complete (body nothing_below) in absurd cc;
       malformed = λ is. absurd (not_malformed e.kind kind is);
       invalid = λ is. absurd (not_invalid e.kind kind is);
@@ -257,19 +257,19 @@ refused_body features bytes types functions bodies last e place are accepted ins
 -- ---- what the code asks of what it knows
 
 pub are_named : (features : Features) (bytes : List ℕ) (types : List (FuncType ℕ)) (functions : List ℕ) (bodies : List Part) (last : ℕ) → AreBytes bytes
-    → judge_module features bytes ≡ Accepted (record { last = last; types = map func_sub types; functions = functions; bodies = map (λ b. b.bytes) bodies })
+    → validate_module features bytes ≡ Accepted (record { last = last; types = map func_sub types; functions = functions; bodies = map (λ b. b.bytes) bodies })
     → AllByRecursion (λ index. index < length types) functions
 are_named features bytes types functions bodies last are e =
     let w = accepted_whole features bytes _ are e in
     subst (λ n. AllByRecursion (λ index. index < n) functions) (length-map types func_sub) (named_reached features at_first w.sections _ w.reaches tt)
 
 pub are_paired : (features : Features) (bytes : List ℕ) (types : List (FuncType ℕ)) (functions : List ℕ) (bodies : List Part) (last : ℕ) → AreBytes bytes
-    → judge_module features bytes ≡ Accepted (record { last = last; types = map func_sub types; functions = functions; bodies = map (λ b. b.bytes) bodies })
+    → validate_module features bytes ≡ Accepted (record { last = last; types = map func_sub types; functions = functions; bodies = map (λ b. b.bytes) bodies })
     → length functions ≡ length bodies
 are_paired features bytes types functions bodies last are e = let w = accepted_whole features bytes _ are e in w.paired ∙ length-map bodies (λ b. b.bytes)
 
 pub are_few : (features : Features) (bytes : List ℕ) (types : List (FuncType ℕ)) (functions : List ℕ) (bodies : List Part) (last : ℕ) → AreBytes bytes
-    → judge_module features bytes ≡ Accepted (record { last = last; types = map func_sub types; functions = functions; bodies = map (λ b. b.bytes) bodies })
+    → validate_module features bytes ≡ Accepted (record { last = last; types = map func_sub types; functions = functions; bodies = map (λ b. b.bytes) bodies })
     → (length types ≤ 1000000) × (length functions ≤ 1000000)
 are_few features bytes types functions bodies last are e =
     let w = accepted_whole features bytes _ are e in

@@ -1,6 +1,6 @@
 pub mod Bodies
-pub mod BodyJudging
+pub mod BodyValidation
 pub mod BodyReading
-pub mod Judging
+pub mod Validation
 pub mod Sections
 pub mod Types

@@ -1,9 +1,9 @@
--- Judging sections one after the other: a means of proof, which laws tie to the rules.
+-- Validation sections one after the other: a means of proof, which laws tie to the rules.
 use Rattle.std.specs.Prelude.{◌≡◌, ◌+◌, ◌≤◌, ℕ, true, zero, suc, List, [], ◌∷◌, ◌++◌, map, length, drop, nat_eq, nat_lt, ◌==◌, Result, Ok, Err, Option, Some, None, is_some, if◌then◌else◌}
 use Rattle.std.specs.List.{AllByRecursion, filter_map, flat_map, list_all, list_any, starts_with}
 use Rattle.wasm_core_read.specs.Input.{Input, end}
 use Rattle.wasm_core_base.specs.Limits as core
-use Rattle.wasm_core_read.specs.ModuleReading.{frame_at, is_behind}
+use Rattle.wasm_core_read.specs.ModuleReading.{frame_at, is_after}
 use Rattle.wasm_core_read.specs.Reading.{unsigned_at}
 use Rattle.wasm_spec.specs.Features.{Features}
 use Rattle.wasm_spec.specs.Gates.{is_allowed_group, is_allowed_func}
@@ -20,7 +20,7 @@ use Rattle.wasmparser_parser.specs.declared.error.ErrorKind.{ErrorKind}
 use Rattle.wasmparser_parser.specs.declared.error.ErrorKind.TheVariants as kinds
 use Rattle.wasmparser_validator.specs.declared.module_state.ModuleState.{ModuleState}
 
--- what is known of a module behind some of its sections: the place of the last one, and what they have
+-- what is known of a module after some of its sections: the place of the last one, and what they have
 pub record Progress : Type 0 where
   pub last : ℕ
   pub types : List (SubType ℕ)
@@ -47,20 +47,20 @@ progress state = record {
 abbrev pub EndsBy : ℕ → Part → Type 0
 EndsBy place part = part.position + length part.bytes ≤ place
 
--- what judging comes to
-pub data Judgement : Type 0 where
-  Accepted : Progress → Judgement
-  Unread : Judgement
-  Past : spec.Limit → Judgement
-  Broken : Judgement
+-- what validating comes to
+pub data Outcome : Type 0 where
+  Accepted : Progress → Outcome
+  Unread : Outcome
+  Past : spec.Limit → Outcome
+  Broken : Outcome
 
--- what is judged of the rest, where there is no fault
-abbrev pub unless : Option Judgement → Judgement → Judgement
+-- what is validated of the rest, where there is no fault
+abbrev pub unless : Option Outcome → Outcome → Outcome
 unless None others = others
 unless (Some fault) others = fault
 
 -- the fault of some function types
-abbrev pub types_fault : Features → List (FuncType ℕ) → Option Judgement
+abbrev pub types_fault : Features → List (FuncType ℕ) → Option Outcome
 types_fault features types =
     if list_any (λ type. is_past spec.Params (length type.params)) types then Some (Past spec.Params)
     else if list_any (λ type. is_past spec.Results (length type.results)) types then Some (Past spec.Results)
@@ -71,7 +71,7 @@ abbrev pub funcs_in : List (RecGroup ℕ) → List (FuncType ℕ)
 funcs_in groups = filter_map func_type_of (flat_map members groups)
 
 -- the fault of a section that stands at its place
-abbrev pub rule_fault : Features → Progress → Section → Option Judgement
+abbrev pub rule_fault : Features → Progress → Section → Option Outcome
 rule_fault features p (Custom name contents) = if is_past spec.Name (length name) then Some (Past spec.Name) else None
 rule_fault features p (TypeSection groups) =
     if is_past spec.Groups (length p.types + length groups) then Some (Past spec.Groups)
@@ -90,11 +90,11 @@ rule_fault features p (CodeSection bodies) =
 rule_fault features p _ = None
 
 -- the fault of a section wherever it stands
-abbrev pub place_fault : Features → Progress → Section → Option Judgement
-place_fault features p section = if is_behind p.last (place_of section) then rule_fault features p section else Some Unread
+abbrev pub place_fault : Features → Progress → Section → Option Outcome
+place_fault features p section = if is_after p.last (place_of section) then rule_fault features p section else Some Unread
 
 -- the same of a section that need not be supported
-abbrev pub fault : Features → Progress → Section → Option Judgement
+abbrev pub fault : Features → Progress → Section → Option Outcome
 fault features p section = if is_supported_section section then place_fault features p section else Some Unread
 
 abbrev pub after : Progress → Section → Progress
@@ -105,63 +105,63 @@ after p (CodeSection bodies) = record p { last = 12; bodies = p.bodies ++ bodies
 after p section = record p { last = last_place p.last (place_of section) }
 
 -- where a content doesn't read: whether its id comes in order, and what the number of entries that it states passes
-abbrev pub stated : Progress → ℕ → Option (ℕ × List ℕ) → Judgement
+abbrev pub stated : Progress → ℕ → Option (ℕ × List ℕ) → Outcome
 stated p id None = Unread
 stated p id (Some n) =
     if id == 1 then (if nat_lt p.last 1 then (if is_past spec.Groups (length p.types + n.0) then Past spec.Groups else Unread) else Unread)
     else if id == 3 then (if nat_lt p.last 3 then (if is_past spec.Functions (length p.functions + n.0) then Past spec.Functions else Unread) else Unread)
     else Unread
 
-abbrev pub with_content : Features → Progress → ℕ → List ℕ → Option Section → (Progress → Judgement) → Judgement
+abbrev pub with_content : Features → Progress → ℕ → List ℕ → Option Section → (Progress → Outcome) → Outcome
 with_content features p id content None others = stated p id (unsigned_at 32 content)
 with_content features p id content (Some section) others = unless (fault features p section) (others (after p section))
 
--- a section, where it is supported, and those behind it
-unfoldable pub judge_content : Features → Progress → ℕ → List ℕ → (Progress → Judgement) → Judgement
-judge_content features p id content others = with_content features p id content (supported_content id content) others
+-- a section, where it is supported, and those after it
+unfoldable pub validate_content : Features → Progress → ℕ → List ℕ → (Progress → Outcome) → Outcome
+validate_content features p id content others = with_content features p id content (supported_content id content) others
 
-abbrev pub with_frame : Features → Progress → Option ((ℕ × List ℕ) × List ℕ) → (Progress → List ℕ → Judgement) → Judgement
+abbrev pub with_frame : Features → Progress → Option ((ℕ × List ℕ) × List ℕ) → (Progress → List ℕ → Outcome) → Outcome
 with_frame features p None others = Unread
-with_frame features p (Some f) others = judge_content features p f.0.0 f.0.1 (λ q. others q f.1)
+with_frame features p (Some f) others = validate_content features p f.0.0 f.0.1 (λ q. others q f.1)
 
--- behind the last section there are as many bodies as functions
-abbrev pub at_last : Progress → Judgement
+-- after the last section there are as many bodies as functions
+abbrev pub at_last : Progress → Outcome
 at_last p = if length p.functions == length p.bodies then Accepted p else Unread
 
 -- sections up to the end; there are at most fuel
-unfoldable pub judge_at : Features → ℕ → Progress → List ℕ → Judgement
-judge_at features fuel p [] = at_last p
-judge_at features zero p (b ∷ bs) = Unread
-judge_at features (suc fuel) p (b ∷ bs) = with_frame features p (frame_at (b ∷ bs)) (λ q rest. judge_at features fuel q rest)
+unfoldable pub validate_at : Features → ℕ → Progress → List ℕ → Outcome
+validate_at features fuel p [] = at_last p
+validate_at features zero p (b ∷ bs) = Unread
+validate_at features (suc fuel) p (b ∷ bs) = with_frame features p (frame_at (b ∷ bs)) (λ q rest. validate_at features fuel q rest)
 
 -- sections up to the end
-unfoldable pub judge_sections : Features → Progress → List ℕ → Judgement
-judge_sections features p bytes = judge_at features (length bytes) p bytes
+unfoldable pub validate_sections : Features → Progress → List ℕ → Outcome
+validate_sections features p bytes = validate_at features (length bytes) p bytes
 
-unfoldable pub judge_module : Features → List ℕ → Judgement
-judge_module features bytes = if starts_with nat_eq bytes header then judge_sections features at_first (drop 8 bytes) else Unread
+unfoldable pub validate_module : Features → List ℕ → Outcome
+validate_module features bytes = if starts_with nat_eq bytes header then validate_sections features at_first (drop 8 bytes) else Unread
 
--- what a refusal at an offset names; want of memory has no place
-abbrev pub Names : ErrorKind → ℕ → Judgement → Type 0
-Names kinds.Malformed offset judgement = judgement ≡ Unread
-Names kinds.Invalid offset judgement = judgement ≡ Broken
-Names (kinds.Limit l) offset judgement = judgement ≡ Past (core.limit l)
-Names kinds.Memory offset judgement = offset ≡ 0
-Names _ offset judgement = ⊥
+-- what a refusal at an offset names; running out of memory has no place
+abbrev pub Names : ErrorKind → ℕ → Outcome → Type 0
+Names kinds.Malformed offset outcome = outcome ≡ Unread
+Names kinds.Invalid offset outcome = outcome ≡ Broken
+Names (kinds.Limit l) offset outcome = outcome ≡ Past (core.limit l)
+Names kinds.Memory offset outcome = offset ≡ 0
+Names _ offset outcome = ⊥
 
--- What a call returned that judges the content of a section: whatever is judged of the rest, it is judged with the section as without it,
+-- What a call returned that validates the content of a section: whatever is validated of the rest, it is validated with the section as without it,
 -- or the section is refused.
-abbrev pub JudgesContent : Features → Progress → ℕ → Part → Result (Unit {0}) Error → Progress → Type 0
-JudgesContent features p id content (Ok x) q = (others : Progress → Judgement) → judge_content features p id content.bytes others ≡ others q
-JudgesContent features p id content (Err e) q =
-    ((others : Progress → Judgement) → Names e.kind e.offset (judge_content features p id content.bytes others)) × (e.offset ≤ content.position + length content.bytes)
+abbrev pub ValidatesContent : Features → Progress → ℕ → Part → Result (Unit {0}) Error → Progress → Type 0
+ValidatesContent features p id content (Ok x) q = (others : Progress → Outcome) → validate_content features p id content.bytes others ≡ others q
+ValidatesContent features p id content (Err e) q =
+    ((others : Progress → Outcome) → Names e.kind e.offset (validate_content features p id content.bytes others)) × (e.offset ≤ content.position + length content.bytes)
 
--- what a call returned that judges function types
-abbrev pub JudgesTypes : Features → List (FuncType ℕ) → ℕ → Result (Unit {0}) Error → Type 0
-JudgesTypes features types offset (Ok x) = types_fault features types ≡ None
-JudgesTypes features types offset (Err e) = (judgement : Judgement) × (types_fault features types ≡ Some judgement) × Names e.kind e.offset judgement × (e.offset ≡ offset)
+-- what a call returned that validates function types
+abbrev pub ValidatesTypes : Features → List (FuncType ℕ) → ℕ → Result (Unit {0}) Error → Type 0
+ValidatesTypes features types offset (Ok x) = types_fault features types ≡ None
+ValidatesTypes features types offset (Err e) = (outcome : Outcome) × (types_fault features types ≡ Some outcome) × Names e.kind e.offset outcome × (e.offset ≡ offset)
 
--- what a call returned that judges what stands before a reader
-abbrev pub Judges : Input → Result ModuleState Error → Judgement → Type 0
-Judges old (Ok state) judgement = (judgement ≡ Accepted (progress state)) × AllByRecursion (EndsBy (end old)) state.bodies.items
-Judges old (Err e) judgement = Names e.kind e.offset judgement × (e.offset ≤ end old)
+-- what a call returned that validates what stands before a reader
+abbrev pub Validates : Input → Result ModuleState Error → Outcome → Type 0
+Validates old (Ok state) outcome = (outcome ≡ Accepted (progress state)) × AllByRecursion (EndsBy (end old)) state.bodies.items
+Validates old (Err e) outcome = Names e.kind e.offset outcome × (e.offset ≤ end old)

@@ -10,6 +10,6 @@ use Rattle.wasmparser_validator.specs.declared.types.TypesRef.{TypesRef}
 abbrev pub shown : TypesRef → Sizes
 shown types = types.types.now
 
--- the exports that are still to come: none, since no section with exports reads yet
+-- the exports that are still to come: none, since a section with exports isn't supported
 abbrev pub exports_left : CoreExports → List (Bor (List ℕ) × EntityType)
 exports_left exports = []

@@ -1,11 +1,11 @@
-//! Judging function bodies.
+//! Validation function bodies.
 
 ghost use Rattle.std.specs.Prelude.{◌≡◌, ◌≤◌, ◌==◌, length};
 ghost use Rattle.wasm_core_base.specs.Features.{feature_set};
 ghost use Rattle.wasm_core_base.specs.declared.limits.Limit.TheVariants.{Locals};
 ghost use Rattle.wasmparser_parser.specs.declared.error.ErrorKind.TheVariants as kinds;
-ghost use Rattle.wasmparser_validator.specs.BodyJudging.{IsBodyJudgedUnder};
-ghost use Rattle.wasmparser_validator.specs.BodyReading.{JudgesBody, JudgesRun, end_judgement, judge_code, judge_runs, judge_body};
+ghost use Rattle.wasmparser_validator.specs.BodyValidation.{IsBodyValidatedUnder};
+ghost use Rattle.wasmparser_validator.specs.BodyReading.{ValidatesBody, ValidatesRun, end_outcome, validate_code, validate_runs, validate_body};
 
 use crate::gates::is_allowed;
 use wasm_core_base::features::WasmFeatures;
@@ -16,18 +16,18 @@ use wasmparser_parser::core_type_reader::read_val_type;
 use wasmparser_parser::core_types::FuncType;
 use wasmparser_parser::error::{Error, ErrorKind};
 
-/// Judges a body of a function of this type.
+/// Validates a body of a function of this type.
 pub fn validate_body(
     func_type: &FuncType,
     body: &FunctionBody<'_>,
     features: WasmFeatures,
 ) -> Result<(), Error>
-    ensures { IsBodyJudgedUnder (feature_set features) func_type.now body.now.bytes body.now.position result }
+    ensures { IsBodyValidatedUnder (feature_set features) func_type.now body.now.bytes body.now.position result }
 {
     let mut reader = body.get_binary_reader();
     reader.set_features(features);
     let params = func_type.params().len() as u64;
-    judge_body(
+    validate_locals_and_code(
         &mut reader,
         params,
         func_type.results().is_empty(),
@@ -57,9 +57,9 @@ fn many_locals(offset: u64) -> Error
     }
 }
 
-// Judges what stands at the end of a body: nothing may follow, and the results have to be there.
-fn judge_end(reader: &BinaryReader<'_>, gives_results: bool) -> Result<(), Error>
-    ensures { JudgesBody reader.now result (end_judgement gives_results reader.now.rest) }
+// Validates what stands at the end of a body: nothing may follow, and the results have to be there.
+fn validate_end(reader: &BinaryReader<'_>, gives_results: bool) -> Result<(), Error>
+    ensures { ValidatesBody reader.now result (end_outcome gives_results reader.now.rest) }
 {
     if reader.eof() && gives_results {
         Ok(())
@@ -68,17 +68,17 @@ fn judge_end(reader: &BinaryReader<'_>, gives_results: bool) -> Result<(), Error
     }
 }
 
-// Judges operators up to the end of a body. `gives_results`: whether the operands so far give the results.
+// Validates operators up to the end of a body. `gives_results`: whether the operands give the results.
 #[tactic(auto, using(crate::proofs::BodyLaws::code_loop))]
-fn judge_code(reader: &mut BinaryReader<'_>, gives_results: bool) -> Result<(), Error>
-    ensures { JudgesBody reader.old result (judge_code gives_results reader.old.rest) }
+fn validate_code(reader: &mut BinaryReader<'_>, gives_results: bool) -> Result<(), Error>
+    ensures { ValidatesBody reader.old result (validate_code gives_results reader.old.rest) }
 {
     let mut gives_results = gives_results;
     'operators: while !reader.eof() {
         let offset = reader.original_position();
         match reader.read_u8() {
             Ok(UNREACHABLE) => gives_results = true,
-            Ok(END) => return judge_end(reader, gives_results),
+            Ok(END) => return validate_end(reader, gives_results),
             Ok(_) => {
                 return Err(Error {
                     offset,
@@ -91,14 +91,14 @@ fn judge_code(reader: &mut BinaryReader<'_>, gives_results: bool) -> Result<(), 
     Err(broken(reader.original_position()))
 }
 
-// Judges one run of locals, behind so many locals. Answers how many there are with it.
-fn judge_run(
+// Validates one run of locals, after so many locals. Answers how many there are with it.
+fn validate_run(
     reader: &mut BinaryReader<'_>,
     locals: u64,
     features: WasmFeatures,
 ) -> Result<u64, Error>
     requires { locals ≤ 50000 }
-    ensures { JudgesRun (feature_set features) locals reader.old reader.new result }
+    ensures { ValidatesRun (feature_set features) locals reader.old reader.new result }
 {
     let offset = reader.original_position();
     let Ok(count) = reader.read_var_u32() else {
@@ -117,14 +117,14 @@ fn judge_run(
     Ok(locals)
 }
 
-// Judges the runs of locals and the operators of a body.
-fn judge_body(
+// Validates the runs of locals and the operators of a body.
+fn validate_locals_and_code(
     reader: &mut BinaryReader<'_>,
     params: u64,
     gives_results: bool,
     features: WasmFeatures,
 ) -> Result<(), Error>
-    ensures { JudgesBody reader.old result (judge_body (feature_set features) gives_results params reader.old.rest) }
+    ensures { ValidatesBody reader.old result (validate_body (feature_set features) gives_results params reader.old.rest) }
 {
     let offset = reader.original_position();
     let Ok(runs) = reader.read_var_u32() else {
@@ -135,7 +135,7 @@ fn judge_body(
     }
     let mut locals = params;
     for _ in 0..runs {
-        locals = judge_run(reader, locals, features)?;
+        locals = validate_run(reader, locals, features)?;
     }
-    judge_code(reader, gives_results)
+    validate_code(reader, gives_results)
 }

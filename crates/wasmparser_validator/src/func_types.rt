@@ -1,4 +1,4 @@
-//! Judging the function types of a type section.
+//! Validation the function types of a type section.
 
 ghost use Rattle.std.specs.Prelude.{◌≡◌, length};
 ghost use Rattle.std.specs.List.{list_all, list_any};
@@ -6,7 +6,7 @@ ghost use Rattle.wasm_core_base.specs.Features.{feature_set};
 ghost use Rattle.wasm_spec.specs.Gates.{is_allowed_func};
 ghost use Rattle.wasm_spec.specs.Limits.{Params, Results};
 ghost use Rattle.wasm_spec.specs.Validity.{is_past};
-ghost use Rattle.wasmparser_validator.specs.Sections.{JudgesTypes};
+ghost use Rattle.wasmparser_validator.specs.Sections.{ValidatesTypes};
 
 use crate::gates::is_allowed_func;
 use wasm_core_base::features::WasmFeatures;
@@ -44,14 +44,14 @@ fn are_allowed(types: &[FuncType], features: WasmFeatures) -> bool
     types.iter().all(|ty| is_allowed_func(features, ty))
 }
 
-/// Judges the function types of a type section: whether they keep the limits and are allowed. A refusal is told at
+/// Validates the function types of a type section: whether they keep the limits and are allowed. A refusal is told at
 /// this offset.
 pub fn check_func_types(
     types: &[FuncType],
     features: WasmFeatures,
     offset: u64,
 ) -> Result<(), Error>
-    ensures { JudgesTypes (feature_set features) types.now offset result }
+    ensures { ValidatesTypes (feature_set features) types.now offset result }
 {
     let kind = if has_many_params(types) {
         ErrorKind::Limit(Limit::Params)

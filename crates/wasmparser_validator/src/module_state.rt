@@ -1,4 +1,4 @@
-//! What a judge knows of a module while it reads its sections.
+//! What a validator knows of a module while it reads its sections.
 
 ghost use Rattle.std.specs.Prelude.{◌≡◌, ◌≤◌, ℕ, [], length, nat_lt, OnOk};
 ghost use Rattle.std.specs.List.{AllByRecursion, list_all, list_any};
@@ -8,7 +8,7 @@ ghost use Rattle.wasm_spec.specs.Features.{Features};
 ghost use Rattle.wasm_spec.specs.Limits.{BodySize};
 ghost use Rattle.wasm_spec.specs.Validity.{is_past};
 ghost use Rattle.wasmparser_parser.specs.Sections.{at_front};
-ghost use Rattle.wasmparser_validator.specs.Sections.{EndsBy, JudgesContent, at_first, progress};
+ghost use Rattle.wasmparser_validator.specs.Sections.{EndsBy, ValidatesContent, at_first, progress};
 
 use crate::func_types::check_func_types;
 use std::alloc::Global;
@@ -40,7 +40,7 @@ const FUNCTION_PLACE: u32 = 3;
 
 const CODE_PLACE: u32 = 12;
 
-/// What the sections so far have, and the place of the last one.
+/// What the sections that were met have, and the place of the last one.
 #[derive(Drop)]
 pub struct ModuleState<'a> {
     last: u32,
@@ -85,14 +85,14 @@ impl<'a> ModuleState<'a> {
         }
     }
 
-    /// Judges the next section.
+    /// Validates the next section.
     pub fn section(
         &mut self,
         alloc: Global,
         section: &RawSection<'a>,
         features: WasmFeatures,
     ) -> Result<(), Error>
-        ensures judged { JudgesContent (feature_set features) (progress self.old) section.now.id section.now.content result (progress self.new) }
+        ensures validated { ValidatesContent (feature_set features) (progress self.old) section.now.id section.now.content result (progress self.new) }
         ensures inside { OnOk result ((place : ℕ) → end (at_front section.now.content) ≤ place
             → AllByRecursion (EndsBy place) self.old.bodies.items → AllByRecursion (EndsBy place) self.new.bodies.items) }
     {
@@ -105,9 +105,9 @@ impl<'a> ModuleState<'a> {
         }
     }
 
-    // Custom, function and code sections are judged alike under all features.
+    // Custom, function and code sections are validated alike under all features.
     fn custom_section(&self, section: &RawSection<'a>) -> Result<(), Error>
-        ensures { (features : Features) → JudgesContent features (progress self.now) 0 section.now.content result (progress self.now) }
+        ensures { (features : Features) → ValidatesContent features (progress self.now) 0 section.now.content result (progress self.now) }
     {
         let custom = read_custom_section(section)?;
         if custom.name.len() as u64 > MAX_WASM_STRING_SIZE {
@@ -122,7 +122,7 @@ impl<'a> ModuleState<'a> {
         section: &RawSection<'a>,
         features: WasmFeatures,
     ) -> Result<(), Error>
-        ensures judged { JudgesContent (feature_set features) (progress self.old) 1 section.now.content result (progress self.new) }
+        ensures validated { ValidatesContent (feature_set features) (progress self.old) 1 section.now.content result (progress self.new) }
         ensures kept { self.new.bodies.items ≡ self.old.bodies.items }
     {
         let offset = section.position();
@@ -141,7 +141,7 @@ impl<'a> ModuleState<'a> {
     }
 
     fn function_section(&mut self, alloc: Global, section: &RawSection<'a>) -> Result<(), Error>
-        ensures judged { (features : Features) → JudgesContent features (progress self.old) 3 section.now.content result (progress self.new) }
+        ensures validated { (features : Features) → ValidatesContent features (progress self.old) 3 section.now.content result (progress self.new) }
         ensures kept { self.new.bodies.items ≡ self.old.bodies.items }
     {
         let offset = section.position();
@@ -162,7 +162,7 @@ impl<'a> ModuleState<'a> {
     }
 
     fn code_section(&mut self, alloc: Global, section: &RawSection<'a>) -> Result<(), Error>
-        ensures judged { (features : Features) → JudgesContent features (progress self.old) 10 section.now.content result (progress self.new) }
+        ensures validated { (features : Features) → ValidatesContent features (progress self.old) 10 section.now.content result (progress self.new) }
         ensures inside { OnOk result ((place : ℕ) → end (at_front section.now.content) ≤ place
             → AllByRecursion (EndsBy place) self.old.bodies.items → AllByRecursion (EndsBy place) self.new.bodies.items) }
     {

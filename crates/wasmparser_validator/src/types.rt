@@ -1,6 +1,6 @@
-//! What a judge shows of a valid module.
+//! What a validator shows of a valid module.
 
-// Only types and functions read yet: a module's other spaces are empty, and it has no exports.
+// Supported modules have types and functions alone: a module's other spaces are empty, and it has no exports.
 
 ghost use Rattle.std.specs.Prelude.{◌≡◌, length, IsSomeAnd};
 ghost use Rattle.std.specs.Iterator.{YieldsFirst, item_count};
@@ -137,7 +137,7 @@ impl<'a> TypesRef<'a> {
     }
 }
 
-/// What an export stands for. It has no case yet, so no value, and nothing to derive but these.
+/// What an export stands for. It has no case, so no value, and nothing to derive but these.
 #[derive(Clone, Copy)]
 pub enum EntityType {}
 

@@ -1,11 +1,11 @@
-//! Names of judges.
+//! Names of validates.
 
 ghost use Rattle.std.specs.Prelude.{◌≡◌};
 
 use std::marker::Model;
 
-/// The name of a judge, which tells what it made from what others made. The caller hands it in, and sees to
-/// it that no two judges have the same.
+/// The name of a validator, which tells what it made from what others made. The caller hands it in, and sees to
+/// it that no two validates have the same.
 #[derive(Clone, Copy, Debug, PartialEq, Eq, PartialOrd, Ord, Hash)]
 pub struct ValidatorId(usize);
 

@@ -1,15 +1,11 @@
-use Rattle.std.proofs.Common.{◌≡◌, ℕ, Bool, List, None, refl, sym, ◌∙◌}
+use Rattle.std.proofs.Common.{refl}
 use Rattle.std.specs.Str.{is_utf8, chars}
-use Rattle.wasm_core_read.specs.Laws.{IsNoModule}
 use Rattle.wasm_core_read.specs.ModuleReading.{content_of, frame_at, section_at, sections_at, sections_of, module_of}
 use Rattle.wasm_core_read.specs.PartReading.{body_at}
 use Rattle.wasm_core_read.specs.Reading.{byte_at, unsigned_at, bytes_at, name_at}
 use Rattle.wasm_core_read.specs.TypeReading.{items_at, list_at, val_type_at, signature_at, func_type_at, composite_type_at, sub_type_at, rec_group_at}
-use Rattle.wasm_core_read.proofs.ModuleForms.{fills_module}
+use Rattle.wasm_core_read.proofs.NoModule.{unread}
 use Rattle.wasm_core_read.proofs.laws.no_module.Goals as goal
-
-unread : (compact : Bool) (text : List ℕ) → module_of compact text ≡ None → IsNoModule compact text
-unread compact text e sections m = let some = sym ((fills_module compact).again text sections m) ∙ e in absurd cc
 
 pub returns : goal.returns
 unfolding byte_at unsigned_at bytes_at name_at items_at list_at val_type_at signature_at func_type_at composite_type_at sub_type_at rec_group_at body_at content_of frame_at section_at sections_at sections_of module_of is_utf8 chars lib.Utf8.encode
@@ -21,7 +17,7 @@ returns c = record {
   no_name = λ compact. unread compact _ refl;
   long_size = λ compact. unread compact _ refl;
   long_name = λ compact. unread compact _ refl;
-  no_text = λ compact. unread compact _ refl;
+  no_encoding = λ compact. unread compact _ refl;
   overlong = λ compact. unread compact _ refl;
   surrogate = λ compact. unread compact _ refl;
   past_the_last = λ compact. unread compact _ refl;
@@ -31,6 +27,6 @@ returns c = record {
   no_functions = λ compact. unread compact _ refl;
   body_too_many = λ compact. unread compact _ refl;
   long_count = λ compact. unread compact _ refl;
-  byte_behind = λ compact. unread compact _ refl;
+  byte_after = λ compact. unread compact _ refl;
   short_types = λ compact. unread compact _ refl;
 }

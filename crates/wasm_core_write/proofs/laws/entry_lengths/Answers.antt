@@ -1,4 +1,4 @@
-use Rattle.wasm_core_write.proofs.EntryLaws.{parts}
+use Rattle.wasm_core_write.proofs.RecGroupLaws.{parts}
 use Rattle.wasm_core_write.proofs.laws.entry_lengths.Goals as goal
 
 pub returns : goal.returns

@@ -2,7 +2,7 @@ use Rattle.std.proofs.Common.{◌≡◌, false, length}
 use Rattle.wasm_gen.specs.Device.{WritesOn}
 use Rattle.wasm_gen.proofs.check_inputs.check_inputs.Given as goal
 
--- each input so far has its outcome, the session judges the next one, and no write has failed
+-- each input that was met has its outcome, the session validates the next one, and no write has failed
 abbrev pub invariant-loop-place : goal.invariant-loop-place
 invariant-loop-place g l = record {
   ready : l.session.has_failed ≡ false;

@@ -3,13 +3,13 @@ use Rattle.std.specs.Io.KnownBytes.{Appends}
 use Rattle.wasm_gen.specs.Device.{WritesOn}
 use Rattle.wasm_gen.proofs.transfer.write_whole.Given as goal
 
--- a front of the text is written, and no write has failed
+-- a front of the bytes is written, and no write has failed
 abbrev pub invariant-loop-written : goal.invariant-loop-written
 invariant-loop-written g l = record {
-  within : l.written ≤ length l.text;
-  appended : Appends (g.W.Sink.contents l.initial.writer) (g.W.Sink.contents l.writer) (take l.written l.text);
+  within : l.written ≤ length l.bytes;
+  appended : Appends (g.W.Sink.contents l.initial.writer) (g.W.Sink.contents l.writer) (take l.written l.bytes);
   counted : WritesOn (g.W.Sink.faults l.initial.writer) (g.W.Sink.faults l.writer);
 }
 
 abbrev pub decreases-loop-written : goal.decreases-loop-written
-decreases-loop-written g l = length l.text - l.written
+decreases-loop-written g l = length l.bytes - l.written

@@ -1,6 +1,6 @@
 use Rattle.std.proofs.Common.{◌≡◌, ◌+◌, ◌<◌, length, map}
 use Rattle.wasm_core.specs.CoreTypes.{val_type}
-use Rattle.wasm_gen_writer.specs.Texts.{runs_from, runs_of}
+use Rattle.wasm_gen_writer.specs.Encodings.{runs_from, runs_of}
 use Rattle.wasm_gen_writer.proofs.runs.split_run.Given as goal
 
 abbrev pub invariant-loop-next : goal.invariant-loop-next

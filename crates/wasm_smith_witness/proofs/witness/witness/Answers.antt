@@ -1,6 +1,6 @@
 use Rattle.std.proofs.Common.{◌≡◌, ◌-◌, ◌^◌, ◌<◌, length, map, refl, arith}
 use Rattle.std.proofs.lemmas.List.{length-map}
-use Rattle.wasm_smith_types.specs.Config.{sanitized}
+use Rattle.wasm_smith_config.specs.Config.{sanitized}
 use Rattle.wasm_smith_witness.specs.Groups.{group_of}
 use Rattle.wasm_smith_witness.proofs.SpellLaws.{module_parts, seed_spells}
 use Rattle.wasm_smith_witness.proofs.witness.witness.Goals as goal

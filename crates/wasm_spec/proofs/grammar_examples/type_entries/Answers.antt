@@ -1,5 +1,5 @@
 use Rattle.std.proofs.Common.{[], ◌∷◌, inl, inr, arith, refl}
-use Rattle.wasm_spec.proofs.Texts.{small}
+use Rattle.wasm_spec.proofs.Encodings.{small}
 use Rattle.wasm_spec.proofs.grammar_examples.type_entries.Goals as goal
 
 pub returns : goal.returns

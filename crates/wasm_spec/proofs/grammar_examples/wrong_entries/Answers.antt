@@ -4,36 +4,36 @@ use Rattle.wasm_spec.specs.Constants.{ConstantOperator, I32Const, I64Const, F32C
 use Rattle.wasm_spec.specs.ModuleParts.{IsElementOf, IsDataOf}
 use Rattle.wasm_spec.specs.Syntax.{ElementMode, ActiveElement, PassiveElement, DeclaredElement, ElementItems, FunctionItems, ExpressionItems, DataMode, ActiveData, PassiveData}
 use Rattle.wasm_spec.specs.Types.{RefType}
-use Rattle.wasm_spec.proofs.WrongTexts.{heads, number_is}
+use Rattle.wasm_spec.proofs.WrongEncodings.{heads, number_is}
 use Rattle.wasm_spec.proofs.grammar_examples.wrong_entries.Goals as goal
 
-begins : (code : ℕ) (text after rest others : List ℕ) → text ≡ code ∷ after → 0x01 ∷ rest ≡ text ++ others → 1 < code → ⊥
-begins code text after rest others e f large = omega (arith, large, heads 0x01 code rest (after ++ others) (f ∙ ap (λ (l : List ℕ). l ++ others) e))
+begins : (code : ℕ) (bytes after rest others : List ℕ) → bytes ≡ code ∷ after → 0x01 ∷ rest ≡ bytes ++ others → 1 < code → ⊥
+begins code bytes after rest others e f large = omega (arith, large, heads 0x01 code rest (after ++ others) (f ∙ ap (λ (l : List ℕ). l ++ others) e))
 
 -- no operator begins with this byte
-no_operator : (text rest : List ℕ) (operator : ConstantOperator) → IsConstantOperator text operator → (others : List ℕ) → 0x01 ∷ rest ≡ text ++ others → ⊥
-no_operator text rest (I32Const n) h others e = begins 0x41 text h.0 rest others h.1 e (omega arith)
-no_operator text rest (I64Const n) h others e = begins 0x42 text h.0 rest others h.1 e (omega arith)
-no_operator text rest (F32Const bits) h others e = begins 0x43 text h.0 rest others h.1 e (omega arith)
-no_operator text rest (F64Const bits) h others e = begins 0x44 text h.0 rest others h.1 e (omega arith)
-no_operator text rest (V128Const bytes) h others e = begins 0xfd text h.0 rest others h.1 e (omega arith)
-no_operator text rest (RefNull heap) h others e = begins 0xd0 text h.0 rest others h.1 e (omega arith)
-no_operator text rest (RefFunc function) h others e = begins 0xd2 text h.0 rest others h.1 e (omega arith)
-no_operator text rest (GlobalGet global) h others e = begins 0x23 text h.0 rest others h.1 e (omega arith)
-no_operator text rest I32Add h others e = begins 0x6a text [] rest others h e (omega arith)
-no_operator text rest I32Sub h others e = begins 0x6b text [] rest others h e (omega arith)
-no_operator text rest I32Mul h others e = begins 0x6c text [] rest others h e (omega arith)
-no_operator text rest I64Add h others e = begins 0x7c text [] rest others h e (omega arith)
-no_operator text rest I64Sub h others e = begins 0x7d text [] rest others h e (omega arith)
-no_operator text rest I64Mul h others e = begins 0x7e text [] rest others h e (omega arith)
-no_operator text rest (StructNew type) h others e = begins 0xfb text h.0 rest others h.1 e (omega arith)
-no_operator text rest (StructNewDefault type) h others e = begins 0xfb text h.0 rest others h.1 e (omega arith)
-no_operator text rest (ArrayNew type) h others e = begins 0xfb text h.0 rest others h.1 e (omega arith)
-no_operator text rest (ArrayNewDefault type) h others e = begins 0xfb text h.0 rest others h.1 e (omega arith)
-no_operator text rest (ArrayNewFixed type count) h others e = begins 0xfb text h.0 rest others h.1 e (omega arith)
-no_operator text rest AnyConvertExtern h others e = begins 0xfb text h.0 rest others h.1 e (omega arith)
-no_operator text rest ExternConvertAny h others e = begins 0xfb text h.0 rest others h.1 e (omega arith)
-no_operator text rest RefI31 h others e = begins 0xfb text h.0 rest others h.1 e (omega arith)
+no_operator : (encoding rest : List ℕ) (operator : ConstantOperator) → IsConstantOperator encoding operator → (others : List ℕ) → 0x01 ∷ rest ≡ encoding ++ others → ⊥
+no_operator encoding rest (I32Const n) h others e = begins 0x41 encoding h.0 rest others h.1 e (omega arith)
+no_operator encoding rest (I64Const n) h others e = begins 0x42 encoding h.0 rest others h.1 e (omega arith)
+no_operator encoding rest (F32Const bits) h others e = begins 0x43 encoding h.0 rest others h.1 e (omega arith)
+no_operator encoding rest (F64Const bits) h others e = begins 0x44 encoding h.0 rest others h.1 e (omega arith)
+no_operator encoding rest (V128Const bytes) h others e = begins 0xfd encoding h.0 rest others h.1 e (omega arith)
+no_operator encoding rest (RefNull heap) h others e = begins 0xd0 encoding h.0 rest others h.1 e (omega arith)
+no_operator encoding rest (RefFunc function) h others e = begins 0xd2 encoding h.0 rest others h.1 e (omega arith)
+no_operator encoding rest (GlobalGet global) h others e = begins 0x23 encoding h.0 rest others h.1 e (omega arith)
+no_operator encoding rest I32Add h others e = begins 0x6a encoding [] rest others h e (omega arith)
+no_operator encoding rest I32Sub h others e = begins 0x6b encoding [] rest others h e (omega arith)
+no_operator encoding rest I32Mul h others e = begins 0x6c encoding [] rest others h e (omega arith)
+no_operator encoding rest I64Add h others e = begins 0x7c encoding [] rest others h e (omega arith)
+no_operator encoding rest I64Sub h others e = begins 0x7d encoding [] rest others h e (omega arith)
+no_operator encoding rest I64Mul h others e = begins 0x7e encoding [] rest others h e (omega arith)
+no_operator encoding rest (StructNew type) h others e = begins 0xfb encoding h.0 rest others h.1 e (omega arith)
+no_operator encoding rest (StructNewDefault type) h others e = begins 0xfb encoding h.0 rest others h.1 e (omega arith)
+no_operator encoding rest (ArrayNew type) h others e = begins 0xfb encoding h.0 rest others h.1 e (omega arith)
+no_operator encoding rest (ArrayNewDefault type) h others e = begins 0xfb encoding h.0 rest others h.1 e (omega arith)
+no_operator encoding rest (ArrayNewFixed type count) h others e = begins 0xfb encoding h.0 rest others h.1 e (omega arith)
+no_operator encoding rest AnyConvertExtern h others e = begins 0xfb encoding h.0 rest others h.1 e (omega arith)
+no_operator encoding rest ExternConvertAny h others e = begins 0xfb encoding h.0 rest others h.1 e (omega arith)
+no_operator encoding rest RefI31 h others e = begins 0xfb encoding h.0 rest others h.1 e (omega arith)
 
 no_expression : (rest : List ℕ) (operators : ConstantExpression) → ¬ (IsConstantExpression (0x01 ∷ rest) operators)
 no_expression rest [] h = omega (arith, heads 0x01 end_code rest [] (h.1 ∙ ap (λ (l : List ℕ). l ++ (end_code ∷ [])) h.2))
@@ -66,5 +66,5 @@ returns c = record {
   no_end = λ operators h. no_end h.0 h.1;
   element_form_8 = λ rest segment h. no_element rest segment.mode segment.items h;
   data_form_3 = λ rest segment h. no_data rest segment.mode segment.contents h;
-  other_type = λ text offset expressions h. let f = ap (λ (t : RefType ℕ). t.heap_type) h.0 in absurd cc;
+  other_type = λ bytes offset expressions h. let f = ap (λ (t : RefType ℕ). t.heap_type) h.0 in absurd cc;
 }

@@ -5,33 +5,33 @@ use Rattle.wasm_spec.specs.ModuleParts.{IsImport}
 use Rattle.wasm_spec.specs.Syntax.{ImportEntry, Import, CompactItems, CompactNames, Section, Custom, TypeSection, ImportSection, FunctionSection, TableSection, MemorySection, TagSection, GlobalSection, ExportSection, StartSection, ElementSection, DataCountSection, CodeSection, DataSection}
 use Rattle.wasm_spec.specs.TypeGrammar.{kind_code, IsExternalType}
 use Rattle.wasm_spec.specs.Types.{ExternalType, kind_of}
-use Rattle.wasm_spec.proofs.WrongTexts.{heads, tails, joined, number_is, behind_name, behind_empty, behind_padded, small_kind}
+use Rattle.wasm_spec.proofs.WrongEncodings.{heads, tails, joined, number_is, after_name, after_empty, after_padded, small_kind}
 use Rattle.wasm_spec.proofs.grammar_examples.wrong_imports.Goals as goal
 
 -- what begins with such a byte is no external type, whatever follows
-no_kind : (text after rest : List ℕ) (b : ℕ) (type : ExternalType ℕ) → 5 ≤ b → text ++ after ≡ b ∷ rest → ¬ (IsExternalType text type)
-no_kind text after rest b type large e h =
+no_kind : (bytes after rest : List ℕ) (b : ℕ) (type : ExternalType ℕ) → 5 ≤ b → bytes ++ after ≡ b ∷ rest → ¬ (IsExternalType bytes type)
+no_kind bytes after rest b type large e h =
     omega (arith, large, small_kind (kind_of type), heads b (kind_code (kind_of type)) rest (h.0 ++ after) (sym e ∙ ap (λ (l : List ℕ). l ++ after) h.1))
 
--- without compact imports, whatever stands behind an empty name is a kind
-no_group : (b : ℕ) → 5 ≤ b → (rest text after : List ℕ) (entry : ImportEntry) → 0x01 ∷ 0x6d ∷ 0x00 ∷ b ∷ rest ≡ text ++ after → ¬ (IsImport false text entry)
-no_group b large rest text after (Import origin name type) e h =
-    let p = behind_name h.0 (h.1 ++ after) (0x00 ∷ b ∷ rest) origin 0x6d h.3 (joined text after h.0 h.1 _ e h.2) in
-    let q = behind_empty h.4.0 (h.4.1 ++ after) (b ∷ rest) name h.4.3 (joined h.1 after h.4.0 h.4.1 _ (sym p) h.4.2) in
+-- without compact imports, whatever stands after an empty name is a kind
+no_group : (b : ℕ) → 5 ≤ b → (rest bytes after : List ℕ) (entry : ImportEntry) → 0x01 ∷ 0x6d ∷ 0x00 ∷ b ∷ rest ≡ bytes ++ after → ¬ (IsImport false bytes entry)
+no_group b large rest bytes after (Import origin name type) e h =
+    let p = after_name h.0 (h.1 ++ after) (0x00 ∷ b ∷ rest) origin 0x6d h.3 (joined bytes after h.0 h.1 _ e h.2) in
+    let q = after_empty h.4.0 (h.4.1 ++ after) (b ∷ rest) name h.4.3 (joined h.1 after h.4.0 h.4.1 _ (sym p) h.4.2) in
     no_kind h.4.1 after rest b type large q h.4.4
-no_group b large rest text after (CompactItems origin items) e h = let f = h.0 in absurd cc
-no_group b large rest text after (CompactNames origin type names) e h = let f = h.0 in absurd cc
+no_group b large rest bytes after (CompactItems origin items) e h = let f = h.0 in absurd cc
+no_group b large rest bytes after (CompactNames origin type names) e h = let f = h.0 in absurd cc
 
 no_padded : (rest : List ℕ) (entry : ImportEntry) → ¬ (IsImport true (0x01 ∷ 0x6d ∷ 0x80 ∷ 0x00 ∷ 0x7f ∷ rest) entry)
 no_padded rest (Import origin name type) h =
-    let p = behind_name h.0 h.1 (0x80 ∷ 0x00 ∷ 0x7f ∷ rest) origin 0x6d h.3 h.2 in
-    let q = behind_padded h.4.0 h.4.1 (0x7f ∷ rest) name h.4.3 (sym p ∙ h.4.2) in
+    let p = after_name h.0 h.1 (0x80 ∷ 0x00 ∷ 0x7f ∷ rest) origin 0x6d h.3 h.2 in
+    let q = after_padded h.4.0 h.4.1 (0x7f ∷ rest) name h.4.3 (sym p ∙ h.4.2) in
     no_kind h.4.1 [] rest 0x7f type (omega arith) (append-nil h.4.1 ∙ q) h.4.4
 no_padded rest (CompactItems origin items) h =
-    let p = behind_name h.1.0 h.1.1 (0x80 ∷ 0x00 ∷ 0x7f ∷ rest) origin 0x6d h.1.3 h.1.2 in
+    let p = after_name h.1.0 h.1.1 (0x80 ∷ 0x00 ∷ 0x7f ∷ rest) origin 0x6d h.1.3 h.1.2 in
     omega (arith, heads 0x80 0x00 _ h.1.4.0 (sym p ∙ h.1.4.1))
 no_padded rest (CompactNames origin type names) h =
-    let p = behind_name h.1.0 h.1.1 (0x80 ∷ 0x00 ∷ 0x7f ∷ rest) origin 0x6d h.1.3 h.1.2 in
+    let p = after_name h.1.0 h.1.1 (0x80 ∷ 0x00 ∷ 0x7f ∷ rest) origin 0x6d h.1.3 h.1.2 in
     omega (arith, heads 0x80 0x00 _ h.1.4.0 (sym p ∙ h.1.4.1))
 
 -- a section of one import that begins like a group
@@ -63,8 +63,8 @@ no_sections rest body [] e h = let f = e ∙ h in absurd cc
 no_sections rest body (section ∷ sections) e h =
     let front = e ∙ h.2 ∙ ap (λ (l : List ℕ). l ++ h.1) h.3.1 in
     let framed = h.3.2 in
-    let behind = joined h.3.0 h.1 framed.0 framed.1 _ (tails 0x02 (section_id section) _ (h.3.0 ++ h.1) front) framed.2 in
-    let n = number_is framed.0 (framed.1 ++ h.1) (0x01 ∷ 0x01 ∷ 0x6d ∷ 0x00 ∷ 0x7f ∷ rest) 0x0b _ framed.3 (omega arith) behind in
+    let after = joined h.3.0 h.1 framed.0 framed.1 _ (tails 0x02 (section_id section) _ (h.3.0 ++ h.1) front) framed.2 in
+    let n = number_is framed.0 (framed.1 ++ h.1) (0x01 ∷ 0x01 ∷ 0x6d ∷ 0x00 ∷ 0x7f ∷ rest) 0x0b _ framed.3 (omega arith) after in
     no_content section rest framed.1 h.1 (heads 0x02 (section_id section) _ (h.3.0 ++ h.1) front) (sym n.1) framed.4
 
 pub returns : goal.returns

@@ -3,7 +3,7 @@ use Rattle.std.proofs.lemmas.Int.{ints}
 use Rattle.wasm_spec.specs.TypeGrammar.{IsHeapIndex, IsHeapType, IsValType, IsTableType, limits_flags}
 use Rattle.wasm_spec.specs.Types.{HeapType, Abstract, Concrete, ValType, I32, I64, F32, F64, V128, Ref, TableType}
 use Rattle.wasm_spec.proofs.TypeBytes.{small_flags}
-use Rattle.wasm_spec.proofs.WrongTexts.{heads, tails, behind_reference, table_flags}
+use Rattle.wasm_spec.proofs.WrongEncodings.{heads, tails, after_reference, table_flags}
 use Rattle.wasm_spec.proofs.grammar_examples.wrong_types.Goals as goal
 
 no_heap : (heap : HeapType ℕ) → ¬ (IsHeapType (0xf0 ∷ 0x7f ∷ []) heap)
@@ -25,11 +25,11 @@ no_index : (index : ℕ) → ¬ (IsHeapIndex (0x7f ∷ []) index)
 no_index index (inl h) = omega (arith, h.0)
 no_index index (inr h) = omega (arith, ints, h.3)
 
--- the flags of a table behind 70
+-- the flags of a table after 70
 flags_of : (rest : List ℕ) (b : ℕ) (type : TableType ℕ) → IsTableType (0x70 ∷ b ∷ rest) type
     → (limits_flags type.limits ≡ b) × (type.limits.shared ≡ false) × (is_some type.limits.page_size_log2 ≡ false)
 flags_of rest b type h =
-    let p = behind_reference type.element_type.nullable h.0 h.1 (b ∷ rest) type.element_type.heap_type h.3 h.2 in
+    let p = after_reference type.element_type.nullable h.0 h.1 (b ∷ rest) type.element_type.heap_type h.3 h.2 in
     (heads _ b _ rest (sym h.4.0.1 ∙ p), h.4.1, h.4.2)
 
 pub returns : goal.returns

@@ -2,7 +2,7 @@ use Rattle.std.proofs.Common.{◌≡◌, ℕ, List, [], ◌∷◌, drop, refl, a
 use Rattle.wasm_spec.specs.Bodies.{Context, State, Code, done, plain, flat, Judged, IsExactly, at_start}
 use Rattle.wasm_spec.specs.Operators.{Operator, End}
 use Rattle.wasm_spec.specs.Types.{ValType, I32}
-use Rattle.wasm_spec.proofs.Texts.{small, no_body, unreachable_body}
+use Rattle.wasm_spec.proofs.Encodings.{small, no_body, unreachable_body}
 use Rattle.wasm_spec.proofs.laws.bodies.Goals as goal
 
 -- code ends with something
@@ -20,8 +20,8 @@ pub returns-clause-empty : goal.returns-clause-empty
 returns-clause-empty c = λ cx. record {
   runs = [];
   operators = End ∷ [];
-  locals_text = 0x00 ∷ [];
-  code_text = 0x0b ∷ [];
+  locals_encoding = 0x00 ∷ [];
+  code_encoding = 0x0b ∷ [];
   begins = refl;
   locals = record { declared = (0x00 ∷ [], [], refl, small 0 (omega arith), refl); allowed = tt; within = λ h. omega (arith, h) };
   spelled = (0x0b ∷ [], [], refl, refl, refl);
@@ -35,8 +35,8 @@ pub returns-clause-locals : goal.returns-clause-locals
 returns-clause-locals c = λ cx. record {
   runs = record { count = 2; type = I32 } ∷ [];
   operators = End ∷ [];
-  locals_text = 0x01 ∷ 0x02 ∷ 0x7f ∷ [];
-  code_text = 0x0b ∷ [];
+  locals_encoding = 0x01 ∷ 0x02 ∷ 0x7f ∷ [];
+  code_encoding = 0x0b ∷ [];
   begins = refl;
   locals = record {
     declared = (
@@ -60,4 +60,4 @@ pub returns-clause-nothing : goal.returns-clause-nothing
 returns-clause-nothing c = no_body
 
 pub returns-clause-many_locals : goal.returns-clause-many_locals
-returns-clause-many_locals c = λ cx type text e h. h.within (omega (arith, e))
+returns-clause-many_locals c = λ cx type bytes e h. h.within (omega (arith, e))

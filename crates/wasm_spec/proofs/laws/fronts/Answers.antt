@@ -1,7 +1,7 @@
 use Rattle.std.proofs.Common.{[], ◌∷◌, inr, refl, arith}
 use Rattle.wasm_spec.specs.Features.{CompactImports, has}
 use Rattle.wasm_spec.specs.Syntax.{FunctionSection}
-use Rattle.wasm_spec.proofs.Texts.{small, function_section}
+use Rattle.wasm_spec.proofs.Encodings.{small, function_section}
 use Rattle.wasm_spec.proofs.laws.fronts.Goals as goal
 
 pub returns : goal.returns
@@ -19,8 +19,8 @@ returns c = record {
       1000001,
       omega arith,
       record {
-        size_text = 0x03 ∷ [];
-        count_text = 0xc1 ∷ 0x84 ∷ 0x3d ∷ [];
+        size_encoding = 0x03 ∷ [];
+        count_encoding = 0xc1 ∷ 0x84 ∷ 0x3d ∷ [];
         entries = [];
         rest = rest;
         begins = refl;

@@ -40,6 +40,7 @@ within _ a b contents e f = refl
 
 pub returns-clause-valid : goal.returns-clause-valid
 returns-clause-valid c = λ features a b contents e f. record {
+  supported = refl;
   fine = record { within_limits = λ limit. within limit a b contents e f; rules = (refl, (refl, tt)) };
   bodies = λ i h. absurd (omega (arith, h));
 }

@@ -5,8 +5,8 @@ use Rattle.wasm_spec.specs.Features.{Features}
 use Rattle.wasm_spec.specs.Limits.{Limit, Types, Groups, Imports, Functions, Globals, Tags, Exports, Tables, Memories, ElementSegments, DataSegments, SegmentEntries, Params, Results, Fields, Locals, BodySize, Name, TypeSize, Depth, Length}
 use Rattle.wasm_spec.specs.Syntax.{Section, TypeSection, FunctionSection, CodeSection}
 use Rattle.wasm_spec.specs.Types.{FuncComposite, Single}
-use Rattle.wasm_spec.specs.Validity.{is_passed, BodyAt, IsJudgedBody}
-use Rattle.wasm_spec.proofs.Texts.{no_body, unreachable_body}
+use Rattle.wasm_spec.specs.Validity.{is_passed, BodyAt, IsTypedBody}
+use Rattle.wasm_spec.proofs.Encodings.{no_body, unreachable_body}
 use Rattle.wasm_spec.proofs.laws.one_function.Goals as goal
 
 abbrev small : List Section
@@ -36,7 +36,7 @@ within TypeSize = refl
 within Depth = refl
 within Length = refl
 
-first : (features : Features) → BodyAt (IsJudgedBody features) small 0
+first : (features : Features) → BodyAt (IsTypedBody features) small 0
 first features = record {
   index = 0;
   type = record { params = []; results = [] };
@@ -47,13 +47,13 @@ first features = record {
   holds = λ is_below. unreachable_body (record { features = features; is_below = is_below }) (record { params = []; results = [] }) (omega arith);
 }
 
-each : (features : Features) (place : ℕ) → place < 1 → BodyAt (IsJudgedBody features) small place
+each : (features : Features) (place : ℕ) → place < 1 → BodyAt (IsTypedBody features) small place
 each features zero h = first features
 each features (suc place) h = absurd (omega (arith, h))
 
 pub returns : goal.returns
 returns c = record {
-  valid = λ features. record { fine = record { within_limits = within; rules = (refl, (refl, (refl, tt))) }; bodies = each features };
+  valid = λ features. record { supported = refl; fine = record { within_limits = within; rules = (refl, (refl, (refl, tt))) }; bodies = each features };
   no_type = λ features index body v. let f = v.fine.rules.0 in absurd cc;
   no_body = λ features groups index v.
       let b = v.bodies 0 (omega arith) in

@@ -8,6 +8,6 @@ returns c = record {
   late_types = λ groups indexes h. omega (arith, h.1.0);
   late_functions = λ indexes bodies h. omega (arith, h.1.0);
   twice = λ name contents a b h. omega (arith, h.1.1.0);
-  no_body = λ compact text indexes index m. omega (arith, m.agreeing);
-  no_function = λ compact text body m. omega (arith, m.agreeing);
+  no_body = λ compact bytes indexes index m. omega (arith, m.agreeing);
+  no_function = λ compact bytes body m. omega (arith, m.agreeing);
 }

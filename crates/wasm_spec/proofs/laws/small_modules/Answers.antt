@@ -6,15 +6,15 @@ use Rattle.wasm_spec.specs.ModuleParts.{IsBody}
 use Rattle.wasm_spec.specs.Syntax.{Custom, TypeSection, CodeSection}
 use Rattle.wasm_spec.specs.TypeGrammar.{IsValType, IsRecGroup}
 use Rattle.wasm_spec.specs.Types.{FuncComposite, RecGroup, Single}
-use Rattle.wasm_spec.proofs.Texts.{small, section, none, one, function_section}
+use Rattle.wasm_spec.proofs.Encodings.{small, section, none, one, function_section}
 use Rattle.wasm_spec.proofs.laws.small_modules.Goals as goal
 
--- a custom section, from the texts of its size and of its name's length
+-- a custom section, from the encodings of its size and of its name's length
 custom : (compact : Bool) (size count name contents : List ℕ) → IsU32 size (length (count ++ name ++ contents)) → IsU32 count (length name)
     → AreBytes name → IsUtf8 name → AreBytes contents → IsSection compact (0x00 ∷ (size ++ (count ++ name ++ contents))) (Custom name contents)
-custom compact size count name contents framed counted bytes text others =
+custom compact size count name contents framed counted bytes encoding others =
     section compact size (count ++ name ++ contents) (Custom name contents) framed
-    (count ++ name, contents, refl, ((count, name, refl, counted, (bytes, refl)), text), (others, refl))
+    (count ++ name, contents, refl, ((count, name, refl, counted, (bytes, refl)), encoding), (others, refl))
 
 empty : (compact : Bool) → IsSection compact (0x00 ∷ 0x01 ∷ 0x00 ∷ []) (Custom [] [])
 empty compact = custom compact (0x01 ∷ []) (0x00 ∷ []) [] [] (small 1 (omega arith)) (small 0 (omega arith)) tt ([], (refl, refl)) tt

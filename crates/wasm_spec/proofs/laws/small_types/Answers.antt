@@ -2,7 +2,7 @@ use Rattle.std.proofs.Common.{true, List, [], ◌∷◌, map, inr, refl, arith}
 use Rattle.wasm_spec.specs.Bytes.{IsItems}
 use Rattle.wasm_spec.specs.TypeGrammar.{heap_code, IsValType}
 use Rattle.wasm_spec.specs.Types.{AbstractHeapType, NoCont, NoExn, NoFunc, NoExtern, None, Func, Extern, Any, Eq, I31, Struct, Array, Exn, Cont, Abstract, Ref}
-use Rattle.wasm_spec.proofs.Texts.{small}
+use Rattle.wasm_spec.proofs.Encodings.{small}
 use Rattle.wasm_spec.proofs.laws.small_types.Goals as goal
 
 -- each byte is a nullable reference

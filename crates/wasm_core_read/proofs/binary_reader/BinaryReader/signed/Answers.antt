@@ -1,6 +1,6 @@
 use Rattle.std.proofs.Common.{arith}
-use Rattle.wasm_core_read.proofs.FrontLaws.{behind_signed}
+use Rattle.wasm_core_read.proofs.FrontLaws.{after_signed}
 use Rattle.wasm_core_read.proofs.binary_reader.BinaryReader.signed.Goals as goal
 
 pub invariant_of-self : goal.invariant_of-self
-invariant_of-self c = (omega (arith, c.in-Some.ensures.shorter, c.self.invariant.0), behind_signed c.args.bits _ _ _ c.self.invariant.1 c.in-Some.ensures.read)
+invariant_of-self c = (omega (arith, c.in-Some.ensures.shorter, c.self.invariant.0), after_signed c.args.bits _ _ _ c.self.invariant.1 c.in-Some.ensures.read)

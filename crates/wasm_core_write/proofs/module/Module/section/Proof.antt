@@ -1,5 +1,5 @@
 -- `section` lends the module to `push`, and hands on the reference itself, or lets it rest where it was.
-use Rattle.std.proofs.Common.{◌≡◌, ℕ, ◌^◌, ◌≤◌, List, [], ◌∷◌, ◌++◌, refl, sym, subst, lit<, MutBor}
+use Rattle.std.proofs.Common.{◌≡◌, ℕ, ◌+◌, ◌^◌, ◌<◌, ◌≤◌, List, [], ◌∷◌, ◌++◌, length, refl, sym, subst, lit<, MutBor}
 use Rattle.std.proofs.raw_atomic.Walks.{proved_at}
 use mathlib.Core.Logic.{◌↔◌}
 use base.Fraction.{full_share}
@@ -36,13 +36,12 @@ use borrow.Follows.Kept.{follows_itself}
 use Rattle.std.specs.Prelude.{Ok, Err, IfOk, IfErr}
 use Rattle.std.specs.contracts.result.Result as RS
 use Rattle.std.proofs.VecSteps.Shapes.{after, head, arm_body}
-use Rattle.std.proofs.mem.Facts.{says_three}
 use Rattle.std.proofs.ResultValues.{ok_of, err_of}
 use Rattle.wasm_core_write.specs.declared.encode_error.EncodeError.TheVariants as EncodeError
 use Rattle.wasm_core_write.specs.contracts.encode_error.EncodeError.{the_row as error_row}
 use Rattle.wasm_core_write.proofs.encode_error.EncodeError.TheLaws.{lowered}
 use Rattle.wasm_core_write.specs.contracts.module.Module.{the_row as R}
-use Rattle.wasm_core_write.proofs.Chains.{Done, done_row, refused, good, good_refused, same_error, by_result}
+use Rattle.wasm_core_write.proofs.Chains.{Done, done_row, refused, good, good_refused, same_error, by_result, says, four_facts}
 use Rattle.wasm_core_write.specs.contracts.module.Module.section as f
 use Rattle.wasm_core_write.proofs.module.Module.section.Statement.{statement}
 use Rattle.wasm_core_write.proofs.module.Module.section.Code as code
@@ -62,7 +61,8 @@ section_spec 𝓤 𝓛 𝓜 𝓡 wired S L sg sd eg ed sections encodes =
     (f.Key.name args) fn (code.unfolded 𝓤 𝓛.H 𝓜 𝓡 wired (S, tt) sd ed) (λ y are.
     let κ = y.0.0.0 in let q = y.0.1.0 in let κ₁ = y.0.0.1.0 in let q₁ = y.0.1.1.0 in let κ₂ = y.0.0.1.1.0 in let q₂ = y.0.1.1.1.0 in
     let r = y.0.3.0 in let x = y.0.3.1.0 in let b = r.ref_ptr.0 in let o = r.ref_ptr.1 in
-    let next : R.Denot = r.now ++ sg.number x.now ∷ eg.text x.now in let IsFull : Type 0 = 2 ^ 32 ≤ eg.longest x.now in
+    let next : List ℕ = r.now.bytes ++ sg.number x.now ∷ eg.encoding x.now in let IsFull : Type 0 = 2 ^ 32 ≤ eg.longest x.now in
+    let NoRoom : Type 0 = r.now.capacity < length r.now.bytes + 1 + length (eg.encoding x.now) in
     let X : RattleType = ShrRef (named 1) κ₁ P in let xv : Val = vptr x.ref_ptr.0 x.ref_ptr.1 in let vs : List Val = vptr b o ∷ [] in
     let others = ‵ (flft κ₁ q₁) ⊛ ‵ (flft κ₂ q₂) ⊛ ‵ ftrue in
     let Ref = λ (κ' : List ℕ) (s : MutBor R.Denot) (us : List Val). (MutRef (named 0) κ' R).own_val s us in
@@ -87,16 +87,17 @@ section_spec 𝓤 𝓛 𝓜 𝓡 wired S L sg sd eg ed sections encodes =
     (and_then ! (get ! refl) (and_then ! (get ! refl) (no_more !))) (λ v.
     use1 𝓛 (later (some (λ (u : Done). ((‵ (flft (α ∷ []) full_share) ⊛ others) ⊛ ‵ (done_row.own_val u (v ∷ []))) ⊛
     some (λ (ws : R.Denot × (Unit {0} × Unit {0})). ‵ (lasts (g.ended S sg sd eg ed) z.0.0 z.0.3 ws) ⊛
-    raw (fact 𝓤 (IfOk u (λ _. ws.0 ≡ next))) ⊛ raw (fact 𝓤 (IfErr u (λ _. ws.0 ≡ r.now))) ⊛ raw (fact 𝓤 ((u ≡ Err EncodeError.TooLong) ↔ IsFull)))))) (id⊢ 𝓤 _) $
+    raw (fact 𝓤 (IfOk u (λ _. ws.0.bytes ≡ next))) ⊛ raw (fact 𝓤 (IfErr u (λ _. ws.0 ≡ r.now))) ⊛ raw (fact 𝓤 (IfErr u (λ e. e ≡ EncodeError.Memory → NoRoom))) ⊛
+    raw (fact 𝓤 ((u ≡ Err EncodeError.TooLong) ↔ IsFull)))))) (id⊢ 𝓤 _) $
     await ! tt $ pick ! (λ u. split ! $ split ! $ split ! $ lft_end ! tt $
-    move ! (3 ∷ []) $ pick ! (λ ws. split ! $ move ! (1 ∷ []) $ split ! $ heard ! _ (λ added. split ! $ heard ! _ (λ kept. heard ! _ (λ long. fsplit ! $ fsplit ! $
+    move ! (3 ∷ []) $ pick ! (λ ws. split ! $ move ! (1 ∷ []) $ split ! $ heard ! _ (λ added. split ! $ heard ! _ (λ kept. split ! $ heard ! _ (λ room. heard ! _ (λ long. fsplit ! $ fsplit ! $
     -- [the loan's last value; its borrow; nothing; α is over; nothing; the answer; what the lender keeps]
     move ! (3 ∷ 6 ∷ 0 ∷ []) $ let r' = record r { now = ws.0 } in use3 𝓛 (later (‵ (Ref κ r' vs) ⊛ ‵ (flft κ q)))
     (comes_back 𝓛 R (named 0) κ (α ∷ []) q r.ghost_name b o δ r.now ws.0) $ await ! tt $ split ! $ move ! (5 ∷ []) $
     -- [the answer; the reference; the token]
     let En : Env 𝓤 𝓛.H = env fn.locals l in let fork : Body = head (after 2 fn.body) in let last : Body = after 3 fn.body in
     let Then : After 𝓤 𝓛.H = any_q (after_seq 𝓤 𝓛.H (Wp 𝓤 𝓛.H 𝓣.C 𝓣.Λ En last (at_return 𝓤 𝓛.H En Post)) (at_return 𝓤 𝓛.H En Post)) in
-    by_result ! (λ t. (IfOk t (λ _. ws.0 ≡ next)) × (IfErr t (λ _. ws.0 ≡ r.now)) × ((t ≡ Err EncodeError.TooLong) ↔ IsFull)) u (added, kept, long) v
+    by_result ! (λ t. (IfOk t (λ _. ws.0.bytes ≡ next)) × (IfErr t (λ _. ws.0 ≡ r.now)) × (IfErr t (λ e. e ≡ EncodeError.Memory → NoRoom)) × ((t ≡ Err EncodeError.TooLong) ↔ IsFull)) u (added, kept, room, long) v
     (λ ok is e. lands_as ! e refl (tt, (record { fits = lit< tt }, (tt, tt))) $
     first ! $ switches_on ! (get_tag ! (vrt ! refl (fld ! refl (stop !))) (whole !)) $ exec ! 𝓣.C 𝓣.Λ En (arm_body 0 fork) Then $
     sets ! (addr ! (through ! refl (stop !))) refl (tt, tt) $
@@ -109,7 +110,7 @@ section_spec 𝓤 𝓛 𝓜 𝓡 wired S L sg sd eg ed sections encodes =
     -- [the result; the token; what follows]
     suffices ! _ (ends_at 𝓛 En₀ hs c y answer (Ok r') (tt, (tt, tt)) (tt, (tt, tt))) $
     nothing ! $ nothing ! $ fjoin ! $ nothing ! $ fjoin ! $ join ! $ move ! (1 ∷ 2 ∷ 0 ∷ []) $ join ! $ join ! $ frame ! $
-    says_three ! (refl, is.0, same_error tt r' EncodeError.TooLong (Ok ok) is.2) $ done !)
+    says ! _ (four_facts 𝓛 _ _ _ _ (refl, is.0, tt, same_error tt r' EncodeError.TooLong (Ok ok) is.3)) $ done !)
     (λ error is e. lands_as ! e refl (good_refused error) $
     first ! $ switches_on ! (get_tag ! (vrt ! refl (fld ! refl (stop !))) (whole !)) $ exec ! 𝓣.C 𝓣.Λ En (arm_body 1 fork) Then $
     sets ! (of_opd ! (get_in ! (vrt ! refl (fld ! refl (stop !))) (in_variant ! 1 0 refl refl (whole !)))) refl (good error) $
@@ -123,4 +124,4 @@ section_spec 𝓤 𝓛 𝓜 𝓡 wired S L sg sd eg ed sections encodes =
     -- [the result; the token; what the lender ends as]
     suffices ! _ (ends_at 𝓛 En₀ hs c y (refused error) (Err error) (tt, (tt, tt)) (tt, (tt, tt))) $
     nothing ! $ nothing ! $ fjoin ! $ nothing ! $ fjoin ! $ join ! $ move ! (1 ∷ 2 ∷ 0 ∷ []) $ join ! $ join ! $ frame ! $
-    says_three ! (tt, tt, same_error tt r' EncodeError.TooLong (Err error) is.2) $ done !))))))))))))
+    says ! _ (four_facts 𝓛 _ _ _ _ (tt, tt, is.2, same_error tt r' EncodeError.TooLong (Err error) is.3)) $ done !)))))))))))))

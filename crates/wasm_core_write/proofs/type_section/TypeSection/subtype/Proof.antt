@@ -40,7 +40,7 @@ use Rattle.std.proofs.ResultValues.{ok_of, err_of}
 use Rattle.wasm_core_write.specs.declared.encode_error.EncodeError.TheVariants as EncodeError
 use Rattle.wasm_core_write.specs.contracts.encode_error.EncodeError.{the_row as error_row}
 use Rattle.wasm_core_write.proofs.encode_error.EncodeError.TheLaws.{lowered}
-use Rattle.wasm_core_write.specs.TypeEntries as spec
+use Rattle.wasm_spec.specs.Types as spec
 use Rattle.wasm_core_types.specs.SubTypes.{sub_type}
 use Rattle.wasm_core_write.specs.contracts.type_section.TypeSection.{the_row as R}
 use Rattle.wasm_core_types.specs.contracts.types.SubType.{the_row as X}

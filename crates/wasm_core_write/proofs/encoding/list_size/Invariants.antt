@@ -1,0 +1,7 @@
+use Rattle.std.proofs.Common.{◌+◌, ◌≡◌, ◌<◌, ◌^◌, length, drop}
+use Rattle.wasm_spec.specs.Shortest.{list_encoding}
+use Rattle.std.specs.List.{flat_map}
+use Rattle.wasm_core_write.proofs.encoding.list_size.Given as goal
+
+abbrev pub invariant-loop-item : goal.invariant-loop-item
+invariant-loop-item g l = (l.total + length (flat_map g.T.Encoding.encoding (drop l.item-index l.items)) ≡ length (list_encoding g.T.Encoding.encoding l.items)) × (l.total < 2 ^ 32)

@@ -1,7 +1,0 @@
-use Rattle.std.proofs.Common.{◌+◌, ◌≡◌, ◌<◌, ◌^◌, length, drop}
-use Rattle.wasm_spec.specs.Shortest.{list_text}
-use Rattle.std.specs.List.{flat_map}
-use Rattle.wasm_core_write.proofs.text.list_size.Given as goal
-
-abbrev pub invariant-loop-item : goal.invariant-loop-item
-invariant-loop-item g l = (l.total + length (flat_map g.T.Text.text (drop l.item-index l.items)) ≡ length (list_text g.T.Text.text l.items)) × (l.total < 2 ^ 32)

@@ -1,0 +1,27 @@
+-- What is generated is accepted.
+use Rattle.std.proofs.Common.{◌≡◌, ℕ, false, List, Err, refl}
+use Rattle.wasm_spec.specs.Features.{Features, CompactImports, has}
+use Rattle.wasmparser.specs.Validation.{IsAccepted, IsValidated}
+use Rattle.wasmparser.specs.Types.{Error, Memory}
+use Rattle.wasm_smith.specs.Config.{AreFeaturesOf}
+use Rattle.wasm_smith.specs.Generating.{module_at}
+use Rattle.wasm_smith.specs.Types.{Config}
+use Rattle.wasm_gen.specs.Generate.{IsGeneratedFrom}
+use Rattle.wasm_gen.specs.History.{History}
+use Rattle.wasm_gen.specs.Session.{Checks}
+use Rattle.wasm_gen_writer.specs.Written.{sections_with}
+
+-- what is generated is a module that is valid under the features of the configuration
+accepted : (c : Config) (seed bytes : List ℕ) (features : Features) (g : IsGeneratedFrom c seed bytes) → AreFeaturesOf c features
+    → IsAccepted features bytes (sections_with (module_at c seed).0 g.generated.bodies)
+accepted c seed bytes features g are = record {
+  reads = g.generated.reads (has features CompactImports);
+  valid = g.generated.valid features are;
+}
+
+-- a new session with these features refuses it only when it is out of memory
+pub memory_alone : (c : Config) (seed bytes : List ℕ) (features : Features) (id : ℕ) (new : History) (e : Error) → IsGeneratedFrom c seed bytes
+    → AreFeaturesOf c features → Checks (record { features = features; id = id; has_failed = false }) bytes (Err e) new → e.kind ≡ Memory
+memory_alone c seed bytes features id new e made are checks =
+    let validated : IsValidated features bytes (Err e) = checks.validated refl in
+    validated.complete (sections_with (module_at c seed).0 made.generated.bodies) (accepted c seed bytes features made are)

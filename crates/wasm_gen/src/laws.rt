@@ -1,0 +1,18 @@
+//! What ties generating to validating.
+
+ghost use Rattle.std.specs.Prelude.{◌≡◌, ℕ, List, false, Err};
+ghost use Rattle.wasm_gen.specs.Generate.{IsGeneratedFrom};
+ghost use Rattle.wasm_gen.specs.History.{History};
+ghost use Rattle.wasm_gen.specs.Session.{Checks};
+ghost use Rattle.wasm_smith.specs.Config.{AreFeaturesOf};
+ghost use Rattle.wasm_smith.specs.Types.{Config};
+ghost use Rattle.wasm_spec.specs.Features.{Features};
+ghost use Rattle.wasmparser.specs.Types.{Error, Memory};
+
+/// A new session with the features of the configuration refuses a generated module only when it is out of memory. `c` is a
+/// configuration after `sanitize`.
+pub fn generated_is_accepted()
+    ensures { (c : Config) (seed bytes : List ℕ) (features : Features) (id : ℕ) (new : History) (e : Error)
+        → IsGeneratedFrom c seed bytes → AreFeaturesOf c features
+        → Checks (record { features = features; id = id; has_failed = false }) bytes (Err e) new → e.kind ≡ Memory }
+{}

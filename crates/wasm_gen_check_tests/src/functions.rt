@@ -1,0 +1,88 @@
+//! Type, function and code sections.
+
+/// Features, sections, and the answer.
+pub const ROWS: &str = "
+    // Sections come once, and in order.
+    default | no-functions types                       | Malformed
+    default | types no-bodies no-functions             | Malformed
+    default | types code functions                     | Malformed
+    default | no-bodies types                          | Malformed
+    default | types functions code types               | Malformed
+    default | no-types no-types                        | Malformed
+    default | types types functions code               | Malformed
+    default | types functions functions two-bodies     | Malformed
+    default | types two-functions code code            | Malformed
+    // Each function has a body.
+    default | types functions no-bodies                | Malformed
+    default | types no-functions code                  | Malformed
+    default | types two-functions code                 | Malformed
+    default | types functions two-bodies               | Malformed
+    default | types functions                          | Malformed
+    default | types code                               | Malformed
+    default | code                                     | Malformed
+    default | types two-functions two-bodies           | yes
+    default | types                                    | yes
+    default | no-types no-functions no-bodies          | yes
+    default | no-functions no-bodies                   | yes
+    default | types no-functions                       | yes
+    default | types no-bodies                          | yes
+    // The size of a section is padded to five bytes, and to six.
+    default | 01 84 80 80 80 00 01 60 00 00            | yes
+    default | 01 84 80 80 80 80 00 01 60 00 00         | Malformed
+    // Custom sections come anywhere.
+    default | custom types custom custom functions custom code custom | yes
+    // A type that is written out.
+    default | 01 86 80 80 80 00 01 4f 00 60 00 00 functions code | yes
+    // The index of a type is in range.
+    default | two-types 03 02 01 01 code               | yes
+    default | types 03 02 01 01 code                   | Invalid
+    default | types 03 06 01 ff ff ff ff 0f code       | Invalid
+    default | no-types functions code                  | Invalid
+    default | functions code                           | Invalid
+
+    // A byte after the entries, an entry that its section cuts, no number of entries.
+    default | 01 05 01 60 00 00 00                     | Malformed
+    default | 01 04 02 60 00 00                        | Malformed
+    default | 01 00                                    | Malformed
+    default | types 03 02 00 00                        | Malformed
+    default | types 03 02 01 80                        | Malformed
+    default | types functions 0a 02 00 0b              | Malformed
+    // A body that passes its section.
+    default | types functions 0a 04 01 03 00 0b        | Malformed
+
+    // A structure, an array, groups, types that aren't final, with supertypes, or both.
+    default | 01 03 01 5f 00                           | Malformed
+    default | 01 04 01 5e 7f 00                        | Malformed
+    default | 01 03 01 4e 00                           | Malformed
+    default | 01 06 01 4e 01 60 00 00                  | Malformed
+    default | 01 06 01 50 00 60 00 00                  | Malformed
+    default | 01 07 01 4f 01 00 60 00 00               | Malformed
+    default | 01 07 01 50 01 00 60 00 00               | Malformed
+    // A final structure, and what is no type: a final type of a final type.
+    default | 01 05 01 4f 00 5f 00                     | Malformed
+    default | 01 08 01 4f 00 4f 00 60 00 00            | Malformed
+    // References that may not be null, or to a type of the module's own, as a parameter and as a result.
+    default | 01 06 01 60 01 64 70 00                  | Malformed
+    default | 01 06 01 60 01 63 00 00                  | Malformed
+    default | 01 06 01 60 01 64 00 00                  | Malformed
+    default | 01 06 01 60 00 01 63 00                  | Malformed
+    default | 01 06 01 60 00 01 64 6f                  | Malformed
+
+    // Final function types without supertypes, whose number may be padded.
+    all | 01 06 01 4f 00 60 00 00                      | yes
+    all | 01 07 01 4f 80 00 60 00 00                   | yes
+    // References that may be null.
+    all | 01 06 01 60 01 63 70 00                      | yes
+    all | 01 06 01 60 00 01 63 6f                      | yes
+    all | 01 09 01 4f 00 60 01 63 69 01 7f             | yes
+    // What is written out asks for the same flags.
+    all but REFERENCE_TYPES | 01 06 01 60 01 63 70 00  | Invalid
+    all but GC              | 01 06 01 4f 00 60 00 00  | yes
+    // Several results ask for a flag; one result and several parameters don't.
+    all                     | 01 05 01 60 00 01 7f     | yes
+    all but MULTI_VALUE     | 01 05 01 60 00 01 7f     | yes
+    all                     | 01 06 01 60 02 7f 7f 00  | yes
+    all but MULTI_VALUE     | 01 06 01 60 02 7f 7f 00  | yes
+    all                     | 01 06 01 60 00 02 7f 7f  | yes
+    all but MULTI_VALUE     | 01 06 01 60 00 02 7f 7f  | Invalid
+";

@@ -1,0 +1,68 @@
+//! The bytes of modules, and what a session answers on them.
+
+use std::alloc::Global;
+use wasm_core::features::WasmFeatures;
+use wasm_gen::judge::ValidatorId;
+use wasm_gen::session::Session;
+use wasm_test_rows::fields::has_word;
+use wasm_test_rows::repeats::extend_with_word;
+
+/// A session with the default features.
+pub fn new_session() -> Session {
+    Session::new(WasmFeatures::default(), ValidatorId::new(0))
+}
+
+// The digits that a word stands for: those of a frequent part, or its own.
+fn digits_of(word: &str) -> &str {
+    match word {
+        "header" => "0061736d01000000",
+        "custom" => "0003016107",
+        // One function type, one function of it, and its body.
+        "types" => "010401600000",
+        "functions" => "03020100",
+        "code" => "0a05010300000b",
+        // The same of two.
+        "two-types" => "010702600000600000",
+        "two-functions" => "0303020000",
+        "two-bodies" => "0a070202000b02000b",
+        // The same of none.
+        "no-types" => "010100",
+        "no-functions" => "030100",
+        "no-bodies" => "0a0100",
+        _ => word,
+    }
+}
+
+// Appends the bytes of a field.
+fn extend_with(alloc: Global, bytes: &mut Vec<u8>, field: &str) -> Option<()> {
+    for word in field.split_whitespace() {
+        extend_with_word(alloc, bytes, digits_of(word))?;
+    }
+    Some(())
+}
+
+/// The bytes of a field: hexadecimal digits, names of frequent parts, and digits so many times over, as `7f*1000`.
+pub fn parts_of(alloc: Global, field: &str) -> Option<Vec<u8>> {
+    let mut bytes = Vec::new(alloc);
+    extend_with(alloc, &mut bytes, field)?;
+    Some(bytes)
+}
+
+/// The header, and the parts after it.
+pub fn module_of(alloc: Global, field: &str) -> Option<Vec<u8>> {
+    let mut bytes = Vec::new(alloc);
+    extend_with(alloc, &mut bytes, "header")?;
+    extend_with(alloc, &mut bytes, field)?;
+    Some(bytes)
+}
+
+/// Whether the session gives an answer of the field: `yes`, or the kind of a refusal as `Debug` writes it.
+pub fn answers(alloc: Global, session: &mut Session, bytes: &[u8], expected: &str) -> bool {
+    match session.check(alloc, bytes) {
+        Ok(_types) => has_word(expected, "yes"),
+        Err(e) => match format!(in alloc; "{:?}", e.kind) {
+            Ok(found) => has_word(expected, found.as_str()),
+            Err(_) => false,
+        },
+    }
+}

@@ -1,0 +1,115 @@
+//! Rows of a module, and what new sessions answer on it.
+
+use crate::modules::{answers, module_of, new_session};
+use crate::views::has_line;
+use crate::{custom_sections, cuts, function_limits, functions, lines, value_types};
+use std::alloc::Global;
+use wasm_core::features::{Flags, WasmFeatures};
+use wasm_gen::judge::ValidatorId;
+use wasm_gen::session::Session;
+use wasm_test_rows::fields::{count_of_rows, has_word, is_row, three_fields};
+use wasm_test_rows::values::number_of;
+
+// All features.
+const NAMES: &str = "
+    MUTABLE_GLOBAL SATURATING_FLOAT_TO_INT SIGN_EXTENSION REFERENCE_TYPES MULTI_VALUE BULK_MEMORY SIMD RELAXED_SIMD
+    THREADS TAIL_CALL FLOATS MULTI_MEMORY EXCEPTIONS MEMORY64 EXTENDED_CONST FUNCTION_REFERENCES GC GC_TYPES
+    CUSTOM_PAGE_SIZES COMPACT_IMPORTS WIDE_ARITHMETIC STACK_SWITCHING
+";
+
+// All features but that of this name.
+fn all_but(name: &str) -> Option<WasmFeatures> {
+    Some(WasmFeatures::all().difference(WasmFeatures::from_name(name)?))
+}
+
+// The features of a field: `default`, `all`, or all but one.
+fn features_of(field: &str) -> Option<WasmFeatures> {
+    match field {
+        "default" => Some(WasmFeatures::default()),
+        "all" => Some(WasmFeatures::all()),
+        _ => all_but(field.strip_prefix("all but ")?),
+    }
+}
+
+// Whether a new session with these features gives the answer.
+fn answers_under(alloc: Global, features: WasmFeatures, bytes: &[u8], expected: &str) -> bool {
+    let mut session = Session::new(features, ValidatorId::new(0));
+    answers(alloc, &mut session, bytes, expected)
+}
+
+// Whether a module is valid under all features, and invalid without any of those that are asked for.
+fn asks_for(alloc: Global, bytes: &[u8], asked: &str) -> Option<bool> {
+    let mut holds = answers_under(alloc, WasmFeatures::all(), bytes, "yes");
+    for name in NAMES.split_whitespace() {
+        let expected = if has_word(asked, name) {
+            "Invalid"
+        } else {
+            "yes"
+        };
+        holds = holds && answers_under(alloc, all_but(name)?, bytes, expected);
+    }
+    Some(holds)
+}
+
+// The answer at a place: `yes` at those of the field.
+fn expected_at(field: &str, place: usize) -> &'static str {
+    for word in field.split_whitespace() {
+        if number_of(word) == Some(place as u64) {
+            return "yes";
+        }
+    }
+    "Malformed"
+}
+
+// Whether the bytes are a module up to each of these ends, and malformed up to any other place.
+fn is_cut_at(alloc: Global, bytes: &[u8], ends: &str) -> bool {
+    let mut holds = true;
+    for end in 0..=bytes.len() {
+        let expected = expected_at(ends, end);
+        holds = holds && answers(alloc, &mut new_session(), &bytes[..end], expected);
+    }
+    holds
+}
+
+// Whether the bytes are a module where the first section has one of these ids, and malformed where it has any other but 0.
+fn has_ids(alloc: Global, bytes: &mut [u8], ids: &str) -> Option<bool> {
+    let mut holds = true;
+    for id in 1..=255u8 {
+        *bytes.get_mut(8)? = id;
+        let expected = expected_at(ids, usize::from(id));
+        holds = holds && answers(alloc, &mut new_session(), bytes, expected);
+    }
+    Some(holds)
+}
+
+// Whether a row holds: features, or what is to be done; the sections of a module; and what comes of it.
+fn holds(alloc: Global, row: &str) -> Option<bool> {
+    let (way, sections, expected) = three_fields(row)?;
+    let mut bytes = module_of(alloc, sections)?;
+    match way {
+        "each" => asks_for(alloc, &bytes, expected),
+        "cuts" => Some(is_cut_at(alloc, &bytes, expected)),
+        "ids" => has_ids(alloc, &mut bytes, expected),
+        "line" => Some(has_line(alloc, &bytes, expected)),
+        _ => Some(answers_under(alloc, features_of(way)?, &bytes, expected)),
+    }
+}
+
+#[test]
+fn new_sessions_give_these_answers(rt: HostRuntime) {
+    for (table, count) in [
+        (custom_sections::ROWS, 45),
+        (cuts::ROWS, 3),
+        (function_limits::ROWS, 20),
+        (functions::ROWS, 65),
+        (lines::ROWS, 4),
+        (value_types::ROWS, 38),
+    ] {
+        for row in table.lines() {
+            if is_row(row) {
+                assert!(rt; holds(rt.alloc(), row) == Some(true), "{row}");
+            }
+        }
+        assert!(rt; count_of_rows(table) == count);
+    }
+}

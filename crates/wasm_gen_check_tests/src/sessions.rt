@@ -1,0 +1,110 @@
+//! What a session holds between modules.
+
+use crate::modules::{answers, new_session, parts_of};
+use std::alloc::Global;
+use wasm_core::features::{Flags, WasmFeatures};
+use wasm_gen::judge::ValidatorId;
+use wasm_gen::session::Session;
+use wasm_test_rows::fields::{count_of_rows, four_fields, is_row};
+use wasm_test_rows::values::bool_of;
+
+// Before a row the session is `new` or `restarted`, or goes `on`; then its input, the answer, and whether the session has failed.
+const ROWS: &str = "
+    // A failed session waits for a restart.
+    new       | header                                  | yes       | no
+    on        |                                         | Malformed | yes
+    on        | header                                  | Failed    | yes
+    on        | header                                  | Failed    | yes
+    on        | header                                  | Failed    | yes
+    restarted | header                                  | yes       | no
+    // Another version, and one bit changed.
+    new       | 00 61 73 6d 02 00 00 00                 | Malformed | yes
+    on        | header                                  | Failed    | yes
+    new       | 01 61 73 6d 01 00 00 00                 | Malformed | yes
+    new       | 00 60 73 6d 01 00 00 00                 | Malformed | yes
+    new       | 00 61 72 6d 01 00 00 00                 | Malformed | yes
+    new       | 00 61 73 6c 01 00 00 00                 | Malformed | yes
+    new       | 00 61 73 6d 00 00 00 00                 | Malformed | yes
+    new       | 00 61 73 6d 01 01 00 00                 | Malformed | yes
+    new       | 00 61 73 6d 01 00 01 00                 | Malformed | yes
+    new       | 00 61 73 6d 01 00 00 01                 | Malformed | yes
+    // A refused body leaves the session as it was.
+    new       | header types functions 0a 04 01 02 00 0b                | yes           | no
+    on        | header types functions code                             | yes           | no
+    on        | header types functions 0a 03 01 01 00                   | Body          | no
+    on        | header types functions code                             | yes           | no
+    on        | header types functions 0a 07 01 05 00 fe 03 00 0b       | Operator      | no
+    on        | header types functions code                             | yes           | no
+    on        | header types functions 0a 09 01 07 01 d1 86 03 7f 00 0b | Limit(Locals) | no
+    on        | header types functions code                             | yes           | no
+    // Other refusals fail it.
+    new       | header types functions                  | Malformed | yes
+    on        | header                                  | Failed    | yes
+    new       | header types 03 02 01 01 code           | Invalid   | yes
+    on        | header                                  | Failed    | yes
+    // Names of 100,000 bytes, and of one more.
+    new       | header 00 a3 8d 06 a0 8d 06 6e*100000   | yes         | no
+    on        | header 00 a4 8d 06 a1 8d 06 6e*100001   | Limit(Name) | yes
+    on        | header 00 a3 8d 06 a0 8d 06 6e*100000   | Failed      | yes
+";
+
+// Readies the session for a row.
+fn ready(session: &mut Session, state: &str) -> Option<()> {
+    match state {
+        "new" => *session = new_session(),
+        "restarted" => session.restart(ValidatorId::new(7)),
+        "on" => {}
+        _ => return None,
+    }
+    Some(())
+}
+
+// Whether a row holds.
+fn holds(alloc: Global, session: &mut Session, row: &str) -> Option<bool> {
+    let (state, input, expected, has_failed) = four_fields(row)?;
+    let has_failed = bool_of(has_failed)?;
+    ready(session, state)?;
+    let bytes = parts_of(alloc, input)?;
+    let is_answer = answers(alloc, session, &bytes, expected);
+    Some(is_answer && session.has_failed() == has_failed)
+}
+
+#[test]
+fn session_goes_on_or_has_failed(rt: HostRuntime) {
+    let mut session = new_session();
+    let table = ROWS;
+    for row in table.lines() {
+        if is_row(row) {
+            assert!(rt; holds(rt.alloc(), &mut session, row) == Some(true), "{row}");
+        }
+    }
+    assert!(rt; count_of_rows(table) == 31);
+}
+
+// Whether the session has these features, and the id of this number.
+fn has(session: &Session, features: WasmFeatures, id: usize) -> bool {
+    session.features() == features && session.id() == ValidatorId::new(id)
+}
+
+#[test]
+fn session_keeps_what_it_was_handed(rt: HostRuntime) {
+    let features = WasmFeatures::GC.union(WasmFeatures::THREADS);
+    let mut session = Session::new(features, ValidatorId::new(3));
+    assert!(rt; has(&session, features, 3));
+    let is_malformed = answers(rt.alloc(), &mut session, &[], "Malformed");
+    assert!(rt; is_malformed && has(&session, features, 3));
+    session.restart(ValidatorId::new(4));
+    assert!(rt; has(&session, features, 4));
+}
+
+// Where a section that is cut is refused.
+fn offset_of_cut(alloc: Global) -> Option<u64> {
+    let cut = parts_of(alloc, "header 00 05 01")?;
+    Some(new_session().check(alloc, &cut).err()?.offset)
+}
+
+#[test]
+fn refusal_stands_within_the_bytes(rt: HostRuntime) {
+    let offset = offset_of_cut(rt.alloc());
+    assert!(rt; offset.is_some_and(|it| it <= 11));
+}

@@ -1,0 +1,163 @@
+//! Seeds for lists of types and functions.
+
+use crate::configs::config_of;
+use crate::generated::makes;
+use crate::lists::{Drawing, function_type, put};
+use std::alloc::Global;
+use wasm_core::types::{SubType, ValType};
+use wasm_gen::generate::generate;
+use wasm_gen::seed::seed_for;
+use wasm_gen::smith::{Config, supported_config};
+use wasm_gen_check_tests::modules::parts_of;
+use wasm_test_rows::fields::{count_of_rows, four_fields, is_row};
+use wasm_test_rows::values::number_of;
+
+// Whether exactly the module is made of the seed.
+fn makes_exactly(alloc: Global, seed: &[u8], module: &[u8]) -> bool {
+    match generate(alloc, &supported_config(), seed) {
+        Ok(made) => made.as_slice() == module,
+        Err(_) => false,
+    }
+}
+
+// Whether a module with the same front is made of the seed.
+fn makes_front(alloc: Global, seed: &[u8], module: &[u8], front_len: usize) -> bool {
+    match generate(alloc, &supported_config(), seed) {
+        Ok(made) => made.get(..front_len) == module.get(..front_len),
+        Err(_) => false,
+    }
+}
+
+// Whether exactly the module is made of the seed for these groups and functions.
+fn is_found(alloc: Global, groups: &[Vec<SubType>], functions: &[u32], module: &[u8]) -> bool {
+    match seed_for(alloc, &supported_config(), groups, functions) {
+        Ok(Some(seed)) => makes_exactly(alloc, &seed, module),
+        _ => false,
+    }
+}
+
+// Whether the lists of this number are made from the seed that is found for them, from one that spells them, and from that with a tail. With the tail
+// the types and functions are the same, since their sections, at the module's front, have the same bytes.
+fn are_made(alloc: Global, number: u32, turn: u8) -> bool {
+    let mut drawing = Drawing::new(alloc, number, turn);
+    let groups = drawing.groups(alloc);
+    let functions = drawing.functions(alloc, groups.len());
+    let are_made = is_found(alloc, &groups, &functions, &drawing.module)
+        && makes_exactly(alloc, &drawing.seed, &drawing.module);
+    for byte in [0x2a, 0x01, 0x01, 0xff, 0x00, 0x7f, 0x03, 0x02] {
+        put(&mut drawing.seed, byte);
+    }
+    are_made && makes_front(alloc, &drawing.seed, &drawing.module, drawing.front_len)
+}
+
+#[test]
+fn drawn_lists_are_made_from_seeds(rt: HostRuntime) {
+    for number in 0..1000u32 {
+        for turn in 1..4u8 {
+            assert!(rt; are_made(rt.alloc(), number, turn), "{number}");
+        }
+    }
+}
+
+// Settings; how many groups there are, of how many types each, with how many parameters; the index of each function's type, a byte each; and the
+// sections that are made of the seed for them, if there is one.
+const ROWS: &str = "
+    // One function of one type.
+    | 1 1 0 | 00 | types functions code
+    // Parameters have their bound, and types that the configuration enables.
+    | 1 1 20 | 00 | 01 18 01 60 14 7b*20 00 functions code
+    | 1 1 21 | 00 | none
+    simd_enabled=no | 1 1 1 | 00 | none
+    // Types and functions have their bounds.
+    | 100 1 0 | 63*100    | 01 ad 02 64 600000*100 03 65 64 63*100 0a 91 03 64 0300000b*100
+    | 100 1 0 | 63*100 00 | none
+    | 101 1 0 |           | none
+    // An index past the types.
+    | 1 1 0 | 01 | none
+    // A group of two types.
+    | 1 2 0 | 00 | none
+    // Configurations out of reach.
+    min_types=1           | 1 1 0 | 00 | none
+    export_everything=yes | 1 1 0 | 00 | none
+    default               | 1 1 0 | 00 | none
+    // The limit of functions is the last that is made.
+    max_funcs=2000000 | 1 1 0 | 00*1000000 | types 03 c3 84 3d c0 84 3d 00*1000000 0a 83 92 f4 01 c0 84 3d 0300000b*1000000
+    max_funcs=2000000 | 1 1 0 | 00*1000001 | none
+    // Many types, functions and groups.
+    max_types=1000  | 1000 1 0  |          | 01 ba 17 e8 07 600000*1000
+    max_types=10000 | 10000 1 0 |          | 01 b2 ea 01 90 4e 600000*10000
+    max_funcs=65536 | 1 1 0     | 00*65536 | types 03 83 80 04 80 80 04 00*65536 0a 83 80 10 80 80 04 0300000b*65536
+";
+
+// A group of so many function types with so many parameters.
+fn group_of(alloc: Global, types: u64, params: u64) -> Vec<SubType> {
+    let mut group = Vec::new(alloc);
+    for _ in 0..types {
+        let mut vectors = Vec::new(alloc);
+        for _ in 0..params {
+            put(&mut vectors, ValType::V128);
+        }
+        put(&mut group, function_type(vectors, Vec::new(alloc)));
+    }
+    group
+}
+
+// So many such groups.
+fn groups_of(alloc: Global, count: u64, types: u64, params: u64) -> Vec<Vec<SubType>> {
+    let mut groups = Vec::new(alloc);
+    for _ in 0..count {
+        put(&mut groups, group_of(alloc, types, params));
+    }
+    groups
+}
+
+// The groups of a field.
+fn groups_in(alloc: Global, field: &str) -> Option<Vec<Vec<SubType>>> {
+    let (count, group) = field.split_once(' ')?;
+    let (types, params) = group.split_once(' ')?;
+    let (types, params) = (number_of(types)?, number_of(params)?);
+    Some(groups_of(alloc, number_of(count)?, types, params))
+}
+
+// The functions of a field.
+fn functions_in(alloc: Global, field: &str) -> Option<Vec<u32>> {
+    let bytes = parts_of(alloc, field)?;
+    let mut functions = Vec::new(alloc);
+    for index in &bytes {
+        put(&mut functions, u32::from(*index));
+    }
+    Some(functions)
+}
+
+// The seed for the groups and functions of two fields, or none.
+fn seed_of(
+    alloc: Global,
+    config: &Config,
+    groups: &str,
+    functions: &str,
+) -> Option<Option<Vec<u8>>> {
+    let groups = groups_in(alloc, groups)?;
+    let functions = functions_in(alloc, functions)?;
+    seed_for(alloc, config, &groups, &functions).ok()
+}
+
+// Whether a row holds.
+fn holds(alloc: Global, row: &str) -> Option<bool> {
+    let (settings, groups, functions, expected) = four_fields(row)?;
+    let config = config_of(settings)?;
+    match seed_of(alloc, &config, groups, functions)? {
+        Some(seed) => Some(makes(alloc, &config, &seed, expected)),
+        None => Some(expected == "none"),
+    }
+}
+
+#[test]
+fn seeds_are_found_within_the_bounds(rt: HostRuntime) {
+    let table = ROWS;
+    for row in table.lines() {
+        if is_row(row) {
+            assert!(rt; holds(rt.alloc(), row) == Some(true), "{row}");
+        }
+    }
+    assert!(rt; count_of_rows(table) == 17);
+}

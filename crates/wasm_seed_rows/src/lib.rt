@@ -1,9 +1,0 @@
-//! Tests of what is made of seeds, and of seeds for lists, judged through public calls alone.
-#![tactic(auto)]
-
-#[cfg(test)]
-mod generated;
-#[cfg(test)]
-mod lists;
-#[cfg(test)]
-mod seeds;

@@ -1,0 +1,5 @@
+pub mod Config
+pub mod Defaults
+pub mod Fields
+pub mod SupportedConfig
+pub mod Rows

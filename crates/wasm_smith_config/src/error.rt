@@ -1,0 +1,44 @@
+//! Why no module is made.
+
+use std::alloc::AllocError;
+use thiserror::Error;
+
+/// Why no module is made.
+#[derive(Clone, Copy, Debug, PartialEq, Eq, Error)]
+pub enum Error {
+    /// Fewer items than the configuration's minimum can be made.
+    #[error("incorrect format")]
+    IncorrectFormat,
+    /// A choice was to be made where there is nothing to choose.
+    #[error("nothing to choose from")]
+    EmptyChoose,
+    /// Fewer bytes are left than are asked for.
+    #[error("not enough data")]
+    NotEnoughData,
+    /// The configuration has a value that is not allowed in this field.
+    #[error("bad configuration: {0}")]
+    BadConfig(&'static str),
+    /// The shape that is asked for has this part, which cannot be made.
+    #[error("bad shape: {0}")]
+    BadShape(&'static str),
+    /// The types of the module's imports and exports are too large together.
+    #[error("type size")]
+    TypeSize,
+    /// Memory ran out.
+    #[error("out of memory")]
+    Memory,
+    /// A count or a size is past what the format can state.
+    #[error("too long")]
+    TooLong,
+}
+
+impl From<AllocError> for Error {
+    ghost use Rattle.std.specs.Prelude.{◌≡◌};
+    ghost use Rattle.wasm_smith_config.specs.declared.error.Error.TheVariants.{Memory};
+
+    ghost from_gives = { λ _ e. e ≡ Memory };
+
+    fn from(_e: AllocError) -> Error {
+        Error::Memory
+    }
+}

@@ -1,0 +1,41 @@
+//! What values show.
+
+use std::alloc::Global;
+use std::fmt::{Debug, Display};
+
+/// Whether a value displays this.
+pub fn displays<T: Display>(alloc: Global, value: &T, expected: &str) -> bool {
+    match format!(in alloc; "{value}") {
+        Ok(shown) => shown.as_str() == expected,
+        Err(_) => false,
+    }
+}
+
+/// Whether a value's `Debug` is this.
+pub fn debugs<T: Debug>(alloc: Global, value: &T, expected: &str) -> bool {
+    match format!(in alloc; "{value:?}") {
+        Ok(shown) => shown.as_str() == expected,
+        Err(_) => false,
+    }
+}
+
+/// Whether two values have the same `Debug`.
+pub fn debugs_same<T: Debug, U: Debug>(alloc: Global, value: &T, other: &U) -> bool {
+    match format!(in alloc; "{other:?}") {
+        Ok(shown) => debugs(alloc, value, &shown),
+        Err(_) => false,
+    }
+}
+
+#[cfg(test)]
+mod tests {
+    use crate::shown::{debugs, debugs_same, displays};
+
+    #[test]
+    fn values_show_themselves(rt: HostRuntime) {
+        let alloc = rt.alloc();
+        assert!(rt; displays(alloc, &"a", "a") && !displays(alloc, &"a", "b"));
+        assert!(rt; debugs(alloc, &Some(1), "Some(1)") && !debugs(alloc, &1, "2"));
+        assert!(rt; debugs_same(alloc, &1_u8, &1_u64) && !debugs_same(alloc, &1, &2));
+    }
+}

@@ -1,0 +1,237 @@
+//! Types in words. A number or vector type is its name. A reference to a heap type is the name or index of that type, followed by `?` where it may be
+//! null: `func?`, `7`. A function type is `i32 i64 -> f32`.
+
+use std::alloc::Global;
+use wasm_core_types::types::{
+    AbstractHeapType, ArrayType, CompositeType, ContType, FieldType, FuncType, HeapType, RefType,
+    StorageType, StructType, SubType, ValType,
+};
+
+// The abstract heap type of this name.
+fn abstract_heap_type_of(word: &str) -> Option<AbstractHeapType> {
+    match word {
+        "func" => Some(AbstractHeapType::Func),
+        "extern" => Some(AbstractHeapType::Extern),
+        "any" => Some(AbstractHeapType::Any),
+        "none" => Some(AbstractHeapType::None),
+        "noextern" => Some(AbstractHeapType::NoExtern),
+        "nofunc" => Some(AbstractHeapType::NoFunc),
+        "eq" => Some(AbstractHeapType::Eq),
+        "struct" => Some(AbstractHeapType::Struct),
+        "array" => Some(AbstractHeapType::Array),
+        "i31" => Some(AbstractHeapType::I31),
+        "exn" => Some(AbstractHeapType::Exn),
+        "noexn" => Some(AbstractHeapType::NoExn),
+        "cont" => Some(AbstractHeapType::Cont),
+        "nocont" => Some(AbstractHeapType::NoCont),
+        _ => None,
+    }
+}
+
+// The heap type of this name or index.
+fn heap_type_of(word: &str) -> Option<HeapType> {
+    match word.parse() {
+        Ok(index) => Some(HeapType::Concrete(index)),
+        Err(_) => Some(HeapType::Abstract(abstract_heap_type_of(word)?)),
+    }
+}
+
+// The reference type of this word.
+fn ref_type_of(word: &str) -> Option<RefType> {
+    let name = word.strip_suffix('?').unwrap_or(word);
+    Some(RefType {
+        nullable: name.len() < word.len(),
+        heap_type: heap_type_of(name)?,
+    })
+}
+
+/// A value type.
+pub fn val_type_of(word: &str) -> Option<ValType> {
+    match word {
+        "i32" => Some(ValType::I32),
+        "i64" => Some(ValType::I64),
+        "f32" => Some(ValType::F32),
+        "f64" => Some(ValType::F64),
+        "v128" => Some(ValType::V128),
+        _ => Some(ValType::Ref(ref_type_of(word)?)),
+    }
+}
+
+/// Value types with spaces between them. A type may be followed by how often it stands there: `i64*20`.
+pub fn val_types_of(alloc: Global, field: &str) -> Option<Vec<ValType>> {
+    let mut types = Vec::new(alloc);
+    for word in field.split_whitespace() {
+        let (name, count) = word.split_once('*').unwrap_or((word, "1"));
+        let val_type = val_type_of(name)?;
+        for _ in 0..count.parse::<u32>().ok()? {
+            types.push(val_type).ok()?;
+        }
+    }
+    Some(types)
+}
+
+/// A function type: its parameters, `->`, and its results.
+pub fn func_type_of(alloc: Global, field: &str) -> Option<FuncType> {
+    let (params, results) = field.split_once("->")?;
+    let params = val_types_of(alloc, params)?;
+    Some(FuncType::new(params, val_types_of(alloc, results)?))
+}
+
+// What a field holds.
+fn storage_type_of(word: &str) -> Option<StorageType> {
+    match word {
+        "i8" => Some(StorageType::I8),
+        "i16" => Some(StorageType::I16),
+        _ => Some(StorageType::Val(val_type_of(word)?)),
+    }
+}
+
+// A field: what it holds, after `mut:` where it can be set.
+fn field_type_of(word: &str) -> Option<FieldType> {
+    let name = word.strip_prefix("mut:").unwrap_or(word);
+    Some(FieldType {
+        element_type: storage_type_of(name)?,
+        mutable: name.len() < word.len(),
+    })
+}
+
+/// Fields of a structure, with spaces between them: `i8 mut:i16 func?`.
+pub fn field_types_of(alloc: Global, field: &str) -> Option<Vec<FieldType>> {
+    let mut types = Vec::new(alloc);
+    for word in field.split_whitespace() {
+        types.push(field_type_of(word)?).ok()?;
+    }
+    Some(types)
+}
+
+/// The first word, and what stands after it.
+pub fn word_and_rest(field: &str) -> (&str, &str) {
+    let field = field.trim();
+    let (word, rest) = field.split_once(' ').unwrap_or((field, ""));
+    (word, rest.trim())
+}
+
+// A composite type: `func`, `struct`, `array` or `cont`, and what it is made of.
+fn composite_type_of(alloc: Global, field: &str) -> Option<CompositeType> {
+    let (kind, rest) = word_and_rest(field);
+    match kind {
+        "func" => Some(CompositeType::Func(func_type_of(alloc, rest)?)),
+        "struct" => Some(CompositeType::Struct(StructType::new(field_types_of(alloc, rest)?))),
+        "array" => Some(CompositeType::Array(ArrayType(field_type_of(rest)?))),
+        "cont" => Some(CompositeType::Cont(ContType(rest.parse().ok()?))),
+        _ => None,
+    }
+}
+
+// The index after `sub`, where that stands in front, and what is left.
+fn supertype_of(field: &str) -> Option<(Option<u32>, &str)> {
+    match word_and_rest(field) {
+        ("sub", rest) => {
+            let (index, left) = word_and_rest(rest);
+            Some((Some(index.parse().ok()?), left))
+        }
+        _ => Some((None, field)),
+    }
+}
+
+/// A sub type: `open` where it isn't final, `sub` and an index where it has a supertype, and its composite type.
+pub fn sub_type_of(alloc: Global, field: &str) -> Option<SubType> {
+    let (is_final, rest) = match word_and_rest(field) {
+        ("open", rest) => (false, rest),
+        _ => (true, field),
+    };
+    let (supertype_idx, shape) = supertype_of(rest)?;
+    Some(SubType {
+        is_final,
+        supertype_idx,
+        composite_type: composite_type_of(alloc, shape)?,
+    })
+}
+
+/// Sub types with commas between them, or none.
+pub fn sub_types_of(alloc: Global, field: &str) -> Option<Vec<SubType>> {
+    let mut types = Vec::new(alloc);
+    if field.trim().is_empty() {
+        return Some(types);
+    }
+    for part in field.split(',') {
+        types.push(sub_type_of(alloc, part)?).ok()?;
+    }
+    Some(types)
+}
+
+// Appends a group of these types so many times.
+fn push_groups(
+    alloc: Global,
+    groups: &mut Vec<Vec<SubType>>,
+    types: &str,
+    count: u32,
+) -> Option<()> {
+    for _ in 0..count {
+        groups.push(sub_types_of(alloc, types)?).ok()?;
+    }
+    Some(())
+}
+
+/// Groups of sub types, with `;` after each. The types may be followed by how often such a group stands there: `func -> * 20;`.
+pub fn groups_of(alloc: Global, field: &str) -> Option<Vec<Vec<SubType>>> {
+    let mut groups = Vec::new(alloc);
+    for group in field.split_terminator(';') {
+        let (types, count) = group.split_once(" * ").unwrap_or((group, "1"));
+        push_groups(alloc, &mut groups, types, count.parse().ok()?)?;
+    }
+    Some(groups)
+}
+
+#[cfg(test)]
+mod tests {
+    use crate::types::{field_types_of, groups_of, sub_type_of, sub_types_of, val_types_of};
+    use std::alloc::Global;
+    use std::test::Fail;
+
+    // Whether these are no types.
+    fn is_refused(alloc: Global, field: &str) -> bool {
+        val_types_of(alloc, field).is_none()
+            && field_types_of(alloc, field).is_none()
+            && sub_type_of(alloc, field).is_none()
+    }
+
+    #[test]
+    fn types_are_read(rt: HostRuntime) -> Result<(), Fail> {
+        let types = sub_types_of(
+            rt.alloc(),
+            "open sub 7 func i32*2 func? -> 9, struct mut:i8 i16, array any?, cont 1",
+        );
+        let shown = format!(in rt.alloc(); "{types:?}")?;
+        let expected =
+            "Some([SubType { is_final: false, supertype_idx: Some(7), composite_type: Func(FuncType { params: [I32, I32, \
+Ref(RefType { nullable: true, heap_type: Abstract(Func) })], results: [Ref(RefType { nullable: false, heap_type: Concrete(9) })] }) }, \
+SubType { is_final: true, supertype_idx: None, composite_type: Struct(StructType { fields: [FieldType { element_type: I8, mutable: true }, \
+FieldType { element_type: I16, mutable: false }] }) }, SubType { is_final: true, supertype_idx: None, composite_type: \
+Array(ArrayType(FieldType { element_type: Val(Ref(RefType { nullable: true, heap_type: Abstract(Any) })), mutable: false })) }, \
+SubType { is_final: true, supertype_idx: None, composite_type: Cont(ContType(1)) }])";
+        assert!(rt; shown.as_str() == expected, "{shown}");
+        Ok(())
+    }
+
+    #[test]
+    fn groups_are_read(rt: HostRuntime) {
+        let groups = groups_of(rt.alloc(), "cont 1 * 2;cont 1, cont 2;;");
+        let lengths = groups.is_some_and(
+            |it| matches!(it.as_slice(), [a, b, c, d] if a.len() == 1 && b.len() == 1 && c.len() == 2 && d.is_empty()),
+        );
+        assert!(rt; lengths, "four groups");
+        assert!(rt;
+            groups_of(rt.alloc(), "").is_some_and(|it| it.is_empty()),
+            "none"
+        );
+        assert!(rt; groups_of(rt.alloc(), "cont 1 * ;").is_none(), "no count");
+    }
+
+    #[test]
+    fn other_words_are_refused(rt: HostRuntime) {
+        for field in "i33;i32**2;??;-1;func->i32;struct mut:;sub struct".split(';') {
+            assert!(rt; is_refused(rt.alloc(), field), "{field}");
+        }
+    }
+}

@@ -1,7 +1,0 @@
-use Rattle.std.proofs.Common.{◌<◌, ℕ, Ok}
-use Rattle.wasm_core_base.specs.Features.{feature_set}
-use Rattle.wasmparser_validator.specs.Bodies.{JudgedAt}
-use Rattle.wasmparser_validator.proofs.judge.judge_bodies.Given as goal
-
-abbrev pub invariant-loop-i : goal.invariant-loop-i
-invariant-loop-i l = (place : ℕ) → place < l.i → JudgedAt (feature_set l.fn.features) l.fn.types l.fn.functions l.fn.bodies (Ok tt) place

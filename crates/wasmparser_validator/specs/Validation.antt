@@ -1,0 +1,53 @@
+-- What a validator answers to any bytes.
+use Rattle.std.specs.Prelude.{◌≡◌, ◌≢◌, ◌≤◌, ⊤, ℕ, List, length, Result, IfOk, IfErr}
+use Rattle.wasm_core_base.specs.declared.limits.Limit.TheVariants as limits
+use Rattle.wasm_core_base.specs.Limits as core
+use Rattle.wasm_core_base.specs.declared.limits.Limit.{Limit}
+use Rattle.wasm_spec.specs.Features.{Features, CompactImports, has}
+use Rattle.wasm_spec.specs.Grammar.{IsModule}
+use Rattle.wasm_spec.specs.Spaces.{Sizes, sizes_of}
+use Rattle.wasm_spec.specs.Supported.{IsSupported}
+use Rattle.wasm_spec.specs.Syntax.{Section}
+use Rattle.wasm_spec.specs.Validity.{IsValid, BeginsPast, BeginsInvalid, HasBody, IsBodyPast, IsOtherBody, IsBrokenBody}
+use Rattle.wasmparser_parser.specs.declared.error.Error.{Error}
+use Rattle.wasmparser_parser.specs.declared.error.ErrorKind.{ErrorKind}
+use Rattle.wasmparser_parser.specs.declared.error.ErrorKind.TheVariants as kinds
+
+-- the bytes read as a module that is valid under the features
+pub record IsAccepted (features : Features) (bytes : List ℕ) (sections : List Section) : Type 0 where
+  pub reads : IsModule (has features CompactImports) bytes sections
+  pub valid : IsValid features sections
+
+-- The kinds of refusals that a validator gives; it gives no other.
+abbrev pub IsNamed : ErrorKind → Type 0
+IsNamed kinds.Malformed = ⊤
+IsNamed kinds.Invalid = ⊤
+IsNamed (kinds.Limit l) = ⊤
+IsNamed kinds.Operator = ⊤
+IsNamed kinds.Body = ⊤
+IsNamed kinds.Memory = ⊤
+IsNamed _ = ⊥
+
+-- A validator that has not failed answers so to any bytes.
+pub record IsValidated (features : Features) (bytes : List ℕ) (verdict : Result Sizes Error) : Type 0 where
+  -- a yes is right, and shows the index spaces of the module
+  pub right : IfOk verdict (λ shown. (sections : List Section) × IsAccepted features bytes sections × (shown ≡ sizes_of sections))
+  -- a module that is to be accepted is refused only when out of memory; that memory did run out is left to tests
+  pub complete : (sections : List Section) → IsAccepted features bytes sections → IfErr verdict (λ e. e.kind ≡ kinds.Memory)
+  -- bytes are malformed only where no supported module reads
+  pub malformed : IfErr verdict (λ e. e.kind ≡ kinds.Malformed → (sections : List Section) → IsModule (has features CompactImports) bytes sections → ¬ (IsSupported sections))
+  -- a module is invalid only where complete sections at the front break a rule that is no limit, no grammar and no matter of bodies
+  pub invalid : IfErr verdict (λ e. e.kind ≡ kinds.Invalid → BeginsInvalid features bytes)
+  -- a limit is named only where sections at the front pass it, or the next one states a number that does; that of locals only where all
+  -- else is fine and the locals of a body pass it
+  pub limit : IfErr verdict (λ e. (l : Limit) → l ≢ limits.Locals → e.kind ≡ kinds.Limit l → BeginsPast features (core.limit l) bytes)
+  pub locals : IfErr verdict (λ e. e.kind ≡ kinds.Limit limits.Locals → HasBody features (IsBodyPast features) bytes)
+  -- bodies are refused only where all else is fine: where a code is no operator's, or the outcome is broken otherwise
+  pub operator : IfErr verdict (λ e. e.kind ≡ kinds.Operator → HasBody features (IsOtherBody features) bytes)
+  pub body : IfErr verdict (λ e. e.kind ≡ kinds.Body → HasBody features (IsBrokenBody features) bytes)
+  -- no other refusal comes
+  pub others : IfErr verdict (λ e. IsNamed e.kind)
+  -- the place of a refusal is among the bytes, or at their end; which place it is is open
+  pub place : IfErr verdict (λ e. e.offset ≤ length bytes)
+  -- running out of memory has no place
+  pub memory : IfErr verdict (λ e. e.kind ≡ kinds.Memory → e.offset ≡ 0)

@@ -1,4 +1,4 @@
-//! Tests of `wasm_core`, through its public calls.
+//! Tests of `wasm_core` beside its numbers, through its public calls.
 #![tactic(auto)]
 
 #[cfg(test)]
@@ -8,14 +8,6 @@ mod features;
 #[cfg(test)]
 mod module;
 #[cfg(test)]
-mod numbers;
-#[cfg(test)]
-mod read_numbers;
-#[cfg(test)]
-mod reader;
-#[cfg(test)]
 mod type_section;
 #[cfg(test)]
 mod types;
-#[cfg(test)]
-mod widths;

@@ -1,17 +1,7 @@
-//! Tests of `wasm_smith`, through its public calls.
+//! Tests of `wasm_smith` beside its configurations and draws, through its public calls.
 #![tactic(auto)]
 
 #[cfg(test)]
-mod check;
-#[cfg(test)]
-mod config;
-#[cfg(test)]
-mod errors;
-#[cfg(test)]
 mod module;
-#[cfg(test)]
-mod settings;
-#[cfg(test)]
-mod unstructured;
 #[cfg(test)]
 mod witness;

@@ -2,9 +2,9 @@
 
 use std::alloc::Global;
 use std::test::Fail;
-use wasm_smith::text::limited_str;
-use wasm_smith::unstructured::Unstructured;
 use wasm_smith_source::error::{EmptyChoose, NotEnoughData};
+use wasm_smith_source::text::limited_str;
+use wasm_smith_source::unstructured::Unstructured;
 use wasm_test_rows::fields::two_fields;
 use wasm_test_rows::rows::check_rows;
 use wasm_test_rows::types::word_and_rest;

@@ -1,12 +1,12 @@
 //! Numbers in LEB128 at each width: `u32`, `u64`, `s32`, `s33` and `s64`. Floating-point numbers, `f32` and `f64`, are read as their bits.
 
 use std::alloc::Global;
-use wasm_core::binary_reader::BinaryReader;
-use wasm_core::leb128::{
+use wasm_core_read::binary_reader::BinaryReader;
+use wasm_core_read::malformed::Malformed;
+use wasm_core_write::leb128::{
     len_s32, len_s33, len_s64, len_u32, len_u64, write_s32, write_s33, write_s64, write_u32,
     write_u64,
 };
-use wasm_core::malformed::Malformed;
 
 /// How long a number is at a width, if it is one of that width.
 pub fn length(width: &str, number: i128) -> Option<usize> {

@@ -1,7 +1,7 @@
 //! The reader of the binary format.
 
-use wasm_core::binary_reader::BinaryReader;
-use wasm_core::features::WasmFeatures;
+use wasm_core_base::features::WasmFeatures;
+use wasm_core_read::binary_reader::BinaryReader;
 
 #[test]
 fn features_are_those_set_last(rt: HostRuntime) {

@@ -3,8 +3,8 @@
 use crate::widths::{length, read, value, written};
 use std::alloc::{AllocError, Global};
 use std::test::Fail;
-use wasm_core::binary_reader::BinaryReader;
-use wasm_core::leb128::{len_s64, len_u64, put_s64, put_u64, write_s64, write_u32};
+use wasm_core_read::binary_reader::BinaryReader;
+use wasm_core_write::leb128::{len_s64, len_u64, put_s64, put_u64, write_s64, write_u32};
 use wasm_test_rows::fields::three_fields;
 use wasm_test_rows::rows::check_rows;
 use wasm_test_rows::values::bytes_of;

@@ -3,8 +3,8 @@
 use crate::widths::read;
 use std::alloc::Global;
 use std::test::Fail;
-use wasm_core::binary_reader::BinaryReader;
-use wasm_core::malformed::Malformed;
+use wasm_core_read::binary_reader::BinaryReader;
+use wasm_core_read::malformed::Malformed;
 use wasm_test_rows::fields::three_fields;
 use wasm_test_rows::rows::check_rows;
 use wasm_test_rows::types::word_and_rest;

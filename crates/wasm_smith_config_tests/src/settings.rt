@@ -1,6 +1,6 @@
 //! Configurations by their settings: `max_types=1 gc_enabled=yes`.
 
-use wasm_smith::config::Config;
+use wasm_smith_config::config::Config;
 use wasm_test_rows::values::bool_of;
 
 // Sets a switch, if there is one of this name.

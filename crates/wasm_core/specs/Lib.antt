@@ -2,7 +2,7 @@ pub mod CoreEncodings
 pub mod EncodeErrorCases
 pub mod LimitCases
 pub mod TypeReading
-pub mod Types
+pub mod Parts
 pub mod ValTypeCases
 pub use Rattle.wasm_core_types.specs.CoreTypes
 pub use Rattle.wasm_core_write.specs.Encoding

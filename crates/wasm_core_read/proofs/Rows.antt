@@ -12,7 +12,7 @@ one_more b bs others e = elim (ltb_tells b 256) [
   | inr t ↦ let no = sym (ap (λ x. x && list_all (λ b. ltb b 256) bs) t.0) ∙ e in absurd cc
 ]
 
-are_bytes : (bytes : List ℕ) → list_all (λ b. ltb b 256) bytes ≡ true → AreBytes bytes
+pub are_bytes : (bytes : List ℕ) → list_all (λ b. ltb b 256) bytes ≡ true → AreBytes bytes
 are_bytes [] e = tt
 are_bytes (b ∷ bs) e = one_more b bs (are_bytes bs) e
 

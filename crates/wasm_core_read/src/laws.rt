@@ -102,7 +102,7 @@ pub fn one_module()
     ensures { (compact : Bool) (bytes : List ℕ) (a b : List Section) → IsModule compact bytes a → IsModule compact bytes b → a ≡ b }
 {}
 
-/// Only compact imports decide how bytes read. What reads with them off reads the same with them on: a single import is no group.
+/// What reads with compact imports off reads the same with them on: a single import is no group.
 pub fn read_under_features()
     ensures more { (bytes : List ℕ) (sections : List Section) → IsModule false bytes sections → IsModule true bytes sections }
     ensures single { (compact : Bool) (bytes origin name : List ℕ) (type : ExternalType ℕ) → IsImport compact bytes (Import origin name type) ↔ IsImport false bytes (Import origin name type) }
@@ -142,7 +142,7 @@ pub fn no_module()
     ensures short_types { (compact : Bool) → IsNoModule compact (header ++ (0x01 ∷ 0x03 ∷ 0x01 ∷ 0x60 ∷ 0x00 ∷ [])) }
 {}
 
-/// Each two neighbours among the sections that have a place, swapped, are no module.
+/// No two neighbours among the sections that have a place may be swapped.
 pub fn swapped_sections()
     ensures import_before_type { (compact : Bool) → IsNoModule compact (header ++ (0x02 ∷ 0x01 ∷ 0x00 ∷ 0x01 ∷ 0x01 ∷ 0x00 ∷ [])) }
     ensures function_before_import { (compact : Bool) → IsNoModule compact (header ++ (0x03 ∷ 0x01 ∷ 0x00 ∷ 0x02 ∷ 0x01 ∷ 0x00 ∷ [])) }

@@ -1,9 +1,9 @@
 //! The rows of the tables in `docs/SPEC.md`: for each form bytes that have a value, and bytes near them that have none.
 
-ghost use Rattle.std.specs.Prelude.{Bool, true, false, [], ◌∷◌};
+ghost use Rattle.std.specs.Prelude.{◌++◌, Bool, true, false, [], ◌∷◌};
 ghost use Rattle.wasm_core_read.specs.Laws.{HasValue, HasNone};
 ghost use Rattle.wasm_spec.specs.ConstantGrammar.{IsConstantOperator, IsConstantExpression};
-ghost use Rattle.wasm_spec.specs.Grammar.{IsSection};
+ghost use Rattle.wasm_spec.specs.Grammar.{header, IsModule, IsSection};
 ghost use Rattle.wasm_spec.specs.ModuleParts.{IsImport, IsTable, IsGlobal, IsExport, IsElementSegment, IsDataSegment};
 ghost use Rattle.wasm_spec.specs.TypeGrammar.{IsHeapType, IsRefType, IsValType, IsFieldType, IsCompositeType, IsSubType, IsRecGroup, IsLimits, IsMemoryType, IsTableType, IsGlobalType, IsTagType};
 
@@ -29,6 +29,12 @@ pub fn sections()
     ensures no_export { HasNone IsExport (0x01 ∷ 0x61 ∷ 0x82 ∷ 0x00 ∷ 0x00 ∷ []) }
     ensures tag { HasValue IsTagType (0x00 ∷ 0x05 ∷ []) }
     ensures no_tag { HasNone IsTagType (0x01 ∷ 0x05 ∷ []) }
+{}
+
+/// A data count, alone in its module.
+pub fn data_counts()
+    ensures none { (compact : Bool) → HasValue (IsModule compact) (header ++ (0x0c ∷ 0x01 ∷ 0x00 ∷ [])) }
+    ensures one { (compact : Bool) → HasNone (IsModule compact) (header ++ (0x0c ∷ 0x01 ∷ 0x01 ∷ [])) }
 {}
 
 /// Types.

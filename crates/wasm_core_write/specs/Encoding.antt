@@ -16,11 +16,11 @@ Measures (Ok n) len longest = (n ≡ len) × (longest < 2 ^ 32)
 Measures (Err errors.Memory) len longest = ⊥
 Measures (Err errors.TooLong) len longest = 2 ^ 32 ≤ longest
 
--- An encoding is appended where the longest count, run or length in it is within 32 bits. A refusal leaves the sink as it was, and names its
--- cause: it is out of memory only where room was missing.
+-- An encoding is appended where the longest count, run or length in it is within 32 bits. A refusal leaves the sink's bytes as they were, and
+-- names its cause: it is out of memory only where room was missing. The capacity never shrinks.
 abbrev pub Encodes : {Z : Type 0} → Vec ℕ Z → Vec ℕ Z → Result (Unit {0}) EncodeError → List ℕ → ℕ → Type 0
-Encodes old new (Ok x) encoding longest = (new.items ≡ old.items ++ encoding) × (longest < 2 ^ 32)
-Encodes old new (Err errors.Memory) encoding longest = (new.items ≡ old.items) × (longest < 2 ^ 32) × (vec_capacity old < vec_len old + length encoding)
+Encodes old new (Ok x) encoding longest = (new.items ≡ old.items ++ encoding) × (longest < 2 ^ 32) × (vec_capacity old ≤ vec_capacity new)
+Encodes old new (Err errors.Memory) encoding longest = (new.items ≡ old.items) × (longest < 2 ^ 32) × (vec_capacity old < vec_len old + length encoding) × (vec_capacity old ≤ vec_capacity new)
 Encodes old new (Err errors.TooLong) encoding longest = (new ≡ old) × (2 ^ 32 ≤ longest)
 
 -- The length of the encoding of an item is told: None exactly past the last, and else right wherever the encoding of the list is within 32 bits.

@@ -42,7 +42,7 @@ impl Module {
         Ok(Module { bytes })
     }
 
-    /// Appends a section: what [`Module::section`] does. Of a section that is refused nothing is appended.
+    /// Appends a section. Its order among the others is the caller's. Of a section that is refused nothing is appended.
     ///
     /// # Errors
     /// `TooLong` exactly where the section's [`Encode::encode`](crate::encode::Encode::encode) answers it, and else
@@ -50,6 +50,7 @@ impl Module {
     pub fn push<S: Section>(&mut self, section: &S) -> Result<(), EncodeError>
         ensures appended { IfOk result (λ _. self.new.bytes ≡ self.old.bytes ++ S.number section.now ∷ S.Encode.encoding section.now) }
         ensures kept { IfErr result (λ _. self.new ≡ self.old) }
+        ensures grows { self.old.capacity ≤ self.new.capacity }
         ensures no_room { IfErr result (λ e. e ≡ EncodeError.Memory → self.old.capacity < length self.old.bytes + 1 + length (S.Encode.encoding section.now)) }
         ensures too_long { (result ≡ Err EncodeError.TooLong) ↔ (2 ^ 32 ≤ S.Encode.longest section.now) }
     {
@@ -59,7 +60,7 @@ impl Module {
         section.encode(&mut self.bytes)
     }
 
-    /// Appends a section and goes on. Its order among the others is the caller's.
+    /// Appends a section as [`Module::push`] does, and goes on.
     ///
     /// # Errors
     /// Those of [`Module::push`]. The module is then as it was.

@@ -2,10 +2,10 @@
 use Rattle.std.proofs.Common.{◌≡◌, ℕ, false, List, Err, refl}
 use Rattle.wasm_spec.specs.Features.{Features, CompactImports, has}
 use Rattle.wasmparser.specs.Validation.{IsAccepted, IsValidated}
-use Rattle.wasmparser.specs.Types.{Error, Memory}
+use Rattle.wasmparser.specs.Parts.{Error, Memory}
 use Rattle.wasm_smith.specs.Config.{AreFeaturesOf}
 use Rattle.wasm_smith.specs.Generating.{module_at}
-use Rattle.wasm_smith.specs.Types.{Config}
+use Rattle.wasm_smith.specs.Parts.{Config}
 use Rattle.wasm_gen.specs.Generate.{IsGeneratedFrom}
 use Rattle.wasm_gen.specs.History.{History}
 use Rattle.wasm_gen.specs.Session.{Checks}

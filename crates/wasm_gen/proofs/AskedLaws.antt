@@ -8,7 +8,7 @@ use Rattle.wasm_smith.specs.Family.{IsAskable, IsInFamily, bare}
 use Rattle.wasm_smith.specs.Generating.{module_at}
 use Rattle.wasm_smith.specs.Made.{Made}
 use Rattle.wasm_smith.specs.Spelling.{Spells}
-use Rattle.wasm_smith.specs.Types.{Config}
+use Rattle.wasm_smith.specs.Parts.{Config}
 use Rattle.wasm_smith.proofs.SeedLaws.{not_good, single_types, no_min_funcs, module_reach, types_on, module_on}
 use Rattle.wasm_gen_writer.specs.Written.{IsGenerated}
 use Rattle.wasm_gen_writer.proofs.Validity.{counts_kept}

@@ -1,14 +1,14 @@
 -- What is generated, and why nothing is.
 use Rattle.std.proofs.Common.{◌≡◌, ℕ, true, List, [], sym, subst, ap}
 use Rattle.wasm_core.specs.Limits.{limit}
-use Rattle.wasm_core.specs.Types as core
+use Rattle.wasm_core.specs.Parts as core
 use Rattle.wasm_spec.specs.Features.{Features}
 use Rattle.wasm_spec.specs.Validity.{is_passed}
 use Rattle.wasm_smith.specs.Config.{AreFeaturesOf}
 use Rattle.wasm_smith.specs.Generating.{module_at}
 use Rattle.wasm_smith.specs.Made.{Made, ModuleValue}
 use Rattle.wasm_smith.specs.Promise.{IsMadeFor}
-use Rattle.wasm_smith.specs.Types.{Config}
+use Rattle.wasm_smith.specs.Parts.{Config}
 use Rattle.wasm_smith.specs.Bounds.{IsWithinBounds}
 use Rattle.wasm_smith.specs.Validity.{IsValidByIndex}
 use Rattle.wasm_gen_writer.specs.Written.{sections_with}

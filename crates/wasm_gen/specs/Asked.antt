@@ -1,12 +1,12 @@
 -- Lists of groups and functions that `generate` makes of their seeds, and what it makes of them.
 use Rattle.std.specs.Prelude.{◌≡◌, ◌⊎◌, ◌≤◌, ◌%◌, ℕ, List, ◌∷◌, ◌++◌, length}
-use Rattle.wasm_core.specs.Types as core
+use Rattle.wasm_core.specs.Parts as core
 use Rattle.wasm_spec.specs.Limits.{Types, Functions, most}
 use Rattle.wasm_spec.specs.Types.{SubType}
 use Rattle.wasm_smith.specs.Family.{IsAskable, IsInFamily, bare, types_of}
 use Rattle.wasm_smith.specs.Made.{Made}
 use Rattle.wasm_smith.specs.Spelling.{Spells}
-use Rattle.wasm_smith.specs.Types.{Config}
+use Rattle.wasm_smith.specs.Parts.{Config}
 use Rattle.wasm_gen.specs.Generate.{PassesLimit}
 use Rattle.wasm_gen.specs.declared.error.GenerateError.{GenerateError}
 use Rattle.wasm_gen.specs.declared.error.GenerateError.TheVariants.{Limit, Memory}

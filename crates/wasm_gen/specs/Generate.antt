@@ -3,7 +3,7 @@ use Rattle.std.specs.Prelude.{◌≡◌, ⊤, ℕ, true, List, []}
 use Rattle.wasm_core.specs.EncodeErrorCases as encoding
 use Rattle.wasm_core.specs.LimitCases as limits
 use Rattle.wasm_core.specs.Limits.{limit}
-use Rattle.wasm_core.specs.Types as core
+use Rattle.wasm_core.specs.Parts as core
 use Rattle.wasm_spec.specs.Features.{Features}
 use Rattle.wasm_spec.specs.Validity.{is_passed}
 use Rattle.wasm_smith.specs.Bounds.{IsWithinBounds}
@@ -11,7 +11,7 @@ use Rattle.wasm_smith.specs.Config.{AreFeaturesOf, IsGood, IsBadField}
 use Rattle.wasm_smith.specs.ErrorCases as smith
 use Rattle.wasm_smith.specs.Generating.{module_at}
 use Rattle.wasm_smith.specs.Promise.{HasNoType}
-use Rattle.wasm_smith.specs.Types.{Config, Error}
+use Rattle.wasm_smith.specs.Parts.{Config, Error}
 use Rattle.wasm_smith.specs.Validity.{IsValidByIndex}
 use Rattle.wasm_gen.specs.declared.error.GenerateError.{GenerateError}
 use Rattle.wasm_gen.specs.declared.error.GenerateError.TheVariants.{Config as BadConfig, Shape, Minimum, EmptyChoice, TypeSize, Limit, Memory}

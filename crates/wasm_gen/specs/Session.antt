@@ -3,7 +3,7 @@ use Rattle.std.specs.Prelude.{◌≡◌, ℕ, List, Bool, true, false, not, Resu
 use Rattle.wasm_core.specs.LimitCases.{Locals}
 use Rattle.wasm_spec.specs.Spaces.{Sizes}
 use Rattle.wasmparser.specs.Validation.{IsValidated}
-use Rattle.wasmparser.specs.Types.{Error, ErrorKind, Operator, Body, Limit, Failed}
+use Rattle.wasmparser.specs.Parts.{Error, ErrorKind, Operator, Body, Limit, Failed}
 use Rattle.wasm_gen.specs.History.{History}
 
 -- a refusal of this kind is one of a body

@@ -2,7 +2,7 @@
 use Rattle.std.specs.Prelude.{ℕ, List, ◌++◌, codes, decimal, Result, Ok, Err}
 use Rattle.wasm_spec.specs.Spaces.{Sizes}
 use Rattle.wasmparser.specs.Error.{kind_name}
-use Rattle.wasmparser.specs.Types.{Error}
+use Rattle.wasmparser.specs.Parts.{Error}
 
 -- a label and the number under it
 abbrev pub counted : List ℕ → ℕ → List ℕ

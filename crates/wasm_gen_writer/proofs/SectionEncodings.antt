@@ -16,7 +16,7 @@ use Rattle.wasm_spec.proofs.UnsignedEncodings.{at_most_five}
 use Rattle.wasm_smith.specs.Bounds.{IsSmall, IsWithinBounds}
 use Rattle.wasm_smith.specs.Plain.{IsPlain, IsPlainFunction, IsPlainModule}
 use Rattle.wasm_smith.specs.Made.{Made}
-use Rattle.wasm_smith.specs.Types.{Config}
+use Rattle.wasm_smith.specs.Parts.{Config}
 use Rattle.wasm_gen_writer.specs.Encodings.{body_encoding, entry_encoding, encoding_unless_empty, module_encoding}
 use Rattle.wasm_gen_writer.specs.Written.{AreUnreachableBodies, unless_empty, sections_with}
 use Rattle.wasm_gen_writer.proofs.BodyEncodings.{AreFewPlain, bodies_are_written, body_length, entry_is, entry_length}

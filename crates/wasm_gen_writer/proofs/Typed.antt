@@ -3,7 +3,7 @@ use Rattle.std.proofs.Common.{◌≡◌, ℕ, zero, suc, ◌*◌, ◌<◌, ◌�
 use Rattle.std.specs.List.{AllByRecursion, flat_map, sum_by}
 use Rattle.std.proofs.lemmas.List.{length-replicate}
 use Rattle.std.proofs.lemmas.List.Sums.{sum_by-cons}
-use Rattle.wasm_spec.specs.Bodies.{Run, IsRun, Context, plain, done, all_taken, nothing_known, at_start, IsFunctionBody, IsBodyOf}
+use Rattle.wasm_spec.specs.Bodies.{Run, IsRun, Context, simple, done, all_taken, nothing_known, at_start, IsFunctionBody, IsBodyOf}
 use Rattle.wasm_spec.specs.Bytes.{IsItems}
 use Rattle.wasm_spec.specs.Features.{Features}
 use Rattle.wasm_spec.specs.Gates.{is_allowed}
@@ -105,7 +105,7 @@ supplied cx (type ∷ types) = supplied cx types
 
 typed : (cx : Context ℕ) (type : FuncType ℕ) (runs : List Run) → IsBodyOf cx type runs (Unreachable ∷ End ∷ [])
 typed cx type runs = record {
-  code = plain Unreachable done;
+  code = simple Unreachable done;
   last = nothing_known (at_start ℕ);
   is_flat = refl;
   judged = (nothing_known (at_start ℕ), refl, refl);

@@ -15,7 +15,7 @@ use Rattle.wasm_spec.specs.Validity.{func_type_of, func_type_at, is_past, is_pas
 use Rattle.wasm_smith.specs.Bounds.{IsSmall, IsWithinBounds}
 use Rattle.wasm_smith.specs.Made.{Made}
 use Rattle.wasm_smith.specs.Plain.{IsPlainModule}
-use Rattle.wasm_smith.specs.Types.{Config}
+use Rattle.wasm_smith.specs.Parts.{Config}
 use Rattle.wasm_smith.specs.Validity.{IsValidByIndex}
 use Rattle.wasm_gen_writer.specs.Written.{IsUnreachableBody, AreUnreachableBodies, unless_empty, sections_with}
 use Rattle.wasm_gen_writer.proofs.Forms.{all_at}

@@ -9,7 +9,7 @@ use Rattle.wasm_spec.specs.Types.{ValType}
 use Rattle.wasm_core.specs.CoreTypes.{val_type}
 use Rattle.wasm_core.specs.EncodeErrorCases as errors
 use Rattle.wasm_core.specs.Encoding.{Measures}
-use Rattle.wasm_core.specs.Types as core
+use Rattle.wasm_core.specs.Parts as core
 use Rattle.wasm_core.proofs.WritingLaws.{list_mapped}
 use Rattle.wasm_gen_writer.specs.Encodings.{is_same_type, run_encoding, runs_from, runs_of, body_encoding, entry_encoding, encoding_unless_empty}
 use Rattle.wasm_gen_writer.specs.Measured.{MeasuresBody}

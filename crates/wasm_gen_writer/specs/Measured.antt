@@ -1,7 +1,7 @@
 -- What is measured of a body before it is written.
 use Rattle.std.specs.Prelude.{◌≡◌, ℕ, ◌≤◌, ◌<◌, ◌^◌, List, length, Result, Ok, Err}
 use Rattle.wasm_core.specs.EncodeErrorCases as errors
-use Rattle.wasm_core.specs.Types as core
+use Rattle.wasm_core.specs.Parts as core
 use Rattle.wasm_spec.specs.Types.{ValType}
 use Rattle.wasm_gen_writer.specs.Encodings.{runs_of, body_encoding}
 use Rattle.wasm_gen_writer.specs.declared.bodies.BodySize.{BodySize}

@@ -11,7 +11,7 @@ use Rattle.wasm_spec.specs.Validity.{IsValid}
 use Rattle.wasm_smith.specs.Bounds.{IsWithinBounds}
 use Rattle.wasm_smith.specs.Config.{AreFeaturesOf}
 use Rattle.wasm_smith.specs.Made.{Made}
-use Rattle.wasm_smith.specs.Types.{Config}
+use Rattle.wasm_smith.specs.Parts.{Config}
 use Rattle.wasm_gen_writer.specs.Encodings.{module_encoding}
 
 -- runs of locals of which none is empty and no two neighbours have one type
@@ -46,7 +46,7 @@ sections_with m bodies =
     ++ unless_empty m.funcs (CodeSection bodies)
 
 -- The bytes read as a made module, whether compact imports are on or not. Its bodies are `unreachable`, it is valid under the features of the
--- configuration and within its bounds. The bytes are its shortest encoding.
+-- configuration and within its bounds. The bytes are those that the writer gives it.
 pub record IsGenerated (c : Config) (m : Made) (bytes : List ℕ) : Type 0 where
   pub bodies : List (List ℕ)
   pub unreachable : AreUnreachableBodies m.locals bodies

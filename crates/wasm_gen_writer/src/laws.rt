@@ -8,7 +8,7 @@ ghost use Rattle.wasm_gen_writer.specs.Written.{AreUnreachableBodies, sections_w
 ghost use Rattle.wasm_smith.specs.Bounds.{IsSmall, IsWithinBounds};
 ghost use Rattle.wasm_smith.specs.Plain.{IsPlainModule};
 ghost use Rattle.wasm_smith.specs.Made.{Made};
-ghost use Rattle.wasm_smith.specs.Types.{Config};
+ghost use Rattle.wasm_smith.specs.Parts.{Config};
 ghost use Rattle.wasm_smith.specs.Validity.{IsValidByIndex};
 ghost use Rattle.wasm_spec.specs.Features.{Features};
 ghost use Rattle.wasm_spec.specs.Grammar.{IsModule};

@@ -1,6 +1,6 @@
 pub mod ErrorCases
-pub mod Types
-pub use Rattle.wasm_smith_source.specs.Draws
+pub mod Parts
+pub use Rattle.wasm_smith_unstructured.specs.Draws
 pub use Rattle.wasm_smith_config.specs.Config
 pub use Rattle.wasm_smith_config.specs.Defaults
 pub use Rattle.wasm_smith_config.specs.SupportedConfig

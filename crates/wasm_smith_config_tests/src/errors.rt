@@ -3,7 +3,7 @@
 use std::alloc::{AllocError, Global};
 use std::test::Fail;
 use wasm_smith_config::error::Error;
-use wasm_smith_source::error::{EmptyChoose, NotEnoughData};
+use wasm_smith_unstructured::error::{EmptyChoose, NotEnoughData};
 use wasm_test_rows::fields::two_fields;
 use wasm_test_rows::rows::check_rows;
 use wasm_test_rows::shown::displays;
@@ -18,7 +18,7 @@ const PRINTED: &str = "
     TypeSize | type size
     Memory | out of memory
     TooLong | too long
-    // Those of a source.
+    // Those of draws.
     choose | nothing to choose from
     bytes | not enough data
 ";

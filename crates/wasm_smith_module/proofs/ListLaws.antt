@@ -4,7 +4,7 @@ use Rattle.std.specs.Prelude.{IsTrue, slice_get, ◌⊎◌}
 use Rattle.std.specs.List.{AllByRecursion, list_all}
 use Rattle.std.proofs.lemmas.Bool.{lt-ltb}
 use Rattle.std.proofs.lemmas.Bool.Decides.{eqb_tells}
-use Rattle.wasm_smith_source.specs.Draws.{bool_at, int_at, choose_at}
+use Rattle.wasm_smith_unstructured.specs.Draws.{bool_at, int_at, choose_at}
 use Rattle.wasm_smith_module.specs.Growing.{grows_from, grow_from, grow_at, times_at}
 
 -- ---- lists

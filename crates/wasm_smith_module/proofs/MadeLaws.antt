@@ -6,7 +6,7 @@ use Rattle.std.proofs.lemmas.Bool.Decides.{eqb_tells}
 use Rattle.wasm_core_types.specs.declared.types.SubType.{SubType}
 use Rattle.wasm_core_types.specs.SubTypes.{sub_type}
 use Rattle.wasm_spec.specs.Types as spec
-use Rattle.wasm_smith_source.specs.Draws.{bool_at}
+use Rattle.wasm_smith_unstructured.specs.Draws.{bool_at}
 use Rattle.wasm_smith_config.specs.Config.{IsGood, NamesBad, fields}
 use Rattle.wasm_smith_config.specs.declared.config.Config.{Config}
 use Rattle.wasm_smith_config.specs.declared.error.Error.{Error}

@@ -9,7 +9,7 @@ use Rattle.wasm_spec.specs.Types as spec
 use Rattle.wasm_core_types.specs.declared.types.AbstractHeapType.{AbstractHeapType}
 use Rattle.wasm_core_types.specs.declared.types.ValType.{ValType}
 use Rattle.wasm_core_types.specs.CoreTypes.{abstract_heap_type, val_type}
-use Rattle.wasm_smith_source.specs.Draws.{int_at, choose_at, given}
+use Rattle.wasm_smith_unstructured.specs.Draws.{int_at, choose_at, given}
 use Rattle.wasm_smith_module.proofs.ListLaws.{index_below}
 use Rattle.wasm_smith_module.specs.Generating.{Offers, reference_at, value_at}
 use Rattle.wasm_smith_module.specs.Offered.{kind}

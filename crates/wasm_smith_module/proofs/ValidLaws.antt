@@ -11,7 +11,7 @@ use Rattle.wasm_spec.specs.Types as spec
 use Rattle.wasm_spec.specs.Validity.{func_type_of, func_type_at}
 use Rattle.wasm_smith_config.specs.Config.{AreFeaturesOf}
 use Rattle.wasm_smith_config.specs.declared.config.Config.{Config}
-use Rattle.wasm_smith_source.specs.Draws.{int_at, choose_at}
+use Rattle.wasm_smith_unstructured.specs.Draws.{int_at, choose_at}
 use Rattle.wasm_smith_module.specs.Bounds.{IsSmall}
 use Rattle.wasm_smith_module.specs.Plain.{IsPlain, IsPlainFunction}
 use Rattle.wasm_smith_module.specs.Generating.{Kind, NumberOrVector, Reference, Offers, offers, reference_to, reference_at, value_of, value_at, values_at, type_at, max_results, types_at, funcs_at, code_at}

@@ -2,7 +2,7 @@
 use Rattle.std.specs.Prelude.{ℕ, ◌-◌, true, List, [], ◌∷◌, ◌++◌, length, Option, Some, None, ◌==◌, if◌then◌else◌}
 use Rattle.wasm_spec.specs.Types.{AbstractHeapType, Func, Extern, Exn, Cont, NoCont, Abstract, ValType, I32, I64, F32, F64, V128, Ref, FuncComposite, SubType}
 use Rattle.wasm_smith_config.specs.declared.config.Config.{Config}
-use Rattle.wasm_smith_source.specs.Draws.{int_at, choose_at}
+use Rattle.wasm_smith_unstructured.specs.Draws.{int_at, choose_at}
 use Rattle.wasm_smith_module.specs.Growing.{grow_at, times_at}
 use Rattle.wasm_smith_module.specs.Made.{Made}
 

@@ -1,6 +1,6 @@
 -- Growing: one more after the other, as long as some are owed, and then as long as there is room and a drawn bool is true.
 use Rattle.std.specs.Prelude.{◌≡◌, ⊤, ℕ, zero, suc, ◌-◌, Bool, true, false, List, [], ◌∷◌, nat_lt, Result, Ok, Err, if◌then◌else◌}
-use Rattle.wasm_smith_source.specs.Draws.{bool_at}
+use Rattle.wasm_smith_unstructured.specs.Draws.{bool_at}
 
 -- What a call that allocates returned, seen by view, and the bytes that it left are the pair that is drawn, unless memory runs out.
 abbrev pub Draws : {X Y E : Type 0} → (X → Y) → List ℕ → Result X E → Y × List ℕ → Type 0

@@ -1,7 +1,7 @@
 -- What is promised of a module that is made, and why none is made.
 use Rattle.std.specs.Prelude.{◌≡◌, ◌⊎◌, ⊤, ℕ, false, List, length, ◌<◌}
 use Rattle.wasm_spec.specs.Features.{Features}
-use Rattle.wasm_smith_source.specs.Draws.{bool_at}
+use Rattle.wasm_smith_unstructured.specs.Draws.{bool_at}
 use Rattle.wasm_smith_config.specs.Config.{AreFeaturesOf, IsGood, IsBadField}
 use Rattle.wasm_smith_config.specs.declared.config.Config.{Config}
 use Rattle.wasm_smith_config.specs.declared.error.Error.{Error}

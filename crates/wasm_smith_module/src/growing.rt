@@ -1,10 +1,10 @@
 //! Growing: one more after the other, for as long as the bytes say.
 
 ghost use Rattle.std.specs.Prelude.{◌<◌, IsTrue};
-ghost use Rattle.wasm_smith_source.specs.Draws.{IsDrawn};
+ghost use Rattle.wasm_smith_unstructured.specs.Draws.{IsDrawn};
 ghost use Rattle.wasm_smith_module.specs.Growing.{grows_at};
 
-use wasm_smith_source::unstructured::Unstructured;
+use wasm_smith_unstructured::unstructured::Unstructured;
 
 /// Whether there is one more after `count` of them: as long as there are fewer than `min`, and then, as long as there
 /// are fewer than `max`, where the next bool is true.

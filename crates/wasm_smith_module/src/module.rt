@@ -11,7 +11,7 @@ use std::marker::Model;
 use wasm_core_types::types::{SubType, ValType};
 use wasm_smith_config::config::Config;
 use wasm_smith_config::error::Error;
-use wasm_smith_source::unstructured::Unstructured;
+use wasm_smith_unstructured::unstructured::Unstructured;
 
 /// A module that is made: types, each a group by itself, and functions, each of one of the types and with locals of its
 /// own. Every body is `unreachable`. Contracts see it as its configuration and what it has.

@@ -12,7 +12,7 @@ use crate::value_types::Offers;
 use std::alloc::{AllocError, Global};
 use wasm_core_types::types::{CompositeType, FuncType, SubType, ValType};
 use wasm_smith_config::config::Config;
-use wasm_smith_source::unstructured::Unstructured;
+use wasm_smith_unstructured::unstructured::Unstructured;
 
 // A final function type without a supertype.
 #[tactic(auto, unfolding(crate::specs::Generating::type_at))]

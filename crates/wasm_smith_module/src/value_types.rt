@@ -2,7 +2,7 @@
 
 ghost use Rattle.std.specs.Prelude.{◌≡◌, ◌<◌, IfOk, length, map};
 ghost use Rattle.wasm_core_types.specs.CoreTypes.{abstract_heap_type, val_type};
-ghost use Rattle.wasm_smith_source.specs.Draws.{IsDrawn};
+ghost use Rattle.wasm_smith_unstructured.specs.Draws.{IsDrawn};
 ghost use Rattle.wasm_smith_module.specs.Generating.{offers, reference_at, value_at, values_at};
 ghost use Rattle.wasm_smith_module.specs.Growing.{Draws};
 ghost use Rattle.wasm_smith_module.specs.Offered.{kind};
@@ -12,7 +12,7 @@ use std::alloc::{AllocError, Global};
 use std::marker::Model;
 use wasm_core_types::types::{AbstractHeapType, HeapType, RefType, ValType};
 use wasm_smith_config::config::Config;
-use wasm_smith_source::unstructured::Unstructured;
+use wasm_smith_unstructured::unstructured::Unstructured;
 
 /// What is drawn first of a value type.
 #[derive(Clone, Copy, Debug)]

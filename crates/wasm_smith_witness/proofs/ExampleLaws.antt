@@ -1,6 +1,6 @@
 -- Spellings of worked examples.
 use Rattle.std.proofs.Common.{◌≡◌, ℕ, zero, suc, ◌-◌, ◌<◌, ◌%◌, Bool, true, false, cond, [], ◌∷◌, refl, arith}
-use Rattle.wasm_smith_source.specs.Draws.{width, least_from}
+use Rattle.wasm_smith_unstructured.specs.Draws.{width, least_from}
 use Rattle.wasm_smith_config.specs.declared.config.Config.{Config}
 use Rattle.wasm_smith_module.specs.Generating.{offers, max_results}
 use Rattle.wasm_smith_witness.specs.Examples.{no_values, one_function, two_functions}

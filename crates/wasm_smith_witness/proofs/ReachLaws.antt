@@ -5,7 +5,7 @@ use Rattle.std.proofs.lemmas.Bool.{lt-ltb}
 use Rattle.std.proofs.lemmas.Bool.Decides.{eqb_tells}
 use Rattle.std.proofs.lemmas.Option.{slice_get_within}
 use Rattle.wasm_spec.specs.Types.{Abstract, Concrete, ValType, I32, I64, F32, F64, V128, Ref, CompositeType, FuncComposite, StructComposite, ArrayComposite, ContComposite, SubType}
-use Rattle.wasm_smith_source.specs.Draws.{bool_at, width, int_at, choose_at}
+use Rattle.wasm_smith_unstructured.specs.Draws.{bool_at, width, int_at, choose_at}
 use Rattle.wasm_smith_config.specs.declared.config.Config.{Config}
 use Rattle.wasm_smith_module.specs.Growing.{grows_from, grow_from, grow_at, times_at}
 use Rattle.wasm_smith_module.specs.Generating.{NumberOrVector, Reference, Offers, offers, reference_at, value_at, values_at, type_at, max_results, types_at, funcs_at, code_at, module_at}

@@ -11,8 +11,8 @@ use Rattle.std.proofs.lemmas.Bool.{lt-ltb, le-ltb, ltb-true, leb-true, cases_lt,
 use Rattle.std.proofs.lemmas.Bool.Decides.{eqb_tells}
 use lib.Arith.{mod-mul}
 use Rattle.wasm_spec.specs.Types.{AbstractHeapType, Func, Extern, Exn, Cont, NoCont, Abstract, Concrete, ValType, I32, I64, F32, F64, V128, Ref, FuncType, CompositeType, FuncComposite, StructComposite, ArrayComposite, ContComposite, SubType}
-use Rattle.wasm_smith_source.specs.Draws.{least_from, width, big_number}
-use Rattle.wasm_smith_source.proofs.NumberLaws.{width_least, power}
+use Rattle.wasm_smith_unstructured.specs.Draws.{least_from, width, big_number}
+use Rattle.wasm_smith_unstructured.proofs.NumberLaws.{width_least, power}
 use Rattle.wasm_smith_config.specs.declared.config.Config.{Config}
 use Rattle.wasm_smith_module.specs.Generating.{Kind, NumberOrVector, Reference, offers, max_results}
 use Rattle.wasm_smith_module.proofs.GoodLaws.{types_small}

@@ -7,7 +7,7 @@ use Rattle.std.proofs.lemmas.Bool.{lt-ltb, le-ltb}
 use Rattle.wasm_core_types.specs.SubTypes.{composite_type, sub_type}
 use Rattle.wasm_core_types.specs.declared.types.SubType.{SubType}
 use Rattle.wasm_spec.specs.Types.{FuncType}
-use Rattle.wasm_smith_source.specs.Draws.{width}
+use Rattle.wasm_smith_unstructured.specs.Draws.{width}
 use Rattle.wasm_smith_config.specs.declared.config.Config.{Config}
 use Rattle.wasm_smith_module.specs.Generating.{max_results}
 use Rattle.wasm_smith_witness.specs.Words.{value_word, int_word, each_word, list_word, function_word, composite_word, group_word}

@@ -2,7 +2,7 @@
 -- holds of any numbers.
 use Rattle.std.specs.Prelude.{◌≡◌, ℕ, zero, suc, ◌+◌, ◌-◌, ◌%◌, ◌≤◌, Bool, true, false, List, [], ◌∷◌, ◌++◌, length, Some, slice_get}
 use Rattle.wasm_spec.specs.Types.{HeapType, Abstract, Concrete, ValType, Ref, FuncType, CompositeType, FuncComposite, StructComposite, ArrayComposite, ContComposite, SubType}
-use Rattle.wasm_smith_source.specs.Draws.{big_number, width}
+use Rattle.wasm_smith_unstructured.specs.Draws.{big_number, width}
 use Rattle.wasm_smith_config.specs.declared.config.Config.{Config}
 use Rattle.wasm_smith_module.specs.Generating.{NumberOrVector, Reference, Offers, offers, max_results}
 use Rattle.wasm_smith_witness.specs.Family.{types_of}

@@ -2,7 +2,7 @@
 use Rattle.std.specs.Prelude.{ℕ, ◌+◌, ◌-◌, List, [], ◌∷◌, ◌++◌, length, nat_lt, if◌then◌else◌}
 use Rattle.std.specs.Int.{bytes_high_first}
 use Rattle.wasm_spec.specs.Types.{AbstractHeapType, Func, Extern, Cont, NoCont, HeapType, Abstract, Concrete, ValType, I32, I64, F32, F64, V128, Ref, FuncType, CompositeType, FuncComposite, StructComposite, ArrayComposite, ContComposite, SubType}
-use Rattle.wasm_smith_source.specs.Draws.{width}
+use Rattle.wasm_smith_unstructured.specs.Draws.{width}
 use Rattle.wasm_smith_config.specs.declared.config.Config.{Config}
 use Rattle.wasm_smith_module.specs.Generating.{max_results}
 

@@ -12,7 +12,7 @@ use wasm_core_types::types::{
 };
 use wasm_smith_config::config::Config;
 use wasm_smith_module::bounds::{MAX_PARAMS, max_results};
-use wasm_smith_source::number::width;
+use wasm_smith_unstructured::number::width;
 
 // That there is one more thing.
 const MORE: u8 = 1;

@@ -1,6 +1,6 @@
 -- Small encodings that several laws speak of.
 use Rattle.std.proofs.Common.{◌≡◌, ◌<◌, ◌≤◌, ◌^◌, ℕ, Bool, Some, List, [], ◌∷◌, ◌++◌, length, refl, arith, ap, length-append}
-use Rattle.wasm_spec.specs.Bodies.{Context, plain, done, all_taken, nothing_known, at_start, IsFunctionBody}
+use Rattle.wasm_spec.specs.Bodies.{Context, simple, done, all_taken, nothing_known, at_start, IsFunctionBody}
 use Rattle.wasm_spec.specs.Bytes.{IsU32, IsList}
 use Rattle.wasm_spec.specs.Grammar.{section_id, IsContent, IsSection}
 use Rattle.wasm_spec.specs.Operators.{Unreachable, End}
@@ -37,7 +37,7 @@ unreachable_body cx type few = record {
   locals = record { declared = (0x00 ∷ [], [], refl, small 0 (omega arith), refl); allowed = tt; within = λ h. omega (arith, few, h) };
   spelled = (0x00 ∷ [], 0x0b ∷ [], refl, refl, (0x0b ∷ [], [], refl, refl, refl));
   typed = record {
-    code = plain Unreachable done;
+    code = simple Unreachable done;
     last = nothing_known (at_start ℕ);
     is_flat = refl;
     judged = (nothing_known (at_start ℕ), refl, refl);

@@ -2,6 +2,7 @@ pub mod CompactImports
 pub mod Decoding
 pub mod EncodingBytes
 pub mod Encodings
+pub mod GateForms
 pub mod ListEncodings
 pub mod NumberLaws
 pub mod SectionBytes

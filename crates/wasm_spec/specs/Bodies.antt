@@ -71,17 +71,17 @@ effect cx labels s End = None
 -- A list of operators: its first one, with the lists that it holds, and then the rest.
 pub data Code : Type 0 where
   done : Code
-  plain : Operator → Code → Code
+  simple : Operator → Code → Code
 
 -- the operators of the code in the order of the encoding, and then those that follow
 abbrev pub flat : Code → List Operator → List Operator
 flat done after = after
-flat (plain operator rest) after = operator ∷ flat rest after
+flat (simple operator rest) after = operator ∷ flat rest after
 
 -- from a state, with these labels, the code leads to another
 abbrev pub Judged : {R : Type 0} → Context R → List (List (ValType R)) → State R → Code → State R → Type 0
 Judged cx labels s done last = last ≡ s
-Judged {R} cx labels s (plain operator rest) last = (m : State R) × (effect cx labels s operator ≡ Some m) × Judged cx labels m rest last
+Judged {R} cx labels s (simple operator rest) last = (m : State R) × (effect cx labels s operator ≡ Some m) × Judged cx labels m rest last
 
 abbrev pub is_used_up : {R : Type 0} → Option (State R) → Bool
 is_used_up None = false

@@ -112,7 +112,7 @@ IsFramed IsA encoding value = (size content : List ℕ) × (encoding ≡ size ++
 abbrev pub IsName : List ℕ → List ℕ → Type 0
 IsName encoding name = IsFramed IsBytes encoding name × IsUtf8 name
 
--- An encoding than which the value has no shorter one. This is what an encoder writes.
+-- An encoding of the value such that no other is shorter. This is what an encoder writes.
 pub record IsShortest {A : Type 0} (IsA : List ℕ → A → Type 0) (encoding : List ℕ) (value : A) : Type 0 where
   pub spells : IsA encoding value
   pub shortest : (other : List ℕ) → IsA other value → length encoding ≤ length other

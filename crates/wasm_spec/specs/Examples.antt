@@ -1,7 +1,7 @@
 -- Values that worked examples share.
-use Rattle.std.specs.Prelude.{◌≡◌, ℕ, ◌+◌, ◌-◌, Bool, true, false, List, [], ◌∷◌, None}
-use Rattle.std.specs.List.{AllByRecursion}
-use Rattle.wasm_spec.specs.Features.{Flag, Features, bit_of}
+use Rattle.std.specs.Prelude.{◌≡◌, ℕ, Bool, true, false, List, [], None}
+use Rattle.std.specs.List.{list_all}
+use Rattle.wasm_spec.specs.Features.{Flag, Features, has}
 use Rattle.wasm_spec.specs.Types.{CompositeType, FuncComposite, SubType, Limits}
 
 -- the type of functions without parameters and results
@@ -16,16 +16,6 @@ final_type composite = record { is_final = true; supertypes = []; composite_type
 abbrev pub at_least : ℕ → Limits
 at_least n = record { minimum = n; maximum = None; shared = false; is_64 = false; page_size_log2 = None }
 
--- these flags alone
-abbrev pub only : List Flag → Features
-only [] = 0
-only (flag ∷ flags) = bit_of flag + only flags
-
--- all flags but one
-abbrev pub all_but : Flag → Features
-all_but flag = 0x3fffff - bit_of flag
-
--- something is allowed under these flags alone, and not where one of them is off
-pub record AsksFor (flags : List Flag) (is_allowed : Features → Bool) : Type 0 where
-  pub enough : is_allowed (only flags) ≡ true
-  pub each : AllByRecursion (λ flag. is_allowed (all_but flag) ≡ false) flags
+-- something is allowed exactly where these flags are all on
+abbrev pub AsksFor : List Flag → (Features → Bool) → Type 0
+AsksFor flags is_allowed = (features : Features) → is_allowed features ≡ list_all (has features) flags

@@ -39,7 +39,7 @@ pub data Flag : Type 0 where
   FunctionReferences : Flag
   -- structures, arrays, recursive groups and subtypes
   Gc : Flag
-  -- where it is off, no abstract heap type but func and exn is allowed, and no structure or array, whatever else is on
+  -- where it is off, no abstract heap type but func and exn is allowed, and no structure, array or continuation type, whatever else is on
   GcTypes : Flag
   -- memories whose pages have another size
   CustomPageSizes : Flag

@@ -1,5 +1,5 @@
 -- The encodings that an encoder writes: of each number the shortest, and with them lists, frames and sections. They are functions, beside the
--- relations that say which bytes are an encoding of which value; laws tie those of numbers to them. Core Specification 3.0, Binary Format,
+-- relations that say which bytes are an encoding of which value; laws tie those of numbers and of type sections to them. Core Specification 3.0, Binary Format,
 -- "Values" (integers), "Conventions" (lists) and "Modules" (sections).
 use Rattle.std.specs.Prelude.{ℕ, zero, suc, ◌+◌, ◌-◌, ◌/◌, ◌%◌, ℤ, pos, negsuc, Bool, true, false, List, [], ◌∷◌, ◌++◌, length, nat_lt, if◌then◌else◌}
 use Rattle.std.specs.List.{flat_map}

@@ -1,4 +1,4 @@
--- Types whose type indexes are below 2^32, as they are in bytes.
+-- Types whose type indexes are below 2^32, as all that bytes can state are.
 use Rattle.std.specs.Prelude.{ℕ, ◌<◌, ◌^◌, ⊤}
 use Rattle.std.specs.List.{AllByRecursion}
 use Rattle.wasm_spec.specs.Types.{HeapType, Abstract, Concrete, ValType, Ref, StorageType, Val, FieldType, CompositeType, FuncComposite, StructComposite, ArrayComposite, ContComposite, SubType, RecGroup, Single, Group}

@@ -1,4 +1,4 @@
--- What is shown of a module: the sizes of its index spaces, those of data segments, locals, labels and fields aside.
+-- What is shown of a module: the sizes of its index spaces, those of data segments, locals, labels and fields aside, and the number of its exports.
 -- Core Specification 3.0, Structure, Modules, "Indices", and Validation, "Modules".
 use Rattle.std.specs.Prelude.{ℕ, ◌+◌, List, [], ◌∷◌, length}
 use Rattle.std.specs.List.{flat_map}

@@ -1,5 +1,6 @@
--- What is supported so far of what reads as a module: sections of functions of plain types. Which modules are valid, and what is promised of them,
--- is said of these alone. This goes out once all sections and types are supported.
+-- What is supported of what reads as a module: sections of functions of plain types. Which modules are valid, and what is promised of them,
+-- is said of these alone. Operators and locals within bodies aren't asked here: a body with others isn't well typed, though by the standard it may
+-- be. This goes away once all sections and types are supported.
 use Rattle.std.specs.Prelude.{◌≡◌, Bool, true, false, ℕ, List, length, ◌&&◌, nat_eq}
 use Rattle.std.specs.List.{list_all}
 use Rattle.wasm_spec.specs.Syntax.{Section, Custom, TypeSection, FunctionSection, CodeSection}

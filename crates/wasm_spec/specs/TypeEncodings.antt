@@ -31,7 +31,7 @@ storage_encoding I8 = 0x78 ∷ []
 storage_encoding I16 = 0x77 ∷ []
 storage_encoding (Val type) = val_encoding type
 
--- and whether it can be set
+-- a field: what it holds, and whether it can be set
 unfoldable pub field_encoding : FieldType ℕ → List ℕ
 field_encoding field = storage_encoding field.element_type ++ (if field.mutable then 0x01 else 0x00) ∷ []
 

@@ -42,8 +42,8 @@ names_in _ = []
 abbrev pub func_types_of : List Section → List (FuncType ℕ)
 func_types_of sections = filter_map func_type_of (types_of sections)
 
--- Whether some number that the sections state or add up to passes a limit. What only sections and types have that aren't supported is not
--- counted, and the locals of a function are counted where its body is typed.
+-- Whether some number that the sections state or add up to passes a limit. What only unsupported sections and types have isn't counted; the
+-- locals of a function are counted where its body is typed.
 abbrev pub is_passed : Limit → List Section → Bool
 is_passed Types sections = is_past Types (sizes_of sections).types
 is_passed Groups sections = is_past Groups (length (groups_of sections))
@@ -103,7 +103,7 @@ EachBody Holds sections = EachIndex (functions_of sections) (BodyAt Holds sectio
 abbrev pub SomeBody : (FuncType ℕ → List ℕ → Type 0) → List Section → Type 0
 SomeBody Holds sections = SomeIndex (functions_of sections) (BodyAt Holds sections)
 
--- Something is so of a body in its context, whatever value type is below what: no supported operator asks that.
+-- It holds of a body in any context with these features, whichever value types are below which: no supported operator asks that.
 abbrev pub InContext : Features → (Context ℕ → Type 0) → Type 0
 InContext features Holds = (is_below : ValType ℕ → ValType ℕ → Bool) → Holds (record { features = features; is_below = is_below })
 
@@ -115,23 +115,23 @@ IsTypedBody features type body = InContext features (λ cx. IsFunctionBody cx ty
 abbrev pub IsBodyPast : Features → FuncType ℕ → List ℕ → Type 0
 IsBodyPast features type body = InContext features (λ cx. HasManyLocals cx type body)
 
--- a body has a code without an operator after operators of a body
+-- after operators that some body begins with, a body has a code that is no operator's
 abbrev pub IsOtherBody : Features → FuncType ℕ → List ℕ → Type 0
 IsOtherBody features type body = InContext features (λ cx. HasOtherOperator cx type body)
 
--- a body isn't well typed for another reason
+-- a body isn't well typed, for another reason than these two
 abbrev pub IsBrokenBody : Features → FuncType ℕ → List ℕ → Type 0
 IsBrokenBody features type body =
     InContext features (λ cx. (¬ (IsFunctionBody cx type body)) × (¬ (HasManyLocals cx type body)) × (¬ (HasOtherOperator cx type body)))
 
 -- ---- modules
 
--- the sections keep all rules but those on bodies
+-- the sections pass no limit and keep all rules but those on bodies
 pub record AreFine (features : Features) (sections : List Section) : Type 0 where
   pub within_limits : (limit : Limit) → is_passed limit sections ≡ false
   pub rules : KeepRules features [] sections
 
--- Sections that read as a module are those of a valid one under a set of features.
+-- Sections that read as a module are those of a valid one under a set of features: they are supported and fine, and each body is well typed.
 pub record IsValid (features : Features) (sections : List Section) : Type 0 where
   pub supported : IsSupported sections
   pub fine : AreFine features sections

@@ -8,7 +8,7 @@ use Rattle.std.proofs.lemmas.List.{append-nil, nil_from_length, length-reverse, 
 use Rattle.std.proofs.lemmas.List.Sums.{sum_by-cons}
 use Rattle.wasm_core_read.specs.Reading.{◌>>=◌, unsigned_at}
 use Rattle.wasm_core_read.proofs.ReadingLaws.{bind_some, some_is, joined, rest_bytes, unsigned_found, unsigned_again}
-use Rattle.wasm_spec.specs.Bodies.{Context, State, all_taken, nothing_known, Code, done, plain, flat, Judged, is_used_up, IsExactly, at_start, IsBodyOf, Run, IsRun, local_count, IsFunctionBody, HasManyLocals, HasOtherOperator}
+use Rattle.wasm_spec.specs.Bodies.{Context, State, all_taken, nothing_known, Code, done, simple, flat, Judged, is_used_up, IsExactly, at_start, IsBodyOf, Run, IsRun, local_count, IsFunctionBody, HasManyLocals, HasOtherOperator}
 use Rattle.wasm_spec.specs.Operators.{Operator, Unreachable, End, IsOperator, IsOperators}
 use Rattle.wasm_spec.specs.Bytes.{AreBytes, IsU32, IsItems, IsList}
 use Rattle.wasm_spec.specs.Features.{Features}
@@ -91,7 +91,7 @@ code_found cx results labels s gives (b ∷ bs) g e =
     elim (eqb_tells b 0) [
       | inl (t, is) ↦
           let others = code_found cx results labels (nothing_known s) true bs (opened cx results s) (rw t at e) in
-          (plain Unreachable others.0, others.1, (nothing_known s, refl, others.2), others.3, (0 ∷ [], bs, headed b 0 bs bs is refl, refl, others.4))
+          (simple Unreachable others.0, others.1, (nothing_known s, refl, others.2), others.3, (0 ∷ [], bs, headed b 0 bs bs is refl, refl, others.4))
       | inr (t, other) ↦ elim (eqb_tells b 11) [
         | inl (u, is) ↦
             let f = ends_fine gives bs (rw (t, u) at e) in
@@ -110,12 +110,12 @@ code_again cx results labels s gives done last bytes g j x h =
     let t : gives ≡ true = g.back (subst (IsExactly cx results) j x) in
     let all : bytes ≡ 11 ∷ [] = h.2 ∙ ap (λ (l : List ℕ). l ++ h.1) h.3 ∙ ap (λ (l : List ℕ). 11 ∷ l) h.4 in
     ap (validate_code gives) all ∙ (rw t refl)
-code_again cx results labels s gives (plain Unreachable rest) last bytes g j x h =
+code_again cx results labels s gives (simple Unreachable rest) last bytes g j x h =
     let all : bytes ≡ 0 ∷ h.1 = h.2 ∙ ap (λ (l : List ℕ). l ++ h.1) h.3 in
     let m : nothing_known s ≡ j.0 = next_is (nothing_known s) j.0 j.1 in
     ap (validate_code gives) all
     ∙ code_again cx results labels (nothing_known s) true rest last h.1 (opened cx results s) (subst (λ (q : State ℕ). Judged cx labels q rest last) (sym m) j.2) x h.4
-code_again cx results labels s gives (plain End rest) last bytes g j x h = absurd (nothing_next j.0 j.1)
+code_again cx results labels s gives (simple End rest) last bytes g j x h = absurd (nothing_next j.0 j.1)
   where
     nothing_next : (m : State ℕ) → ¬ (◌≡◌ {A = Option (State ℕ)} None (Some m))
     nothing_next m e = absurd cc
@@ -123,7 +123,7 @@ code_again cx results labels s gives (plain End rest) last bytes g j x h = absur
 -- so many times `unreachable`
 many : ℕ → Code
 many zero = done
-many (suc n) = plain Unreachable (many n)
+many (suc n) = simple Unreachable (many n)
 
 many_judged : (cx : Context ℕ) (labels : List (List (ValType ℕ))) (s : State ℕ) (n : ℕ) → Judged cx labels s (many (suc n)) (nothing_known s)
 unfolding many
@@ -186,13 +186,13 @@ other_again cx labels s last gives [] ending code front other rest no-e no-u som
     ap (λ (l : List ℕ). validate_code gives (l ++ (other ∷ rest))) h ∙ (rw (t, u) refl)
 other_again cx labels s last gives (operator ∷ operators) ending done front other rest no-e no-u some f j h =
     absurd (some (nil_right operators ending (tails operator End (operators ++ ending) [] f).1))
-other_again cx labels s last gives (operator ∷ operators) ending (plain Unreachable code) front other rest no-e no-u some f j h =
+other_again cx labels s last gives (operator ∷ operators) ending (simple Unreachable code) front other rest no-e no-u some f j h =
     let both = tails operator Unreachable (operators ++ ending) (flat code (End ∷ [])) f in
     let first : h.0 ≡ 0 ∷ [] = subst (λ o. IsOperator cx.features h.0 o) both.0 h.3 in
     let all : front ≡ 0 ∷ h.1 = h.2 ∙ ap (λ (l : List ℕ). l ++ h.1) first in
     ap (λ (l : List ℕ). validate_code gives (l ++ (other ∷ rest))) all
     ∙ other_again cx labels j.0 last true operators ending code h.1 other rest no-e no-u some both.1 j.2 h.4
-other_again cx labels s last gives (operator ∷ operators) ending (plain End code) front other rest no-e no-u some f j h = absurd (nothing_next j.0 j.1)
+other_again cx labels s last gives (operator ∷ operators) ending (simple End code) front other rest no-e no-u some f j h = absurd (nothing_next j.0 j.1)
   where
     nothing_next : (m : State ℕ) → ¬ (◌≡◌ {A = Option (State ℕ)} None (Some m))
     nothing_next m e = absurd cc

@@ -3,4 +3,4 @@ pub mod BodyValidation
 pub mod BodyReading
 pub mod Validation
 pub mod Sections
-pub mod Types
+pub mod Shown

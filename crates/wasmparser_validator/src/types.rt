@@ -4,7 +4,7 @@
 
 ghost use Rattle.std.specs.Prelude.{◌≡◌, length, IsSomeAnd};
 ghost use Rattle.std.specs.Iterator.{YieldsFirst, item_count};
-ghost use Rattle.wasmparser_validator.specs.Types.{shown, exports_left};
+ghost use Rattle.wasmparser_validator.specs.Shown.{shown, exports_left};
 
 use std::marker::Model;
 

@@ -9,7 +9,7 @@ use Rattle.wasm_smith.specs.Config.{sanitized}
 use Rattle.wasm_smith.specs.Family.{IsInFamily}
 use Rattle.wasm_smith.specs.Groups.{group_of}
 use Rattle.wasm_smith.specs.Spelling.{Spells}
-use Rattle.wasm_smith.specs.Types.{Config}
+use Rattle.wasm_smith.specs.Parts.{Config}
 use Rattle.wasm_gen.specs.Asked.{IsReachable}
 use Rattle.wasm_gen.proofs.AskedLaws.{many_types, many_funcs, is_reachable}
 use Rattle.wasm_gen.proofs.seed.seed_for.Goals as goal

@@ -1,5 +1,5 @@
 use Rattle.std.proofs.Common.{◌≡◌, ◌-◌, vec_len}
-use Rattle.wasm_smith_source.specs.Draws.{int_at}
+use Rattle.wasm_smith_unstructured.specs.Draws.{int_at}
 use Rattle.wasm_smith_module.specs.Growing.{grow_at}
 use Rattle.wasm_smith_module.specs.Generating.{funcs_at}
 use Rattle.wasm_smith_module.proofs.GrowLaws.{with_front}

@@ -1,11 +1,13 @@
 use Rattle.std.proofs.Common.{refl}
+use Rattle.wasm_spec.specs.Features.{Floats, Simd, has}
+use Rattle.wasm_spec.proofs.GateForms.{ends}
 use Rattle.wasm_spec.proofs.gate_examples.numbers.Goals as goal
 
 pub returns : goal.returns
 returns c = record {
-  i32 = record { enough = refl; each = tt };
-  i64 = record { enough = refl; each = tt };
-  f32 = record { enough = refl; each = (refl, tt) };
-  f64 = record { enough = refl; each = (refl, tt) };
-  v128 = record { enough = refl; each = (refl, tt) };
+  i32 = λ features. refl;
+  i64 = λ features. refl;
+  f32 = λ features. ends (has features Floats);
+  f64 = λ features. ends (has features Floats);
+  v128 = λ features. ends (has features Simd);
 }

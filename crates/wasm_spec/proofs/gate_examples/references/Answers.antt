@@ -1,17 +1,17 @@
-use Rattle.std.proofs.Common.{refl}
+use Rattle.std.proofs.Common.{◌&&◌, refl, ap}
+use Rattle.wasm_spec.specs.Features.{Exceptions, FunctionReferences, Gc, GcTypes, ReferenceTypes, StackSwitching, has}
+use Rattle.wasm_spec.proofs.GateForms.{ends}
 use Rattle.wasm_spec.proofs.gate_examples.references.Goals as goal
 
 pub returns : goal.returns
 returns c = record {
-  function = record { enough = refl; each = (refl, tt) };
-  function_not_null = record { enough = refl; each = (refl, (refl, tt)) };
-  external = record { enough = refl; each = (refl, (refl, tt)) };
-  external_not_null = record { enough = refl; each = (refl, (refl, (refl, tt))) };
-  collected = (λ nullable. record { enough = refl; each = (refl, (refl, (refl, tt))) }, (λ nullable. record { enough = refl; each = (refl, (refl, (refl, tt))) }, (λ nullable. record { enough = refl; each = (refl, (refl, (refl, tt))) }, (λ nullable. record { enough = refl; each = (refl, (refl, (refl, tt))) }, (λ nullable. record { enough = refl; each = (refl, (refl, (refl, tt))) }, (λ nullable. record { enough = refl; each = (refl, (refl, (refl, tt))) }, (λ nullable. record { enough = refl; each = (refl, (refl, (refl, tt))) }, (λ nullable. record { enough = refl; each = (refl, (refl, (refl, tt))) }, tt))))))));
-  exception = λ nullable. record { enough = refl; each = (refl, (refl, tt)) };
-  no_exception = λ nullable. record { enough = refl; each = (refl, (refl, (refl, tt))) };
-  continuations = (λ nullable. record { enough = refl; each = (refl, (refl, (refl, tt))) }, (λ nullable. record { enough = refl; each = (refl, (refl, (refl, tt))) }, tt));
-  concrete = λ nullable index. (refl, (refl, tt));
-  concrete_without_both = λ nullable index. refl;
-  concrete_without_references = λ nullable index. refl;
+  function = λ features. refl;
+  function_not_null = λ features. ap (λ x. has features ReferenceTypes && x) (ends (has features FunctionReferences));
+  external = λ features. refl;
+  external_not_null = λ features. ap (λ x. has features ReferenceTypes && (has features GcTypes && x)) (ends (has features FunctionReferences));
+  collected = (λ nullable features. ap (λ x. has features ReferenceTypes && (has features GcTypes && x)) (ends (has features Gc)), (λ nullable features. ap (λ x. has features ReferenceTypes && (has features GcTypes && x)) (ends (has features Gc)), (λ nullable features. ap (λ x. has features ReferenceTypes && (has features GcTypes && x)) (ends (has features Gc)), (λ nullable features. ap (λ x. has features ReferenceTypes && (has features GcTypes && x)) (ends (has features Gc)), (λ nullable features. ap (λ x. has features ReferenceTypes && (has features GcTypes && x)) (ends (has features Gc)), (λ nullable features. ap (λ x. has features ReferenceTypes && (has features GcTypes && x)) (ends (has features Gc)), (λ nullable features. ap (λ x. has features ReferenceTypes && (has features GcTypes && x)) (ends (has features Gc)), (λ nullable features. ap (λ x. has features ReferenceTypes && (has features GcTypes && x)) (ends (has features Gc)), tt))))))));
+  exception = λ nullable features. ap (λ x. has features ReferenceTypes && x) (ends (has features Exceptions));
+  no_exception = λ nullable features. ap (λ x. has features ReferenceTypes && (has features GcTypes && x)) (ends (has features Exceptions));
+  continuations = (λ nullable features. ap (λ x. has features ReferenceTypes && (has features GcTypes && x)) (ends (has features StackSwitching)), (λ nullable features. ap (λ x. has features ReferenceTypes && (has features GcTypes && x)) (ends (has features StackSwitching)), tt));
+  concrete = λ nullable index features. refl;
 }

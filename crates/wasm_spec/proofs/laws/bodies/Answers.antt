@@ -1,5 +1,5 @@
 use Rattle.std.proofs.Common.{◌≡◌, ℕ, List, [], ◌∷◌, drop, refl, arith, ap, subst}
-use Rattle.wasm_spec.specs.Bodies.{Context, State, Code, done, plain, flat, Judged, IsExactly, at_start}
+use Rattle.wasm_spec.specs.Bodies.{Context, State, Code, done, simple, flat, Judged, IsExactly, at_start}
 use Rattle.wasm_spec.specs.Operators.{Operator, End}
 use Rattle.wasm_spec.specs.Types.{ValType, I32}
 use Rattle.wasm_spec.proofs.Encodings.{small, no_body, unreachable_body}
@@ -8,13 +8,13 @@ use Rattle.wasm_spec.proofs.laws.bodies.Goals as goal
 -- code ends with something
 ends : (code : Code) → [] ≡ flat code (End ∷ []) → ⊥
 ends done e = absurd cc
-ends (plain operator rest) e = absurd cc
+ends (simple operator rest) e = absurd cc
 
 -- the end alone leaves no operand
 refused : (cx : Context ℕ) (labels : List (List (ValType ℕ))) (code : Code) (last : State ℕ) → End ∷ [] ≡ flat code (End ∷ []) → Judged cx labels (at_start ℕ) code last
     → IsExactly cx (I32 ∷ []) last → ⊥
 refused cx labels done last e j x = let f = subst (λ s. IsExactly cx (I32 ∷ []) s) j x in absurd cc
-refused cx labels (plain operator rest) last e j x = ends rest (ap (λ (l : List Operator). drop 1 l) e)
+refused cx labels (simple operator rest) last e j x = ends rest (ap (λ (l : List Operator). drop 1 l) e)
 
 pub returns-clause-empty : goal.returns-clause-empty
 returns-clause-empty c = λ cx. record {

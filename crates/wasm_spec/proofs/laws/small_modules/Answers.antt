@@ -27,12 +27,12 @@ unfolding lib.Utf8.encode
 named compact = custom compact (0x03 ∷ []) (0x01 ∷ []) (0x61 ∷ []) (0x07 ∷ []) (small 3 (omega arith)) (small 1 (omega arith))
     (omega arith, tt) (0x61 ∷ [], (refl, refl)) (omega arith, tt)
 
-abbrev plain : RecGroup ℕ
-plain = Single (record { is_final = true; supertypes = []; composite_type = FuncComposite (record { params = []; results = [] }) })
+abbrev one_type : RecGroup ℕ
+one_type = Single (record { is_final = true; supertypes = []; composite_type = FuncComposite (record { params = []; results = [] }) })
 
-types : (compact : Bool) → IsSection compact (0x01 ∷ 0x04 ∷ 0x01 ∷ 0x60 ∷ 0x00 ∷ 0x00 ∷ []) (TypeSection (plain ∷ []))
-types compact = section compact (0x04 ∷ []) (0x01 ∷ 0x60 ∷ 0x00 ∷ 0x00 ∷ []) (TypeSection (plain ∷ [])) (small 4 (omega arith))
-    (one IsRecGroup (0x60 ∷ 0x00 ∷ 0x00 ∷ []) plain refl (inr (refl, refl, (0x00 ∷ 0x00 ∷ [], refl, (0x00 ∷ [], 0x00 ∷ [], refl, none IsValType, none IsValType)))))
+types : (compact : Bool) → IsSection compact (0x01 ∷ 0x04 ∷ 0x01 ∷ 0x60 ∷ 0x00 ∷ 0x00 ∷ []) (TypeSection (one_type ∷ []))
+types compact = section compact (0x04 ∷ []) (0x01 ∷ 0x60 ∷ 0x00 ∷ 0x00 ∷ []) (TypeSection (one_type ∷ [])) (small 4 (omega arith))
+    (one IsRecGroup (0x60 ∷ 0x00 ∷ 0x00 ∷ []) one_type refl (inr (refl, refl, (0x00 ∷ 0x00 ∷ [], refl, (0x00 ∷ [], 0x00 ∷ [], refl, none IsValType, none IsValType)))))
 
 code : (compact : Bool) → IsSection compact (0x0a ∷ 0x05 ∷ 0x01 ∷ 0x03 ∷ 0x00 ∷ 0x00 ∷ 0x0b ∷ []) (CodeSection ((0x00 ∷ 0x00 ∷ 0x0b ∷ []) ∷ []))
 code compact = section compact (0x05 ∷ []) (0x01 ∷ 0x03 ∷ 0x00 ∷ 0x00 ∷ 0x0b ∷ []) (CodeSection ((0x00 ∷ 0x00 ∷ 0x0b ∷ []) ∷ [])) (small 5 (omega arith))

@@ -87,10 +87,10 @@ section_spec 𝓤 𝓛 𝓜 𝓡 wired S L sg sd eg ed sections encodes =
     (and_then ! (get ! refl) (and_then ! (get ! refl) (no_more !))) (λ v.
     use1 𝓛 (later (some (λ (u : Done). ((‵ (flft (α ∷ []) full_share) ⊛ others) ⊛ ‵ (done_row.own_val u (v ∷ []))) ⊛
     some (λ (ws : R.Denot × (Unit {0} × Unit {0})). ‵ (lasts (g.ended S sg sd eg ed) z.0.0 z.0.3 ws) ⊛
-    raw (fact 𝓤 (IfOk u (λ _. ws.0.bytes ≡ next))) ⊛ raw (fact 𝓤 (IfErr u (λ _. ws.0 ≡ r.now))) ⊛ raw (fact 𝓤 (IfErr u (λ e. e ≡ EncodeError.Memory → NoRoom))) ⊛
+    raw (fact 𝓤 (IfOk u (λ _. ws.0.bytes ≡ next))) ⊛ raw (fact 𝓤 (IfErr u (λ _. ws.0 ≡ r.now))) ⊛ raw (fact 𝓤 (r.now.capacity ≤ ws.0.capacity)) ⊛ raw (fact 𝓤 (IfErr u (λ e. e ≡ EncodeError.Memory → NoRoom))) ⊛
     raw (fact 𝓤 ((u ≡ Err EncodeError.TooLong) ↔ IsFull)))))) (id⊢ 𝓤 _) $
     await ! tt $ pick ! (λ u. split ! $ split ! $ split ! $ lft_end ! tt $
-    move ! (3 ∷ []) $ pick ! (λ ws. split ! $ move ! (1 ∷ []) $ split ! $ heard ! _ (λ added. split ! $ heard ! _ (λ kept. split ! $ heard ! _ (λ room. heard ! _ (λ long. fsplit ! $ fsplit ! $
+    move ! (3 ∷ []) $ pick ! (λ ws. split ! $ move ! (1 ∷ []) $ split ! $ heard ! _ (λ added. split ! $ heard ! _ (λ kept. split ! $ heard ! _ (λ grown. split ! $ heard ! _ (λ room. heard ! _ (λ long. fsplit ! $ fsplit ! $
     -- [the loan's last value; its borrow; nothing; α is over; nothing; the answer; what the lender keeps]
     move ! (3 ∷ 6 ∷ 0 ∷ []) $ let r' = record r { now = ws.0 } in use3 𝓛 (later (‵ (Ref κ r' vs) ⊛ ‵ (flft κ q)))
     (comes_back 𝓛 R (named 0) κ (α ∷ []) q r.ghost_name b o δ r.now ws.0) $ await ! tt $ split ! $ move ! (5 ∷ []) $
@@ -124,4 +124,4 @@ section_spec 𝓤 𝓛 𝓜 𝓡 wired S L sg sd eg ed sections encodes =
     -- [the result; the token; what the lender ends as]
     suffices ! _ (ends_at 𝓛 En₀ hs c y (refused error) (Err error) (tt, (tt, tt)) (tt, (tt, tt))) $
     nothing ! $ nothing ! $ fjoin ! $ nothing ! $ fjoin ! $ join ! $ move ! (1 ∷ 2 ∷ 0 ∷ []) $ join ! $ join ! $ frame ! $
-    says ! _ (four_facts 𝓛 _ _ _ _ (tt, tt, is.2, same_error tt r' EncodeError.TooLong (Err error) is.3)) $ done !)))))))))))))
+    says ! _ (four_facts 𝓛 _ _ _ _ (tt, tt, is.2, same_error tt r' EncodeError.TooLong (Err error) is.3)) $ done !))))))))))))))

@@ -5,7 +5,7 @@ use wasm_core::features::WasmFeatures;
 use wasm_gen::judge::ValidatorId;
 use wasm_gen::session::Session;
 use wasm_test_rows::fields::has_word;
-use wasm_test_rows::repeats::extend_with_word;
+use wasm_test_rows::values::bytes_of;
 
 /// A session with the default features.
 pub fn new_session() -> Session {
@@ -33,10 +33,16 @@ fn digits_of(word: &str) -> &str {
     }
 }
 
+// Appends the bytes of a word.
+fn extend_with_word(alloc: Global, bytes: &mut Vec<u8>, word: &str) -> Option<()> {
+    let part = bytes_of(alloc, digits_of(word))?;
+    bytes.extend_from_slice(&part).ok()
+}
+
 // Appends the bytes of a field.
 fn extend_with(alloc: Global, bytes: &mut Vec<u8>, field: &str) -> Option<()> {
     for word in field.split_whitespace() {
-        extend_with_word(alloc, bytes, digits_of(word))?;
+        extend_with_word(alloc, bytes, word)?;
     }
     Some(())
 }

@@ -4,7 +4,6 @@
 
 pub mod fields;
 pub mod limits;
-pub mod repeats;
 pub mod rows;
 pub mod shown;
 pub mod types;

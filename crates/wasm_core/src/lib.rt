@@ -4,6 +4,7 @@
 #![tactic(auto)]
 
 pub mod laws;
+pub mod row_examples;
 
 pub use wasm_core_base::{features, limits};
 pub use wasm_core_read::{binary_reader, malformed};

@@ -19,14 +19,14 @@ pub reads_from : {X A : Type 0} (IsA : List ℕ → A → Type 0) (a_at : List �
 reads_from IsA a_at law view old new (Ok x) are h =
     let f = law.found old.rest (view x) new.rest are h.0 in
     record {
-      found = record { encoding = f.0; parts = f.1; spells = f.2 };
+      found = record { encoding = f.0; parts = f.1; encodes = f.2 };
       only = λ w rest b.
-          let both = some_is (w, rest) (view x, new.rest) (sym (law.again b.encoding w rest b.spells) ∙ ap a_at (sym b.parts) ∙ h.0) in
+          let both = some_is (w, rest) (view x, new.rest) (sym (law.again b.encoding w rest b.encodes) ∙ ap a_at (sym b.parts) ∙ h.0) in
           (ap (λ q. q.0) both, ap (λ q. q.1) both);
       goes_on = h.1;
     }
 reads_from IsA a_at law view old new (Err e) are h =
-    (record { none = λ w rest b. let some = sym (law.again b.encoding w rest b.spells) ∙ ap a_at (sym b.parts) ∙ h.0 in absurd cc; within = h.2 }, h.1)
+    (record { none = λ w rest b. let some = sym (law.again b.encoding w rest b.encodes) ∙ ap a_at (sym b.parts) ∙ h.0 in absurd cc; within = h.2 }, h.1)
 
 -- what stands after a number in bytes is bytes
 pub after_number : (bits : ℕ) (bytes : List ℕ) (v : ℕ) (rest : List ℕ) → AreBytes bytes → Some (v, rest) ≡ unsigned_at bits bytes → AreBytes rest

@@ -12,7 +12,6 @@ pub mod NoModule
 pub mod NumberForms
 pub mod PartForms
 pub mod ReadingLaws
-pub mod Rows
 pub mod SignedLaws
 pub mod TypeForms
 pub mod UnsignedLaws

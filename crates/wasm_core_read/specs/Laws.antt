@@ -34,7 +34,7 @@ IsPrefixFree {A} IsA = (a b x y : List ℕ) (v w : A) → IsA a v → IsA b w �
 pub record Begins {A : Type 0} (IsA : List ℕ → A → Type 0) (bytes : List ℕ) (v : A) (rest : List ℕ) : Type 0 where
   pub encoding : List ℕ
   pub parts : bytes ≡ encoding ++ rest
-  pub spells : IsA encoding v
+  pub encodes : IsA encoding v
 
 -- the value and the rest are what the reader's bytes begin with, and nothing else is
 pub record IsRead {A : Type 0} (IsA : List ℕ → A → Type 0) (old new : Input) (v : A) : Type 0 where

@@ -4,6 +4,5 @@
 pub mod binary_reader;
 pub mod laws;
 pub mod malformed;
-pub mod row_examples;
 mod signed;
 mod unsigned;

@@ -3,7 +3,7 @@
 --     good, good_refused      an error's machine value, and that of an `Err` of it, are of their types
 --     by_result        a proof's step: the two cases of the answer, with what is said of it, and its machine value
 --     same_error       a `Result` with another value at `Ok` is that error where the first one is
---     says, four_facts     a proof's step: four facts are shown, and the rest of the goal is left
+--     says, five_facts     a proof's step: five facts are shown, and the rest of the goal is left
 use mathlib.Core.Path.{◌≡◌, refl, ap, ◌∙◌}
 use mathlib.Core.List.{List, [], ◌∷◌, ◌++◌}
 use mathlib.Core.Logic.{◌↔◌}
@@ -82,5 +82,7 @@ and_fact {𝓤 = 𝓤} 𝓛 φ F x f = qed 𝓛 [] ∵ use0 𝓛 (raw F) f $ use
 pub says : {M : Type 1} {𝓤 : Ura M} {𝓛 : Logic 𝓤} {K : Type 0} {Γ : List (Item 𝓤)} {P : SProp 𝓤} → K → (F : SProp 𝓤) → ent 𝓤 (emp 𝓤) F → Step K 𝓛 Γ (prop P) Γ (prop (sep 𝓤 P F))
 says {𝓤 = 𝓤} {𝓛 = 𝓛} {P = P} t F f = step (λ s. record { prf = via 𝓤 P s.prf (qed 𝓛 (raw P ∷ []) ∵ use0 𝓛 (raw F) f $ move ! (1 ∷ []) $ done !) })
 
-pub four_facts : {M : Type 1} {𝓤 : Ura M} (𝓛 : Logic 𝓤) (φ ψ χ ω : Type 0) → φ × ψ × χ × ω → ent 𝓤 (emp 𝓤) (sep 𝓤 (fact 𝓤 φ) (sep 𝓤 (fact 𝓤 ψ) (sep 𝓤 (fact 𝓤 χ) (fact 𝓤 ω))))
-four_facts {𝓤 = 𝓤} 𝓛 φ ψ χ ω x = and_fact 𝓛 φ _ x.0 (and_fact 𝓛 ψ _ x.1 (and_fact 𝓛 χ _ x.2 (fact_i 𝓤 ω (emp 𝓤) x.3)))
+pub five_facts : {M : Type 1} {𝓤 : Ura M} (𝓛 : Logic 𝓤) (φ ψ χ υ ω : Type 0) → φ × ψ × χ × υ × ω
+    → ent 𝓤 (emp 𝓤) (sep 𝓤 (fact 𝓤 φ) (sep 𝓤 (fact 𝓤 ψ) (sep 𝓤 (fact 𝓤 χ) (sep 𝓤 (fact 𝓤 υ) (fact 𝓤 ω)))))
+five_facts {𝓤 = 𝓤} 𝓛 φ ψ χ υ ω x =
+    and_fact 𝓛 φ _ x.0 (and_fact 𝓛 ψ _ x.1 (and_fact 𝓛 χ _ x.2 (and_fact 𝓛 υ _ x.3 (fact_i 𝓤 ω (emp 𝓤) x.4))))

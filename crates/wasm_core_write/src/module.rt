@@ -68,6 +68,7 @@ impl Module {
         ensures* refused { sem 𝓛 (LendsIfOk the_row the_row self.entry result (λ w. w) self.old) }
         ensures same_reference { IfOk result (λ m. m.ghost_name ≡ self.entry.ghost_name) }
         ensures appended { IfOk result (λ m. m.now.bytes ≡ self.old.bytes ++ S.number section.now ∷ S.Encode.encoding section.now) }
+        ensures grows { IfOk result (λ m. self.old.capacity ≤ m.now.capacity) }
         ensures no_room { IfErr result (λ e. e ≡ EncodeError.Memory → self.old.capacity < length self.old.bytes + 1 + length (S.Encode.encoding section.now)) }
         ensures too_long { (result ≡ Err EncodeError.TooLong) ↔ (2 ^ 32 ≤ S.Encode.longest section.now) }
     {

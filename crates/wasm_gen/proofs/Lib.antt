@@ -1,5 +1,6 @@
 mod AcceptedLaws
 mod AskedLaws
+mod CheckInputsLaws
 mod GenerateLaws
 mod ReadLaws
 mod WriteLaws

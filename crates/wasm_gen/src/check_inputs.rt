@@ -1,11 +1,10 @@
 //! Validates many inputs one after the other, as the program does.
 
-ghost use Rattle.std.specs.Prelude.{◌≡◌, ◌≢◌, ◌≤◌, ◌⊎◌, ◌^◌, true, false, length, IfOk, IfErr};
+ghost use Rattle.std.specs.Prelude.{◌≡◌, ◌≢◌, ◌≤◌, ◌⊎◌, ◌^◌, ℕ, List, true, false, length, Option, None, Err, IfSome, IfOk, IfErr};
 ghost use Rattle.std.specs.Io.KnownBytes.{Keeps};
-ghost use Rattle.wasm_gen.specs.CheckInputs.{GoesOn, WritesLine, ends_run, outcome, restarted};
+ghost use Rattle.wasm_gen.specs.CheckInputs.{EndsInput, EndsRun, GoesOn, ValidatesAll, ValidatesUntil, WritesLine, beginning, ends_run, outcome, restarted};
 ghost use Rattle.wasm_gen.specs.Device.{FailsOrTires, FailsWrite, WritesOn};
 ghost use Rattle.wasm_gen.specs.Transfer.{ConsumesMore};
-ghost use Rattle.wasm_spec.specs.Features.{default_features};
 
 use crate::device::{Sink, Source};
 use crate::error::RunError;
@@ -30,7 +29,7 @@ pub trait Inputs {
 
 /// The session that the program begins with: under the default features.
 pub fn first_session() -> Session
-    ensures { result ≡ record { features = default_features; id = 0; has_failed = false } }
+    ensures { result ≡ beginning }
 {
     Session::new(WasmFeatures::default(), ValidatorId::new(0))
 }
@@ -79,6 +78,7 @@ pub fn check_next<R: Source, W: Sink>(
     ensures write { IfErr result (λ e. e ≡ RunError.Write → FailsWrite (W.faults writer.old) (W.faults writer.new)) }
     ensures nothing { IfErr result (λ e. e ≢ RunError.Write → Keeps (W.contents writer.old) (W.contents writer.new)) }
     ensures unfailed_write { ends_run result ≡ false → WritesOn (W.faults writer.old) (W.faults writer.new) }
+    ensures front { IfErr result (λ e. e ≡ RunError.Write → EndsRun session.old (W.contents writer.old) (W.contents writer.new)) }
 {
     let answer = run_check(alloc, session, reader, writer);
     if session.has_failed() || matches!(answer, Err(RunError::Memory)) {
@@ -87,30 +87,32 @@ pub fn check_next<R: Source, W: Sink>(
     answer
 }
 
-// The same of the input of a name, which may not open.
-fn check_named<I: Inputs, W: Sink>(
+/// The same of an input that may not have been opened, which is a fault.
+pub fn check_opened<R: Source + Drop, W: Sink>(
     alloc: Global,
     session: &mut Session,
     next: ValidatorId,
-    inputs: &mut I,
-    name: &str,
+    input: Option<R>,
     writer: &mut W,
 ) -> Result<bool, RunError>
     requires { session.old.has_failed ≡ false }
+    ensures validated { IfSome input (λ r. IfOk result (λ is_yes. (left : Option (List ℕ)) × WritesLine session.old next session.new
+        (R.remaining r) left (W.contents writer.old) (W.contents writer.new) is_yes)) }
+    ensures unopened { input ≡ None → (result ≡ Err RunError.Read) × (session.new ≡ session.old) }
     ensures ready { ends_run result ≡ false → session.new.has_failed ≡ false }
-    ensures goes_on { ends_run result ≡ false → GoesOn session.old next session.new }
+    ensures ended { ends_run result ≡ false → EndsInput result session.old next session.new (W.contents writer.old) (W.contents writer.new) }
+    ensures front { ends_run result ≡ true → EndsRun session.old (W.contents writer.old) (W.contents writer.new) }
     ensures write { ends_run result ≡ true → FailsWrite (W.faults writer.old) (W.faults writer.new) }
     ensures unfailed_write { ends_run result ≡ false → WritesOn (W.faults writer.old) (W.faults writer.new) }
 {
-    match inputs.open(name) {
-        Some(mut input) => check_next(alloc, session, next, &mut input, writer),
+    match input {
+        Some(mut reader) => check_next(alloc, session, next, &mut reader, writer),
         None => Err(RunError::Read),
     }
 }
 
 /// Validates the inputs of these names in turn, tells each fault, and gives how each ended. A failed write ends the run; after any other fault the
 /// next input follows.
-#[tactic(auto, using(crate::proofs::WriteLaws::writes_go_on, crate::proofs::WriteLaws::last_write_fails))]
 pub fn check_inputs<I: Inputs, W: Sink>(
     alloc: Global,
     inputs: &mut I,
@@ -118,14 +120,16 @@ pub fn check_inputs<I: Inputs, W: Sink>(
     writer: &mut W,
 ) -> Result<Vec<Outcome>, AllocError>
     ensures each { IfOk result (λ outcomes. length outcomes.items ≤ length names.now) }
-    ensures whole { IfOk result (λ outcomes. ((length outcomes.items ≡ length names.now) × WritesOn (W.faults writer.old) (W.faults writer.new))
-        ⊎ FailsWrite (W.faults writer.old) (W.faults writer.new)) }
+    ensures whole { IfOk result (λ outcomes.
+        (ValidatesAll beginning (length names.now) outcomes.items (W.contents writer.old) (W.contents writer.new) × WritesOn (W.faults writer.old) (W.faults writer.new))
+        ⊎ (ValidatesUntil beginning outcomes.items (W.contents writer.old) (W.contents writer.new) × FailsWrite (W.faults writer.old) (W.faults writer.new))) }
 {
     let mut session = first_session();
     let mut outcomes = Vec::with_capacity(alloc, names.len())?;
     for (place, name) in names.iter().enumerate() {
         let next = ValidatorId::new(place + 1);
-        let answer = check_named(alloc, &mut session, next, inputs, name, writer);
+        let input = inputs.open(name);
+        let answer = check_opened(alloc, &mut session, next, input, writer);
         outcomes.push(outcome_of(answer))?;
         if let Err(e) = answer {
             inputs.tell(e, name);

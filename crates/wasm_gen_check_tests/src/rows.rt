@@ -4,10 +4,12 @@ use crate::modules::{answers, module_of, new_session};
 use crate::views::has_line;
 use crate::{custom_sections, cuts, function_limits, functions, lines, value_types};
 use std::alloc::Global;
+use std::test::Fail;
 use wasm_core::features::{Flags, WasmFeatures};
 use wasm_gen::judge::ValidatorId;
 use wasm_gen::session::Session;
-use wasm_test_rows::fields::{count_of_rows, has_word, is_row, three_fields};
+use wasm_test_rows::fields::{has_word, three_fields};
+use wasm_test_rows::rows::check_rows;
 use wasm_test_rows::values::number_of;
 
 // All features.
@@ -96,20 +98,12 @@ fn holds(alloc: Global, row: &str) -> Option<bool> {
 }
 
 #[test]
-fn new_sessions_give_these_answers(rt: HostRuntime) {
-    for (table, count) in [
-        (custom_sections::ROWS, 45),
-        (cuts::ROWS, 3),
-        (function_limits::ROWS, 20),
-        (functions::ROWS, 65),
-        (lines::ROWS, 4),
-        (value_types::ROWS, 38),
-    ] {
-        for row in table.lines() {
-            if is_row(row) {
-                assert!(rt; holds(rt.alloc(), row) == Some(true), "{row}");
-            }
-        }
-        assert!(rt; count_of_rows(table) == count);
-    }
+fn new_sessions_give_these_answers(rt: HostRuntime) -> Result<(), Fail> {
+    let alloc = rt.alloc();
+    check_rows(alloc, custom_sections::ROWS, 45, holds)?;
+    check_rows(alloc, cuts::ROWS, 3, holds)?;
+    check_rows(alloc, function_limits::ROWS, 20, holds)?;
+    check_rows(alloc, functions::ROWS, 65, holds)?;
+    check_rows(alloc, lines::ROWS, 4, holds)?;
+    Ok(check_rows(alloc, value_types::ROWS, 38, holds)?)
 }

@@ -3,6 +3,7 @@
 use crate::configs::config_of;
 use crate::lists::put;
 use std::alloc::Global;
+use std::test::Fail;
 use wasm_core::features::WasmFeatures;
 use wasm_gen::error::GenerateError;
 use wasm_gen::generate::generate;
@@ -10,7 +11,8 @@ use wasm_gen::judge::ValidatorId;
 use wasm_gen::session::Session;
 use wasm_gen::smith::{Config, supported_config};
 use wasm_gen_check_tests::modules::{module_of, parts_of};
-use wasm_test_rows::fields::{count_of_rows, is_row, three_fields};
+use wasm_test_rows::fields::three_fields;
+use wasm_test_rows::rows::check_rows;
 
 // Settings, a seed, and the sections that are made of it, or why none are.
 const ROWS: &str = "
@@ -95,14 +97,8 @@ fn holds(alloc: Global, row: &str) -> Option<bool> {
 }
 
 #[test]
-fn seeds_make_these_modules(rt: HostRuntime) {
-    let table = ROWS;
-    for row in table.lines() {
-        if is_row(row) {
-            assert!(rt; holds(rt.alloc(), row) == Some(true), "{row}");
-        }
-    }
-    assert!(rt; count_of_rows(table) == 13);
+fn seeds_make_these_modules(rt: HostRuntime) -> Result<(), Fail> {
+    Ok(check_rows(rt.alloc(), ROWS, 13, holds)?)
 }
 
 #[test]

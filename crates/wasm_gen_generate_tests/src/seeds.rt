@@ -4,12 +4,14 @@ use crate::configs::config_of;
 use crate::generated::makes;
 use crate::lists::{Drawing, function_type, put};
 use std::alloc::Global;
+use std::test::Fail;
 use wasm_core::types::{SubType, ValType};
 use wasm_gen::generate::generate;
 use wasm_gen::seed::seed_for;
 use wasm_gen::smith::{Config, supported_config};
 use wasm_gen_check_tests::modules::parts_of;
-use wasm_test_rows::fields::{count_of_rows, four_fields, is_row};
+use wasm_test_rows::fields::four_fields;
+use wasm_test_rows::rows::check_rows;
 use wasm_test_rows::values::number_of;
 
 // Whether exactly the module is made of the seed.
@@ -152,12 +154,6 @@ fn holds(alloc: Global, row: &str) -> Option<bool> {
 }
 
 #[test]
-fn seeds_are_found_within_the_bounds(rt: HostRuntime) {
-    let table = ROWS;
-    for row in table.lines() {
-        if is_row(row) {
-            assert!(rt; holds(rt.alloc(), row) == Some(true), "{row}");
-        }
-    }
-    assert!(rt; count_of_rows(table) == 17);
+fn seeds_are_found_within_the_bounds(rt: HostRuntime) -> Result<(), Fail> {
+    Ok(check_rows(rt.alloc(), ROWS, 17, holds)?)
 }

@@ -4,9 +4,11 @@ use crate::answers::is_front;
 use crate::fakes::{NarrowWriter, ScriptedReader, TellingReader, Told, WhenFull};
 use std::alloc::Global;
 use std::io::ErrorKind;
+use std::test::Fail;
 use wasm_gen::error::RunError;
 use wasm_gen::transfer::{CHUNK_SIZE, MAX_INPUT, MAX_TURNS, read_whole, write_whole};
-use wasm_test_rows::fields::{count_of_rows, four_fields, is_row};
+use wasm_test_rows::fields::four_fields;
+use wasm_test_rows::rows::check_rows;
 use wasm_test_rows::values::number_of;
 
 const TEXT: &[u8] = b"yes types=0\n";
@@ -71,14 +73,8 @@ fn holds(alloc: Global, row: &str) -> Option<bool> {
 }
 
 #[test]
-fn reads_up_to_the_end_or_a_failure(rt: HostRuntime) {
-    let table = SCRIPTS;
-    for row in table.lines() {
-        if is_row(row) {
-            assert!(rt; holds(rt.alloc(), row) == Some(true), "{row}");
-        }
-    }
-    assert!(rt; count_of_rows(table) == 14);
+fn reads_up_to_the_end_or_a_failure(rt: HostRuntime) -> Result<(), Fail> {
+    Ok(check_rows(rt.alloc(), SCRIPTS, 14, holds)?)
 }
 
 // Whether the text is read where so many bytes are allowed, and refused where it is longer.

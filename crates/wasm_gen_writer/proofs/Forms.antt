@@ -8,7 +8,7 @@ use Rattle.wasm_spec.specs.Grammar.{IsContent, IsSection, section_id}
 use Rattle.wasm_spec.specs.Syntax.{Section}
 use Rattle.wasm_spec.specs.Shortest.{unsigned_encoding, list_encoding, framed_encoding, section_encoding}
 use Rattle.wasm_spec.proofs.UnsignedEncodings.{at_most_five}
-use Rattle.wasm_gen_writer.proofs.Numbers.{number_spells, number_bytes}
+use Rattle.wasm_gen_writer.proofs.Numbers.{number_is, number_bytes}
 
 -- ---- what holds of each
 
@@ -45,7 +45,7 @@ pub views_are : {A B : Type 0} (IsA : List ℕ → A → Type 0) (bytes : B → 
     → (xs : List B) → AllByRecursion P xs → length xs < 2 ^ 32 → IsList IsA (list_encoding bytes xs) (map view xs)
 unfolding list_encoding
 views_are IsA bytes view P law xs h few =
-    let counted = subst (λ n. IsU32 (unsigned_encoding (length xs)) n) (sym (length-map xs view)) (number_spells (length xs) few) in
+    let counted = subst (λ n. IsU32 (unsigned_encoding (length xs)) n) (sym (length-map xs view)) (number_is (length xs) few) in
     (unsigned_encoding (length xs), flat_map bytes xs, refl, counted, items_are IsA bytes view P law xs h)
 
 -- a list of the items themselves
@@ -56,7 +56,7 @@ list_is IsA bytes P law xs h few =
 
 pub frame_is : {A : Type 0} (IsA : List ℕ → A → Type 0) (content : List ℕ) (x : A) → IsA content x → length content < 2 ^ 32 → IsFramed IsA (framed_encoding content) x
 unfolding framed_encoding
-frame_is IsA content x h few = (unsigned_encoding (length content), content, refl, number_spells (length content) few, h)
+frame_is IsA content x h few = (unsigned_encoding (length content), content, refl, number_is (length content) few, h)
 
 pub section_is : (compact : Bool) (content : List ℕ) (section : Section) → IsContent compact content section → length content < 2 ^ 32 → IsSection compact (section_encoding (section_id section) content) section
 unfolding section_encoding

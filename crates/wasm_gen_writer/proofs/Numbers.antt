@@ -4,8 +4,8 @@ use Rattle.wasm_spec.specs.Bytes.{AreBytes, IsUnsigned, IsU32}
 use Rattle.wasm_spec.specs.Shortest.{unsigned_encoding}
 use Rattle.wasm_spec.proofs.NumberLaws.{unsigned_spelled}
 
-pub number_spells : (n : ℕ) → n < 2 ^ 32 → IsU32 (unsigned_encoding n) n
-number_spells n fits = unsigned_spelled 32 n fits
+pub number_is : (n : ℕ) → n < 2 ^ 32 → IsU32 (unsigned_encoding n) n
+number_is n fits = unsigned_spelled 32 n fits
 
 padded : (more bits : ℕ) (bytes : List ℕ) (n : ℕ) → bits ≤ 7 * more + 7 → IsUnsigned bits bytes n → length bytes ≤ more + 1
 padded more bits [] n few h = omega arith
@@ -23,4 +23,4 @@ bytes_of bits (b ∷ []) n h = (omega (arith, h.0), tt)
 bytes_of bits (b ∷ c ∷ bs) n h = (h.1, bytes_of (bits - 7) (c ∷ bs) h.3 h.5)
 
 pub number_bytes : (n : ℕ) → n < 2 ^ 32 → AreBytes (unsigned_encoding n)
-number_bytes n fits = bytes_of 32 (unsigned_encoding n) n (number_spells n fits)
+number_bytes n fits = bytes_of 32 (unsigned_encoding n) n (number_is n fits)

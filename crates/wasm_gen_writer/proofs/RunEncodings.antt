@@ -12,7 +12,7 @@ use Rattle.wasm_smith.specs.Plain.{IsPlain}
 use Rattle.wasm_gen_writer.specs.Encodings.{is_same_type, run_encoding, runs_from, runs_of}
 use Rattle.wasm_gen_writer.specs.Written.{AreMerged}
 use Rattle.wasm_gen_writer.proofs.Forms.{all_append, list_is, list_bytes, list_length}
-use Rattle.wasm_gen_writer.proofs.Numbers.{number_spells, number_bytes}
+use Rattle.wasm_gen_writer.proofs.Numbers.{number_is, number_bytes}
 use Rattle.wasm_gen_writer.proofs.Values.{same_type, other_type, same_or_other, local_is, value_bytes, plain_length}
 
 -- ---- a run goes on or ends
@@ -110,7 +110,7 @@ plain_runs (first ∷ others) h few = plain_from 1 first others h.0 h.1 (omega (
 
 run_is : (run : Run) → IsPlainRun run → IsRun (run_encoding run) run
 unfolding run_encoding
-run_is run h = (unsigned_encoding run.count, val_encoding run.type, refl, number_spells run.count h.0, local_is run.type h.1)
+run_is run h = (unsigned_encoding run.count, val_encoding run.type, refl, number_is run.count h.0, local_is run.type h.1)
 
 pub runs_encoding_is : (locals : List (ValType ℕ)) → AllByRecursion IsPlain locals → length locals < 2 ^ 32 → IsList IsRun (list_encoding run_encoding (runs_of locals)) (runs_of locals)
 runs_encoding_is locals h few = list_is IsRun run_encoding IsPlainRun run_is (runs_of locals) (plain_runs locals h few) (omega (arith, few, few_runs locals))

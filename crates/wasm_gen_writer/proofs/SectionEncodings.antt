@@ -21,7 +21,7 @@ use Rattle.wasm_gen_writer.specs.Encodings.{body_encoding, entry_encoding, encod
 use Rattle.wasm_gen_writer.specs.Written.{AreUnreachableBodies, unless_empty, sections_with}
 use Rattle.wasm_gen_writer.proofs.BodyEncodings.{AreFewPlain, bodies_are_written, body_length, entry_is, entry_length}
 use Rattle.wasm_gen_writer.proofs.Forms.{all_are, both, list_is, views_are, list_length, section_is}
-use Rattle.wasm_gen_writer.proofs.Numbers.{number_spells}
+use Rattle.wasm_gen_writer.proofs.Numbers.{number_is}
 use Rattle.wasm_gen_writer.proofs.TypeEncodings.{IsSmallPlain, type_is, type_length, type_supported}
 
 -- ---- what the sections have
@@ -92,7 +92,7 @@ types_are compact types plain few = section_is compact (list_encoding sub_encodi
 funcs_are : (compact : Bool) (funcs : List ℕ) → AllByRecursion (λ index. index < 2 ^ 32) funcs → length funcs ≤ most Functions
     → IsSection compact (section_encoding 3 (list_encoding unsigned_encoding funcs)) (FunctionSection funcs)
 funcs_are compact funcs h few = section_is compact (list_encoding unsigned_encoding funcs) (FunctionSection funcs)
-    (list_is IsU32 unsigned_encoding (λ index. index < 2 ^ 32) number_spells funcs h (omega (arith, few))) (short_funcs funcs h few)
+    (list_is IsU32 unsigned_encoding (λ index. index < 2 ^ 32) number_is funcs h (omega (arith, few))) (short_funcs funcs h few)
 
 code_is : (compact : Bool) (locals : List (List (ValType ℕ))) → AllByRecursion AreFewPlain locals → length locals ≤ most Functions
     → IsSection compact (section_encoding 10 (list_encoding entry_encoding locals)) (CodeSection (map body_encoding locals))

@@ -39,18 +39,22 @@ impl Model for Module {
 
 // The module that is drawn.
 #[tactic(auto, unfolding(crate::specs::Generating::module_at))]
-fn build(alloc: Global, config: Config, source: &mut Unstructured<'_>) -> Result<Module, Error>
+fn build(
+    alloc: Global,
+    config: Config,
+    unstructured: &mut Unstructured<'_>,
+) -> Result<Module, Error>
     requires { IsGood config }
-    ensures drawn { IfOk result (IsBuilt config source.old source.new) }
-    ensures ended { IfErr result (IsEnd config source.old) }
+    ensures drawn { IfOk result (IsBuilt config unstructured.old unstructured.new) }
+    ensures ended { IfErr result (IsEnd config unstructured.old) }
 {
     let offered = Offers::new(alloc, &config)?;
-    let types = types(alloc, source, &offered, &config)?;
-    let funcs = funcs(alloc, source, &config, types.len() as u32)?;
+    let types = types(alloc, unstructured, &offered, &config)?;
+    let funcs = funcs(alloc, unstructured, &config, types.len() as u32)?;
     if funcs.len() < config.min_funcs as usize {
         return Err(Error::IncorrectFormat);
     }
-    let locals = code(alloc, source, &offered, funcs.len())?;
+    let locals = code(alloc, unstructured, &offered, funcs.len())?;
     Ok(Module {
         config,
         types,
@@ -77,16 +81,16 @@ impl Module {
     pub fn new(
         alloc: Global,
         mut config: Config,
-        source: &mut Unstructured<'_>,
+        unstructured: &mut Unstructured<'_>,
     ) -> Result<Module, Error>
         ensures made { IfOk result (IsMadeFor (sanitized config)) }
-        ensures exact { IfOk result (λ m. module_at (sanitized config) source.old ≡ (m.made, source.new)) }
-        ensures refused { IfErr result (IsReason (sanitized config) source.old) }
-        ensures unread { IfErr result (λ e. IsBadConfig e → source.new ≡ source.old) }
+        ensures exact { IfOk result (λ m. module_at (sanitized config) unstructured.old ≡ (m.made, unstructured.new)) }
+        ensures refused { IfErr result (IsReason (sanitized config) unstructured.old) }
+        ensures unread { IfErr result (λ e. IsBadConfig e → unstructured.new ≡ unstructured.old) }
     {
         config.sanitize();
         config.check()?;
-        build(alloc, config, source)
+        build(alloc, config, unstructured)
     }
 
     /// The configuration that it was made for, put in order.

@@ -18,14 +18,14 @@ use wasm_smith_unstructured::unstructured::Unstructured;
 #[tactic(auto, unfolding(crate::specs::Generating::type_at))]
 fn func_type(
     alloc: Global,
-    source: &mut Unstructured<'_>,
+    unstructured: &mut Unstructured<'_>,
     offered: &Offers,
     max_results: usize,
 ) -> Result<SubType, AllocError>
-    ensures { Draws sub_type source.new result (type_at offered.now max_results source.old) }
+    ensures { Draws sub_type unstructured.new result (type_at offered.now max_results unstructured.old) }
 {
-    let params = offered.values(alloc, source, MAX_PARAMS)?;
-    let results = offered.values(alloc, source, max_results)?;
+    let params = offered.values(alloc, unstructured, MAX_PARAMS)?;
+    let results = offered.values(alloc, unstructured, max_results)?;
     Ok(SubType {
         is_final: true,
         supertype_idx: None,
@@ -37,22 +37,22 @@ fn func_type(
 #[tactic(auto, using(crate::proofs::GrowLaws::grow_loop), unfolding(crate::specs::Generating::types_at))]
 pub fn types(
     alloc: Global,
-    source: &mut Unstructured<'_>,
+    unstructured: &mut Unstructured<'_>,
     offered: &Offers,
     config: &Config,
 ) -> Result<Vec<SubType>, AllocError>
     requires { offered.now ≡ offers config.now }
-    ensures { Draws (λ v. map sub_type v.items) source.new result (types_at config.now source.old) }
+    ensures { Draws (λ v. map sub_type v.items) unstructured.new result (types_at config.now unstructured.old) }
 {
     let max_results = max_results(config);
     let mut types = Vec::new(alloc);
     'grow: while grows(
-        source,
+        unstructured,
         types.len(),
         config.min_types as usize,
         config.max_types as usize,
     ) {
-        types.push(func_type(alloc, source, offered, max_results)?)?;
+        types.push(func_type(alloc, unstructured, offered, max_results)?)?;
     }
     Ok(types)
 }
@@ -61,11 +61,11 @@ pub fn types(
 #[tactic(auto, using(crate::proofs::GrowLaws::grow_loop), unfolding(crate::specs::Generating::funcs_at))]
 pub fn funcs(
     alloc: Global,
-    source: &mut Unstructured<'_>,
+    unstructured: &mut Unstructured<'_>,
     config: &Config,
     type_count: u32,
 ) -> Result<Vec<u32>, AllocError>
-    ensures { Draws (λ v. v.items) source.new result (funcs_at config.now type_count source.old) }
+    ensures { Draws (λ v. v.items) unstructured.new result (funcs_at config.now type_count unstructured.old) }
 {
     let mut funcs = Vec::new(alloc);
     if type_count == 0 {
@@ -73,12 +73,12 @@ pub fn funcs(
     }
     let last = type_count - 1;
     'grow: while grows(
-        source,
+        unstructured,
         funcs.len(),
         config.min_funcs as usize,
         config.max_funcs as usize,
     ) {
-        funcs.push(source.int_in_range(0..=u64::from(last)) as u32)?;
+        funcs.push(unstructured.int_in_range(0..=u64::from(last)) as u32)?;
     }
     Ok(funcs)
 }
@@ -87,15 +87,15 @@ pub fn funcs(
 #[tactic(auto, using(crate::proofs::GrowLaws::times_loop), unfolding(crate::specs::Generating::code_at))]
 pub fn code(
     alloc: Global,
-    source: &mut Unstructured<'_>,
+    unstructured: &mut Unstructured<'_>,
     offered: &Offers,
     count: usize,
 ) -> Result<Vec<Vec<ValType>>, AllocError>
-    ensures { Draws (λ v. map (λ ls. map val_type ls.items) v.items) source.new result (code_at offered.now count source.old) }
+    ensures { Draws (λ v. map (λ ls. map val_type ls.items) v.items) unstructured.new result (code_at offered.now count unstructured.old) }
 {
     let mut locals = Vec::new(alloc);
     for _ in 0..count {
-        locals.push(offered.values(alloc, source, MAX_LOCALS)?)?;
+        locals.push(offered.values(alloc, unstructured, MAX_LOCALS)?)?;
     }
     Ok(locals)
 }

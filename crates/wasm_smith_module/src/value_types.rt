@@ -93,10 +93,10 @@ impl Offers {
     }
 
     // A reference, which may be null.
-    fn reference(&self, source: &mut Unstructured<'_>) -> ValType
-        ensures { IsDrawn val_type result source.new (reference_at self.now source.old) }
+    fn reference(&self, unstructured: &mut Unstructured<'_>) -> ValType
+        ensures { IsDrawn val_type result unstructured.new (reference_at self.now unstructured.old) }
     {
-        let heap = *source.choose(&self.heaps).unwrap();
+        let heap = *unstructured.choose(&self.heaps).unwrap();
         ValType::Ref(RefType {
             nullable: true,
             heap_type: HeapType::Abstract(heap),
@@ -105,12 +105,12 @@ impl Offers {
 
     /// A value type.
     #[tactic(auto, using(crate::proofs::OfferLaws::value_reference))]
-    pub fn value(&self, source: &mut Unstructured<'_>) -> ValType
-        ensures { IsDrawn val_type result source.new (value_at self.now source.old) }
+    pub fn value(&self, unstructured: &mut Unstructured<'_>) -> ValType
+        ensures { IsDrawn val_type result unstructured.new (value_at self.now unstructured.old) }
     {
-        match *source.choose(&self.kinds).unwrap() {
+        match *unstructured.choose(&self.kinds).unwrap() {
             Kind::NumberOrVector(type_) => type_,
-            Kind::Reference => self.reference(source),
+            Kind::Reference => self.reference(unstructured),
         }
     }
 
@@ -119,14 +119,14 @@ impl Offers {
     pub fn values(
         &self,
         alloc: Global,
-        source: &mut Unstructured<'_>,
+        unstructured: &mut Unstructured<'_>,
         max: usize,
     ) -> Result<Vec<ValType>, AllocError>
-        ensures { Draws (λ v. map val_type v.items) source.new result (values_at self.now max source.old) }
+        ensures { Draws (λ v. map val_type v.items) unstructured.new result (values_at self.now max unstructured.old) }
     {
         let mut values = Vec::new(alloc);
-        'grow: while grows(source, values.len(), 0, max) {
-            values.push(self.value(source))?;
+        'grow: while grows(unstructured, values.len(), 0, max) {
+            values.push(self.value(unstructured))?;
         }
         Ok(values)
     }

@@ -20,12 +20,12 @@ fn text_front(bytes: &[u8]) -> &str
 /// An encoding of at most `max` bytes: the longest at the front of so many bytes as
 /// [`arbitrary_len`](Unstructured::arbitrary_len) draws, or of `max` where that is less.
 #[tactic(auto, unfolding(crate::specs::Draws::text_at, crate::specs::Draws::bytes_at))]
-pub fn limited_str<'a>(source: &mut Unstructured<'a>, max: usize) -> &'a str
-    ensures exact { IsDrawn (λ text. text.now) result source.new (text_at max source.old) }
-    ensures longest { IsLongestText max source.old result.now source.new }
+pub fn limited_str<'a>(unstructured: &mut Unstructured<'a>, max: usize) -> &'a str
+    ensures exact { IsDrawn (λ text. text.now) result unstructured.new (text_at max unstructured.old) }
+    ensures longest { IsLongestText max unstructured.old result.now unstructured.new }
 {
-    let len = source.arbitrary_len().min(max);
-    let text = text_front(source.peek_bytes(len).unwrap());
-    source.bytes(text.len()).unwrap();
+    let len = unstructured.arbitrary_len().min(max);
+    let text = text_front(unstructured.peek_bytes(len).unwrap());
+    unstructured.bytes(text.len()).unwrap();
     text
 }

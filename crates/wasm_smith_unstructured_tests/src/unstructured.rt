@@ -47,32 +47,32 @@ const DRAWN: &str = "
 ";
 
 // A number that is drawn. A bool is 1 or 0.
-fn number(source: &mut Unstructured<'_>, call: &str) -> Option<u64> {
+fn number(unstructured: &mut Unstructured<'_>, call: &str) -> Option<u64> {
     match call {
-        "u8" => Some(u64::from(source.u8())),
-        "u32" => Some(u64::from(source.u32())),
-        "u64" => Some(source.u64()),
-        "bool" => Some(u64::from(source.bool())),
-        "empty" => Some(u64::from(source.is_empty())),
-        "length" => Some(source.arbitrary_len() as u64),
-        "above 0" => Some(source.int_in_range(0..=u64::MAX)),
-        "above 1" => Some(source.int_in_range(1..=u64::MAX)),
-        "ratio 1 4" => Some(u64::from(source.ratio(1, 4))),
-        "ratio 4 4" => Some(u64::from(source.ratio(4, 4))),
-        _ => number_in_range(source, call.strip_prefix("range ")?),
+        "u8" => Some(u64::from(unstructured.u8())),
+        "u32" => Some(u64::from(unstructured.u32())),
+        "u64" => Some(unstructured.u64()),
+        "bool" => Some(u64::from(unstructured.bool())),
+        "empty" => Some(u64::from(unstructured.is_empty())),
+        "length" => Some(unstructured.arbitrary_len() as u64),
+        "above 0" => Some(unstructured.int_in_range(0..=u64::MAX)),
+        "above 1" => Some(unstructured.int_in_range(1..=u64::MAX)),
+        "ratio 1 4" => Some(u64::from(unstructured.ratio(1, 4))),
+        "ratio 4 4" => Some(u64::from(unstructured.ratio(4, 4))),
+        _ => number_in_range(unstructured, call.strip_prefix("range ")?),
     }
 }
 
 // A number of a range, whose first number and length are given.
-fn number_in_range(source: &mut Unstructured<'_>, range: &str) -> Option<u64> {
+fn number_in_range(unstructured: &mut Unstructured<'_>, range: &str) -> Option<u64> {
     let (first, more) = range.split_once(' ')?;
     let first: u32 = first.parse().ok()?;
     let more: u32 = more.parse().ok()?;
-    Some(source.int_in_range(u64::from(first)..=u64::from(first) + u64::from(more)))
+    Some(unstructured.int_in_range(u64::from(first)..=u64::from(first) + u64::from(more)))
 }
 
 // Whether so many bytes are these, or aren't there.
-fn has_bytes(source: &mut Unstructured<'_>, call: &str, expected: &str) -> bool {
+fn has_bytes(unstructured: &mut Unstructured<'_>, call: &str, expected: &str) -> bool {
     let (name, digits) = word_and_rest(call);
     let Ok(len) = digits.parse() else {
         return false;
@@ -83,30 +83,30 @@ fn has_bytes(source: &mut Unstructured<'_>, call: &str, expected: &str) -> bool 
         Some(expected.as_bytes())
     };
     match name {
-        "string" => limited_str(source, len) == expected,
-        "skip" => expected == "1" && source.bytes(len).is_ok(),
-        "peek" => source.peek_bytes(len) == wanted,
-        "take" => source.bytes(len) == wanted.ok_or(NotEnoughData),
+        "string" => limited_str(unstructured, len) == expected,
+        "skip" => expected == "1" && unstructured.bytes(len).is_ok(),
+        "peek" => unstructured.peek_bytes(len) == wanted,
+        "take" => unstructured.bytes(len) == wanted.ok_or(NotEnoughData),
         _ => false,
     }
 }
 
 // Whether the next call gives what is expected.
-fn gives(source: &mut Unstructured<'_>, call: &str, expected: &str) -> bool {
-    match number(source, call) {
+fn gives(unstructured: &mut Unstructured<'_>, call: &str, expected: &str) -> bool {
+    match number(unstructured, call) {
         Some(number) => expected.parse().ok() == Some(number),
-        None => has_bytes(source, call, expected),
+        None => has_bytes(unstructured, call, expected),
     }
 }
 
 // Whether each call gives what stands after its `=`.
 fn draws(bytes: &[u8], calls: &str) -> bool {
-    let mut source = Unstructured::new(bytes);
+    let mut unstructured = Unstructured::new(bytes);
     for step in calls.split(',') {
         let Some((call, expected)) = step.split_once('=') else {
             return false;
         };
-        if !gives(&mut source, call.trim(), expected.trim()) {
+        if !gives(&mut unstructured, call.trim(), expected.trim()) {
             return false;
         }
     }
@@ -124,13 +124,13 @@ fn values_are_drawn_of_bytes(rt: HostRuntime) -> Result<(), Fail> {
 }
 
 // Whether of none, of three, of one and of two that one is chosen which the bytes say.
-fn chooses_by_bytes(source: &mut Unstructured<'_>) -> bool {
+fn chooses_by_bytes(unstructured: &mut Unstructured<'_>) -> bool {
     let none: &[char] = &[];
-    source.choose(none) == Err(EmptyChoose)
-        && source.choose(&['a', 'b', 'c']) == Ok(&'b')
-        && source.choose(&['a']) == Ok(&'a')
-        && source.choose(&['a', 'b']) == Ok(&'b')
-        && source.u8() == 9
+    unstructured.choose(none) == Err(EmptyChoose)
+        && unstructured.choose(&['a', 'b', 'c']) == Ok(&'b')
+        && unstructured.choose(&['a']) == Ok(&'a')
+        && unstructured.choose(&['a', 'b']) == Ok(&'b')
+        && unstructured.u8() == 9
 }
 
 #[test]

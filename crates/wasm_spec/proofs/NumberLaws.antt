@@ -61,7 +61,7 @@ unsigned_shortest bits n (b ∷ c ∷ cs) h =
     ]
 
 pub shortest_unsigned : (bits n : ℕ) → n < 2 ^ bits → IsShortest (IsUnsigned bits) (unsigned_encoding n) n
-shortest_unsigned bits n p = record { spells = unsigned_spelled bits n p; shortest = λ other h. unsigned_shortest bits n other h }
+shortest_unsigned bits n p = record { encodes = unsigned_spelled bits n p; shortest = λ other h. unsigned_shortest bits n other h }
 
 -- ---- signed numbers
 
@@ -128,7 +128,7 @@ pub negative_spelled : (bits m : ℕ) → m < 2 ^ (bits - 1) → IsSigned bits (
 unfolding magnitude_encoding
 negative_spelled bits m q = neg_spelled m bits m (omega arith) q
 
--- one byte is enough for what one byte spells
+-- one byte is enough for what one byte encodes
 one_signed : (z : ℤ) (bits b : ℕ) → IsLastSigned bits b z → length (signed_encoding z) ≡ 1
 one_signed (pos n) bits b (inl h) = magnitude_length_last false n (omega (arith, ints, h.0, h.2))
 one_signed (pos n) bits b (inr h) = absurd (omega (arith, ints, h.1, h.3))
@@ -162,7 +162,7 @@ signed_shortest bits z (b ∷ c ∷ cs) h =
     omega (arith, one_more z h.3 (b - 128) (length (c ∷ cs)) (omega (arith, h.1)) (omega arith) h.4 rest)
 
 pub shortest_positive : (bits m : ℕ) → m < 2 ^ (bits - 1) → IsShortest (IsSigned bits) (signed_encoding (pos m)) (pos m)
-shortest_positive bits m p = record { spells = positive_spelled bits m p; shortest = λ other h. signed_shortest bits (pos m) other h }
+shortest_positive bits m p = record { encodes = positive_spelled bits m p; shortest = λ other h. signed_shortest bits (pos m) other h }
 
 pub shortest_negative : (bits m : ℕ) → m < 2 ^ (bits - 1) → IsShortest (IsSigned bits) (signed_encoding (negsuc m)) (negsuc m)
-shortest_negative bits m p = record { spells = negative_spelled bits m p; shortest = λ other h. signed_shortest bits (negsuc m) other h }
+shortest_negative bits m p = record { encodes = negative_spelled bits m p; shortest = λ other h. signed_shortest bits (negsuc m) other h }

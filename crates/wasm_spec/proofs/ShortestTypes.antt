@@ -18,12 +18,12 @@ use Rattle.wasm_spec.proofs.UnsignedEncodings.{some_bytes}
 index : (n : ℕ) → n < 2 ^ 32 → IsShortest IsHeapIndex (signed_encoding (pos n)) n
 index n small =
     let s = shortest_positive 33 n small in
-    record { spells = s.spells; shortest = λ other h. s.shortest other h }
+    record { encodes = s.encodes; shortest = λ other h. s.shortest other h }
 
 heap : (type : HeapType ℕ) → IsSmallHeap type → IsShortest IsHeapType (heap_encoding type) type
 unfolding heap_encoding
-heap (Abstract h) small = record { spells = refl; shortest = λ other e. omega (arith, ap length e) }
-heap (Concrete n) small = let s = index n small in record { spells = s.spells; shortest = λ other h. s.shortest other h }
+heap (Abstract h) small = record { encodes = refl; shortest = λ other e. omega (arith, ap length e) }
+heap (Concrete n) small = let s = index n small in record { encodes = s.encodes; shortest = λ other h. s.shortest other h }
 
 -- an encoding of a nullable reference to an abstract heap type has a byte
 some_reference : (other : List ℕ) (h : HeapType ℕ) → IsReference true other h → 1 ≤ length other
@@ -34,20 +34,20 @@ some_reference other (Concrete n) (inr e) = absurd e
 
 reference : (nullable : Bool) (type : HeapType ℕ) → IsSmallHeap type → IsShortest (IsReference nullable) (ref_encoding nullable type) type
 unfolding ref_encoding heap_encoding
-reference true (Abstract a) small = record { spells = inr refl; shortest = λ other h. some_reference other (Abstract a) h }
+reference true (Abstract a) small = record { encodes = inr refl; shortest = λ other h. some_reference other (Abstract a) h }
 reference true (Concrete n) small =
     let m = marked 0x63 IsHeapType (heap_encoding (Concrete n)) (Concrete n) (heap (Concrete n) small) in
-    record { spells = inl m.spells; shortest = λ other h. elim h [ inl k ↦ m.shortest other k | inr e ↦ absurd e ] }
+    record { encodes = inl m.encodes; shortest = λ other h. elim h [ inl k ↦ m.shortest other k | inr e ↦ absurd e ] }
 reference false type small = marked 0x64 IsHeapType (heap_encoding type) type (heap type small)
 
 value : (type : ValType ℕ) → IsSmallValue type → IsShortest IsValType (val_encoding type) type
 unfolding val_encoding
-value I32 small = record { spells = refl; shortest = λ other h. omega (arith, ap length h) }
-value I64 small = record { spells = refl; shortest = λ other h. omega (arith, ap length h) }
-value F32 small = record { spells = refl; shortest = λ other h. omega (arith, ap length h) }
-value F64 small = record { spells = refl; shortest = λ other h. omega (arith, ap length h) }
-value V128 small = record { spells = refl; shortest = λ other h. omega (arith, ap length h) }
-value (Ref nullable type) small = let s = reference nullable type small in record { spells = s.spells; shortest = λ other h. s.shortest other h }
+value I32 small = record { encodes = refl; shortest = λ other h. omega (arith, ap length h) }
+value I64 small = record { encodes = refl; shortest = λ other h. omega (arith, ap length h) }
+value F32 small = record { encodes = refl; shortest = λ other h. omega (arith, ap length h) }
+value F64 small = record { encodes = refl; shortest = λ other h. omega (arith, ap length h) }
+value V128 small = record { encodes = refl; shortest = λ other h. omega (arith, ap length h) }
+value (Ref nullable type) small = let s = reference nullable type small in record { encodes = s.encodes; shortest = λ other h. s.shortest other h }
 
 some_ref : (nullable : Bool) (type : HeapType ℕ) → 0 < length (ref_encoding nullable type)
 unfolding ref_encoding heap_encoding
@@ -71,20 +71,20 @@ values types small short = list IsValType val_encoding IsSmallValue some_value (
 
 storage : (type : StorageType ℕ) → IsSmallStorage type → IsShortest IsStorageType (storage_encoding type) type
 unfolding storage_encoding
-storage I8 small = record { spells = refl; shortest = λ other h. omega (arith, ap length h) }
-storage I16 small = record { spells = refl; shortest = λ other h. omega (arith, ap length h) }
-storage (Val type) small = let s = value type small in record { spells = s.spells; shortest = λ other h. s.shortest other h }
+storage I8 small = record { encodes = refl; shortest = λ other h. omega (arith, ap length h) }
+storage I16 small = record { encodes = refl; shortest = λ other h. omega (arith, ap length h) }
+storage (Val type) small = let s = value type small in record { encodes = s.encodes; shortest = λ other h. s.shortest other h }
 
 mutability : (mutable : Bool) → IsShortest IsMutability ((if mutable then 0x01 else 0x00) ∷ []) mutable
-mutability false = record { spells = refl; shortest = λ other h. omega (arith, ap length h) }
-mutability true = record { spells = refl; shortest = λ other h. omega (arith, ap length h) }
+mutability false = record { encodes = refl; shortest = λ other h. omega (arith, ap length h) }
+mutability true = record { encodes = refl; shortest = λ other h. omega (arith, ap length h) }
 
 field : (type : FieldType ℕ) → IsSmallField type → IsShortest IsFieldType (field_encoding type) type
 unfolding field_encoding
 field type small =
     let both = pair IsStorageType IsMutability (storage_encoding type.element_type) ((if type.mutable then 0x01 else 0x00) ∷ []) type.element_type type.mutable
     (storage type.element_type small) (mutability type.mutable) in
-    record { spells = both.spells; shortest = λ other h. both.shortest other h }
+    record { encodes = both.encodes; shortest = λ other h. both.shortest other h }
 
 some_field : HasSome field_encoding
 unfolding field_encoding
@@ -98,21 +98,21 @@ func type params results short =
     let s = marked 0x60 (IsPair IsResultType IsResultType) (list_encoding val_encoding type.params ++ list_encoding val_encoding type.results) (type.params, type.results)
     (pair IsResultType IsResultType (list_encoding val_encoding type.params) (list_encoding val_encoding type.results) type.params type.results
     (values type.params params (omega (arith, short, both))) (values type.results results (omega (arith, short, both)))) in
-    record { spells = s.spells; shortest = λ other h. s.shortest other h }
+    record { encodes = s.encodes; shortest = λ other h. s.shortest other h }
 
 composite : WritesShortest IsCompositeType composite_encoding IsSmallComposite
 unfolding composite_encoding
-composite (FuncComposite type) small short = let s = func type small.0 small.1 short in record { spells = s.spells; shortest = λ other h. s.shortest other h }
+composite (FuncComposite type) small short = let s = func type small.0 small.1 short in record { encodes = s.encodes; shortest = λ other h. s.shortest other h }
 composite (StructComposite fields) small short =
     let s = marked 0x5f (IsList IsFieldType) (list_encoding field_encoding fields) fields
     (list IsFieldType field_encoding IsSmallField some_field (λ type h fits. field type h) fields small (omega (arith, short))) in
-    record { spells = s.spells; shortest = λ other h. s.shortest other h }
+    record { encodes = s.encodes; shortest = λ other h. s.shortest other h }
 composite (ArrayComposite type) small short =
     let s = marked 0x5e IsFieldType (field_encoding type) type (field type small) in
-    record { spells = s.spells; shortest = λ other h. s.shortest other h }
+    record { encodes = s.encodes; shortest = λ other h. s.shortest other h }
 composite (ContComposite n) small short =
     let s = marked 0x5d IsHeapIndex (signed_encoding (pos n)) n (index n small) in
-    record { spells = s.spells; shortest = λ other h. s.shortest other h }
+    record { encodes = s.encodes; shortest = λ other h. s.shortest other h }
 
 -- ---- sub types and groups
 
@@ -150,7 +150,7 @@ unfolding sub_encoding_of
 sub_parts true [] type small parts short =
     let s = composite type parts short in
     record {
-      spells = inr (refl, refl, s.spells);
+      encodes = inr (refl, refl, s.encodes);
       shortest = λ other h. elim h [
         | inl m ↦ longer 0x4f [] type (length (composite_encoding type)) s.shortest other m
         | inr k ↦ s.shortest other k.2
@@ -158,15 +158,15 @@ sub_parts true [] type small parts short =
     }
 sub_parts true (index ∷ indexes) type small parts short =
     let s = written_out 0x4f (index ∷ indexes) type small parts (omega (arith, short)) in
-    record { spells = inl s.spells; shortest = λ other h. elim h [ inl m ↦ s.shortest other m | inr k ↦ let none = k.1 in absurd cc ] }
+    record { encodes = inl s.encodes; shortest = λ other h. elim h [ inl m ↦ s.shortest other m | inr k ↦ let none = k.1 in absurd cc ] }
 sub_parts false supertypes type small parts short =
     let s = written_out 0x50 supertypes type small parts (omega (arith, short)) in
-    record { spells = inl s.spells; shortest = λ other h. elim h [ inl m ↦ s.shortest other m | inr k ↦ let final = k.0 in absurd cc ] }
+    record { encodes = inl s.encodes; shortest = λ other h. elim h [ inl m ↦ s.shortest other m | inr k ↦ let final = k.0 in absurd cc ] }
 
 sub : WritesShortest IsSubType sub_encoding IsSmallSub
 sub type small short =
     let s = sub_parts type.is_final type.supertypes type.composite_type small.0 small.1 short in
-    record { spells = s.spells; shortest = λ other h. s.shortest other h }
+    record { encodes = s.encodes; shortest = λ other h. s.shortest other h }
 
 some_sub_parts : (is_final : Bool) (supertypes : List ℕ) (type : CompositeType ℕ) → 0 < length (sub_encoding_of is_final supertypes type)
 unfolding sub_encoding_of
@@ -179,10 +179,10 @@ some_sub type = some_sub_parts type.is_final type.supertypes type.composite_type
 
 group : WritesShortest IsRecGroup rec_group_encoding IsSmallGroup
 unfolding rec_group_encoding group_encoding
-group (Single type) small short = let s = sub type small short in record { spells = s.spells; shortest = λ other h. s.shortest other h }
+group (Single type) small short = let s = sub type small short in record { encodes = s.encodes; shortest = λ other h. s.shortest other h }
 group (Group types) small short =
     let s = marked 0x4e (IsList IsSubType) (list_encoding sub_encoding types) types (list IsSubType sub_encoding IsSmallSub some_sub sub types small (omega (arith, short))) in
-    record { spells = s.spells; shortest = λ other h. s.shortest other h }
+    record { encodes = s.encodes; shortest = λ other h. s.shortest other h }
 
 some_group : HasSome rec_group_encoding
 unfolding rec_group_encoding group_encoding
@@ -195,4 +195,4 @@ pub section : (compact : Bool) (groups : List (RecGroup ℕ)) → AllByRecursion
     → IsShortest (IsContent compact) (rec_groups_encoding groups) (TypeSection groups)
 section compact groups small short =
     let s = list IsRecGroup rec_group_encoding IsSmallGroup some_group group groups small short in
-    record { spells = s.spells; shortest = λ other h. s.shortest other h }
+    record { encodes = s.encodes; shortest = λ other h. s.shortest other h }

@@ -114,5 +114,5 @@ IsName encoding name = IsFramed IsBytes encoding name × IsUtf8 name
 
 -- An encoding of the value such that no other is shorter. This is what an encoder writes.
 pub record IsShortest {A : Type 0} (IsA : List ℕ → A → Type 0) (encoding : List ℕ) (value : A) : Type 0 where
-  pub spells : IsA encoding value
+  pub encodes : IsA encoding value
   pub shortest : (other : List ℕ) → IsA other value → length encoding ≤ length other

@@ -90,7 +90,7 @@ pub record BodyAt (Holds : FuncType ℕ → List ℕ → Type 0) (sections : Lis
   pub index : ℕ
   pub type : FuncType ℕ
   pub body : List ℕ
-  pub typed : slice_get (functions_of sections) place ≡ Some index
+  pub indexed : slice_get (functions_of sections) place ≡ Some index
   pub named : func_type_at (types_of sections) index ≡ Some type
   pub has : slice_get (bodies_of sections) place ≡ Some body
   pub holds : Holds type body

@@ -1,9 +1,14 @@
 //! Limits by their names.
 
+ghost use Rattle.std.specs.Prelude.{◌≡◌, IfSome};
+ghost use Rattle.wasm_core_base.specs.Limits.{limit_name};
+
 use wasm_core_base::limits::Limit;
 
-/// A limit.
-pub fn limit_of(name: &str) -> Option<Limit> {
+/// The limit of this name.
+pub fn limit_of(name: &str) -> Option<Limit>
+    ensures { IfSome result (λ l. limit_name l ≡ name.now) }
+{
     match name {
         "Types" => Some(Limit::Types),
         "Groups" => Some(Limit::Groups),

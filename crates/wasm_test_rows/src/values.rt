@@ -1,5 +1,7 @@
 //! The values of fields. What can't be read is `None`, so that a row with a slip fails its test.
 
+ghost use Rattle.std.specs.Prelude.{◌≡◌, IfSome, if◌then◌else◌, codes};
+
 use std::alloc::Global;
 
 // Appends bytes in hexadecimal digits so many times.
@@ -53,7 +55,9 @@ pub fn numbers_of(alloc: Global, field: &str) -> Option<Vec<u32>> {
 }
 
 /// Whether something is so: `yes` or `no`.
-pub fn bool_of(field: &str) -> Option<bool> {
+pub fn bool_of(field: &str) -> Option<bool>
+    ensures { IfSome result (λ is_so. field.now ≡ (if is_so then codes "yes" else codes "no")) }
+{
     match field {
         "yes" => Some(true),
         "no" => Some(false),

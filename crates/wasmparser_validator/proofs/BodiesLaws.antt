@@ -17,7 +17,7 @@ pub has_body_at : (types : List (FuncType ℕ)) (functions : List ℕ) (bodies :
     → HasBodyAt types functions bodies place type body
 has_body_at types functions bodies place type body named paired lt t b = record {
   index = get_or functions place 0;
-  typed = slice_get-get_or functions place 0 lt;
+  indexed = slice_get-get_or functions place 0 lt;
   named = slice_get_read types (length types) (get_or functions place 0) type refl (all_at (λ index. index < length types) functions place 0 named lt) t;
   has = slice_get_read bodies (length bodies) place body refl (omega (arith, lt, paired)) b;
 }

@@ -81,7 +81,7 @@ in_sections Holds types functions bodies sections place type body k h holds = re
   index = h.index;
   type = type;
   body = body.bytes;
-  typed = ap (λ l. slice_get l place) (sym k.functions_are) ∙ h.typed;
+  indexed = ap (λ l. slice_get l place) (sym k.functions_are) ∙ h.indexed;
   named = ap (λ l. func_type_at l h.index) (sym k.types_are) ∙ type_at types h.index type h.named;
   has = ap (λ l. slice_get l place) (sym k.bodies_are) ∙ body_at bodies place body h.has;
   holds = holds;
@@ -90,7 +90,7 @@ in_sections Holds types functions bodies sections place type body k h holds = re
 -- a function has one type and one body
 same_body : (P Q : FuncType ℕ → List ℕ → Type 0) (sections : List Section) (place : ℕ) (a : BodyAt P sections place) (b : BodyAt Q sections place) → (a.type ≡ b.type) × (a.body ≡ b.body)
 same_body P Q sections place a b =
-    let index : a.index ≡ b.index = some_is a.index b.index (sym a.typed ∙ b.typed) in
+    let index : a.index ≡ b.index = some_is a.index b.index (sym a.indexed ∙ b.indexed) in
     (some_is a.type b.type (sym a.named ∙ ap (func_type_at (types_of sections)) index ∙ b.named), some_is a.body b.body (sym a.has ∙ b.has))
 
 -- ---- the answers

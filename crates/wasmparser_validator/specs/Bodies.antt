@@ -10,7 +10,7 @@ use Rattle.wasmparser_validator.specs.BodyValidation.{IsBodyValidatedUnder}
 -- the function at a place has this type and this body
 pub record HasBodyAt (types : List (FuncType ℕ)) (functions : List ℕ) (bodies : List Part) (place : ℕ) (type : FuncType ℕ) (body : Part) : Type 0 where
   pub index : ℕ
-  pub typed : slice_get functions place ≡ Some index
+  pub indexed : slice_get functions place ≡ Some index
   pub named : slice_get types index ≡ Some type
   pub has : slice_get bodies place ≡ Some body
 

@@ -8,5 +8,5 @@ use Rattle.wasm_core.proofs.laws.type_sections_read_back.Goals as goal
 pub returns : goal.returns
 returns c = record {
   sizes = λ groups rest fits. size_back (rec_groups_encoding groups) rest fits;
-  entries = λ compact groups small fits. content_again compact (rec_groups_encoding groups) (TypeSection groups) (section compact groups small fits).spells;
+  entries = λ compact groups small fits. content_again compact (rec_groups_encoding groups) (TypeSection groups) (section compact groups small fits).encodes;
 }

@@ -1,11 +1,13 @@
 use Rattle.std.proofs.Common.{◌≡◌, false, length}
+use Rattle.wasm_gen.specs.CheckInputs.{Validates, beginning}
 use Rattle.wasm_gen.specs.Device.{WritesOn}
 use Rattle.wasm_gen.proofs.check_inputs.check_inputs.Given as goal
 
--- each input that was met has its outcome, the session validates the next one, and no write has failed
+-- each input that was met has come to its outcome, the session validates the next one, and no write has failed
 abbrev pub invariant-loop-place : goal.invariant-loop-place
 invariant-loop-place g l = record {
   ready : l.session.has_failed ≡ false;
   each : length l.outcomes.items ≡ l.place;
+  validated : Validates beginning (g.W.Sink.contents l.initial.writer) l.outcomes.items l.session (g.W.Sink.contents l.writer);
   wrote : WritesOn (g.W.Sink.faults l.initial.writer) (g.W.Sink.faults l.writer);
 }

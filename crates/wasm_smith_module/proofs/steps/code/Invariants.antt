@@ -6,4 +6,4 @@ use Rattle.wasm_smith_module.proofs.GrowLaws.{with_front}
 use Rattle.wasm_smith_module.proofs.steps.code.Given as goal
 
 abbrev pub invariant-loop : goal.invariant-loop
-invariant-loop l = with_front (map (λ ls. map val_type ls.items) l.locals.items) (times_at (values_at l.offered 100) (l.count - l.counter) l.source) ≡ code_at l.fn.offered l.count l.fn.source
+invariant-loop l = with_front (map (λ ls. map val_type ls.items) l.locals.items) (times_at (values_at l.offered 100) (l.count - l.counter) l.unstructured) ≡ code_at l.fn.offered l.count l.fn.unstructured

@@ -6,7 +6,7 @@ use Rattle.wasm_smith_module.proofs.GrowLaws.{with_front}
 use Rattle.wasm_smith_module.proofs.steps.types.Given as goal
 
 abbrev pub invariant-grow : goal.invariant-grow
-invariant-grow l = with_front (map sub_type l.types.items) (grow_at (type_at (offers l.config) l.max_results) l.config.min_types l.config.max_types (vec_len l.types) l.source) ≡ types_at l.config l.fn.source
+invariant-grow l = with_front (map sub_type l.types.items) (grow_at (type_at (offers l.config) l.max_results) l.config.min_types l.config.max_types (vec_len l.types) l.unstructured) ≡ types_at l.config l.fn.unstructured
 
 abbrev pub decreases-grow : goal.decreases-grow
 decreases-grow l = l.config.max_types - vec_len l.types

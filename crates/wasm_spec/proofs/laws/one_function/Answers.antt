@@ -41,7 +41,7 @@ first features = record {
   index = 0;
   type = record { params = []; results = [] };
   body = 0x00 ∷ 0x00 ∷ 0x0b ∷ [];
-  typed = refl;
+  indexed = refl;
   named = refl;
   has = refl;
   holds = λ is_below. unreachable_body (record { features = features; is_below = is_below }) (record { params = []; results = [] }) (omega arith);

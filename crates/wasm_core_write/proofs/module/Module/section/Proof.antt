@@ -41,7 +41,7 @@ use Rattle.wasm_core_write.specs.declared.encode_error.EncodeError.TheVariants a
 use Rattle.wasm_core_write.specs.contracts.encode_error.EncodeError.{the_row as error_row}
 use Rattle.wasm_core_write.proofs.encode_error.EncodeError.TheLaws.{lowered}
 use Rattle.wasm_core_write.specs.contracts.module.Module.{the_row as R}
-use Rattle.wasm_core_write.proofs.Chains.{Done, done_row, refused, good, good_refused, same_error, by_result, says, four_facts}
+use Rattle.wasm_core_write.proofs.Chains.{Done, done_row, refused, good, good_refused, same_error, by_result, says, five_facts}
 use Rattle.wasm_core_write.specs.contracts.module.Module.section as f
 use Rattle.wasm_core_write.proofs.module.Module.section.Statement.{statement}
 use Rattle.wasm_core_write.proofs.module.Module.section.Code as code
@@ -110,7 +110,7 @@ section_spec 𝓤 𝓛 𝓜 𝓡 wired S L sg sd eg ed sections encodes =
     -- [the result; the token; what follows]
     suffices ! _ (ends_at 𝓛 En₀ hs c y answer (Ok r') (tt, (tt, tt)) (tt, (tt, tt))) $
     nothing ! $ nothing ! $ fjoin ! $ nothing ! $ fjoin ! $ join ! $ move ! (1 ∷ 2 ∷ 0 ∷ []) $ join ! $ join ! $ frame ! $
-    says ! _ (four_facts 𝓛 _ _ _ _ (refl, is.0, tt, same_error tt r' EncodeError.TooLong (Ok ok) is.3)) $ done !)
+    says ! _ (five_facts 𝓛 _ _ _ _ _ (refl, is.0, grown, tt, same_error tt r' EncodeError.TooLong (Ok ok) is.3)) $ done !)
     (λ error is e. lands_as ! e refl (good_refused error) $
     first ! $ switches_on ! (get_tag ! (vrt ! refl (fld ! refl (stop !))) (whole !)) $ exec ! 𝓣.C 𝓣.Λ En (arm_body 1 fork) Then $
     sets ! (of_opd ! (get_in ! (vrt ! refl (fld ! refl (stop !))) (in_variant ! 1 0 refl refl (whole !)))) refl (good error) $
@@ -124,4 +124,4 @@ section_spec 𝓤 𝓛 𝓜 𝓡 wired S L sg sd eg ed sections encodes =
     -- [the result; the token; what the lender ends as]
     suffices ! _ (ends_at 𝓛 En₀ hs c y (refused error) (Err error) (tt, (tt, tt)) (tt, (tt, tt))) $
     nothing ! $ nothing ! $ fjoin ! $ nothing ! $ fjoin ! $ join ! $ move ! (1 ∷ 2 ∷ 0 ∷ []) $ join ! $ join ! $ frame ! $
-    says ! _ (four_facts 𝓛 _ _ _ _ (tt, tt, is.2, same_error tt r' EncodeError.TooLong (Err error) is.3)) $ done !))))))))))))))
+    says ! _ (five_facts 𝓛 _ _ _ _ _ (tt, tt, tt, is.2, same_error tt r' EncodeError.TooLong (Err error) is.3)) $ done !))))))))))))))

@@ -6,7 +6,7 @@ use Rattle.wasm_smith_module.proofs.GrowLaws.{with_front}
 use Rattle.wasm_smith_module.proofs.value_types.Offers.values.Given as goal
 
 abbrev pub invariant-grow : goal.invariant-grow
-invariant-grow l = with_front (map val_type l.values.items) (grow_at (value_at l.self) 0 l.max (vec_len l.values) l.source) ≡ values_at l.fn.self l.max l.fn.source
+invariant-grow l = with_front (map val_type l.values.items) (grow_at (value_at l.self) 0 l.max (vec_len l.values) l.unstructured) ≡ values_at l.fn.self l.max l.fn.unstructured
 
 abbrev pub decreases-grow : goal.decreases-grow
 decreases-grow l = l.max - vec_len l.values

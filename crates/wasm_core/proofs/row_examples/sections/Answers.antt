@@ -11,8 +11,8 @@ use Rattle.wasm_core_read.specs.ModuleReading.{content_of, frame_at, section_at,
 use Rattle.wasm_core_read.proofs.ExternalForms.{reads_limits, reads_tag_type}
 use Rattle.wasm_core_read.proofs.ModuleForms.{reads_section}
 use Rattle.wasm_core_read.proofs.PartForms.{reads_export, reads_global, reads_import, reads_table}
-use Rattle.wasm_core_read.proofs.Rows.{either, has_value, has_none}
-use Rattle.wasm_core_read.proofs.row_examples.sections.Goals as goal
+use Rattle.wasm_core.proofs.Rows.{either, has_value, has_none}
+use Rattle.wasm_core.proofs.row_examples.sections.Goals as goal
 
 pub returns : goal.returns
 unfolding byte_at unsigned_at last_signed signed_at bytes_at float_at name_at items_at list_at heap_index_at heap_type_at val_type_at ref_type_at storage_type_at mutability_at field_type_at signature_at func_type_at composite_type_at sub_type_at rec_group_at limits_at table_limits_at table_type_at global_type_at tag_type_at external_kind_at external_type_at operator_at operators_at expression_at body_at import_item_at import_at export_at table_at global_at element_at data_at content_of frame_at section_at sections_at sections_of module_of is_utf8 chars lib.Utf8.encode

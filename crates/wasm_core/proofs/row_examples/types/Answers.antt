@@ -5,8 +5,8 @@ use Rattle.wasm_core_read.specs.Reading.{byte_at, unsigned_at, last_signed, sign
 use Rattle.wasm_core_read.specs.TypeReading.{items_at, list_at, heap_index_at, heap_type_at, val_type_at, ref_type_at, storage_type_at, mutability_at, field_type_at, signature_at, func_type_at, composite_type_at, sub_type_at, rec_group_at, limits_at, table_limits_at, table_type_at, global_type_at, tag_type_at, external_kind_at, external_type_at}
 use Rattle.wasm_core_read.proofs.ExternalForms.{reads_global_type, reads_limits, reads_table_type}
 use Rattle.wasm_core_read.proofs.TypeForms.{reads_composite_type, reads_field_type, reads_heap_type, reads_rec_group, reads_ref_type, reads_sub_type, reads_val_type}
-use Rattle.wasm_core_read.proofs.Rows.{has_value, has_none}
-use Rattle.wasm_core_read.proofs.row_examples.types.Goals as goal
+use Rattle.wasm_core.proofs.Rows.{has_value, has_none}
+use Rattle.wasm_core.proofs.row_examples.types.Goals as goal
 
 pub returns : goal.returns
 unfolding byte_at unsigned_at last_signed signed_at bytes_at float_at name_at items_at list_at heap_index_at heap_type_at val_type_at ref_type_at storage_type_at mutability_at field_type_at signature_at func_type_at composite_type_at sub_type_at rec_group_at limits_at table_limits_at table_type_at global_type_at tag_type_at external_kind_at external_type_at is_utf8 chars lib.Utf8.encode

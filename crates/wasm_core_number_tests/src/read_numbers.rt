@@ -5,9 +5,8 @@ use std::alloc::Global;
 use std::test::Fail;
 use wasm_core_read::binary_reader::BinaryReader;
 use wasm_core_read::malformed::Malformed;
-use wasm_test_rows::fields::three_fields;
+use wasm_test_rows::fields::{three_fields, word_and_rest};
 use wasm_test_rows::rows::check_rows;
-use wasm_test_rows::types::word_and_rest;
 use wasm_test_rows::values::bytes_of;
 
 // The place of the first byte.

@@ -1,7 +1,6 @@
 //! Seeds, and the modules that are made of them.
 
 use crate::configs::config_of;
-use crate::lists::put;
 use std::alloc::Global;
 use std::test::Fail;
 use wasm_core::features::WasmFeatures;
@@ -119,7 +118,7 @@ fn patterned(alloc: Global, step: u8) -> Vec<u8> {
     let mut seed = Vec::new(alloc);
     let mut byte = step;
     for _ in 0..400 {
-        put(&mut seed, byte);
+        let _is_there = seed.push(byte).is_ok();
         byte = byte.wrapping_mul(5).wrapping_add(step);
     }
     seed

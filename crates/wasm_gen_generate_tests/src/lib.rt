@@ -1,11 +1,5 @@
-//! Tests of what is made of seeds, and of seeds for lists, through public calls alone.
+//! Tests of the modules that are made of seeds, through public calls alone.
 #![tactic(auto)]
 
-#[cfg(test)]
-mod configs;
-#[cfg(test)]
-mod generated;
-#[cfg(test)]
-mod lists;
-#[cfg(test)]
-mod seeds;
+pub mod configs;
+pub mod generated;

@@ -2,16 +2,10 @@
 #![tactic(auto)]
 
 #[cfg(test)]
-mod answers;
-#[cfg(test)]
 mod errors;
-#[cfg(test)]
-mod fakes;
 #[cfg(test)]
 mod run_check;
 #[cfg(test)]
 mod run_generate;
 #[cfg(test)]
 mod status;
-#[cfg(test)]
-mod transfer;

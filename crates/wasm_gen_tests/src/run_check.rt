@@ -1,13 +1,13 @@
 //! Checking what a reader gives.
 
-use crate::answers::is_front;
-use crate::fakes::{NarrowWriter, ScriptedReader, WhenFull};
 use std::alloc::Global;
 use wasm_core::features::WasmFeatures;
 use wasm_gen::error::RunError;
 use wasm_gen::judge::ValidatorId;
 use wasm_gen::run::run_check;
 use wasm_gen::session::Session;
+use wasm_gen_transfer_tests::answers::is_front;
+use wasm_gen_transfer_tests::fakes::{NarrowWriter, ScriptedReader, WhenFull};
 
 const HEADER: &[u8] = b"\0asm\x01\0\0\0";
 

@@ -1,7 +1,5 @@
 //! Making a module of what a reader gives.
 
-use crate::answers::is_front;
-use crate::fakes::{NarrowWriter, ScriptedReader, WhenFull};
 use std::alloc::Global;
 use std::io;
 use wasm_core::limits::Limit;
@@ -9,6 +7,8 @@ use wasm_gen::device::Source;
 use wasm_gen::error::{GenerateError, RunError};
 use wasm_gen::run::run_generate;
 use wasm_gen::smith::{Config, supported_config};
+use wasm_gen_transfer_tests::answers::is_front;
+use wasm_gen_transfer_tests::fakes::{NarrowWriter, ScriptedReader, WhenFull};
 
 // A seed of one type and one function, and the bytes that are made of it.
 const SEED: &[u8] = &[0x01, 0x00, 0x00, 0x00, 0x01];

@@ -12,7 +12,7 @@ use wasm_smith_config_tests::settings::config_of;
 use wasm_test_rows::fields::four_fields;
 use wasm_test_rows::rows::check_rows;
 use wasm_test_rows::shown::debugs_same;
-use wasm_test_rows::types::groups_of;
+use wasm_test_types::types::groups_of;
 use wasm_test_rows::values::{are_bytes, numbers_of};
 
 // In what a configuration is not the plain one, groups of types, the functions' types, and the seed: its bytes, `some`, or `none`.

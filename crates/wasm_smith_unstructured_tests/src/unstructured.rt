@@ -5,9 +5,8 @@ use std::test::Fail;
 use wasm_smith_unstructured::error::{EmptyChoose, NotEnoughData};
 use wasm_smith_unstructured::text::limited_str;
 use wasm_smith_unstructured::unstructured::Unstructured;
-use wasm_test_rows::fields::two_fields;
+use wasm_test_rows::fields::{two_fields, word_and_rest};
 use wasm_test_rows::rows::check_rows;
-use wasm_test_rows::types::word_and_rest;
 use wasm_test_rows::values::bytes_of;
 
 // Bytes, and what is drawn of them, one call after the other. `range 5 4` is a number from 5 to 9, and `above 1` is one from 1 to the largest.

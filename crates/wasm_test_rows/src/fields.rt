@@ -16,6 +16,13 @@ pub fn has_word(field: &str, word: &str) -> bool {
     field.split_whitespace().any(|it| it == word)
 }
 
+/// The first word, and what stands after it.
+pub fn word_and_rest(field: &str) -> (&str, &str) {
+    let field = field.trim();
+    let (word, rest) = field.split_once(' ').unwrap_or((field, ""));
+    (word, rest.trim())
+}
+
 /// The fields of a row of two, without the spaces around them.
 pub fn two_fields(row: &str) -> Option<(&str, &str)> {
     let (first, second) = row.split_once('|')?;

@@ -6,5 +6,4 @@ pub mod fields;
 pub mod limits;
 pub mod rows;
 pub mod shown;
-pub mod types;
 pub mod values;

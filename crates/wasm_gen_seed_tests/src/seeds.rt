@@ -1,7 +1,5 @@
 //! Seeds for lists of types and functions.
 
-use crate::configs::config_of;
-use crate::generated::makes;
 use crate::lists::{Drawing, function_type, put};
 use std::alloc::Global;
 use std::test::Fail;
@@ -10,6 +8,8 @@ use wasm_gen::generate::generate;
 use wasm_gen::seed::seed_for;
 use wasm_gen::smith::{Config, supported_config};
 use wasm_gen_check_tests::modules::parts_of;
+use wasm_gen_generate_tests::configs::config_of;
+use wasm_gen_generate_tests::generated::makes;
 use wasm_test_rows::fields::four_fields;
 use wasm_test_rows::rows::check_rows;
 use wasm_test_rows::values::number_of;

@@ -6,6 +6,7 @@ use wasm_core_types::types::{
     AbstractHeapType, ArrayType, CompositeType, ContType, FieldType, FuncType, HeapType, RefType,
     StorageType, StructType, SubType, ValType,
 };
+use wasm_test_rows::fields::word_and_rest;
 
 // The abstract heap type of this name.
 fn abstract_heap_type_of(word: &str) -> Option<AbstractHeapType> {
@@ -102,13 +103,6 @@ pub fn field_types_of(alloc: Global, field: &str) -> Option<Vec<FieldType>> {
         types.push(field_type_of(word)?).ok()?;
     }
     Some(types)
-}
-
-/// The first word, and what stands after it.
-pub fn word_and_rest(field: &str) -> (&str, &str) {
-    let field = field.trim();
-    let (word, rest) = field.split_once(' ').unwrap_or((field, ""));
-    (word, rest.trim())
 }
 
 // A composite type: `func`, `struct`, `array` or `cont`, and what it is made of.

@@ -8,10 +8,10 @@ use wasm_core::leb128::len_u64;
 use wasm_core::module::Module;
 use wasm_core::type_section::TypeSection;
 use wasm_core::types::{FuncType, SubType};
-use wasm_test_rows::fields::three_fields;
+use wasm_test_rows::fields::{three_fields, word_and_rest};
 use wasm_test_rows::rows::check_rows;
-use wasm_test_rows::types::{func_type_of, sub_type_of, sub_types_of, word_and_rest};
 use wasm_test_rows::values::{bytes_of, numbers_of};
+use wasm_test_types::types::{func_type_of, sub_type_of, sub_types_of};
 
 fn add_func(alloc: Global, section: &mut TypeSection, field: &str) -> bool {
     let Some(ty) = func_type_of(alloc, field) else {

@@ -1,3 +1,4 @@
+pub mod Closures
 pub mod CompactImports
 pub mod Decoding
 pub mod EncodingBytes
@@ -11,5 +12,6 @@ pub mod ShortestTypes
 pub mod SignedEncodings
 pub mod TypeBytes
 pub mod TypeDecoding
+pub mod TypeMaps
 pub mod UnsignedEncodings
 pub mod WrongEncodings

@@ -9,5 +9,6 @@ pub mod grammar_examples;
 pub mod laws;
 pub mod number_laws;
 pub mod section_examples;
+pub mod subtyping_laws;
 pub mod type_encoding_examples;
 pub mod type_laws;

@@ -5,6 +5,8 @@ pub mod EncodingBytes
 pub mod Encodings
 pub mod GateForms
 pub mod ListEncodings
+pub mod MappedBack
+pub mod MappedTypes
 pub mod NumberLaws
 pub mod SectionBytes
 pub mod ShortestForms

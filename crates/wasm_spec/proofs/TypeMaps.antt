@@ -1,10 +1,9 @@
 -- Types with their references replaced, taken out and put back.
 use Rattle.std.proofs.Common.{◌≡◌, List, [], ◌∷◌, ◌++◌, map, refl, ap, sym, ◌∙◌, append_assoc}
-use Rattle.std.proofs.lemmas.List.{map-append, append-nil, map-id}
+use Rattle.std.proofs.lemmas.List.{map-append, append-nil}
 use Rattle.std.specs.List.{AllByRecursion, flat_map}
-use Rattle.wasm_spec.specs.Syntax.{members}
-use Rattle.wasm_spec.specs.TypeReferences.{heap_map, ref_map, val_map, storage_map, field_map, func_map, composite_map, sub_map, subs_map, group_map, heap_refs, ref_refs, val_refs, storage_refs, field_refs, func_refs, composite_refs, sub_refs, subs_refs, group_refs, one_fill, list_fill, heap_fill, ref_fill, val_fill, storage_fill, field_fill, func_fill, composite_fill, sub_fill, subs_fill, group_fill}
-use Rattle.wasm_spec.specs.Types.{HeapType, Abstract, Concrete, RefType, ValType, I32, I64, F32, F64, V128, Ref, StorageType, I8, I16, Val, FieldType, FuncType, CompositeType, FuncComposite, StructComposite, ArrayComposite, ContComposite, SubType, RecGroup, Single, Group}
+use Rattle.wasm_spec.specs.TypeReferences.{heap_map, val_map, storage_map, field_map, composite_map, sub_map, subs_map, heap_refs, val_refs, storage_refs, field_refs, composite_refs, sub_refs, subs_refs, one_fill, list_fill, heap_fill, val_fill, storage_fill, field_fill, composite_fill, sub_fill, subs_fill}
+use Rattle.wasm_spec.specs.Types.{HeapType, Abstract, Concrete, ValType, I32, I64, F32, F64, V128, Ref, StorageType, I8, I16, Val, FieldType, CompositeType, FuncComposite, StructComposite, ArrayComposite, ContComposite, SubType}
 
 -- ---- one map after another
 

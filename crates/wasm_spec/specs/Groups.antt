@@ -1,6 +1,6 @@
 -- Which recursive groups are well-formed, in the context of the types before them. Core Specification 3.0, Validation, Types, "Recursive
 -- Types", "Composite Types", "Continuation Types" (of their proposal) and appendix "Implementation Limitations".
-use Rattle.std.specs.Prelude.{◌≡◌, ◌+◌, ◌<◌, ◌≤◌, ⊤, ℕ, zero, suc, Bool, true, false, List, [], ◌∷◌, length, Option, Some, if◌then◌else◌}
+use Rattle.std.specs.Prelude.{◌≡◌, ◌+◌, ◌<◌, ◌≤◌, ⊤, ℕ, zero, suc, true, false, List, [], ◌∷◌, length, Option, Some, if◌then◌else◌}
 use Rattle.std.specs.List.{AllByRecursion}
 use Rattle.wasm_spec.specs.Features.{Features, Gc, has}
 use Rattle.wasm_spec.specs.Gates.{is_allowed_group}
@@ -41,15 +41,15 @@ pub data Links {R : Type 0} (sub_at : R → Option (SubType R)) : ℕ → R → 
   one_more : {n : ℕ} {r s t : R} → Declared sub_at r s → Links sub_at n s t → Links sub_at (suc n) r t
 
 -- how many items a type has that a limit counts
-abbrev pub items_in : {R : Type 0} → Limit → CompositeType R → ℕ
-items_in Params (FuncComposite type) = length type.params
-items_in Results (FuncComposite type) = length type.results
-items_in Fields (StructComposite fields) = length fields
+abbrev pub items_in : {R : Type 0} → CompositeType R → Limit → ℕ
+items_in (FuncComposite type) Params = length type.params
+items_in (FuncComposite type) Results = length type.results
+items_in (StructComposite fields) Fields = length fields
 items_in _ _ = 0
 
 -- the type that r stands for passes a limit
 pub data PassesLimit {R : Type 0} (sub_at : R → Option (SubType R)) (r : R) : Limit → Type 0 where
-  many_items : {limit : Limit} → Defined sub_at r (λ c. IsPassedBy limit (items_in limit c)) → PassesLimit sub_at r limit
+  many_items : {limit : Limit} → Defined sub_at r (λ c. IsPassedBy limit (items_in c limit)) → PassesLimit sub_at r limit
   many_links : {n : ℕ} {t : R} → Links sub_at n r t → IsPassedBy Depth n → PassesLimit sub_at r Depth
 
 -- ---- groups

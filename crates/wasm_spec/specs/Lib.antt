@@ -11,6 +11,7 @@ pub mod Limits
 pub mod Matching
 pub mod ModuleParts
 pub mod Operators
+pub mod ReferenceMaps
 pub mod Shortest
 pub mod SmallIndexes
 pub mod Spaces

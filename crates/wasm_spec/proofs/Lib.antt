@@ -4,11 +4,14 @@ pub mod Decoding
 pub mod EncodingBytes
 pub mod Encodings
 pub mod GateForms
+pub mod GroupTrees
 pub mod ListEncodings
 pub mod MappedBack
 pub mod MappedTypes
 pub mod NumberLaws
+pub mod Places
 pub mod SectionBytes
+pub mod SectionTypes
 pub mod ShortestForms
 pub mod ShortestTypes
 pub mod SignedEncodings

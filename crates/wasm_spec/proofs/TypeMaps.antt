@@ -2,8 +2,8 @@
 use Rattle.std.proofs.Common.{◌≡◌, List, [], ◌∷◌, ◌++◌, map, refl, ap, sym, ◌∙◌, append_assoc}
 use Rattle.std.proofs.lemmas.List.{map-append, append-nil}
 use Rattle.std.specs.List.{AllByRecursion, flat_map}
-use Rattle.wasm_spec.specs.TypeReferences.{heap_map, val_map, storage_map, field_map, composite_map, sub_map, subs_map, heap_refs, val_refs, storage_refs, field_refs, composite_refs, sub_refs, subs_refs, one_fill, list_fill, heap_fill, val_fill, storage_fill, field_fill, composite_fill, sub_fill, subs_fill}
-use Rattle.wasm_spec.specs.Types.{HeapType, Abstract, Concrete, ValType, I32, I64, F32, F64, V128, Ref, StorageType, I8, I16, Val, FieldType, CompositeType, FuncComposite, StructComposite, ArrayComposite, ContComposite, SubType}
+use Rattle.wasm_spec.specs.TypeReferences.{heap_map, ref_map, val_map, storage_map, field_map, composite_map, sub_map, subs_map, group_map, table_map, global_map, external_map, heap_refs, ref_refs, val_refs, storage_refs, field_refs, composite_refs, sub_refs, subs_refs, group_refs, table_refs, global_refs, external_refs, one_fill, list_fill, heap_fill, ref_fill, val_fill, storage_fill, field_fill, composite_fill, sub_fill, subs_fill, group_fill, table_fill, global_fill, external_fill}
+use Rattle.wasm_spec.specs.Types.{HeapType, Abstract, Concrete, RefType, ValType, I32, I64, F32, F64, V128, Ref, StorageType, I8, I16, Val, FieldType, CompositeType, FuncComposite, StructComposite, ArrayComposite, ContComposite, SubType, RecGroup, Single, Group, TableType, GlobalType, ExternalType, FuncExternal, TableExternal, MemoryExternal, GlobalExternal, TagExternal}
 
 -- ---- one map after another
 
@@ -132,6 +132,26 @@ sub_fill-exact d x rest =
 
 pub subs_fill-exact : {R : Type 0} (d : R) (xs : List (SubType R)) (rest : List R) → subs_fill d (subs_map (λ _. tt) xs) (subs_refs xs ++ rest) ≡ (xs, rest)
 subs_fill-exact d xs rest = list_fill-exact (sub_fill d) (sub_map (λ _. tt)) sub_refs (sub_fill-exact d) xs rest
+
+pub group_fill-exact : {R : Type 0} (d : R) (x : RecGroup R) (rest : List R) → group_fill d (group_map (λ _. tt) x) (group_refs x ++ rest) ≡ (x, rest)
+group_fill-exact d (Single x) rest = ap (λ q. (Single q.0, q.1)) (sub_fill-exact d x rest)
+group_fill-exact d (Group xs) rest = ap (λ q. (Group q.0, q.1)) (subs_fill-exact d xs rest)
+
+ref_fill-exact : {R : Type 0} (d : R) (x : RefType R) (rest : List R) → ref_fill d (ref_map (λ _. tt) x) (ref_refs x ++ rest) ≡ (x, rest)
+ref_fill-exact d x rest = rw (heap_fill-exact d x.heap_type rest)
+
+table_fill-exact : {R : Type 0} (d : R) (x : TableType R) (rest : List R) → table_fill d (table_map (λ _. tt) x) (table_refs x ++ rest) ≡ (x, rest)
+table_fill-exact d x rest = ap (λ q. (record { element_type = q.0; limits = x.limits }, q.1)) (ref_fill-exact d x.element_type rest)
+
+global_fill-exact : {R : Type 0} (d : R) (x : GlobalType R) (rest : List R) → global_fill d (global_map (λ _. tt) x) (global_refs x ++ rest) ≡ (x, rest)
+global_fill-exact d x rest = rw (val_fill-exact d x.value_type rest)
+
+pub external_fill-exact : {R : Type 0} (d : R) (x : ExternalType R) (rest : List R) → external_fill d (external_map (λ _. tt) x) (external_refs x ++ rest) ≡ (x, rest)
+external_fill-exact d (FuncExternal r) rest = refl
+external_fill-exact d (TableExternal x) rest = ap (λ q. (TableExternal q.0, q.1)) (table_fill-exact d x rest)
+external_fill-exact d (MemoryExternal x) rest = refl
+external_fill-exact d (GlobalExternal x) rest = ap (λ q. (GlobalExternal q.0, q.1)) (global_fill-exact d x rest)
+external_fill-exact d (TagExternal r) rest = refl
 
 -- ---- maps that agree
 

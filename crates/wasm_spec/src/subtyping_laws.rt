@@ -1,12 +1,51 @@
 //! Laws of subtyping, matching and defined types. R and S are kinds of references to defined types.
 
-ghost use Rattle.std.specs.Prelude.{◌≡◌, ◌↔◌, Option, true};
+ghost use Rattle.std.specs.Prelude.{◌≡◌, ◌<◌, ◌↔◌, ◌++◌, ⊤, ℕ, List, [], ◌∷◌, Option, length, slice_get, true};
+ghost use Rattle.std.specs.List.{flat_map};
+ghost use Rattle.wasm_spec.specs.Features.{Features};
+ghost use Rattle.wasm_spec.specs.Groups.{AreWellFormedGroups};
+ghost use Rattle.wasm_spec.specs.ReferenceMaps.{AreClosed, Carries, CarriesBack, IsOneToOne, KeepsTypes};
 ghost use Rattle.wasm_spec.specs.Subtyping.{HeapBelow, HeapTest, is_abstract_below};
-ghost use Rattle.wasm_spec.specs.Types.{AbstractHeapType, HeapType, Abstract, SubType};
+ghost use Rattle.wasm_spec.specs.Syntax.{members};
+ghost use Rattle.wasm_spec.specs.Trees.{AreInRange, DefType, TreeReference, opened, roll, section_types, tree_of, type_at, unrolled};
+ghost use Rattle.wasm_spec.specs.TypeReferences.{external_fill, external_map, external_refs, group_fill, group_map, group_refs};
+ghost use Rattle.wasm_spec.specs.Types.{Abstract, AbstractHeapType, ExternalType, Group, HeapType, RecGroup, Single, SubType};
+
+/// What is left of a type without its references, and these references, are the type again.
+pub fn references<R>()
+    ensures groups { (d : R) (group : RecGroup R) (rest : List R)
+        → group_fill d (group_map (λ (r : R). tt) group) (group_refs group ++ rest) ≡ (group, rest) }
+    ensures external_types { (d : R) (type : ExternalType R) (rest : List R)
+        → external_fill d (external_map (λ (r : R). tt) type) (external_refs type ++ rest) ≡ (type, rest) }
+{}
+
+/// A tree gives back what it was rolled up from, so it is one tree exactly where that is one list of sub types.
+pub fn group_trees()
+    ensures opened { (types : List (SubType TreeReference)) → opened (roll types) ≡ types }
+    ensures one_tree { (a b : List (SubType TreeReference)) → (roll a ≡ roll b) ↔ (a ≡ b) }
+    ensures alone { (before : List DefType) (type : SubType ℕ) → tree_of before (Single type) ≡ tree_of before (Group (type ∷ [])) }
+{}
 
 /// Subtyping of heap types, worked out: between two abstract ones it is the table, and else the table and the links from type to type.
 pub fn heap_types<R>()
     ensures test { (sub_at : R → Option (SubType R)) (a b : HeapType R) → HeapBelow sub_at a b ↔ HeapTest sub_at a b }
     ensures table { (sub_at : R → Option (SubType R)) (a b : AbstractHeapType)
         → HeapBelow sub_at (Abstract a) (Abstract b) ↔ (is_abstract_below a b ≡ true) }
+{}
+
+/// A map of references that keeps types carries links, subtyping, matching, rules and limits along; and subtyping, matching and the rule on
+/// supertypes back, where it is one to one on references that stand for types.
+pub fn reference_maps<R, S>()
+    ensures along { (f : R → S) (from : R → Option (SubType R)) (to : S → Option (SubType S)) → KeepsTypes f from to → Carries f from to }
+    ensures back { (f : R → S) (from : R → Option (SubType R)) (to : S → Option (SubType S))
+        → KeepsTypes f from to → AreClosed from → IsOneToOne f from → CarriesBack f from to }
+{}
+
+/// In a type section whose references are in range, each type index stands for a defined type that unrolls to the sub type of the index.
+pub fn type_sections()
+    ensures count { (groups : List (RecGroup ℕ)) → AreInRange 0 groups → length (section_types groups) ≡ length (flat_map members groups) }
+    ensures types { (groups : List (RecGroup ℕ)) → AreInRange 0 groups
+        → KeepsTypes (type_at (section_types groups)) (slice_get (flat_map members groups)) unrolled }
+    ensures closed { (groups : List (RecGroup ℕ)) → AreInRange 0 groups → AreClosed (slice_get (flat_map members groups)) }
+    ensures well_formed { (features : Features) (groups : List (RecGroup ℕ)) → AreWellFormedGroups features [] groups → AreInRange 0 groups }
 {}

@@ -142,12 +142,12 @@ abstract_is_no_bottom (ArrayComposite field) = refl
 abstract_is_no_bottom (ContComposite function) = refl
 
 -- the bottom of a kind, by its abstract type
-abbrev bottom_under : AbstractHeapType → AbstractHeapType
+abbrev pub bottom_under : AbstractHeapType → AbstractHeapType
 bottom_under Func = NoFunc
 bottom_under Cont = NoCont
 bottom_under _ = None
 
-bottom_by_abstract : {R : Type 0} (c : CompositeType R) → bottom_of c ≡ bottom_under (abstract_of c)
+pub bottom_by_abstract : {R : Type 0} (c : CompositeType R) → bottom_of c ≡ bottom_under (abstract_of c)
 bottom_by_abstract (FuncComposite type) = refl
 bottom_by_abstract (StructComposite fields) = refl
 bottom_by_abstract (ArrayComposite field) = refl
@@ -169,7 +169,7 @@ module _ {R : Type 0} (sub_at : R → Option (SubType R)) where
   sound (Concrete r) (Concrete t) h = mapped {Rel' = HeapStep sub_at} Concrete (λ x y s. s) h
 
   -- kinds along links
-  kind_kept : {r t : R} → Closure (Link sub_at) r t → (s : SubType R) → sub_at r ≡ Some s → Defined sub_at t (λ c. abstract_of c ≡ abstract_of s.composite_type)
+  pub kind_kept : {r t : R} → Closure (Link sub_at) r t → (s : SubType R) → sub_at r ≡ Some s → Defined sub_at t (λ c. abstract_of c ≡ abstract_of s.composite_type)
   kind_kept same s e = record { type = s; is = e; holds = refl }
   kind_kept (step {x} {y} l p) s e =
       let d = l.kind in

@@ -17,6 +17,7 @@ pub mod ShortestTypes
 pub mod SignedEncodings
 pub mod TypeBytes
 pub mod TypeDecoding
+pub mod TypeKinds
 pub mod TypeMaps
 pub mod UnsignedEncodings
 pub mod WrongEncodings

@@ -20,6 +20,7 @@ pub mod Supported
 pub mod Syntax
 pub mod Trees
 pub mod TypeEncodings
+pub mod TypeExamples
 pub mod TypeGrammar
 pub mod TypeReferences
 pub mod Types

@@ -49,3 +49,5 @@ pub record CarriesBack {R S : Type 0} (f : R → S) (from : R → Option (SubTyp
   pub fields : (a b : FieldType R) → AllByRecursion (IsType from) (field_refs a) → AllByRecursion (IsType from) (field_refs b) → FieldMatches to (field_map f a) (field_map f b) → FieldMatches from a b
   pub composite_types : (a b : CompositeType R) → AllByRecursion (IsType from) (composite_refs a) → AllByRecursion (IsType from) (composite_refs b) → CompositeMatches to (composite_map f a) (composite_map f b) → CompositeMatches from a b
   pub supertypes : (type : SubType R) → AllByRecursion (IsType from) (sub_refs type) → ExtendsSupertypes to (sub_map f type) → ExtendsSupertypes from type
+  pub continuations : (c : CompositeType R) → AllByRecursion (IsType from) (composite_refs c) → ContinuesFunc to (composite_map f c) → ContinuesFunc from c
+  pub limits : (r : R) (limit : Limit) → IsType from r → PassesLimit to (f r) limit → PassesLimit from r limit

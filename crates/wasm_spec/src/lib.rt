@@ -11,4 +11,5 @@ pub mod number_laws;
 pub mod section_examples;
 pub mod subtyping_laws;
 pub mod type_encoding_examples;
+pub mod type_examples;
 pub mod type_laws;

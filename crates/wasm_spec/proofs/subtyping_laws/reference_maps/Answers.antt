@@ -1,4 +1,4 @@
-use Rattle.wasm_spec.proofs.MappedBack.{heap_below_back, ref_below_back, val_below_back, storage_below_back, field_matches_back, composite_matches_back, supertypes_back}
+use Rattle.wasm_spec.proofs.MappedBack.{heap_below_back, ref_below_back, val_below_back, storage_below_back, field_matches_back, composite_matches_back, supertypes_back, continues_back, passes_back}
 use Rattle.wasm_spec.proofs.MappedTypes.{link_map, step_map, heap_below_map, ref_below_map, val_below_map, storage_below_map, field_matches_map, composite_matches_map, supertypes_map, continues_map, links_map, passes_map}
 use Rattle.wasm_spec.proofs.subtyping_laws.reference_maps.Goals as goal
 
@@ -26,5 +26,7 @@ returns c start = record {
     fields = field_matches_back f from to keeps closed one;
     composite_types = composite_matches_back f from to keeps closed one;
     supertypes = supertypes_back f from to keeps closed one;
+    continuations = continues_back f from to keeps closed;
+    limits = λ r limit known h. passes_back f from to keeps closed r known h;
   };
 }

@@ -1,0 +1,58 @@
+-- Kinds of defined types, and what a closure can't join.
+use Rattle.std.proofs.Common.{◌≡◌, true, List, [], refl, ap, sym, ◌∙◌, ◌⊎◌, inl, inr, subst, Option, Some}
+use Rattle.wasm_spec.specs.Subtyping.{IsAmong, Closure, same, step, abstract_of, bottom_of, Defined, HeapBelow, is_abstract_below}
+use Rattle.wasm_spec.specs.Types.{AbstractHeapType, I31, Abstract, Concrete, CompositeType, FuncComposite, StructComposite, ArrayComposite, ContComposite, SubType}
+use Rattle.wasm_spec.proofs.Closures.{sound, complete, bottom_under, bottom_by_abstract, same_defined, kind_kept}
+
+module _ {R : Type 0} (sub_at : R → Option (SubType R)) where
+  -- the bottom of a kind is below its types
+  pub bottom_below : (r : R) (a : AbstractHeapType) → Defined sub_at r (λ c. abstract_of c ≡ a) → HeapBelow sub_at (Abstract (bottom_under a)) (Concrete r)
+  bottom_below r a d = sound sub_at (Abstract (bottom_under a)) (Concrete r) (record { type = d.type; is = d.is; holds = bottom_by_abstract d.type.composite_type ∙ ap bottom_under d.holds })
+
+  -- and nothing else
+  pub bottom_alone : (r : R) (a b : AbstractHeapType) → Defined sub_at r (λ c. abstract_of c ≡ a) → HeapBelow sub_at (Abstract b) (Concrete r) → b ≡ bottom_under a
+  bottom_alone r a b d h =
+      let t = complete sub_at {a = Abstract b} {b = Concrete r} h in
+      let one : t.type ≡ d.type = same_defined sub_at r t.type d.type t.is d.is in
+      sym t.holds ∙ ap (λ s. bottom_of s.composite_type) one ∙ bottom_by_abstract d.type.composite_type ∙ ap bottom_under d.holds
+
+  -- the abstract types above a kind are above its types
+  pub kind_below : (r : R) (a b : AbstractHeapType) → Defined sub_at r (λ c. abstract_of c ≡ a) → is_abstract_below a b ≡ true → HeapBelow sub_at (Concrete r) (Abstract b)
+  kind_below r a b d h = sound sub_at (Concrete r) (Abstract b) (record { type = d.type; is = d.is; holds = ap (λ q. is_abstract_below q b) d.holds ∙ h })
+
+  pub kind_above : (r : R) (a b : AbstractHeapType) → Defined sub_at r (λ c. abstract_of c ≡ a) → HeapBelow sub_at (Concrete r) (Abstract b) → is_abstract_below a b ≡ true
+  kind_above r a b d h =
+      let t = complete sub_at {a = Concrete r} {b = Abstract b} h in
+      let one : t.type ≡ d.type = same_defined sub_at r t.type d.type t.is d.is in
+      ap (λ q. is_abstract_below q b) (sym d.holds ∙ ap (λ s. abstract_of s.composite_type) (sym one)) ∙ t.holds
+
+  -- a type is below types of its kind alone
+  pub same_kind : (r t : R) (a b : SubType R) → sub_at r ≡ Some a → sub_at t ≡ Some b → HeapBelow sub_at (Concrete r) (Concrete t) → abstract_of a.composite_type ≡ abstract_of b.composite_type
+  same_kind r t a b e e' h =
+      let k = kind_kept sub_at (complete sub_at {a = Concrete r} {b = Concrete t} h) a e in
+      let one : k.type ≡ b = same_defined sub_at t k.type b k.is e' in
+      sym k.holds ∙ ap (λ s. abstract_of s.composite_type) one
+
+-- the first link of a chain
+pub first_link : {X : Type 0} {Rel : X → X → Type 0} {x y : X} → Closure Rel x y → (x ≡ y) ⊎ ((z : X) × Rel x z × Closure Rel z y)
+first_link same = inl refl
+first_link (step {x} {y} {z} r p) = inr (y, r, p)
+
+module _ {R : Type 0} (sub_at : R → Option (SubType R)) where
+  -- a type without supertypes is below no other type
+  pub none_above : (r t : R) (s : SubType R) → sub_at r ≡ Some s → s.supertypes ≡ [] → HeapBelow sub_at (Concrete r) (Concrete t) → r ≡ t
+  none_above r t s e none h = elim (first_link (complete sub_at {a = Concrete r} {b = Concrete t} h)) [
+    | inl one ↦ one
+    | inr more ↦
+        let l = more.1.declared in
+        let one : l.type ≡ s = same_defined sub_at r l.type s l.is e in
+        let P : List R → Type 0 = λ ts. IsAmong more.0 ts in
+        let empty : IsAmong more.0 [] = subst P (ap (λ q. q.supertypes) one ∙ none) l.among in
+        absurd empty
+  ]
+
+pub bottom_is_no_i31 : {R : Type 0} (c : CompositeType R) → bottom_of c ≡ I31 → ⊥
+bottom_is_no_i31 (FuncComposite type) e = cc
+bottom_is_no_i31 (StructComposite fields) e = cc
+bottom_is_no_i31 (ArrayComposite field) e = cc
+bottom_is_no_i31 (ContComposite function) e = cc

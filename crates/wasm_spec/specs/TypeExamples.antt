@@ -1,0 +1,39 @@
+-- Types that worked examples share.
+use Rattle.std.specs.Prelude.{ℕ, true, false, List, [], ◌∷◌}
+use Rattle.wasm_spec.specs.Types.{HeapType, Concrete, ValType, Ref, Val, FieldType, FuncType, CompositeType, StructComposite, SubType, RecGroup, Group}
+
+abbrev pub ref_null : {R : Type 0} → HeapType R → ValType R
+ref_null heap = Ref true heap
+
+-- a field that can't be written, and one that can
+abbrev pub const_field : {R : Type 0} → ValType R → FieldType R
+const_field type = record { element_type = Val type; mutable = false }
+
+abbrev pub var_field : {R : Type 0} → ValType R → FieldType R
+var_field type = record { element_type = Val type; mutable = true }
+
+-- functions without results, and without parameters
+abbrev pub takes : {R : Type 0} → List (ValType R) → FuncType R
+takes params = record { params = params; results = [] }
+
+abbrev pub gives : {R : Type 0} → List (ValType R) → FuncType R
+gives results = record { params = []; results = results }
+
+-- types that are not final: without supertypes, and with one
+abbrev pub open_type : {R : Type 0} → CompositeType R → SubType R
+open_type composite = record { is_final = false; supertypes = []; composite_type = composite }
+
+abbrev pub open_below : {R : Type 0} → R → CompositeType R → SubType R
+open_below supertype composite = record { is_final = false; supertypes = supertype ∷ []; composite_type = composite }
+
+-- a final type without supertypes
+abbrev pub alone : {R : Type 0} → CompositeType R → SubType R
+alone composite = record { is_final = true; supertypes = []; composite_type = composite }
+
+-- a structure that refers to one type
+abbrev pub structure_to : {R : Type 0} → R → SubType R
+structure_to r = alone (StructComposite (const_field (ref_null (Concrete r)) ∷ []))
+
+-- two structures that refer to each other, the first of which has this type index
+abbrev pub pair_from : ℕ → ℕ → RecGroup ℕ
+pair_from first second = Group (structure_to second ∷ structure_to first ∷ [])

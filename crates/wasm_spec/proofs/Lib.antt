@@ -18,6 +18,7 @@ pub mod SignedEncodings
 pub mod TypeBytes
 pub mod TypeDecoding
 pub mod TypeKinds
+pub mod TypeLimits
 pub mod TypeMaps
 pub mod UnsignedEncodings
 pub mod WrongEncodings

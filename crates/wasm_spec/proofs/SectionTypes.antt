@@ -20,7 +20,7 @@ section_closed groups range index type at =
     let types = flat_map members groups in
     all_each (λ i. i < length (section_types groups)) (IsType (slice_get types)) (λ i h. get_some types i (omega (arith, h, it.lengths))) (sub_refs type) (it.in_range index type at)
 
-rules_in_range : (features : Features) (before : List DefType) (group : RecGroup ℕ) → KeepsGroupRules features before group → IsInRange (length before) group
+pub rules_in_range : (features : Features) (before : List DefType) (group : RecGroup ℕ) → KeepsGroupRules features before group → IsInRange (length before) group
 rules_in_range features before group rules = go (has features Gc) rules.in_range
   where
     go : (b : Bool) → AllByRecursion (λ i. i < (if b then length before + length (members group) else length before)) (group_refs group) → IsInRange (length before) group

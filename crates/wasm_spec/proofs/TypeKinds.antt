@@ -1,5 +1,7 @@
 -- Kinds of defined types, and what a closure can't join.
-use Rattle.std.proofs.Common.{◌≡◌, true, List, [], refl, ap, sym, ◌∙◌, ◌⊎◌, inl, inr, subst, Option, Some}
+use Rattle.std.proofs.Common.{◌≡◌, true, false, List, [], refl, ap, sym, ◌∙◌, ◌⊎◌, inl, inr, subst, Option, Some}
+use Rattle.wasm_spec.specs.Groups.{Extends}
+use Rattle.wasm_spec.specs.Matching.{CompositeMatches}
 use Rattle.wasm_spec.specs.Subtyping.{IsAmong, Closure, same, step, abstract_of, bottom_of, Defined, HeapBelow, is_abstract_below}
 use Rattle.wasm_spec.specs.Types.{AbstractHeapType, I31, Abstract, Concrete, CompositeType, FuncComposite, StructComposite, ArrayComposite, ContComposite, SubType}
 use Rattle.wasm_spec.proofs.Closures.{sound, complete, bottom_under, bottom_by_abstract, same_defined, kind_kept}
@@ -32,6 +34,13 @@ module _ {R : Type 0} (sub_at : R → Option (SubType R)) where
       let k = kind_kept sub_at (complete sub_at {a = Concrete r} {b = Concrete t} h) a e in
       let one : k.type ≡ b = same_defined sub_at t k.type b k.is e' in
       sym k.holds ∙ ap (λ s. abstract_of s.composite_type) one
+
+-- a known supertype that a type extends
+pub extends_known : {R : Type 0} {sub_at : R → Option (SubType R)} {type : SubType R} {t : R} → Extends sub_at type t → (u : SubType R) → sub_at t ≡ Some u → (u.is_final ≡ false) × CompositeMatches sub_at type.composite_type u.composite_type
+extends_known {R} {sub_at} {type} {t} e u is =
+    let one : e.supertype ≡ u = same_defined sub_at t e.supertype u e.is is in
+    let P : SubType R → Type 0 = λ s. (s.is_final ≡ false) × CompositeMatches sub_at type.composite_type s.composite_type in
+    subst P one (e.is_open, e.matches)
 
 -- the first link of a chain
 pub first_link : {X : Type 0} {Rel : X → X → Type 0} {x y : X} → Closure Rel x y → (x ≡ y) ⊎ ((z : X) × Rel x z × Closure Rel z y)

@@ -40,6 +40,12 @@ pub data Links {R : Type 0} (sub_at : R → Option (SubType R)) : ℕ → R → 
   no_link : {r : R} → Links sub_at zero r r
   one_more : {n : ℕ} {r s t : R} → Declared sub_at r s → Links sub_at n s t → Links sub_at (suc n) r t
 
+-- so many declared links, and no more, lead upward from r
+pub record HasDepth {R : Type 0} (sub_at : R → Option (SubType R)) (r : R) (n : ℕ) : Type 0 where
+  pub top : R
+  pub reached : Links sub_at n r top
+  pub most : (m : ℕ) (t : R) → Links sub_at m r t → m ≤ n
+
 -- how many items a type has that a limit counts
 abbrev pub items_in : {R : Type 0} → CompositeType R → Limit → ℕ
 items_in (FuncComposite type) Params = length type.params

@@ -1,6 +1,6 @@
 -- Types that worked examples share.
-use Rattle.std.specs.Prelude.{ℕ, true, false, List, [], ◌∷◌}
-use Rattle.wasm_spec.specs.Types.{HeapType, Concrete, ValType, Ref, Val, FieldType, FuncType, CompositeType, StructComposite, SubType, RecGroup, Group}
+use Rattle.std.specs.Prelude.{ℕ, true, false, List, [], ◌∷◌, replicate}
+use Rattle.wasm_spec.specs.Types.{HeapType, Concrete, ValType, I32, I64, Ref, Val, FieldType, FuncType, CompositeType, FuncComposite, StructComposite, SubType, RecGroup, Group}
 
 abbrev pub ref_null : {R : Type 0} → HeapType R → ValType R
 ref_null heap = Ref true heap
@@ -37,3 +37,16 @@ structure_to r = alone (StructComposite (const_field (ref_null (Concrete r)) ∷
 -- two structures that refer to each other, the first of which has this type index
 abbrev pub pair_from : ℕ → ℕ → RecGroup ℕ
 pair_from first second = Group (structure_to second ∷ structure_to first ∷ [])
+
+abbrev pub empty_structure : {R : Type 0} → CompositeType R
+empty_structure = StructComposite []
+
+abbrev pub one_field : {R : Type 0} → CompositeType R
+one_field = StructComposite (const_field I32 ∷ [])
+
+abbrev pub two_fields : {R : Type 0} → CompositeType R
+two_fields = StructComposite (const_field I32 ∷ var_field I64 ∷ [])
+
+-- functions of so many parameters
+abbrev pub of_params : {R : Type 0} → ℕ → SubType R
+of_params n = alone (FuncComposite (takes (replicate n I32)))

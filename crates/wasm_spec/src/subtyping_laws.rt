@@ -1,9 +1,10 @@
 //! Laws of subtyping, matching and defined types. R and S are kinds of references to defined types.
 
-ghost use Rattle.std.specs.Prelude.{◌≡◌, ◌<◌, ◌↔◌, ◌++◌, ⊤, ℕ, List, [], ◌∷◌, Option, length, slice_get, true};
+ghost use Rattle.std.specs.Prelude.{◌≡◌, ◌<◌, ◌↔◌, ◌++◌, ⊤, ℕ, List, [], ◌∷◌, Option, Some, length, slice_get, suc, true};
 ghost use Rattle.std.specs.List.{flat_map};
 ghost use Rattle.wasm_spec.specs.Features.{Features};
-ghost use Rattle.wasm_spec.specs.Groups.{AreWellFormedGroups};
+ghost use Rattle.wasm_spec.specs.Groups.{AreWellFormedGroups, HasDepth, PassesLimit, items_in};
+ghost use Rattle.wasm_spec.specs.Limits.{Depth, IsPassedBy, Limit};
 ghost use Rattle.wasm_spec.specs.ReferenceMaps.{AreClosed, Carries, CarriesBack, IsOneToOne, KeepsTypes};
 ghost use Rattle.wasm_spec.specs.Subtyping.{HeapBelow, HeapTest, is_abstract_below};
 ghost use Rattle.wasm_spec.specs.Syntax.{members};
@@ -48,4 +49,15 @@ pub fn type_sections()
         → KeepsTypes (type_at (section_types groups)) (slice_get (flat_map members groups)) unrolled }
     ensures closed { (groups : List (RecGroup ℕ)) → AreInRange 0 groups → AreClosed (slice_get (flat_map members groups)) }
     ensures well_formed { (features : Features) (groups : List (RecGroup ℕ)) → AreWellFormedGroups features [] groups → AreInRange 0 groups }
+{}
+
+/// How limits on a type are found: the depth of a type is one more than that of its supertype, and what else is counted stands in the type itself.
+pub fn type_limits<R>()
+    ensures no_supertype { (sub_at : R → Option (SubType R)) (r : R) (type : SubType R)
+        → sub_at r ≡ Some type → type.supertypes ≡ [] → HasDepth sub_at r 0 }
+    ensures one_supertype { (sub_at : R → Option (SubType R)) (r t : R) (type : SubType R) (n : ℕ)
+        → sub_at r ≡ Some type → type.supertypes ≡ t ∷ [] → HasDepth sub_at t n → HasDepth sub_at r (suc n) }
+    ensures depth { (sub_at : R → Option (SubType R)) (r : R) (n : ℕ) → HasDepth sub_at r n → PassesLimit sub_at r Depth ↔ (63 < n) }
+    ensures items { (sub_at : R → Option (SubType R)) (r : R) (type : SubType R) (limit : Limit) → sub_at r ≡ Some type → ¬ (limit ≡ Depth)
+        → PassesLimit sub_at r limit ↔ IsPassedBy limit (items_in type.composite_type limit) }
 {}

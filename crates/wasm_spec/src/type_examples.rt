@@ -1,13 +1,13 @@
 //! Worked examples of defined types, subtyping, matching and well-formed groups.
 
-ghost use Rattle.std.specs.Prelude.{◌≡◌, ◌≤◌, ℕ, Bool, List, [], ◌∷◌, Option, Some, false, length, slice_get, true};
-ghost use Rattle.wasm_spec.specs.Features.{Features, FunctionReferences, Gc, ReferenceTypes, StackSwitching, bit_of, default_features};
+ghost use Rattle.std.specs.Prelude.{◌≡◌, ◌+◌, ℕ, Bool, List, [], ◌∷◌, Option, Some, false, length, slice_get, true};
+ghost use Rattle.wasm_spec.specs.Features.{Features, FunctionReferences, Gc, GcTypes, ReferenceTypes, StackSwitching, bit_of, default_features};
 ghost use Rattle.wasm_spec.specs.Groups.{ExtendsSupertypes, IsWellFormedGroup, IsWithinGroupLimits, KeepsGroupRules, Links, PassesLimit};
 ghost use Rattle.wasm_spec.specs.Limits.{Depth, Params};
 ghost use Rattle.wasm_spec.specs.Matching.{CompositeMatches, FieldMatches, FuncMatches};
 ghost use Rattle.wasm_spec.specs.Subtyping.{Defined, HeapBelow, RefBelow, ValBelow, abstract_of};
 ghost use Rattle.wasm_spec.specs.Trees.{section_types, type_at, types_after, unrolled};
-ghost use Rattle.wasm_spec.specs.TypeExamples.{alone, const_field, gives, open_below, open_type, pair_from, ref_null, structure_to, takes, var_field};
+ghost use Rattle.wasm_spec.specs.TypeExamples.{alone, const_field, empty_structure, gives, of_params, one_field, open_below, open_type, pair_from, ref_null, structure_to, takes, two_fields, var_field};
 ghost use Rattle.wasm_spec.specs.Types.{Abstract, AbstractHeapType, Any, Array, ArrayComposite, Concrete, Cont, ContComposite, Eq, Func, FuncComposite, Group, HeapType, I16, I31, I32, I64, I8, NoCont, NoFunc, None, Ref, Single, Struct, StructComposite, SubType, Val};
 
 /// Two structures that refer to each other, written twice, are two types and not four; and it matters which place refers to which.
@@ -99,4 +99,54 @@ pub fn composite_types<R>()
     ensures more_params { (sub_at : R → Option (SubType R)) → ¬ (CompositeMatches sub_at (FuncComposite (takes (I32 ∷ I32 ∷ []))) (FuncComposite (takes (I32 ∷ [])))) }
     ensures continuation { (sub_at : R → Option (SubType R)) (r : R) → CompositeMatches sub_at (ContComposite r) (ContComposite r) }
     ensures two_kinds { (sub_at : R → Option (SubType R)) → ¬ (CompositeMatches sub_at (StructComposite (const_field I32 ∷ [])) (ArrayComposite (const_field I32))) }
+{}
+
+/// A structure with one more field than its declared supertype: it matches that one, and is below it.
+pub fn wider_structures()
+    ensures well_formed { IsWellFormedGroup default_features [] (Group (open_type one_field ∷ open_below 0 two_fields ∷ [])) }
+    ensures by_index { HeapBelow (slice_get (open_type one_field ∷ open_below 0 two_fields ∷ [])) (Concrete 1) (Concrete 0) }
+    ensures below { HeapBelow unrolled
+        (Concrete (type_at (section_types (Group (open_type one_field ∷ open_below 0 two_fields ∷ []) ∷ [])) 1))
+        (Concrete (type_at (section_types (Group (open_type one_field ∷ open_below 0 two_fields ∷ []) ∷ [])) 0)) }
+    ensures narrower { (features : Features) → ¬ (KeepsGroupRules features [] (Group (open_type two_fields ∷ open_below 0 one_field ∷ []))) }
+{}
+
+/// A supertype is open and stands before its subtype, and a type has one of them at most.
+pub fn supertypes()
+    ensures earlier { KeepsGroupRules default_features [] (Group (open_type empty_structure ∷ open_below 0 empty_structure ∷ [])) }
+    ensures later { (features : Features) → ¬ (KeepsGroupRules features [] (Group (open_below 1 empty_structure ∷ open_type empty_structure ∷ []))) }
+    ensures own { (features : Features) → ¬ (KeepsGroupRules features [] (Single (open_below 0 empty_structure))) }
+    ensures final_supertype { (features : Features) → ¬ (KeepsGroupRules features [] (Group (alone empty_structure ∷ open_below 0 empty_structure ∷ []))) }
+    ensures two { (features : Features) → ¬ (KeepsGroupRules features []
+        (Group (open_type empty_structure ∷ open_type empty_structure
+        ∷ record { is_final = false; supertypes = 0 ∷ 1 ∷ []; composite_type = empty_structure } ∷ []))) }
+    ensures other_kind { (features : Features) → ¬ (KeepsGroupRules features [] (Group (open_type empty_structure ∷ open_below 0 (ArrayComposite (const_field I32)) ∷ []))) }
+{}
+
+/// References name earlier types, and with the feature for garbage collection types of the own group, also later ones.
+pub fn group_references()
+    ensures earlier { KeepsGroupRules 0x8008 (section_types (Single (of_params 0) ∷ [])) (Single (alone (FuncComposite (takes (ref_null (Concrete 0) ∷ []))))) }
+    ensures own { KeepsGroupRules 0x18008 [] (Single (alone (FuncComposite (takes (ref_null (Concrete 0) ∷ []))))) }
+    ensures own_without_gc { ¬ (KeepsGroupRules 0x8008 [] (Single (alone (FuncComposite (takes (ref_null (Concrete 0) ∷ [])))))) }
+    ensures later { KeepsGroupRules default_features [] (pair_from 0 1) }
+    ensures past_the_group { (features : Features) → ¬ (KeepsGroupRules features [] (pair_from 0 2)) }
+
+    // The features of the first examples, without and with garbage collection.
+    ensures features { bit_of ReferenceTypes + bit_of FunctionReferences ≡ 0x8008 }
+    ensures features_with_gc { bit_of ReferenceTypes + bit_of FunctionReferences + bit_of Gc ≡ 0x18008 }
+{}
+
+/// A continuation type goes on with a function type, where the feature for it is on.
+pub fn continuations()
+    ensures function { KeepsGroupRules 0x220000 (section_types (Single (of_params 0) ∷ [])) (Single (alone (ContComposite 0))) }
+    ensures structure { (features : Features) → ¬ (KeepsGroupRules features (section_types (Single (alone empty_structure) ∷ [])) (Single (alone (ContComposite 0)))) }
+    ensures without { ¬ (KeepsGroupRules default_features (section_types (Single (of_params 0) ∷ [])) (Single (alone (ContComposite 0)))) }
+    ensures features { bit_of GcTypes + bit_of StackSwitching ≡ 0x220000 }
+{}
+
+/// A group may keep all rules and pass a limit.
+pub fn group_limits()
+    ensures rules { (features : Features) (n : ℕ) → KeepsGroupRules features [] (Single (of_params n)) }
+    ensures most_params { IsWithinGroupLimits [] (Single (of_params 1000)) }
+    ensures many_params { ¬ (IsWithinGroupLimits [] (Single (of_params 1001))) }
 {}

@@ -1,0 +1,24 @@
+use Rattle.std.proofs.Common.{◌≡◌, [], ◌∷◌, arith, true, false, refl, ap, sym, ◌∙◌}
+use Rattle.wasm_spec.specs.Subtyping.{abstract_of}
+use Rattle.wasm_spec.specs.Trees.{section_types, type_at, types_after, unrolled}
+use Rattle.wasm_spec.specs.TypeExamples.{alone, empty_structure, of_params}
+use Rattle.wasm_spec.specs.Types.{ContComposite, Func, Single, Struct}
+use Rattle.wasm_spec.proofs.Closures.{same_defined}
+use Rattle.wasm_spec.proofs.type_examples.continuations.Goals as goal
+
+pub returns : goal.returns
+returns c = record {
+  function = record {
+    allowed = refl;
+    in_range = (omega arith, tt);
+    each = (record { earlier = tt; extends = record { at_most_one = omega arith; each = tt }; continues = record { type = of_params 0; is = refl; holds = refl } }, tt);
+  };
+  structure = λ features rules.
+      let d = rules.each.0.continues in
+      let one : d.type ≡ alone empty_structure =
+      same_defined unrolled (type_at (types_after (section_types (Single (alone empty_structure) ∷ [])) (Single (alone (ContComposite 0)))) 0) d.type (alone empty_structure) d.is refl in
+      let e : Struct ≡ Func = ap (λ s. abstract_of s.composite_type) (sym one) ∙ d.holds in
+      absurd cc;
+  without = λ rules. let e : false ≡ true = rules.allowed in absurd cc;
+  features = refl;
+}

@@ -3,6 +3,7 @@ pub mod CompactImports
 pub mod Decoding
 pub mod EncodingBytes
 pub mod Encodings
+pub mod EqualTrees
 pub mod GateForms
 pub mod GroupTrees
 pub mod ListEncodings
@@ -11,6 +12,7 @@ pub mod MappedTypes
 pub mod NumberLaws
 pub mod Places
 pub mod SectionBytes
+pub mod SectionRules
 pub mod SectionTypes
 pub mod ShortestForms
 pub mod ShortestTypes
@@ -20,5 +22,6 @@ pub mod TypeDecoding
 pub mod TypeKinds
 pub mod TypeLimits
 pub mod TypeMaps
+pub mod TypeOrders
 pub mod UnsignedEncodings
 pub mod WrongEncodings

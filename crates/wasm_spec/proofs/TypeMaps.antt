@@ -178,3 +178,20 @@ sub_map_agree d f h x all =
     let P : List _ → Type 0 = λ rs. AllByRecursion (λ r. f r ≡ h r) rs in
     let whole : subs_map f (x ∷ []) ≡ subs_map h (x ∷ []) = subs_map_agree d f h (x ∷ []) (rw (append-nil (sub_refs x)) all) in
     cc
+
+-- ---- maps that are one to one
+
+maps_injective : {R S : Type 0} (f : R → S) → ((a b : R) → f a ≡ f b → a ≡ b) → (xs ys : List R) → map f xs ≡ map f ys → xs ≡ ys
+maps_injective f one [] [] e = refl
+maps_injective f one [] (y ∷ ys) e = cc
+maps_injective f one (x ∷ xs) [] e = cc
+maps_injective f one (x ∷ xs) (y ∷ ys) e =
+    let head : f x ≡ f y = cc in
+    let tail : map f xs ≡ map f ys = cc in
+    rw (one x y head, maps_injective f one xs ys tail)
+
+pub subs_map_injective : {R S : Type 0} (d : R) (f : R → S) → ((a b : R) → f a ≡ f b → a ≡ b) → (xs ys : List (SubType R)) → subs_map f xs ≡ subs_map f ys → xs ≡ ys
+subs_map_injective d f one xs ys e =
+    same_subs d xs ys
+    (sym (subs_map-subs_map (λ _. tt {0}) f xs) ∙ ap (subs_map (λ _. tt {0})) e ∙ subs_map-subs_map (λ _. tt {0}) f ys)
+    (maps_injective f one (subs_refs xs) (subs_refs ys) (sym (subs_refs-map f xs) ∙ ap subs_refs e ∙ subs_refs-map f ys))

@@ -1,6 +1,6 @@
 -- Defined types: what type indexes stand for. Two of them are one type exactly where they are equal, which is a matter of structure and
 -- not of names. Core Specification 3.0, Validation, Conventions, "Defined Types" and "Rolling and Unrolling", and Matching, "Defined Types".
-use Rattle.std.specs.Prelude.{⊤, ℕ, suc, ◌+◌, ◌-◌, ◌<◌, List, [], ◌∷◌, ◌++◌, length, slice_get, Option, Some, None, option_map}
+use Rattle.std.specs.Prelude.{◌≡◌, ⊤, ℕ, suc, ◌+◌, ◌-◌, ◌<◌, List, [], ◌∷◌, ◌++◌, length, slice_get, Option, Some, None, option_map}
 use Rattle.std.specs.List.{AllByRecursion}
 use Rattle.wasm_spec.specs.Syntax.{members}
 use Rattle.wasm_spec.specs.TypeReferences.{sub_map, subs_map, subs_refs, subs_fill, group_refs}
@@ -108,3 +108,7 @@ IsInRange before group = AllByRecursion (λ index. index < before + length (memb
 abbrev pub AreInRange : ℕ → List (RecGroup ℕ) → Type 0
 AreInRange before [] = ⊤
 AreInRange before (group ∷ groups) = IsInRange before group × AreInRange (before + length (members group)) groups
+
+-- no type has two indexes
+abbrev pub AreDistinct : List DefType → Type 0
+AreDistinct types = (i j : ℕ) (type : DefType) → slice_get types i ≡ Some type → slice_get types j ≡ Some type → i ≡ j

@@ -185,7 +185,7 @@ module _ {R S : Type 0} (f : R → S) (from : R → Option (SubType R)) (to : S 
     extends_back : (type : SubType R) (t : R) → AllByRecursion (IsType from) (composite_refs type.composite_type) → IsType from t → Extends to (sub_map f type) (f t) → Extends from type t
     extends_back type t k kt e =
         let (u, at) = kt in
-      let refs = closed t u at in
+        let refs = closed t u at in
         let same_type : e.supertype ≡ sub_map f u = same_defined to (f t) e.supertype (sub_map f u) e.is (keeps t u at) in
         let P : SubType S → Type 0 = λ q. CompositeMatches to (composite_map f type.composite_type) q.composite_type in
         let ku = all_right (IsType from) u.supertypes (composite_refs u.composite_type) refs in

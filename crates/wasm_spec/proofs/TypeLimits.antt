@@ -73,23 +73,29 @@ module _ {R : Type 0} (sub_at : R → Option (SubType R)) where
   passed_by (many_links {n} {t} links passed) = by_links n t refl links passed
 
   pub depth_passed : (r : R) (n : ℕ) → HasDepth sub_at r n → PassesLimit sub_at r Depth ↔ (63 < n)
-  depth_passed r n d = (λ p. elim (passed_by p) [
-    | by_items type is h ↦
-        let none = no_items_of_depth type.composite_type in
-        let h' : 63 < items_in type.composite_type Depth = h in
-        absurd (omega (arith, none, h'))
-    | by_links m t is links passed ↦
-        let h : 63 < m = passed in omega (arith, h, d.most m t links)
-  ], λ h. many_links d.reached h)
+  depth_passed r n d = (
+    λ p. elim (passed_by p) [
+      | by_items type is h ↦
+          let none = no_items_of_depth type.composite_type in
+          let h' : 63 < items_in type.composite_type Depth = h in
+          absurd (omega (arith, none, h'))
+      | by_links m t is links passed ↦
+          let h : 63 < m = passed in omega (arith, h, d.most m t links)
+    ],
+    λ h. many_links d.reached h,
+  )
 
   pub items_passed : (r : R) (type : SubType R) (limit : Limit) → sub_at r ≡ Some type → (limit ≡ Depth → ⊥) → PassesLimit sub_at r limit ↔ IsPassedBy limit (items_in type.composite_type limit)
-  items_passed r type limit e other = (λ p. elim (passed_by p) [
-    | by_items s is h ↦
-        let one : s ≡ type = same_defined sub_at r s type is e in
-        let P : SubType R → Type 0 = λ q. IsPassedBy limit (items_in q.composite_type limit) in
-        subst P one h
-    | by_links m t is links passed ↦ absurd (other is)
-  ], λ h. many_items (record { type = type; is = e; holds = h }))
+  items_passed r type limit e other = (
+    λ p. elim (passed_by p) [
+      | by_items s is h ↦
+          let one : s ≡ type = same_defined sub_at r s type is e in
+          let P : SubType R → Type 0 = λ q. IsPassedBy limit (items_in q.composite_type limit) in
+          subst P one h
+      | by_links m t is links passed ↦ absurd (other is)
+    ],
+    λ h. many_items (record { type = type; is = e; holds = h }),
+  )
 
   -- a type that is not deep and has few items passes no limit
   pub passes_none : (r : R) (type : SubType R) (n : ℕ) → sub_at r ≡ Some type → HasDepth sub_at r n → n ≤ 63 → ((limit : Limit) → items_in type.composite_type limit ≤ most limit) → (limit : Limit) → PassesLimit sub_at r limit → ⊥

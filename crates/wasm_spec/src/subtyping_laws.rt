@@ -3,14 +3,15 @@
 ghost use Rattle.std.specs.Prelude.{◌≡◌, ◌<◌, ◌↔◌, ◌++◌, ⊤, ℕ, List, [], ◌∷◌, Option, Some, length, slice_get, suc, true};
 ghost use Rattle.std.specs.List.{flat_map};
 ghost use Rattle.wasm_spec.specs.Features.{Features};
-ghost use Rattle.wasm_spec.specs.Groups.{AreWellFormedGroups, HasDepth, PassesLimit, items_in};
+ghost use Rattle.wasm_spec.specs.Groups.{AreWellFormedGroups, ExtendsSupertypes, HasDepth, IsWellFormedAt, PassesLimit, items_in};
 ghost use Rattle.wasm_spec.specs.Limits.{Depth, IsPassedBy, Limit};
+ghost use Rattle.wasm_spec.specs.Matching.{CompositeMatches, FieldMatches, StorageBelow};
 ghost use Rattle.wasm_spec.specs.ReferenceMaps.{AreClosed, Carries, CarriesBack, IsOneToOne, KeepsTypes};
-ghost use Rattle.wasm_spec.specs.Subtyping.{HeapBelow, HeapTest, is_abstract_below};
+ghost use Rattle.wasm_spec.specs.Subtyping.{Declared, HeapBelow, HeapTest, Link, RefBelow, ValBelow, is_abstract_below};
 ghost use Rattle.wasm_spec.specs.Syntax.{members};
-ghost use Rattle.wasm_spec.specs.Trees.{AreInRange, DefType, TreeReference, opened, roll, section_types, tree_of, type_at, unrolled};
-ghost use Rattle.wasm_spec.specs.TypeReferences.{external_fill, external_map, external_refs, group_fill, group_map, group_refs};
-ghost use Rattle.wasm_spec.specs.Types.{Abstract, AbstractHeapType, ExternalType, Group, HeapType, RecGroup, Single, SubType};
+ghost use Rattle.wasm_spec.specs.Trees.{AreDistinct, AreInRange, DefType, TreeReference, opened, roll, section_types, tree_of, type_at, unrolled};
+ghost use Rattle.wasm_spec.specs.TypeReferences.{composite_map, external_fill, external_map, external_refs, group_fill, group_map, group_refs};
+ghost use Rattle.wasm_spec.specs.Types.{Abstract, AbstractHeapType, CompositeType, Concrete, ExternalType, FieldType, Group, HeapType, RecGroup, RefType, Single, StorageType, SubType, ValType};
 
 /// What is left of a type without its references, and these references, are the type again.
 pub fn references<R>()
@@ -25,6 +26,9 @@ pub fn group_trees()
     ensures opened { (types : List (SubType TreeReference)) → opened (roll types) ≡ types }
     ensures one_tree { (a b : List (SubType TreeReference)) → (roll a ≡ roll b) ↔ (a ≡ b) }
     ensures alone { (before : List DefType) (type : SubType ℕ) → tree_of before (Single type) ≡ tree_of before (Group (type ∷ [])) }
+
+    // After types none of which has two indexes.
+    ensures members { (before : List DefType) (a b : RecGroup ℕ) → AreDistinct before → (tree_of before a ≡ tree_of before b) ↔ (members a ≡ members b) }
 {}
 
 /// Subtyping of heap types, worked out: between two abstract ones it is the table, and else the table and the links from type to type.
@@ -32,6 +36,28 @@ pub fn heap_types<R>()
     ensures test { (sub_at : R → Option (SubType R)) (a b : HeapType R) → HeapBelow sub_at a b ↔ HeapTest sub_at a b }
     ensures table { (sub_at : R → Option (SubType R)) (a b : AbstractHeapType)
         → HeapBelow sub_at (Abstract a) (Abstract b) ↔ (is_abstract_below a b ≡ true) }
+{}
+
+/// Subtyping and matching are reflexive and transitive.
+pub fn orders<R>()
+    ensures heap_same { (sub_at : R → Option (SubType R)) (a : HeapType R) → HeapBelow sub_at a a }
+    ensures heap_joined { (sub_at : R → Option (SubType R)) (a b c : HeapType R) → HeapBelow sub_at a b → HeapBelow sub_at b c → HeapBelow sub_at a c }
+    ensures ref_same { (sub_at : R → Option (SubType R)) (a : RefType R) → RefBelow sub_at a a }
+    ensures ref_joined { (sub_at : R → Option (SubType R)) (a b c : RefType R) → RefBelow sub_at a b → RefBelow sub_at b c → RefBelow sub_at a c }
+    ensures val_same { (sub_at : R → Option (SubType R)) (a : ValType R) → ValBelow sub_at a a }
+    ensures val_joined { (sub_at : R → Option (SubType R)) (a b c : ValType R) → ValBelow sub_at a b → ValBelow sub_at b c → ValBelow sub_at a c }
+    ensures storage_same { (sub_at : R → Option (SubType R)) (a : StorageType R) → StorageBelow sub_at a a }
+    ensures storage_joined { (sub_at : R → Option (SubType R)) (a b c : StorageType R) → StorageBelow sub_at a b → StorageBelow sub_at b c → StorageBelow sub_at a c }
+    ensures field_same { (sub_at : R → Option (SubType R)) (a : FieldType R) → FieldMatches sub_at a a }
+    ensures field_joined { (sub_at : R → Option (SubType R)) (a b c : FieldType R) → FieldMatches sub_at a b → FieldMatches sub_at b c → FieldMatches sub_at a c }
+    ensures composite_same { (sub_at : R → Option (SubType R)) (a : CompositeType R) → CompositeMatches sub_at a a }
+    ensures composite_joined { (sub_at : R → Option (SubType R)) (a b c : CompositeType R) → CompositeMatches sub_at a b → CompositeMatches sub_at b c → CompositeMatches sub_at a c }
+{}
+
+/// All declared links of a type that keeps the rule on supertypes count.
+pub fn declared_links<R>()
+    ensures { (sub_at : R → Option (SubType R)) (r t : R) (type : SubType R)
+        → sub_at r ≡ Some type → ExtendsSupertypes sub_at type → Declared sub_at r t → Link sub_at r t }
 {}
 
 /// A map of references that keeps types carries links, subtyping, matching, rules and limits along; and subtyping, matching and the rule on
@@ -49,6 +75,16 @@ pub fn type_sections()
         → KeepsTypes (type_at (section_types groups)) (slice_get (flat_map members groups)) unrolled }
     ensures closed { (groups : List (RecGroup ℕ)) → AreInRange 0 groups → AreClosed (slice_get (flat_map members groups)) }
     ensures well_formed { (features : Features) (groups : List (RecGroup ℕ)) → AreWellFormedGroups features [] groups → AreInRange 0 groups }
+{}
+
+/// The types of a well-formed section keep the rules among all of its types, and each matches what it is below.
+pub fn well_formed_sections()
+    ensures rules { (features : Features) (groups : List (RecGroup ℕ)) (index : ℕ) (type : SubType ℕ) → AreWellFormedGroups features [] groups
+        → slice_get (flat_map members groups) index ≡ Some type → IsWellFormedAt (section_types groups) index type }
+    ensures matches { (features : Features) (groups : List (RecGroup ℕ)) (i j : ℕ) (a b : SubType ℕ) → AreWellFormedGroups features [] groups
+        → slice_get (flat_map members groups) i ≡ Some a → slice_get (flat_map members groups) j ≡ Some b
+        → HeapBelow unrolled (Concrete (type_at (section_types groups) i)) (Concrete (type_at (section_types groups) j))
+        → CompositeMatches unrolled (composite_map (type_at (section_types groups)) a.composite_type) (composite_map (type_at (section_types groups)) b.composite_type) }
 {}
 
 /// How limits on a type are found: the depth of a type is one more than that of its supertype, and what else is counted stands in the type itself.

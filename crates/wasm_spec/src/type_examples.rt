@@ -136,6 +136,12 @@ pub fn group_references()
     ensures features_with_gc { bit_of ReferenceTypes + bit_of FunctionReferences + bit_of Gc ≡ 0x18008 }
 {}
 
+/// A continuation type matches another where its function type is below that of the other.
+pub fn continuation_types()
+    ensures below { CompositeMatches (slice_get (open_type (FuncComposite (takes [])) ∷ open_below 0 (FuncComposite (takes [])) ∷ [])) (ContComposite 1) (ContComposite 0) }
+    ensures above { ¬ (CompositeMatches (slice_get (open_type (FuncComposite (takes [])) ∷ open_below 0 (FuncComposite (takes [])) ∷ [])) (ContComposite 0) (ContComposite 1)) }
+{}
+
 /// A continuation type goes on with a function type, where the feature for it is on.
 pub fn continuations()
     ensures function { KeepsGroupRules 0x220000 (section_types (Single (of_params 0) ∷ [])) (Single (alone (ContComposite 0))) }

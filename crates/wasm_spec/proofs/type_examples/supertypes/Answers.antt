@@ -10,14 +10,17 @@ returns c = record {
     in_range = (omega arith, tt);
     each = (
       record { earlier = tt; extends = record { at_most_one = omega arith; each = tt }; continues = tt },
-      (record {
-        earlier = (omega arith, tt);
-        extends = record {
-          at_most_one = omega arith;
-          each = (record { supertype = open_type empty_structure; is = refl; is_open = refl; matches = tt }, tt);
-        };
-        continues = tt;
-      }, tt),
+      (
+        record {
+          earlier = (omega arith, tt);
+          extends = record {
+            at_most_one = omega arith;
+            each = (record { supertype = open_type empty_structure; is = refl; is_open = refl; matches = tt }, tt);
+          };
+          continues = tt;
+        },
+        tt,
+      ),
     );
   };
   later = λ features rules. let h : 1 < 0 = rules.each.0.earlier.0 in absurd (omega (arith, h));

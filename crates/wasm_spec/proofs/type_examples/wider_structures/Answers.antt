@@ -35,14 +35,17 @@ returns c = record {
       in_range = (omega arith, tt);
       each = (
         record { earlier = tt; extends = record { at_most_one = omega arith; each = tt }; continues = tt },
-        (record {
-          earlier = (omega arith, tt);
-          extends = record {
-            at_most_one = omega arith;
-            each = (record { supertype = open_type one_field; is = refl; is_open = refl; matches = (record { same = refl; below = tt; back = λ e. tt }, tt) }, tt);
-          };
-          continues = tt;
-        }, tt),
+        (
+          record {
+            earlier = (omega arith, tt);
+            extends = record {
+              at_most_one = omega arith;
+              each = (record { supertype = open_type one_field; is = refl; is_open = refl; matches = (record { same = refl; below = tt; back = λ e. tt }, tt) }, tt);
+            };
+            continues = tt;
+          },
+          tt,
+        ),
       );
     };
     within_limits =

@@ -1,15 +1,15 @@
 -- The types of a section by index: its references stand for its sub types, and rules keep them in range.
-use Rattle.std.proofs.Common.{ℕ, ◌+◌, ◌<◌, Bool, true, false, List, [], ◌∷◌, length, arith, if◌then◌else◌}
+use Rattle.std.proofs.Common.{◌≡◌, ℕ, ◌+◌, ◌<◌, ◌≤◌, Bool, true, false, List, [], ◌∷◌, ◌++◌, length, refl, ap, arith, if◌then◌else◌, None}
 use Rattle.std.specs.List.{slice_get, AllByRecursion, flat_map}
 use Rattle.wasm_spec.specs.Features.{Features, Gc, has}
-use Rattle.wasm_spec.specs.Groups.{KeepsGroupRules, AreWellFormedGroups}
+use Rattle.wasm_spec.specs.Groups.{KeepsGroupRules, IsWellFormedGroup, AreWellFormedGroups}
 use Rattle.wasm_spec.specs.ReferenceMaps.{AreClosed, IsType, KeepsTypes}
 use Rattle.wasm_spec.specs.Syntax.{members}
 use Rattle.wasm_spec.specs.TypeReferences.{sub_refs, group_refs}
-use Rattle.wasm_spec.specs.Trees.{DefType, types_after, section_types, type_at, unrolled, IsInRange, AreInRange}
+use Rattle.wasm_spec.specs.Trees.{DefType, types_after, types_from, section_types, type_or_none, type_at, unrolled, IsInRange, AreInRange}
 use Rattle.wasm_spec.specs.Types.{RecGroup}
 use Rattle.wasm_spec.proofs.GroupTrees.{section_stands, all_each, length-types_after}
-use Rattle.wasm_spec.proofs.Places.{get_some}
+use Rattle.wasm_spec.proofs.Places.{get_some, get_none}
 
 pub section_keeps : (groups : List (RecGroup ℕ)) → AreInRange 0 groups → KeepsTypes (type_at (section_types groups)) (slice_get (flat_map members groups)) unrolled
 section_keeps groups range = (section_stands groups range).unrolls
@@ -33,3 +33,23 @@ well_formed_in_range features before (group ∷ groups) h = (
   rules_in_range features before group h.0.rules,
   rw (length-types_after before group) at (well_formed_in_range features (types_after before group) groups h.1),
 )
+
+-- ---- one group after the others
+
+pub more_types : (before : List DefType) (groups : List (RecGroup ℕ)) (group : RecGroup ℕ) → types_from before (groups ++ group ∷ []) ≡ types_after (types_from before groups) group
+more_types before [] group = refl
+more_types before (g ∷ groups) group = more_types (types_after before g) groups group
+
+pub groups_split : (features : Features) (before : List DefType) (groups : List (RecGroup ℕ)) (group : RecGroup ℕ) → AreWellFormedGroups features before (groups ++ group ∷ []) → AreWellFormedGroups features before groups × IsWellFormedGroup features (types_from before groups) group
+groups_split features before [] group h = (tt, h.0)
+groups_split features before (g ∷ groups) group h =
+    let rest = groups_split features (types_after before g) groups group h.1 in ((h.0, rest.0), rest.1)
+
+pub groups_joined : (features : Features) (before : List DefType) (groups : List (RecGroup ℕ)) (group : RecGroup ℕ) → AreWellFormedGroups features before groups → IsWellFormedGroup features (types_from before groups) group → AreWellFormedGroups features before (groups ++ group ∷ [])
+groups_joined features before [] group h k = (k, tt)
+groups_joined features before (g ∷ groups) group h k = (h.0, groups_joined features (types_after before g) groups group h.1 k)
+
+pub past_the_end : (types : List DefType) (index : ℕ) → length types ≤ index → unrolled (type_at types index) ≡ None
+past_the_end types index h =
+    let none : slice_get types index ≡ None = get_none types index h in
+    ap (λ q. unrolled (type_or_none q)) none

@@ -97,6 +97,11 @@ module _ {R : Type 0} (sub_at : R → Option (SubType R)) where
     λ h. many_items (record { type = type; is = e; holds = h }),
   )
 
+  pub items_as : (r : R) (type : SubType R) (limit : Limit) (c : CompositeType R) → sub_at r ≡ Some type → type.composite_type ≡ c → (limit ≡ Depth → ⊥) → PassesLimit sub_at r limit ↔ IsPassedBy limit (items_in c limit)
+  items_as r type limit c e is other =
+      let P : CompositeType R → Type 0 = λ q. PassesLimit sub_at r limit ↔ IsPassedBy limit (items_in q limit) in
+      subst P is (items_passed r type limit e other)
+
   -- a type that is not deep and has few items passes no limit
   pub passes_none : (r : R) (type : SubType R) (n : ℕ) → sub_at r ≡ Some type → HasDepth sub_at r n → n ≤ 63 → ((limit : Limit) → items_in type.composite_type limit ≤ most limit) → (limit : Limit) → PassesLimit sub_at r limit → ⊥
   passes_none r type n e d h few limit p = elim (passed_by p) [

@@ -1,6 +1,7 @@
 -- Subtyping and matching are reflexive and transitive, and where rules are kept a type matches what it is below.
-use Rattle.std.proofs.Common.{◌≡◌, List, [], ◌∷◌, refl, sym, ◌∙◌, inl, inr, subst, Option, Some}
+use Rattle.std.proofs.Common.{◌≡◌, true, false, List, [], ◌∷◌, refl, sym, ◌∙◌, inl, inr, subst, Option, Some}
 use Rattle.std.specs.List.{AllByRecursion}
+use Rattle.wasm_spec.specs.Bodies.{is_ref}
 use Rattle.wasm_spec.specs.Groups.{Extends, ExtendsSupertypes}
 use Rattle.wasm_spec.specs.Matching.{Pairwise, FrontPairwise, StorageBelow, FieldMatches, ResultsMatch, CompositeMatches}
 use Rattle.wasm_spec.specs.Subtyping.{IsAmong, Closure, same, step, abstract_of, Declared, Link, HeapBelow, RefBelow, ValBelow}
@@ -102,6 +103,32 @@ module _ {R : Type 0} (sub_at : R → Option (SubType R)) where
   composite_joined (ContComposite r) (ContComposite s) (ContComposite t) h k = joined h k
   composite_joined (ContComposite r) (ContComposite s) _ h k = absurd k
   composite_joined _ _ _ h k = absurd h
+
+  pub number_alone : (a b : ValType R) → is_ref a ≡ false → ValBelow sub_at a b → a ≡ b
+  number_alone I32 I32 e h = refl
+  number_alone I64 I64 e h = refl
+  number_alone F32 F32 e h = refl
+  number_alone F64 F64 e h = refl
+  number_alone V128 V128 e h = refl
+  number_alone (Ref n a) b e h = absurd cc
+  number_alone _ _ e h = absurd h
+
+  pub reference_alone : (a b : ValType R) → is_ref a ≡ true → ValBelow sub_at a b → is_ref b ≡ true
+  reference_alone (Ref n a) (Ref m b) e h = refl
+  reference_alone (Ref n a) _ e h = absurd h
+  reference_alone _ b e h = absurd cc
+
+  pub packed_8 : (b : StorageType R) → StorageBelow sub_at I8 b → b ≡ I8
+  packed_8 I8 h = refl
+  packed_8 _ h = absurd h
+
+  pub packed_16 : (b : StorageType R) → StorageBelow sub_at I16 b → b ≡ I16
+  packed_16 I16 h = refl
+  packed_16 _ h = absurd h
+
+  pub not_packed : (a : ValType R) (b : StorageType R) → StorageBelow sub_at (Val a) b → (c : ValType R) × (b ≡ Val c)
+  not_packed a (Val b) h = (b, refl)
+  not_packed a _ h = absurd h
 
   -- types that match are of one kind
   matches_kind : (a b : CompositeType R) → CompositeMatches sub_at a b → abstract_of b ≡ abstract_of a

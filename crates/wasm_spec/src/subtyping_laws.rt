@@ -1,17 +1,17 @@
 //! Laws of subtyping, matching and defined types. R and S are kinds of references to defined types.
 
-ghost use Rattle.std.specs.Prelude.{◌≡◌, ◌<◌, ◌↔◌, ◌++◌, ⊤, ℕ, List, [], ◌∷◌, Option, Some, length, slice_get, suc, true};
+ghost use Rattle.std.specs.Prelude.{◌≡◌, ◌<◌, ◌≤◌, ◌↔◌, ◌++◌, ⊤, ℕ, List, [], ◌∷◌, Option, None, Some, length, slice_get, suc, true};
 ghost use Rattle.std.specs.List.{flat_map};
 ghost use Rattle.wasm_spec.specs.Features.{Features};
-ghost use Rattle.wasm_spec.specs.Groups.{AreWellFormedGroups, ExtendsSupertypes, HasDepth, IsWellFormedAt, PassesLimit, items_in};
-ghost use Rattle.wasm_spec.specs.Limits.{Depth, IsPassedBy, Limit};
+ghost use Rattle.wasm_spec.specs.Groups.{AreWellFormedGroups, ExtendsSupertypes, HasDepth, IsWellFormedAt, IsWellFormedGroup, PassesLimit, items_in};
+ghost use Rattle.wasm_spec.specs.Limits.{Depth, Fields, IsPassedBy, Limit, Params, Results};
 ghost use Rattle.wasm_spec.specs.Matching.{CompositeMatches, FieldMatches, StorageBelow};
 ghost use Rattle.wasm_spec.specs.ReferenceMaps.{AreClosed, Carries, CarriesBack, IsOneToOne, KeepsTypes};
 ghost use Rattle.wasm_spec.specs.Subtyping.{Declared, HeapBelow, HeapTest, Link, RefBelow, ValBelow, is_abstract_below};
 ghost use Rattle.wasm_spec.specs.Syntax.{members};
-ghost use Rattle.wasm_spec.specs.Trees.{AreDistinct, AreInRange, DefType, TreeReference, opened, roll, section_types, tree_of, type_at, unrolled};
+ghost use Rattle.wasm_spec.specs.Trees.{AreDistinct, AreInRange, DefType, TreeReference, opened, roll, section_types, tree_of, type_at, types_after, unrolled};
 ghost use Rattle.wasm_spec.specs.TypeReferences.{composite_map, external_fill, external_map, external_refs, group_fill, group_map, group_refs};
-ghost use Rattle.wasm_spec.specs.Types.{Abstract, AbstractHeapType, CompositeType, Concrete, ExternalType, FieldType, Group, HeapType, RecGroup, RefType, Single, StorageType, SubType, ValType};
+ghost use Rattle.wasm_spec.specs.Types.{Abstract, AbstractHeapType, CompositeType, Concrete, ExternalType, FieldType, FuncComposite, FuncType, Group, HeapType, RecGroup, RefType, Single, StorageType, StructComposite, SubType, ValType};
 
 /// What is left of a type without its references, and these references, are the type again.
 pub fn references<R>()
@@ -75,6 +75,13 @@ pub fn type_sections()
         → KeepsTypes (type_at (section_types groups)) (slice_get (flat_map members groups)) unrolled }
     ensures closed { (groups : List (RecGroup ℕ)) → AreInRange 0 groups → AreClosed (slice_get (flat_map members groups)) }
     ensures well_formed { (features : Features) (groups : List (RecGroup ℕ)) → AreWellFormedGroups features [] groups → AreInRange 0 groups }
+    ensures past_the_end { (types : List DefType) (index : ℕ) → length types ≤ index → unrolled (type_at types index) ≡ None }
+
+    // One group after the others.
+    ensures more_types { (groups : List (RecGroup ℕ)) (group : RecGroup ℕ)
+        → section_types (groups ++ (group ∷ [])) ≡ types_after (section_types groups) group }
+    ensures more_groups { (features : Features) (groups : List (RecGroup ℕ)) (group : RecGroup ℕ) → AreWellFormedGroups features [] (groups ++ (group ∷ []))
+        ↔ (AreWellFormedGroups features [] groups × IsWellFormedGroup features (section_types groups) group) }
 {}
 
 /// The types of a well-formed section keep the rules among all of its types, and each matches what it is below.
@@ -96,4 +103,10 @@ pub fn type_limits<R>()
     ensures depth { (sub_at : R → Option (SubType R)) (r : R) (n : ℕ) → HasDepth sub_at r n → PassesLimit sub_at r Depth ↔ (63 < n) }
     ensures items { (sub_at : R → Option (SubType R)) (r : R) (type : SubType R) (limit : Limit) → sub_at r ≡ Some type → ¬ (limit ≡ Depth)
         → PassesLimit sub_at r limit ↔ IsPassedBy limit (items_in type.composite_type limit) }
+    ensures params { (sub_at : R → Option (SubType R)) (r : R) (type : SubType R) (function : FuncType R)
+        → sub_at r ≡ Some type → type.composite_type ≡ FuncComposite function → PassesLimit sub_at r Params ↔ (1000 < length function.params) }
+    ensures results { (sub_at : R → Option (SubType R)) (r : R) (type : SubType R) (function : FuncType R)
+        → sub_at r ≡ Some type → type.composite_type ≡ FuncComposite function → PassesLimit sub_at r Results ↔ (1000 < length function.results) }
+    ensures fields { (sub_at : R → Option (SubType R)) (r : R) (type : SubType R) (fields : List (FieldType R))
+        → sub_at r ≡ Some type → type.composite_type ≡ StructComposite fields → PassesLimit sub_at r Fields ↔ (10000 < length fields) }
 {}

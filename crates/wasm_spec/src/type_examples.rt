@@ -1,14 +1,15 @@
 //! Worked examples of defined types, subtyping, matching and well-formed groups.
 
 ghost use Rattle.std.specs.Prelude.{◌≡◌, ◌+◌, ℕ, Bool, List, [], ◌∷◌, Option, Some, false, length, slice_get, true};
+ghost use Rattle.wasm_spec.specs.Bodies.{is_ref};
 ghost use Rattle.wasm_spec.specs.Features.{Features, FunctionReferences, Gc, GcTypes, ReferenceTypes, StackSwitching, bit_of, default_features};
 ghost use Rattle.wasm_spec.specs.Groups.{ExtendsSupertypes, IsWellFormedGroup, IsWithinGroupLimits, KeepsGroupRules, Links, PassesLimit};
 ghost use Rattle.wasm_spec.specs.Limits.{Depth, Params};
-ghost use Rattle.wasm_spec.specs.Matching.{CompositeMatches, FieldMatches, FuncMatches};
+ghost use Rattle.wasm_spec.specs.Matching.{CompositeMatches, FieldMatches, StorageBelow};
 ghost use Rattle.wasm_spec.specs.Subtyping.{Defined, HeapBelow, RefBelow, ValBelow, abstract_of};
 ghost use Rattle.wasm_spec.specs.Trees.{section_types, type_at, types_after, unrolled};
 ghost use Rattle.wasm_spec.specs.TypeExamples.{alone, const_field, empty_structure, gives, of_params, one_field, open_below, open_type, pair_from, ref_null, structure_to, takes, two_fields, var_field};
-ghost use Rattle.wasm_spec.specs.Types.{Abstract, AbstractHeapType, Any, Array, ArrayComposite, Concrete, Cont, ContComposite, Eq, Func, FuncComposite, Group, HeapType, I16, I31, I32, I64, I8, NoCont, NoFunc, None, Ref, Single, Struct, StructComposite, SubType, Val};
+ghost use Rattle.wasm_spec.specs.Types.{Abstract, AbstractHeapType, Any, Array, ArrayComposite, Concrete, Cont, ContComposite, Eq, Func, FuncComposite, Group, HeapType, I16, I31, I32, I64, I8, NoCont, NoFunc, None, Ref, Single, Struct, StorageType, StructComposite, SubType, Val, ValType};
 
 /// Two structures that refer to each other, written twice, are two types and not four; and it matters which place refers to which.
 pub fn equal_groups()
@@ -67,7 +68,8 @@ pub fn values<R>()
     ensures not_null { (sub_at : R → Option (SubType R)) (a b : HeapType R) → ¬ (ValBelow sub_at (Ref true a) (Ref false b)) }
     ensures upward { (sub_at : R → Option (SubType R)) (nullable : Bool) → ¬ (ValBelow sub_at (Ref nullable (Abstract Any)) (Ref nullable (Abstract Struct))) }
     ensures number { (sub_at : R → Option (SubType R)) → ValBelow sub_at I32 I32 }
-    ensures numbers { (sub_at : R → Option (SubType R)) → ¬ (ValBelow sub_at I32 I64) }
+    ensures numbers { (sub_at : R → Option (SubType R)) (a b : ValType R) → is_ref a ≡ false → ValBelow sub_at a b → a ≡ b }
+    ensures references { (sub_at : R → Option (SubType R)) (a b : ValType R) → is_ref a ≡ true → ValBelow sub_at a b → is_ref b ≡ true }
 {}
 
 /// A field that can't be written may be narrower than the other, one that can must be the same; and packed types are themselves alone.
@@ -82,8 +84,9 @@ pub fn fields<R>()
         → FieldMatches sub_at (record { element_type = I8; mutable = mutable }) (record { element_type = I8; mutable = mutable }) }
     ensures packed_mixed { (sub_at : R → Option (SubType R)) (mutable : Bool)
         → ¬ (FieldMatches sub_at (record { element_type = I8; mutable = mutable }) (record { element_type = I16; mutable = mutable })) }
-    ensures packed_number { (sub_at : R → Option (SubType R)) (mutable : Bool)
-        → ¬ (FieldMatches sub_at (record { element_type = I8; mutable = mutable }) (record { element_type = Val I32; mutable = mutable })) }
+    ensures i8 { (sub_at : R → Option (SubType R)) (b : StorageType R) → StorageBelow sub_at I8 b → b ≡ I8 }
+    ensures i16 { (sub_at : R → Option (SubType R)) (b : StorageType R) → StorageBelow sub_at I16 b → b ≡ I16 }
+    ensures value { (sub_at : R → Option (SubType R)) (a : ValType R) (b : StorageType R) → StorageBelow sub_at (Val a) b → (c : ValType R) × (b ≡ Val c) }
 {}
 
 /// A structure may have further fields after those of the other, a function takes more and gives less, and kinds don't mix.
@@ -155,4 +158,6 @@ pub fn group_limits()
     ensures rules { (features : Features) (n : ℕ) → KeepsGroupRules features [] (Single (of_params n)) }
     ensures most_params { IsWithinGroupLimits [] (Single (of_params 1000)) }
     ensures many_params { ¬ (IsWithinGroupLimits [] (Single (of_params 1001))) }
+    ensures well_formed { (features : Features) → IsWellFormedGroup features [] (Single (of_params 1000)) }
+    ensures refused { (features : Features) → ¬ (IsWellFormedGroup features [] (Single (of_params 1001))) }
 {}

@@ -1,6 +1,6 @@
 use Rattle.std.proofs.Common.{[]}
 use Rattle.wasm_spec.proofs.GroupTrees.{section_stands}
-use Rattle.wasm_spec.proofs.SectionTypes.{section_keeps, section_closed, well_formed_in_range}
+use Rattle.wasm_spec.proofs.SectionTypes.{section_keeps, section_closed, well_formed_in_range, past_the_end, more_types, groups_split, groups_joined}
 use Rattle.wasm_spec.proofs.subtyping_laws.type_sections.Goals as goal
 
 pub returns : goal.returns
@@ -9,4 +9,7 @@ returns c = record {
   types = section_keeps;
   closed = section_closed;
   well_formed = λ features groups h. well_formed_in_range features [] groups h;
+  past_the_end = past_the_end;
+  more_types = λ groups group. more_types [] groups group;
+  more_groups = λ features groups group. (λ h. groups_split features [] groups group h, λ h. groups_joined features [] groups group h.0 h.1);
 }

@@ -2,6 +2,7 @@ use Rattle.std.proofs.Common.{refl}
 use Rattle.wasm_spec.specs.Types.{Abstract, Any, Struct}
 use Rattle.wasm_spec.specs.Subtyping.{same}
 use Rattle.wasm_spec.proofs.Closures.{sound, complete}
+use Rattle.wasm_spec.proofs.TypeOrders.{packed_8, packed_16, not_packed}
 use Rattle.wasm_spec.proofs.type_examples.fields.Goals as goal
 
 pub returns : goal.returns
@@ -14,5 +15,7 @@ returns c start = record {
   var_const = λ sub_at m. let e = m.same in absurd cc;
   packed = λ sub_at mutable. record { same = refl; below = tt; back = λ e. tt };
   packed_mixed = λ sub_at mutable m. m.below;
-  packed_number = λ sub_at mutable m. m.below;
+  i8 = packed_8;
+  i16 = packed_16;
+  value = not_packed;
 }

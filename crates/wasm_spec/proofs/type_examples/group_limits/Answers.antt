@@ -3,7 +3,7 @@ use Rattle.std.proofs.lemmas.List.{length-map, length-replicate}
 use Rattle.std.specs.List.{AllByRecursion, list_all, flat_map}
 use Rattle.wasm_spec.specs.Features.{Features}
 use Rattle.wasm_spec.specs.Gates.{is_allowed}
-use Rattle.wasm_spec.specs.Groups.{items_in, many_items}
+use Rattle.wasm_spec.specs.Groups.{IsWithinGroupLimits, KeepsGroupRules, items_in, many_items}
 use Rattle.wasm_spec.specs.Limits.{Limit, Params, most}
 use Rattle.wasm_spec.specs.Trees.{DefType, section_types, type_at, unrolled}
 use Rattle.wasm_spec.specs.TypeExamples.{of_params}
@@ -44,17 +44,28 @@ few : (n : ℕ) → n ≤ 1000 → (limit : Limit) → items_in (unrolled_type n
 few n h Params = omega (arith, h, count n)
 few n h _ = omega arith
 
+keeps_rules : (features : Features) (n : ℕ) → KeepsGroupRules features [] (Single (of_params n))
+keeps_rules features n = record {
+  allowed = ap (λ b. (b && true) && true) (all_allowed features n);
+  in_range = all_of_none _ _ (ap (λ rs. rs ++ []) (no_references n));
+  each = (record { earlier = tt; extends = record { at_most_one = omega arith; each = tt }; continues = tt }, tt);
+}
+
+within : IsWithinGroupLimits [] (Single (of_params 1000))
+within =
+    let depth = depth_zero unrolled (type_of 1000) (unrolled_type 1000) (unrolls 1000) refl in
+    (passes_none unrolled (type_of 1000) (unrolled_type 1000) 0 (unrolls 1000) depth (omega arith) (few 1000 (omega arith)), tt)
+
+passed : IsWithinGroupLimits [] (Single (of_params 1001)) → ⊥
+passed within =
+    let more : 1000 < items_in (unrolled_type 1001).composite_type Params = omega (arith, count 1001) in
+    within.0 Params (many_items (record { type = unrolled_type 1001; is = unrolls 1001; holds = more }))
+
 pub returns : goal.returns
 returns c = record {
-  rules = λ features n. record {
-    allowed = ap (λ b. (b && true) && true) (all_allowed features n);
-    in_range = all_of_none _ _ (ap (λ rs. rs ++ []) (no_references n));
-    each = (record { earlier = tt; extends = record { at_most_one = omega arith; each = tt }; continues = tt }, tt);
-  };
-  most_params =
-      let depth = depth_zero unrolled (type_of 1000) (unrolled_type 1000) (unrolls 1000) refl in
-      (passes_none unrolled (type_of 1000) (unrolled_type 1000) 0 (unrolls 1000) depth (omega arith) (few 1000 (omega arith)), tt);
-  many_params = λ within.
-      let more : 1000 < items_in (unrolled_type 1001).composite_type Params = omega (arith, count 1001) in
-      within.0 Params (many_items (record { type = unrolled_type 1001; is = unrolls 1001; holds = more }));
+  rules = keeps_rules;
+  most_params = within;
+  many_params = passed;
+  well_formed = λ features. record { rules = keeps_rules features 1000; within_limits = within };
+  refused = λ features h. passed h.within_limits;
 }

@@ -1,6 +1,7 @@
 use Rattle.std.proofs.Common.{refl}
 use Rattle.wasm_spec.specs.Types.{Abstract, Any, Struct}
 use Rattle.wasm_spec.proofs.Closures.{sound, complete}
+use Rattle.wasm_spec.proofs.TypeOrders.{number_alone, reference_alone}
 use Rattle.wasm_spec.proofs.type_examples.values.Goals as goal
 
 pub returns : goal.returns
@@ -9,5 +10,6 @@ returns c start = record {
   not_null = λ sub_at a b h. let e = h.null refl in absurd cc;
   upward = λ sub_at nullable h. let e = complete sub_at {a = Abstract Any} {b = Abstract Struct} h.heap in absurd cc;
   number = λ sub_at. tt;
-  numbers = λ sub_at h. h;
+  numbers = number_alone;
+  references = reference_alone;
 }

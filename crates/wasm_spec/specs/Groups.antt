@@ -1,12 +1,12 @@
 -- Which recursive groups are well-formed, in the context of the types before them. Core Specification 3.0, Validation, Types, "Recursive
 -- Types", "Composite Types", "Continuation Types" (of their proposal) and appendix "Implementation Limitations".
-use Rattle.std.specs.Prelude.{◌≡◌, ◌+◌, ◌<◌, ◌≤◌, ⊤, ℕ, zero, suc, true, false, List, [], ◌∷◌, length, Option, Some, if◌then◌else◌}
+use Rattle.std.specs.Prelude.{◌≡◌, ◌+◌, ◌<◌, ◌≤◌, ⊤, ℕ, zero, suc, true, false, List, [], ◌∷◌, length, Some, if◌then◌else◌}
 use Rattle.std.specs.List.{AllByRecursion}
 use Rattle.wasm_spec.specs.Features.{Features, Gc, has}
 use Rattle.wasm_spec.specs.Gates.{is_allowed_group}
 use Rattle.wasm_spec.specs.Limits.{Limit, Params, Results, Fields, Depth, IsPassedBy}
 use Rattle.wasm_spec.specs.Matching.{CompositeMatches}
-use Rattle.wasm_spec.specs.Subtyping.{Declared, Defined, abstract_of}
+use Rattle.wasm_spec.specs.Subtyping.{SubTypes, Declared, Defined, IsOfKind}
 use Rattle.wasm_spec.specs.Syntax.{members}
 use Rattle.wasm_spec.specs.Trees.{DefType, unrolled, types_of_group, types_after, type_at}
 use Rattle.wasm_spec.specs.TypeReferences.{sub_map, group_refs}
@@ -15,20 +15,20 @@ use Rattle.wasm_spec.specs.Types.{Func, CompositeType, FuncComposite, StructComp
 -- ---- rules over any kind of references
 
 -- t stands for a type that is not final and that the composite type of this one matches
-pub record Extends {R : Type 0} (sub_at : R → Option (SubType R)) (type : SubType R) (t : R) : Type 0 where
+pub record Extends {R : Type 0} (sub_at : SubTypes R) (type : SubType R) (t : R) : Type 0 where
   pub supertype : SubType R
   pub is : sub_at t ≡ Some supertype
   pub is_open : supertype.is_final ≡ false
   pub matches : CompositeMatches sub_at type.composite_type supertype.composite_type
 
 -- a type has at most one supertype, and extends it
-pub record ExtendsSupertypes {R : Type 0} (sub_at : R → Option (SubType R)) (type : SubType R) : Type 0 where
+pub record ExtendsSupertypes {R : Type 0} (sub_at : SubTypes R) (type : SubType R) : Type 0 where
   pub at_most_one : length type.supertypes ≤ 1
   pub each : AllByRecursion (Extends sub_at type) type.supertypes
 
 -- a continuation type goes on with a function type
-abbrev pub ContinuesFunc : {R : Type 0} → (R → Option (SubType R)) → CompositeType R → Type 0
-ContinuesFunc sub_at (ContComposite function) = Defined sub_at function (λ c. abstract_of c ≡ Func)
+abbrev pub ContinuesFunc : {R : Type 0} → SubTypes R → CompositeType R → Type 0
+ContinuesFunc sub_at (ContComposite function) = IsOfKind sub_at function Func
 ContinuesFunc sub_at (FuncComposite type) = ⊤
 ContinuesFunc sub_at (StructComposite fields) = ⊤
 ContinuesFunc sub_at (ArrayComposite field) = ⊤
@@ -36,12 +36,12 @@ ContinuesFunc sub_at (ArrayComposite field) = ⊤
 -- ---- limits over any kind of references
 
 -- t is reached from r by so many declared links
-pub data Links {R : Type 0} (sub_at : R → Option (SubType R)) : ℕ → R → R → Type 0 where
+pub data Links {R : Type 0} (sub_at : SubTypes R) : ℕ → R → R → Type 0 where
   no_link : {r : R} → Links sub_at zero r r
   one_more : {n : ℕ} {r s t : R} → Declared sub_at r s → Links sub_at n s t → Links sub_at (suc n) r t
 
 -- so many declared links, and no more, lead upward from r
-pub record HasDepth {R : Type 0} (sub_at : R → Option (SubType R)) (r : R) (n : ℕ) : Type 0 where
+pub record HasDepth {R : Type 0} (sub_at : SubTypes R) (r : R) (n : ℕ) : Type 0 where
   pub top : R
   pub reached : Links sub_at n r top
   pub most : (m : ℕ) (t : R) → Links sub_at m r t → m ≤ n
@@ -54,7 +54,7 @@ items_in (StructComposite fields) Fields = length fields
 items_in _ _ = 0
 
 -- the type that r stands for passes a limit
-pub data PassesLimit {R : Type 0} (sub_at : R → Option (SubType R)) (r : R) : Limit → Type 0 where
+pub data PassesLimit {R : Type 0} (sub_at : SubTypes R) (r : R) : Limit → Type 0 where
   many_items : {limit : Limit} → Defined sub_at r (λ c. IsPassedBy limit (items_in c limit)) → PassesLimit sub_at r limit
   many_links : {n : ℕ} {t : R} → Links sub_at n r t → IsPassedBy Depth n → PassesLimit sub_at r Depth
 
@@ -66,7 +66,7 @@ pub record IsWellFormedAt (types : List DefType) (index : ℕ) (type : SubType �
   pub extends : ExtendsSupertypes unrolled (sub_map (type_at types) type)
   pub continues : ContinuesFunc unrolled (sub_map (type_at types) type).composite_type
 
--- so each type, the first of which has this index
+-- so do all of these types, the first of which has this index
 abbrev pub AreWellFormedFrom : List DefType → ℕ → List (SubType ℕ) → Type 0
 AreWellFormedFrom types index [] = ⊤
 AreWellFormedFrom types index (type ∷ rest) = IsWellFormedAt types index type × AreWellFormedFrom types (suc index) rest

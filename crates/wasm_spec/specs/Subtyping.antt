@@ -3,6 +3,10 @@
 use Rattle.std.specs.Prelude.{◌≡◌, ◌⊎◌, ⊤, Bool, true, false, List, [], ◌∷◌, Option, Some}
 use Rattle.wasm_spec.specs.Types.{AbstractHeapType, Func, Extern, Any, None, NoExtern, NoFunc, Eq, Struct, Array, I31, Exn, NoExn, Cont, NoCont, HeapType, Abstract, Concrete, RefType, ValType, I32, I64, F32, F64, V128, Ref, CompositeType, FuncComposite, StructComposite, ArrayComposite, ContComposite, SubType}
 
+-- the sub type that a reference stands for, if it stands for one
+abbrev pub SubTypes : Type 0 → Type 0
+SubTypes R = R → Option (SubType R)
+
 -- x is one of the list
 abbrev pub IsAmong : {X : Type 0} → X → List X → Type 0
 IsAmong x [] = ⊥
@@ -44,42 +48,46 @@ bottom_of (ArrayComposite field) = None
 bottom_of (ContComposite function) = NoCont
 
 -- a reference stands for a type whose composite type has a property
-pub record Defined {R : Type 0} (sub_at : R → Option (SubType R)) (r : R) (Holds : CompositeType R → Type 0) : Type 0 where
+pub record Defined {R : Type 0} (sub_at : SubTypes R) (r : R) (Holds : CompositeType R → Type 0) : Type 0 where
   pub type : SubType R
   pub is : sub_at r ≡ Some type
   pub holds : Holds type.composite_type
 
+-- a reference stands for a type of the kind that has this abstract type
+abbrev pub IsOfKind : {R : Type 0} → SubTypes R → R → AbstractHeapType → Type 0
+IsOfKind sub_at r kind = Defined sub_at r (λ c. abstract_of c ≡ kind)
+
 -- t is declared as a supertype of r
-pub record Declared {R : Type 0} (sub_at : R → Option (SubType R)) (r t : R) : Type 0 where
+pub record Declared {R : Type 0} (sub_at : SubTypes R) (r t : R) : Type 0 where
   pub type : SubType R
   pub is : sub_at r ≡ Some type
   pub among : IsAmong t type.supertypes
 
 -- A declared link counts only between types of one kind, which validity asks for. Among all trees there are also structures that are declared
 -- below a function; if these links counted, `none` would be below each function type.
-pub record Link {R : Type 0} (sub_at : R → Option (SubType R)) (r t : R) : Type 0 where
+pub record Link {R : Type 0} (sub_at : SubTypes R) (r t : R) : Type 0 where
   pub declared : Declared sub_at r t
-  pub kind : Defined sub_at t (λ c. abstract_of c ≡ abstract_of declared.type.composite_type)
+  pub kind : IsOfKind sub_at t (abstract_of declared.type.composite_type)
 
-abbrev pub HeapStep : {R : Type 0} → (R → Option (SubType R)) → HeapType R → HeapType R → Type 0
+abbrev pub HeapStep : {R : Type 0} → SubTypes R → HeapType R → HeapType R → Type 0
 HeapStep sub_at (Abstract a) (Abstract b) = AbstractStep a b
 HeapStep sub_at (Abstract a) (Concrete r) = Defined sub_at r (λ c. bottom_of c ≡ a)
-HeapStep sub_at (Concrete r) (Abstract b) = Defined sub_at r (λ c. abstract_of c ≡ b)
+HeapStep sub_at (Concrete r) (Abstract b) = IsOfKind sub_at r b
 HeapStep sub_at (Concrete r) (Concrete t) = Link sub_at r t
 
 -- ---- subtyping
 
 -- (Matching, "Heap Types", "Defined Types")
-abbrev pub HeapBelow : {R : Type 0} → (R → Option (SubType R)) → HeapType R → HeapType R → Type 0
+abbrev pub HeapBelow : {R : Type 0} → SubTypes R → HeapType R → HeapType R → Type 0
 HeapBelow sub_at a b = Closure (HeapStep sub_at) a b
 
 -- a reference that may be null is below none that may not (Matching, "Reference Types")
-pub record RefBelow {R : Type 0} (sub_at : R → Option (SubType R)) (a b : RefType R) : Type 0 where
+pub record RefBelow {R : Type 0} (sub_at : SubTypes R) (a b : RefType R) : Type 0 where
   pub null : a.nullable ≡ true → b.nullable ≡ true
   pub heap : HeapBelow sub_at a.heap_type b.heap_type
 
 -- numbers and vectors are below themselves alone (Matching, "Number Types", "Vector Types", "Value Types")
-abbrev pub ValBelow : {R : Type 0} → (R → Option (SubType R)) → ValType R → ValType R → Type 0
+abbrev pub ValBelow : {R : Type 0} → SubTypes R → ValType R → ValType R → Type 0
 ValBelow sub_at I32 I32 = ⊤
 ValBelow sub_at I64 I64 = ⊤
 ValBelow sub_at F32 F32 = ⊤
@@ -125,7 +133,7 @@ is_abstract_below Cont Cont = true
 is_abstract_below _ _ = false
 
 -- one heap type is below another, by that table and the links from type to type; a law ties it to the closure
-abbrev pub HeapTest : {R : Type 0} → (R → Option (SubType R)) → HeapType R → HeapType R → Type 0
+abbrev pub HeapTest : {R : Type 0} → SubTypes R → HeapType R → HeapType R → Type 0
 HeapTest sub_at (Abstract a) (Abstract b) = is_abstract_below a b ≡ true
 HeapTest sub_at (Abstract a) (Concrete r) = Defined sub_at r (λ c. bottom_of c ≡ a)
 HeapTest sub_at (Concrete r) (Abstract b) = Defined sub_at r (λ c. is_abstract_below (abstract_of c) b ≡ true)

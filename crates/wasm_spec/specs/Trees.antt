@@ -100,11 +100,11 @@ type_or_none None = record { tree = Rolled [] NoMore; place = 0 }
 abbrev pub type_at : List DefType → ℕ → DefType
 type_at types index = type_or_none (slice_get types index)
 
--- references are type indexes of types before a group, of which there is this number, or of its own types
+-- the references of a group are type indexes of types before it, of which there is this number, or of its own
 abbrev pub IsInRange : ℕ → RecGroup ℕ → Type 0
 IsInRange before group = AllByRecursion (λ index. index < before + length (members group)) (group_refs group)
 
--- so in each group of a section, the first of which comes after this number of types
+-- so are those of each group of a section, before the first of which there is this number of types
 abbrev pub AreInRange : ℕ → List (RecGroup ℕ) → Type 0
 AreInRange before [] = ⊤
 AreInRange before (group ∷ groups) = IsInRange before group × AreInRange (before + length (members group)) groups

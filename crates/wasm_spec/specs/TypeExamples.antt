@@ -1,6 +1,7 @@
 -- Types that worked examples share.
-use Rattle.std.specs.Prelude.{ℕ, true, false, List, [], ◌∷◌, replicate}
-use Rattle.wasm_spec.specs.Types.{HeapType, Concrete, ValType, I32, I64, Ref, Val, FieldType, FuncType, CompositeType, FuncComposite, StructComposite, SubType, RecGroup, Group}
+use Rattle.std.specs.Prelude.{◌≡◌, ℕ, true, false, List, [], ◌∷◌, replicate}
+use Rattle.wasm_spec.specs.Trees.{section_types, type_at}
+use Rattle.wasm_spec.specs.Types.{Any, Struct, HeapType, Abstract, Concrete, ValType, I32, I64, Ref, Val, FieldType, FuncType, CompositeType, FuncComposite, StructComposite, SubType, RecGroup, Group}
 
 abbrev pub ref_null : {R : Type 0} → HeapType R → ValType R
 ref_null heap = Ref true heap
@@ -41,6 +42,9 @@ pair_from first second = Group (structure_to second ∷ structure_to first ∷ [
 abbrev pub empty_structure : {R : Type 0} → CompositeType R
 empty_structure = StructComposite []
 
+abbrev pub empty_function : {R : Type 0} → CompositeType R
+empty_function = FuncComposite (takes [])
+
 abbrev pub one_field : {R : Type 0} → CompositeType R
 one_field = StructComposite (const_field I32 ∷ [])
 
@@ -50,3 +54,14 @@ two_fields = StructComposite (const_field I32 ∷ var_field I64 ∷ [])
 -- functions of so many parameters
 abbrev pub of_params : {R : Type 0} → ℕ → SubType R
 of_params n = alone (FuncComposite (takes (replicate n I32)))
+
+-- references to anything that is collected, and to any structure
+abbrev pub any : {R : Type 0} → ValType R
+any = ref_null (Abstract Any)
+
+abbrev pub any_structure : {R : Type 0} → ValType R
+any_structure = ref_null (Abstract Struct)
+
+-- two type indexes of a section stand for one type
+abbrev pub IsOneType : List (RecGroup ℕ) → ℕ → ℕ → Type 0
+IsOneType groups i j = type_at (section_types groups) i ≡ type_at (section_types groups) j

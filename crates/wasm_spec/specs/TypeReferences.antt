@@ -1,6 +1,6 @@
 -- The references that a type has to defined types: each replaced by another, all listed in the order of writing, and put back into their
--- places. A map that takes type indexes to the types they stand for is a substitution of the standard (Core Specification 3.0, Validation,
--- Conventions, "Type Substitution").
+-- places. The standard closes a type by replacing its type indexes by the types they stand for (Core Specification 3.0, Validation,
+-- "Conventions").
 use Rattle.std.specs.Prelude.{⊤, List, [], ◌∷◌, ◌++◌, map}
 use Rattle.std.specs.List.{flat_map}
 use Rattle.wasm_spec.specs.Types.{HeapType, Abstract, Concrete, RefType, ValType, I32, I64, F32, F64, V128, Ref, StorageType, I8, I16, Val, FieldType, FuncType, CompositeType, FuncComposite, StructComposite, ArrayComposite, ContComposite, SubType, RecGroup, Single, Group, TableType, GlobalType, ExternalType, FuncExternal, TableExternal, MemoryExternal, GlobalExternal, TagExternal}

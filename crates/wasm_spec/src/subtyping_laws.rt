@@ -1,13 +1,13 @@
 //! Laws of subtyping, matching and defined types. R and S are kinds of references to defined types.
 
-ghost use Rattle.std.specs.Prelude.{◌≡◌, ◌<◌, ◌≤◌, ◌↔◌, ◌++◌, ⊤, ℕ, List, [], ◌∷◌, Option, None, Some, length, slice_get, suc, true};
+ghost use Rattle.std.specs.Prelude.{◌≡◌, ◌<◌, ◌≤◌, ◌↔◌, ◌++◌, ℕ, List, [], ◌∷◌, None, Some, length, slice_get, suc, true};
 ghost use Rattle.std.specs.List.{flat_map};
 ghost use Rattle.wasm_spec.specs.Features.{Features};
 ghost use Rattle.wasm_spec.specs.Groups.{AreWellFormedGroups, ExtendsSupertypes, HasDepth, IsWellFormedAt, IsWellFormedGroup, PassesLimit, items_in};
 ghost use Rattle.wasm_spec.specs.Limits.{Depth, Fields, IsPassedBy, Limit, Params, Results};
 ghost use Rattle.wasm_spec.specs.Matching.{CompositeMatches, FieldMatches, StorageBelow};
 ghost use Rattle.wasm_spec.specs.ReferenceMaps.{AreClosed, Carries, CarriesBack, IsOneToOne, KeepsTypes};
-ghost use Rattle.wasm_spec.specs.Subtyping.{Declared, HeapBelow, HeapTest, Link, RefBelow, ValBelow, is_abstract_below};
+ghost use Rattle.wasm_spec.specs.Subtyping.{Declared, HeapBelow, HeapTest, Link, RefBelow, SubTypes, ValBelow, is_abstract_below};
 ghost use Rattle.wasm_spec.specs.Syntax.{members};
 ghost use Rattle.wasm_spec.specs.Trees.{AreDistinct, AreInRange, DefType, TreeReference, opened, roll, section_types, tree_of, type_at, types_after, unrolled};
 ghost use Rattle.wasm_spec.specs.TypeReferences.{composite_map, external_fill, external_map, external_refs, group_fill, group_map, group_refs};
@@ -33,38 +33,38 @@ pub fn group_trees()
 
 /// Subtyping of heap types, worked out: between two abstract ones it is the table, and else the table and the links from type to type.
 pub fn heap_types<R>()
-    ensures test { (sub_at : R → Option (SubType R)) (a b : HeapType R) → HeapBelow sub_at a b ↔ HeapTest sub_at a b }
-    ensures table { (sub_at : R → Option (SubType R)) (a b : AbstractHeapType)
+    ensures test { (sub_at : SubTypes R) (a b : HeapType R) → HeapBelow sub_at a b ↔ HeapTest sub_at a b }
+    ensures table { (sub_at : SubTypes R) (a b : AbstractHeapType)
         → HeapBelow sub_at (Abstract a) (Abstract b) ↔ (is_abstract_below a b ≡ true) }
 {}
 
 /// Subtyping and matching are reflexive and transitive.
 pub fn orders<R>()
-    ensures heap_same { (sub_at : R → Option (SubType R)) (a : HeapType R) → HeapBelow sub_at a a }
-    ensures heap_joined { (sub_at : R → Option (SubType R)) (a b c : HeapType R) → HeapBelow sub_at a b → HeapBelow sub_at b c → HeapBelow sub_at a c }
-    ensures ref_same { (sub_at : R → Option (SubType R)) (a : RefType R) → RefBelow sub_at a a }
-    ensures ref_joined { (sub_at : R → Option (SubType R)) (a b c : RefType R) → RefBelow sub_at a b → RefBelow sub_at b c → RefBelow sub_at a c }
-    ensures val_same { (sub_at : R → Option (SubType R)) (a : ValType R) → ValBelow sub_at a a }
-    ensures val_joined { (sub_at : R → Option (SubType R)) (a b c : ValType R) → ValBelow sub_at a b → ValBelow sub_at b c → ValBelow sub_at a c }
-    ensures storage_same { (sub_at : R → Option (SubType R)) (a : StorageType R) → StorageBelow sub_at a a }
-    ensures storage_joined { (sub_at : R → Option (SubType R)) (a b c : StorageType R) → StorageBelow sub_at a b → StorageBelow sub_at b c → StorageBelow sub_at a c }
-    ensures field_same { (sub_at : R → Option (SubType R)) (a : FieldType R) → FieldMatches sub_at a a }
-    ensures field_joined { (sub_at : R → Option (SubType R)) (a b c : FieldType R) → FieldMatches sub_at a b → FieldMatches sub_at b c → FieldMatches sub_at a c }
-    ensures composite_same { (sub_at : R → Option (SubType R)) (a : CompositeType R) → CompositeMatches sub_at a a }
-    ensures composite_joined { (sub_at : R → Option (SubType R)) (a b c : CompositeType R) → CompositeMatches sub_at a b → CompositeMatches sub_at b c → CompositeMatches sub_at a c }
+    ensures heap_same { (sub_at : SubTypes R) (a : HeapType R) → HeapBelow sub_at a a }
+    ensures heap_joined { (sub_at : SubTypes R) (a b c : HeapType R) → HeapBelow sub_at a b → HeapBelow sub_at b c → HeapBelow sub_at a c }
+    ensures ref_same { (sub_at : SubTypes R) (a : RefType R) → RefBelow sub_at a a }
+    ensures ref_joined { (sub_at : SubTypes R) (a b c : RefType R) → RefBelow sub_at a b → RefBelow sub_at b c → RefBelow sub_at a c }
+    ensures val_same { (sub_at : SubTypes R) (a : ValType R) → ValBelow sub_at a a }
+    ensures val_joined { (sub_at : SubTypes R) (a b c : ValType R) → ValBelow sub_at a b → ValBelow sub_at b c → ValBelow sub_at a c }
+    ensures storage_same { (sub_at : SubTypes R) (a : StorageType R) → StorageBelow sub_at a a }
+    ensures storage_joined { (sub_at : SubTypes R) (a b c : StorageType R) → StorageBelow sub_at a b → StorageBelow sub_at b c → StorageBelow sub_at a c }
+    ensures field_same { (sub_at : SubTypes R) (a : FieldType R) → FieldMatches sub_at a a }
+    ensures field_joined { (sub_at : SubTypes R) (a b c : FieldType R) → FieldMatches sub_at a b → FieldMatches sub_at b c → FieldMatches sub_at a c }
+    ensures composite_same { (sub_at : SubTypes R) (a : CompositeType R) → CompositeMatches sub_at a a }
+    ensures composite_joined { (sub_at : SubTypes R) (a b c : CompositeType R) → CompositeMatches sub_at a b → CompositeMatches sub_at b c → CompositeMatches sub_at a c }
 {}
 
 /// All declared links of a type that keeps the rule on supertypes count.
 pub fn declared_links<R>()
-    ensures { (sub_at : R → Option (SubType R)) (r t : R) (type : SubType R)
+    ensures { (sub_at : SubTypes R) (r t : R) (type : SubType R)
         → sub_at r ≡ Some type → ExtendsSupertypes sub_at type → Declared sub_at r t → Link sub_at r t }
 {}
 
 /// A map of references that keeps types carries links, subtyping, matching, rules and limits along; and subtyping, matching and the rule on
 /// supertypes back, where it is one to one on references that stand for types.
 pub fn reference_maps<R, S>()
-    ensures along { (f : R → S) (from : R → Option (SubType R)) (to : S → Option (SubType S)) → KeepsTypes f from to → Carries f from to }
-    ensures back { (f : R → S) (from : R → Option (SubType R)) (to : S → Option (SubType S))
+    ensures along { (f : R → S) (from : SubTypes R) (to : SubTypes S) → KeepsTypes f from to → Carries f from to }
+    ensures back { (f : R → S) (from : SubTypes R) (to : SubTypes S)
         → KeepsTypes f from to → AreClosed from → IsOneToOne f from → CarriesBack f from to }
 {}
 
@@ -96,17 +96,17 @@ pub fn well_formed_sections()
 
 /// How limits on a type are found: the depth of a type is one more than that of its supertype, and what else is counted stands in the type itself.
 pub fn type_limits<R>()
-    ensures no_supertype { (sub_at : R → Option (SubType R)) (r : R) (type : SubType R)
+    ensures no_supertype { (sub_at : SubTypes R) (r : R) (type : SubType R)
         → sub_at r ≡ Some type → type.supertypes ≡ [] → HasDepth sub_at r 0 }
-    ensures one_supertype { (sub_at : R → Option (SubType R)) (r t : R) (type : SubType R) (n : ℕ)
+    ensures one_supertype { (sub_at : SubTypes R) (r t : R) (type : SubType R) (n : ℕ)
         → sub_at r ≡ Some type → type.supertypes ≡ t ∷ [] → HasDepth sub_at t n → HasDepth sub_at r (suc n) }
-    ensures depth { (sub_at : R → Option (SubType R)) (r : R) (n : ℕ) → HasDepth sub_at r n → PassesLimit sub_at r Depth ↔ (63 < n) }
-    ensures items { (sub_at : R → Option (SubType R)) (r : R) (type : SubType R) (limit : Limit) → sub_at r ≡ Some type → ¬ (limit ≡ Depth)
+    ensures depth { (sub_at : SubTypes R) (r : R) (n : ℕ) → HasDepth sub_at r n → PassesLimit sub_at r Depth ↔ (63 < n) }
+    ensures items { (sub_at : SubTypes R) (r : R) (type : SubType R) (limit : Limit) → sub_at r ≡ Some type → ¬ (limit ≡ Depth)
         → PassesLimit sub_at r limit ↔ IsPassedBy limit (items_in type.composite_type limit) }
-    ensures params { (sub_at : R → Option (SubType R)) (r : R) (type : SubType R) (function : FuncType R)
+    ensures params { (sub_at : SubTypes R) (r : R) (type : SubType R) (function : FuncType R)
         → sub_at r ≡ Some type → type.composite_type ≡ FuncComposite function → PassesLimit sub_at r Params ↔ (1000 < length function.params) }
-    ensures results { (sub_at : R → Option (SubType R)) (r : R) (type : SubType R) (function : FuncType R)
+    ensures results { (sub_at : SubTypes R) (r : R) (type : SubType R) (function : FuncType R)
         → sub_at r ≡ Some type → type.composite_type ≡ FuncComposite function → PassesLimit sub_at r Results ↔ (1000 < length function.results) }
-    ensures fields { (sub_at : R → Option (SubType R)) (r : R) (type : SubType R) (fields : List (FieldType R))
+    ensures fields { (sub_at : SubTypes R) (r : R) (type : SubType R) (fields : List (FieldType R))
         → sub_at r ≡ Some type → type.composite_type ≡ StructComposite fields → PassesLimit sub_at r Fields ↔ (10000 < length fields) }
 {}

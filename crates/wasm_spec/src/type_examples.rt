@@ -1,107 +1,104 @@
 //! Worked examples of defined types, subtyping, matching and well-formed groups.
 
-ghost use Rattle.std.specs.Prelude.{◌≡◌, ◌+◌, ℕ, Bool, List, [], ◌∷◌, Option, Some, false, length, slice_get, true};
+ghost use Rattle.std.specs.Prelude.{◌≡◌, ◌+◌, ℕ, Bool, [], ◌∷◌, false, slice_get, true};
 ghost use Rattle.wasm_spec.specs.Bodies.{is_ref};
 ghost use Rattle.wasm_spec.specs.Features.{Features, FunctionReferences, Gc, GcTypes, ReferenceTypes, StackSwitching, bit_of, default_features};
-ghost use Rattle.wasm_spec.specs.Groups.{ExtendsSupertypes, IsWellFormedGroup, IsWithinGroupLimits, KeepsGroupRules, Links, PassesLimit};
-ghost use Rattle.wasm_spec.specs.Limits.{Depth, Params};
+ghost use Rattle.wasm_spec.specs.Groups.{IsWellFormedGroup, IsWithinGroupLimits, KeepsGroupRules};
 ghost use Rattle.wasm_spec.specs.Matching.{CompositeMatches, FieldMatches, StorageBelow};
-ghost use Rattle.wasm_spec.specs.Subtyping.{Defined, HeapBelow, RefBelow, ValBelow, abstract_of};
-ghost use Rattle.wasm_spec.specs.Trees.{section_types, type_at, types_after, unrolled};
-ghost use Rattle.wasm_spec.specs.TypeExamples.{alone, const_field, empty_structure, gives, of_params, one_field, open_below, open_type, pair_from, ref_null, structure_to, takes, two_fields, var_field};
-ghost use Rattle.wasm_spec.specs.Types.{Abstract, AbstractHeapType, Any, Array, ArrayComposite, Concrete, Cont, ContComposite, Eq, Func, FuncComposite, Group, HeapType, I16, I31, I32, I64, I8, NoCont, NoFunc, None, Ref, Single, Struct, StorageType, StructComposite, SubType, Val, ValType};
+ghost use Rattle.wasm_spec.specs.Subtyping.{HeapBelow, IsOfKind, SubTypes, ValBelow};
+ghost use Rattle.wasm_spec.specs.Trees.{section_types, type_at, unrolled};
+ghost use Rattle.wasm_spec.specs.TypeExamples.{IsOneType, alone, any, any_structure, const_field, empty_function, empty_structure, gives, of_params, one_field, open_below, open_type, pair_from, ref_null, takes, two_fields, var_field};
+ghost use Rattle.wasm_spec.specs.Types.{Abstract, Any, Array, ArrayComposite, Concrete, Cont, ContComposite, Eq, Func, FuncComposite, Group, HeapType, I16, I31, I32, I64, I8, NoCont, NoFunc, None, Ref, Single, StorageType, Struct, StructComposite, Val, ValType};
 
 /// Two structures that refer to each other, written twice, are two types and not four; and it matters which place refers to which.
 pub fn equal_groups()
-    ensures first { type_at (section_types (pair_from 0 1 ∷ pair_from 2 3 ∷ [])) 0 ≡ type_at (section_types (pair_from 0 1 ∷ pair_from 2 3 ∷ [])) 2 }
-    ensures second { type_at (section_types (pair_from 0 1 ∷ pair_from 2 3 ∷ [])) 1 ≡ type_at (section_types (pair_from 0 1 ∷ pair_from 2 3 ∷ [])) 3 }
-    ensures two_places { ¬ (type_at (section_types (pair_from 0 1 ∷ pair_from 2 3 ∷ [])) 0 ≡ type_at (section_types (pair_from 0 1 ∷ pair_from 2 3 ∷ [])) 1) }
+    ensures first { IsOneType (pair_from 0 1 ∷ pair_from 2 3 ∷ []) 0 2 }
+    ensures second { IsOneType (pair_from 0 1 ∷ pair_from 2 3 ∷ []) 1 3 }
+    ensures two_places { ¬ (IsOneType (pair_from 0 1 ∷ pair_from 2 3 ∷ []) 0 1) }
 
     // In the second group each structure refers to itself.
-    ensures other_places { ¬ (type_at (section_types (pair_from 0 1 ∷ pair_from 3 2 ∷ [])) 0 ≡ type_at (section_types (pair_from 0 1 ∷ pair_from 3 2 ∷ [])) 2) }
+    ensures other_places { ¬ (IsOneType (pair_from 0 1 ∷ pair_from 3 2 ∷ []) 0 2) }
 
     // In the second group the structures refer to the first.
-    ensures first_group { ¬ (type_at (section_types (pair_from 0 1 ∷ pair_from 0 1 ∷ [])) 0 ≡ type_at (section_types (pair_from 0 1 ∷ pair_from 0 1 ∷ [])) 2) }
+    ensures first_group { ¬ (IsOneType (pair_from 0 1 ∷ pair_from 0 1 ∷ []) 0 2) }
 {}
 
 /// A type alone is the type of the group of it, and no member of a greater group.
 pub fn lone_types()
-    ensures alone { type_at (section_types (Single (alone (StructComposite [])) ∷ Group (alone (StructComposite []) ∷ []) ∷ [])) 0
-        ≡ type_at (section_types (Single (alone (StructComposite [])) ∷ Group (alone (StructComposite []) ∷ []) ∷ [])) 1 }
-    ensures member { ¬ (type_at (section_types (Single (alone (StructComposite [])) ∷ Group (alone (StructComposite []) ∷ alone (ArrayComposite (const_field I32)) ∷ []) ∷ [])) 0
-        ≡ type_at (section_types (Single (alone (StructComposite [])) ∷ Group (alone (StructComposite []) ∷ alone (ArrayComposite (const_field I32)) ∷ []) ∷ [])) 1) }
+    ensures alone { IsOneType (Single (alone empty_structure) ∷ Group (alone empty_structure ∷ []) ∷ []) 0 1 }
+    ensures member { ¬ (IsOneType (Single (alone empty_structure) ∷ Group (alone empty_structure ∷ alone (ArrayComposite (const_field I32)) ∷ []) ∷ []) 0 1) }
 {}
 
 /// The lowest type of each kind is below all defined types of the kind, and no other abstract type is below a defined one.
 pub fn bottoms<R>()
-    ensures nofunc { (sub_at : R → Option (SubType R)) (r : R) → Defined sub_at r (λ c. abstract_of c ≡ Func) → HeapBelow sub_at (Abstract NoFunc) (Concrete r) }
-    ensures none_struct { (sub_at : R → Option (SubType R)) (r : R) → Defined sub_at r (λ c. abstract_of c ≡ Struct) → HeapBelow sub_at (Abstract None) (Concrete r) }
-    ensures none_array { (sub_at : R → Option (SubType R)) (r : R) → Defined sub_at r (λ c. abstract_of c ≡ Array) → HeapBelow sub_at (Abstract None) (Concrete r) }
-    ensures nocont { (sub_at : R → Option (SubType R)) (r : R) → Defined sub_at r (λ c. abstract_of c ≡ Cont) → HeapBelow sub_at (Abstract NoCont) (Concrete r) }
-    ensures none_func { (sub_at : R → Option (SubType R)) (r : R) → Defined sub_at r (λ c. abstract_of c ≡ Func) → ¬ (HeapBelow sub_at (Abstract None) (Concrete r)) }
-    ensures nofunc_struct { (sub_at : R → Option (SubType R)) (r : R) → Defined sub_at r (λ c. abstract_of c ≡ Struct) → ¬ (HeapBelow sub_at (Abstract NoFunc) (Concrete r)) }
-    ensures i31 { (sub_at : R → Option (SubType R)) (r : R) → ¬ (HeapBelow sub_at (Abstract I31) (Concrete r)) }
+    ensures nofunc { (sub_at : SubTypes R) (r : R) → IsOfKind sub_at r Func → HeapBelow sub_at (Abstract NoFunc) (Concrete r) }
+    ensures none_struct { (sub_at : SubTypes R) (r : R) → IsOfKind sub_at r Struct → HeapBelow sub_at (Abstract None) (Concrete r) }
+    ensures none_array { (sub_at : SubTypes R) (r : R) → IsOfKind sub_at r Array → HeapBelow sub_at (Abstract None) (Concrete r) }
+    ensures nocont { (sub_at : SubTypes R) (r : R) → IsOfKind sub_at r Cont → HeapBelow sub_at (Abstract NoCont) (Concrete r) }
+    ensures none_func { (sub_at : SubTypes R) (r : R) → IsOfKind sub_at r Func → ¬ (HeapBelow sub_at (Abstract None) (Concrete r)) }
+    ensures nofunc_struct { (sub_at : SubTypes R) (r : R) → IsOfKind sub_at r Struct → ¬ (HeapBelow sub_at (Abstract NoFunc) (Concrete r)) }
+    ensures i31 { (sub_at : SubTypes R) (r : R) → ¬ (HeapBelow sub_at (Abstract I31) (Concrete r)) }
 {}
 
 /// The abstract types that a defined type is below.
 pub fn kinds<R>()
-    ensures func { (sub_at : R → Option (SubType R)) (r : R) → Defined sub_at r (λ c. abstract_of c ≡ Func) → HeapBelow sub_at (Concrete r) (Abstract Func) }
-    ensures struct_any { (sub_at : R → Option (SubType R)) (r : R) → Defined sub_at r (λ c. abstract_of c ≡ Struct) → HeapBelow sub_at (Concrete r) (Abstract Any) }
-    ensures array_eq { (sub_at : R → Option (SubType R)) (r : R) → Defined sub_at r (λ c. abstract_of c ≡ Array) → HeapBelow sub_at (Concrete r) (Abstract Eq) }
-    ensures cont { (sub_at : R → Option (SubType R)) (r : R) → Defined sub_at r (λ c. abstract_of c ≡ Cont) → HeapBelow sub_at (Concrete r) (Abstract Cont) }
-    ensures func_any { (sub_at : R → Option (SubType R)) (r : R) → Defined sub_at r (λ c. abstract_of c ≡ Func) → ¬ (HeapBelow sub_at (Concrete r) (Abstract Any)) }
-    ensures struct_array { (sub_at : R → Option (SubType R)) (r : R) → Defined sub_at r (λ c. abstract_of c ≡ Struct) → ¬ (HeapBelow sub_at (Concrete r) (Abstract Array)) }
+    ensures func { (sub_at : SubTypes R) (r : R) → IsOfKind sub_at r Func → HeapBelow sub_at (Concrete r) (Abstract Func) }
+    ensures struct_any { (sub_at : SubTypes R) (r : R) → IsOfKind sub_at r Struct → HeapBelow sub_at (Concrete r) (Abstract Any) }
+    ensures array_eq { (sub_at : SubTypes R) (r : R) → IsOfKind sub_at r Array → HeapBelow sub_at (Concrete r) (Abstract Eq) }
+    ensures cont { (sub_at : SubTypes R) (r : R) → IsOfKind sub_at r Cont → HeapBelow sub_at (Concrete r) (Abstract Cont) }
+    ensures func_any { (sub_at : SubTypes R) (r : R) → IsOfKind sub_at r Func → ¬ (HeapBelow sub_at (Concrete r) (Abstract Any)) }
+    ensures struct_array { (sub_at : SubTypes R) (r : R) → IsOfKind sub_at r Struct → ¬ (HeapBelow sub_at (Concrete r) (Abstract Array)) }
 {}
 
 /// A declared link counts where it joins two types of one kind: a structure below a structure, and none below a function.
 pub fn links()
-    ensures one_kind { HeapBelow (slice_get (open_type (StructComposite []) ∷ open_below 0 (StructComposite []) ∷ [])) (Concrete 1) (Concrete 0) }
-    ensures two_kinds { ¬ (HeapBelow (slice_get (open_type (FuncComposite (takes [])) ∷ open_below 0 (StructComposite []) ∷ [])) (Concrete 1) (Concrete 0)) }
-    ensures none { ¬ (HeapBelow (slice_get (open_type (FuncComposite (takes [])) ∷ open_below 0 (StructComposite []) ∷ [])) (Abstract None) (Concrete 0)) }
-    ensures upward { ¬ (HeapBelow (slice_get (open_type (StructComposite []) ∷ open_below 0 (StructComposite []) ∷ [])) (Concrete 0) (Concrete 1)) }
-    ensures undeclared { ¬ (HeapBelow (slice_get (open_type (StructComposite []) ∷ open_type (StructComposite []) ∷ [])) (Concrete 1) (Concrete 0)) }
+    ensures one_kind { HeapBelow (slice_get (open_type empty_structure ∷ open_below 0 empty_structure ∷ [])) (Concrete 1) (Concrete 0) }
+    ensures two_kinds { ¬ (HeapBelow (slice_get (open_type empty_function ∷ open_below 0 empty_structure ∷ [])) (Concrete 1) (Concrete 0)) }
+    ensures none { ¬ (HeapBelow (slice_get (open_type empty_function ∷ open_below 0 empty_structure ∷ [])) (Abstract None) (Concrete 0)) }
+    ensures upward { ¬ (HeapBelow (slice_get (open_type empty_structure ∷ open_below 0 empty_structure ∷ [])) (Concrete 0) (Concrete 1)) }
+    ensures undeclared { ¬ (HeapBelow (slice_get (open_type empty_structure ∷ open_type empty_structure ∷ [])) (Concrete 1) (Concrete 0)) }
 {}
 
 /// References that can't be null are below those that can, and numbers are below themselves alone.
 pub fn values<R>()
-    ensures null { (sub_at : R → Option (SubType R)) → ValBelow sub_at (Ref false (Abstract Struct)) (Ref true (Abstract Any)) }
-    ensures not_null { (sub_at : R → Option (SubType R)) (a b : HeapType R) → ¬ (ValBelow sub_at (Ref true a) (Ref false b)) }
-    ensures upward { (sub_at : R → Option (SubType R)) (nullable : Bool) → ¬ (ValBelow sub_at (Ref nullable (Abstract Any)) (Ref nullable (Abstract Struct))) }
-    ensures number { (sub_at : R → Option (SubType R)) → ValBelow sub_at I32 I32 }
-    ensures numbers { (sub_at : R → Option (SubType R)) (a b : ValType R) → is_ref a ≡ false → ValBelow sub_at a b → a ≡ b }
-    ensures references { (sub_at : R → Option (SubType R)) (a b : ValType R) → is_ref a ≡ true → ValBelow sub_at a b → is_ref b ≡ true }
+    ensures null { (sub_at : SubTypes R) → ValBelow sub_at (Ref false (Abstract Struct)) (Ref true (Abstract Any)) }
+    ensures not_null { (sub_at : SubTypes R) (a b : HeapType R) → ¬ (ValBelow sub_at (Ref true a) (Ref false b)) }
+    ensures upward { (sub_at : SubTypes R) (nullable : Bool) → ¬ (ValBelow sub_at (Ref nullable (Abstract Any)) (Ref nullable (Abstract Struct))) }
+    ensures number { (sub_at : SubTypes R) → ValBelow sub_at I32 I32 }
+    ensures numbers { (sub_at : SubTypes R) (a b : ValType R) → is_ref a ≡ false → ValBelow sub_at a b → a ≡ b }
+    ensures references { (sub_at : SubTypes R) (a b : ValType R) → is_ref a ≡ true → ValBelow sub_at a b → is_ref b ≡ true }
 {}
 
 /// A field that can't be written may be narrower than the other, one that can must be the same; and packed types are themselves alone.
 pub fn fields<R>()
-    ensures const_narrowed { (sub_at : R → Option (SubType R)) → FieldMatches sub_at (const_field (ref_null (Abstract Struct))) (const_field (ref_null (Abstract Any))) }
-    ensures const_widened { (sub_at : R → Option (SubType R)) → ¬ (FieldMatches sub_at (const_field (ref_null (Abstract Any))) (const_field (ref_null (Abstract Struct)))) }
-    ensures var_same { (sub_at : R → Option (SubType R)) → FieldMatches sub_at (var_field (ref_null (Abstract Any))) (var_field (ref_null (Abstract Any))) }
-    ensures var_narrowed { (sub_at : R → Option (SubType R)) → ¬ (FieldMatches sub_at (var_field (ref_null (Abstract Struct))) (var_field (ref_null (Abstract Any)))) }
-    ensures const_var { (sub_at : R → Option (SubType R)) → ¬ (FieldMatches sub_at (const_field I32) (var_field I32)) }
-    ensures var_const { (sub_at : R → Option (SubType R)) → ¬ (FieldMatches sub_at (var_field I32) (const_field I32)) }
-    ensures packed { (sub_at : R → Option (SubType R)) (mutable : Bool)
+    ensures const_narrowed { (sub_at : SubTypes R) → FieldMatches sub_at (const_field any_structure) (const_field any) }
+    ensures const_widened { (sub_at : SubTypes R) → ¬ (FieldMatches sub_at (const_field any) (const_field any_structure)) }
+    ensures var_same { (sub_at : SubTypes R) → FieldMatches sub_at (var_field any) (var_field any) }
+    ensures var_narrowed { (sub_at : SubTypes R) → ¬ (FieldMatches sub_at (var_field any_structure) (var_field any)) }
+    ensures const_var { (sub_at : SubTypes R) → ¬ (FieldMatches sub_at (const_field I32) (var_field I32)) }
+    ensures var_const { (sub_at : SubTypes R) → ¬ (FieldMatches sub_at (var_field I32) (const_field I32)) }
+    ensures packed { (sub_at : SubTypes R) (mutable : Bool)
         → FieldMatches sub_at (record { element_type = I8; mutable = mutable }) (record { element_type = I8; mutable = mutable }) }
-    ensures packed_mixed { (sub_at : R → Option (SubType R)) (mutable : Bool)
+    ensures packed_mixed { (sub_at : SubTypes R) (mutable : Bool)
         → ¬ (FieldMatches sub_at (record { element_type = I8; mutable = mutable }) (record { element_type = I16; mutable = mutable })) }
-    ensures i8 { (sub_at : R → Option (SubType R)) (b : StorageType R) → StorageBelow sub_at I8 b → b ≡ I8 }
-    ensures i16 { (sub_at : R → Option (SubType R)) (b : StorageType R) → StorageBelow sub_at I16 b → b ≡ I16 }
-    ensures value { (sub_at : R → Option (SubType R)) (a : ValType R) (b : StorageType R) → StorageBelow sub_at (Val a) b → (c : ValType R) × (b ≡ Val c) }
+    ensures i8 { (sub_at : SubTypes R) (b : StorageType R) → StorageBelow sub_at I8 b → b ≡ I8 }
+    ensures i16 { (sub_at : SubTypes R) (b : StorageType R) → StorageBelow sub_at I16 b → b ≡ I16 }
+    ensures value { (sub_at : SubTypes R) (a : ValType R) (b : StorageType R) → StorageBelow sub_at (Val a) b → (c : ValType R) × (b ≡ Val c) }
 {}
 
 /// A structure may have further fields after those of the other, a function takes more and gives less, and kinds don't mix.
 pub fn composite_types<R>()
-    ensures wider { (sub_at : R → Option (SubType R)) → CompositeMatches sub_at (StructComposite (const_field I32 ∷ var_field I64 ∷ [])) (StructComposite (const_field I32 ∷ [])) }
-    ensures narrower { (sub_at : R → Option (SubType R)) → ¬ (CompositeMatches sub_at (StructComposite (const_field I32 ∷ [])) (StructComposite (const_field I32 ∷ var_field I64 ∷ []))) }
-    ensures before { (sub_at : R → Option (SubType R)) → ¬ (CompositeMatches sub_at (StructComposite (var_field I64 ∷ const_field I32 ∷ [])) (StructComposite (const_field I32 ∷ []))) }
-    ensures array { (sub_at : R → Option (SubType R)) → CompositeMatches sub_at (ArrayComposite (const_field (ref_null (Abstract Array)))) (ArrayComposite (const_field (ref_null (Abstract Eq)))) }
-    ensures params { (sub_at : R → Option (SubType R)) → CompositeMatches sub_at (FuncComposite (takes (ref_null (Abstract Any) ∷ []))) (FuncComposite (takes (ref_null (Abstract Struct) ∷ []))) }
-    ensures params_narrowed { (sub_at : R → Option (SubType R)) → ¬ (CompositeMatches sub_at (FuncComposite (takes (ref_null (Abstract Struct) ∷ []))) (FuncComposite (takes (ref_null (Abstract Any) ∷ [])))) }
-    ensures results { (sub_at : R → Option (SubType R)) → CompositeMatches sub_at (FuncComposite (gives (ref_null (Abstract Struct) ∷ []))) (FuncComposite (gives (ref_null (Abstract Any) ∷ []))) }
-    ensures results_widened { (sub_at : R → Option (SubType R)) → ¬ (CompositeMatches sub_at (FuncComposite (gives (ref_null (Abstract Any) ∷ []))) (FuncComposite (gives (ref_null (Abstract Struct) ∷ [])))) }
-    ensures more_params { (sub_at : R → Option (SubType R)) → ¬ (CompositeMatches sub_at (FuncComposite (takes (I32 ∷ I32 ∷ []))) (FuncComposite (takes (I32 ∷ [])))) }
-    ensures continuation { (sub_at : R → Option (SubType R)) (r : R) → CompositeMatches sub_at (ContComposite r) (ContComposite r) }
-    ensures two_kinds { (sub_at : R → Option (SubType R)) → ¬ (CompositeMatches sub_at (StructComposite (const_field I32 ∷ [])) (ArrayComposite (const_field I32))) }
+    ensures wider { (sub_at : SubTypes R) → CompositeMatches sub_at (StructComposite (const_field I32 ∷ var_field I64 ∷ [])) (StructComposite (const_field I32 ∷ [])) }
+    ensures narrower { (sub_at : SubTypes R) → ¬ (CompositeMatches sub_at (StructComposite (const_field I32 ∷ [])) (StructComposite (const_field I32 ∷ var_field I64 ∷ []))) }
+    ensures before { (sub_at : SubTypes R) → ¬ (CompositeMatches sub_at (StructComposite (var_field I64 ∷ const_field I32 ∷ [])) (StructComposite (const_field I32 ∷ []))) }
+    ensures array { (sub_at : SubTypes R) → CompositeMatches sub_at (ArrayComposite (const_field (ref_null (Abstract Array)))) (ArrayComposite (const_field (ref_null (Abstract Eq)))) }
+    ensures params { (sub_at : SubTypes R) → CompositeMatches sub_at (FuncComposite (takes (any ∷ []))) (FuncComposite (takes (any_structure ∷ []))) }
+    ensures params_narrowed { (sub_at : SubTypes R) → ¬ (CompositeMatches sub_at (FuncComposite (takes (any_structure ∷ []))) (FuncComposite (takes (any ∷ [])))) }
+    ensures results { (sub_at : SubTypes R) → CompositeMatches sub_at (FuncComposite (gives (any_structure ∷ []))) (FuncComposite (gives (any ∷ []))) }
+    ensures results_widened { (sub_at : SubTypes R) → ¬ (CompositeMatches sub_at (FuncComposite (gives (any ∷ []))) (FuncComposite (gives (any_structure ∷ [])))) }
+    ensures more_params { (sub_at : SubTypes R) → ¬ (CompositeMatches sub_at (FuncComposite (takes (I32 ∷ I32 ∷ []))) (FuncComposite (takes (I32 ∷ [])))) }
+    ensures continuation { (sub_at : SubTypes R) (r : R) → CompositeMatches sub_at (ContComposite r) (ContComposite r) }
+    ensures two_kinds { (sub_at : SubTypes R) → ¬ (CompositeMatches sub_at (StructComposite (const_field I32 ∷ [])) (ArrayComposite (const_field I32))) }
 {}
 
 /// A structure with one more field than its declared supertype: it matches that one, and is below it.
@@ -141,8 +138,8 @@ pub fn group_references()
 
 /// A continuation type matches another where its function type is below that of the other.
 pub fn continuation_types()
-    ensures below { CompositeMatches (slice_get (open_type (FuncComposite (takes [])) ∷ open_below 0 (FuncComposite (takes [])) ∷ [])) (ContComposite 1) (ContComposite 0) }
-    ensures above { ¬ (CompositeMatches (slice_get (open_type (FuncComposite (takes [])) ∷ open_below 0 (FuncComposite (takes [])) ∷ [])) (ContComposite 0) (ContComposite 1)) }
+    ensures below { CompositeMatches (slice_get (open_type empty_function ∷ open_below 0 empty_function ∷ [])) (ContComposite 1) (ContComposite 0) }
+    ensures above { ¬ (CompositeMatches (slice_get (open_type empty_function ∷ open_below 0 empty_function ∷ [])) (ContComposite 0) (ContComposite 1)) }
 {}
 
 /// A continuation type goes on with a function type, where the feature for it is on.

@@ -1,3 +1,4 @@
+pub mod Carried
 pub mod Closures
 pub mod CompactImports
 pub mod Decoding

@@ -1,15 +1,15 @@
 -- The types of a section by index: its references stand for its sub types, and rules keep them in range.
-use Rattle.std.proofs.Common.{◌≡◌, ℕ, ◌+◌, ◌<◌, ◌≤◌, Bool, true, false, List, [], ◌∷◌, ◌++◌, length, refl, ap, arith, if◌then◌else◌, None}
+use Rattle.std.proofs.Common.{◌≡◌, ℕ, ◌+◌, ◌<◌, ◌≤◌, Bool, true, false, List, [], ◌∷◌, ◌++◌, length, refl, ap, sym, ◌∙◌, arith, if◌then◌else◌, None, Some}
 use Rattle.std.specs.List.{slice_get, AllByRecursion, flat_map}
 use Rattle.wasm_spec.specs.Features.{Features, Gc, has}
 use Rattle.wasm_spec.specs.Groups.{KeepsGroupRules, IsWellFormedGroup, AreWellFormedGroups}
-use Rattle.wasm_spec.specs.ReferenceMaps.{AreClosed, IsType, KeepsTypes}
+use Rattle.wasm_spec.specs.ReferenceMaps.{AreClosed, IsOneToOne, IsType, KeepsTypes}
 use Rattle.wasm_spec.specs.Syntax.{members}
 use Rattle.wasm_spec.specs.TypeReferences.{sub_refs, group_refs}
-use Rattle.wasm_spec.specs.Trees.{DefType, types_after, types_from, section_types, type_or_none, type_at, unrolled, IsInRange, AreInRange}
+use Rattle.wasm_spec.specs.Trees.{DefType, types_after, types_from, section_types, type_or_none, type_at, unrolled, IsInRange, AreInRange, AreDistinct}
 use Rattle.wasm_spec.specs.Types.{RecGroup}
 use Rattle.wasm_spec.proofs.GroupTrees.{section_stands, all_each, length-types_after}
-use Rattle.wasm_spec.proofs.Places.{get_some, get_none}
+use Rattle.wasm_spec.proofs.Places.{get_some, get_none, get_within}
 
 pub section_keeps : (groups : List (RecGroup ℕ)) → AreInRange 0 groups → KeepsTypes (type_at (section_types groups)) (slice_get (flat_map members groups)) unrolled
 section_keeps groups range = (section_stands groups range).unrolls
@@ -19,6 +19,15 @@ section_closed groups range index type at =
     let it = section_stands groups range in
     let types = flat_map members groups in
     all_each (λ i. i < length (section_types groups)) (IsType (slice_get types)) (λ i h. get_some types i (omega (arith, h, it.lengths))) (sub_refs type) (it.in_range index type at)
+
+pub section_one_to_one : (groups : List (RecGroup ℕ)) → AreInRange 0 groups → AreDistinct (section_types groups) → IsOneToOne (type_at (section_types groups)) (slice_get (flat_map members groups))
+section_one_to_one groups range one r t known known' e =
+    let it = section_stands groups range in
+    let ts = section_types groups in
+    let (a, at) = get_some ts r (omega (arith, get_within (flat_map members groups) r known.0 known.1, it.lengths)) in
+    let (b, at') = get_some ts t (omega (arith, get_within (flat_map members groups) t known'.0 known'.1, it.lengths)) in
+    let same : b ≡ a = sym (ap type_or_none at') ∙ sym e ∙ ap type_or_none at in
+    one r t a at (at' ∙ ap Some same)
 
 pub rules_in_range : (features : Features) (before : List DefType) (group : RecGroup ℕ) → KeepsGroupRules features before group → IsInRange (length before) group
 rules_in_range features before group rules = go (has features Gc) rules.in_range

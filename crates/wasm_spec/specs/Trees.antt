@@ -10,7 +10,7 @@ use Rattle.wasm_spec.specs.Types.{SubType, RecGroup}
 
 -- A group tree is a recursive group that is rolled up: sub types whose references are places in the group, or places in other group trees.
 -- It is kept as the sub types without their references and, beside them, the references in the order of writing: `roll` makes it of the
--- sub types that are meant, and `opened` gives these back.
+-- sub types that are meant, and `opened` gives these back. No other trees arise.
 mutual
   pub data GroupTree : Type 0 where
     Rolled : List (SubType ⊤) → TreeReferences → GroupTree

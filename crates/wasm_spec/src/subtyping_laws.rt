@@ -74,6 +74,14 @@ pub fn type_sections()
     ensures types { (groups : List (RecGroup ℕ)) → AreInRange 0 groups
         → KeepsTypes (type_at (section_types groups)) (slice_get (flat_map members groups)) unrolled }
     ensures closed { (groups : List (RecGroup ℕ)) → AreInRange 0 groups → AreClosed (slice_get (flat_map members groups)) }
+    ensures along { (groups : List (RecGroup ℕ)) → AreInRange 0 groups
+        → Carries (type_at (section_types groups)) (slice_get (flat_map members groups)) unrolled }
+
+    // Where no type has two indexes.
+    ensures one_to_one { (groups : List (RecGroup ℕ)) → AreInRange 0 groups → AreDistinct (section_types groups)
+        → IsOneToOne (type_at (section_types groups)) (slice_get (flat_map members groups)) }
+    ensures back { (groups : List (RecGroup ℕ)) → AreInRange 0 groups → AreDistinct (section_types groups)
+        → CarriesBack (type_at (section_types groups)) (slice_get (flat_map members groups)) unrolled }
     ensures well_formed { (features : Features) (groups : List (RecGroup ℕ)) → AreWellFormedGroups features [] groups → AreInRange 0 groups }
     ensures past_the_end { (types : List DefType) (index : ℕ) → length types ≤ index → unrolled (type_at types index) ≡ None }
 

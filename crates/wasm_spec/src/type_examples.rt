@@ -7,7 +7,8 @@ ghost use Rattle.wasm_spec.specs.Groups.{IsWellFormedGroup, IsWithinGroupLimits,
 ghost use Rattle.wasm_spec.specs.Matching.{CompositeMatches, FieldMatches, StorageBelow};
 ghost use Rattle.wasm_spec.specs.Subtyping.{HeapBelow, IsOfKind, SubTypes, ValBelow};
 ghost use Rattle.wasm_spec.specs.Trees.{section_types, type_at, unrolled};
-ghost use Rattle.wasm_spec.specs.TypeExamples.{IsOneType, alone, any, any_structure, const_field, empty_function, empty_structure, gives, of_params, one_field, open_below, open_type, pair_from, ref_null, takes, two_fields, var_field};
+ghost use Rattle.wasm_spec.specs.TypeExamples.{IsOneType, alone, any, any_structure, const_field, empty_function, empty_structure, gives, of_params, one_field, open_below, open_type, pair_from, ref_null, structure_to, takes, two_fields, var_field};
+ghost use Rattle.wasm_spec.specs.TypeReferences.{group_refs, sub_refs};
 ghost use Rattle.wasm_spec.specs.Types.{Abstract, Any, Array, ArrayComposite, Concrete, Cont, ContComposite, Eq, Func, FuncComposite, Group, HeapType, I16, I31, I32, I64, I8, NoCont, NoFunc, None, Ref, Single, StorageType, Struct, StructComposite, Val, ValType};
 
 /// Two structures that refer to each other, written twice, are two types and not four; and it matters which place refers to which.
@@ -27,6 +28,24 @@ pub fn equal_groups()
 pub fn lone_types()
     ensures alone { IsOneType (Single (alone empty_structure) ∷ Group (alone empty_structure ∷ []) ∷ []) 0 1 }
     ensures member { ¬ (IsOneType (Single (alone empty_structure) ∷ Group (alone empty_structure ∷ alone (ArrayComposite (const_field I32)) ∷ []) ∷ []) 0 1) }
+{}
+
+/// What a type refers to counts as a type, and not by its index: types 0 and 1 are one type, and 2 another.
+pub fn references_to_types()
+    ensures one_type { IsOneType (Single (alone empty_structure) ∷ Single (alone empty_structure) ∷ Single (alone empty_function) ∷ Single (structure_to 0) ∷ Single (structure_to 1) ∷ Single (structure_to 2) ∷ []) 3 4 }
+    ensures another { ¬ (IsOneType (Single (alone empty_structure) ∷ Single (alone empty_structure) ∷ Single (alone empty_function) ∷ Single (structure_to 0) ∷ Single (structure_to 1) ∷ Single (structure_to 2) ∷ []) 3 5) }
+
+    // A structure that refers to itself, and one that refers to that one.
+    ensures own { ¬ (IsOneType (Single (structure_to 0) ∷ Single (structure_to 0) ∷ []) 0 1) }
+{}
+
+/// References in the order of writing: supertypes, parameters and results, and fields.
+pub fn order_of_references()
+    ensures function { sub_refs {R = ℕ} (open_below 5 (FuncComposite (record { params = ref_null (Concrete 1) ∷ I32 ∷ []; results = any ∷ ref_null (Concrete 3) ∷ ref_null (Concrete 2) ∷ [] })))
+        ≡ 5 ∷ 1 ∷ 3 ∷ 2 ∷ [] }
+    ensures structure { sub_refs {R = ℕ} (alone (StructComposite (var_field (ref_null (Concrete 4)) ∷ const_field I64 ∷ const_field (ref_null (Concrete 0)) ∷ []))) ≡ 4 ∷ 0 ∷ [] }
+    ensures continuation { sub_refs {R = ℕ} (open_below 2 (ContComposite 7)) ≡ 2 ∷ 7 ∷ [] }
+    ensures group { group_refs (pair_from 3 4) ≡ 4 ∷ 3 ∷ [] }
 {}
 
 /// The lowest type of each kind is below all defined types of the kind, and no other abstract type is below a defined one.

@@ -1,7 +1,7 @@
 -- Group trees give back what they were rolled up from, and the types of a section are its sub types by index.
 use Rattle.std.proofs.Common.{◌≡◌, ℕ, zero, suc, ◌+◌, ◌-◌, ◌<◌, List, [], ◌∷◌, ◌++◌, length, refl, ap, sym, ◌∙◌, arith, inl, inr, Some, length-append, subst, append_assoc}
 use Rattle.std.proofs.lemmas.List.{append-nil}
-use Rattle.std.proofs.lemmas.Option.{slice_get-map}
+use Rattle.std.proofs.lemmas.Option.{slice_get-map, slice_get_within}
 use Rattle.std.specs.List.{slice_get, AllByRecursion, flat_map}
 use Rattle.std.specs.Option.{option_map}
 use Rattle.wasm_spec.specs.Syntax.{members}
@@ -9,7 +9,7 @@ use Rattle.wasm_spec.specs.TypeReferences.{sub_map, subs_map, sub_refs, subs_ref
 use Rattle.wasm_spec.specs.Trees.{GroupTree, TreeReference, Own, joined, listed, roll, opened, DefType, seen_from, unrolled, reference_to, reference_of, tree_of, places_of, types_of_group, types_after, types_from, section_types, type_or_none, type_at, IsInRange, AreInRange}
 use Rattle.wasm_spec.specs.Types.{SubType, RecGroup, Single, Group}
 use Rattle.wasm_spec.proofs.MappedBack.{all_left, all_right}
-use Rattle.wasm_spec.proofs.Places.{get_left, get_right, get_within, get_cases, get_either}
+use Rattle.wasm_spec.proofs.Places.{get_left, get_right, get_cases, get_either}
 use Rattle.wasm_spec.proofs.TypeMaps.{sub_map-sub_map, subs_fill-exact, sub_map_agree}
 
 -- ---- trees
@@ -100,7 +100,7 @@ own_unrolls ts g range j s e =
     let agree : sub_map (λ n. seen_from t (reference_of ts n)) s ≡ sub_map (type_at (types_after ts g)) s =
     sub_map_agree (record { tree = t; place = 0 }) (λ n. seen_from t (reference_of ts n)) (type_at (types_after ts g)) s
     (all_each (λ n. n < length ts + length (members g)) (λ n. seen_from t (reference_of ts n) ≡ type_at (types_after ts g) n) (seen_same ts g) (sub_refs s) refs) in
-    ap unrolled (own_at ts g j (get_within (members g) j s e)) ∙ ap (option_map (sub_map (seen_from t))) read
+    ap unrolled (own_at ts g j (slice_get_within (members g) j s e)) ∙ ap (option_map (sub_map (seen_from t))) read
     ∙ ap Some (sub_map-sub_map (seen_from t) (reference_of ts) s ∙ agree)
 
 pub stand_after : {ss : List (SubType ℕ)} {ts : List DefType} → Stand ss ts → (g : RecGroup ℕ) → IsInRange (length ts) g → Stand (ss ++ members g) (types_after ts g)
@@ -112,7 +112,7 @@ stand_after {ss} {ts} it g range = record {
   ];
   unrolls = λ i s e. elim (get_cases ss (members g) i s e) [
     | inl at ↦
-        let within : i < length ts = omega (arith, get_within ss i s at, it.lengths) in
+        let within : i < length ts = omega (arith, slice_get_within ss i s at, it.lengths) in
         let kept : sub_map (type_at (types_after ts g)) s ≡ sub_map (type_at ts) s =
         sub_map_agree (record { tree = tree_of ts g; place = 0 }) (type_at (types_after ts g)) (type_at ts) s
         (all_each (λ n. n < length ts) (λ n. type_at (types_after ts g) n ≡ type_at ts n) (type_kept ts (types_of_group ts g)) (sub_refs s) (it.in_range i s at)) in

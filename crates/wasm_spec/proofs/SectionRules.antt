@@ -1,5 +1,6 @@
 -- The types of a well-formed section keep the rules among all of its types, and match what they are below.
 use Rattle.std.proofs.Common.{◌≡◌, ℕ, zero, suc, ◌+◌, ◌<◌, List, [], ◌∷◌, ◌++◌, map, length, refl, ap, sym, ◌∙◌, arith, inl, inr, Some, subst, append_assoc}
+use Rattle.std.proofs.lemmas.Option.{slice_get_within}
 use Rattle.std.proofs.lemmas.List.{append-nil}
 use Rattle.std.specs.List.{slice_get, AllByRecursion, flat_map}
 use Rattle.wasm_spec.specs.Features.{Features}
@@ -12,7 +13,7 @@ use Rattle.wasm_spec.specs.Trees.{DefType, tree_of, types_of_group, types_after,
 use Rattle.wasm_spec.specs.Types.{Concrete, SubType, RecGroup}
 use Rattle.wasm_spec.proofs.Closures.{same_defined}
 use Rattle.wasm_spec.proofs.GroupTrees.{Stand, stand_after, section_stands, type_kept, all_each}
-use Rattle.wasm_spec.proofs.Places.{get_cases, get_some, get_within}
+use Rattle.wasm_spec.proofs.Places.{get_cases, get_some}
 use Rattle.wasm_spec.proofs.SectionTypes.{rules_in_range, well_formed_in_range}
 use Rattle.wasm_spec.proofs.TypeMaps.{sub_map_agree}
 use Rattle.wasm_spec.proofs.TypeOrders.{below_matches}
@@ -74,7 +75,7 @@ pub section_matches : (features : Features) (gs : List (RecGroup ℕ)) → AreWe
 section_matches features gs h i j a b at at' below =
     let it = section_stands gs (well_formed_in_range features [] gs h) in
     let f = type_at (section_types gs) in
-    below_matches unrolled (IsOf gs) rules (f i) (f j) (record { index = i; within = get_within (flat_map members gs) i a at; is = refl }) below (sub_map f a) (sub_map f b) (it.unrolls i a at) (it.unrolls j b at')
+    below_matches unrolled (IsOf gs) rules (f i) (f j) (record { index = i; within = slice_get_within (flat_map members gs) i a at; is = refl }) below (sub_map f a) (sub_map f b) (it.unrolls i a at) (it.unrolls j b at')
   where
     rules : (r : DefType) (type : SubType DefType) → IsOf gs r → unrolled r ≡ Some type → ExtendsSupertypes unrolled type × AllByRecursion (IsOf gs) type.supertypes
     rules r type known is =

@@ -1,5 +1,6 @@
 -- The types of a section by index: its references stand for its sub types, and rules keep them in range.
 use Rattle.std.proofs.Common.{◌≡◌, ℕ, ◌+◌, ◌<◌, ◌≤◌, Bool, true, false, List, [], ◌∷◌, ◌++◌, length, refl, ap, sym, ◌∙◌, arith, if◌then◌else◌, None, Some}
+use Rattle.std.proofs.lemmas.Option.{slice_get_within, slice_get_past}
 use Rattle.std.specs.List.{slice_get, AllByRecursion, flat_map}
 use Rattle.wasm_spec.specs.Features.{Features, Gc, has}
 use Rattle.wasm_spec.specs.Groups.{KeepsGroupRules, IsWellFormedGroup, AreWellFormedGroups}
@@ -9,7 +10,7 @@ use Rattle.wasm_spec.specs.TypeReferences.{sub_refs, group_refs}
 use Rattle.wasm_spec.specs.Trees.{DefType, types_after, types_from, section_types, type_or_none, type_at, unrolled, IsInRange, AreInRange, AreDistinct}
 use Rattle.wasm_spec.specs.Types.{RecGroup}
 use Rattle.wasm_spec.proofs.GroupTrees.{section_stands, all_each, length-types_after}
-use Rattle.wasm_spec.proofs.Places.{get_some, get_none, get_within}
+use Rattle.wasm_spec.proofs.Places.{get_some}
 
 pub section_keeps : (groups : List (RecGroup ℕ)) → AreInRange 0 groups → KeepsTypes (type_at (section_types groups)) (slice_get (flat_map members groups)) unrolled
 section_keeps groups range = (section_stands groups range).unrolls
@@ -24,8 +25,8 @@ pub section_one_to_one : (groups : List (RecGroup ℕ)) → AreInRange 0 groups 
 section_one_to_one groups range one r t known known' e =
     let it = section_stands groups range in
     let ts = section_types groups in
-    let (a, at) = get_some ts r (omega (arith, get_within (flat_map members groups) r known.0 known.1, it.lengths)) in
-    let (b, at') = get_some ts t (omega (arith, get_within (flat_map members groups) t known'.0 known'.1, it.lengths)) in
+    let (a, at) = get_some ts r (omega (arith, slice_get_within (flat_map members groups) r known.0 known.1, it.lengths)) in
+    let (b, at') = get_some ts t (omega (arith, slice_get_within (flat_map members groups) t known'.0 known'.1, it.lengths)) in
     let same : b ≡ a = sym (ap type_or_none at') ∙ sym e ∙ ap type_or_none at in
     one r t a at (at' ∙ ap Some same)
 
@@ -60,5 +61,5 @@ groups_joined features before (g ∷ groups) group h k = (h.0, groups_joined fea
 
 pub past_the_end : (types : List DefType) (index : ℕ) → length types ≤ index → unrolled (type_at types index) ≡ None
 past_the_end types index h =
-    let none : slice_get types index ≡ None = get_none types index h in
+    let none : slice_get types index ≡ None = slice_get_past types index h in
     ap (λ q. unrolled (type_or_none q)) none

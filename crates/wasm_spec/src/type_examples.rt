@@ -1,15 +1,15 @@
 //! Worked examples of defined types, subtyping, matching and well-formed groups.
 
-ghost use Rattle.std.specs.Prelude.{◌≡◌, ◌+◌, ℕ, Bool, [], ◌∷◌, false, slice_get, true};
+ghost use Rattle.std.specs.Prelude.{◌≡◌, ◌+◌, ℕ, Bool, [], ◌∷◌, Some, false, slice_get, true};
 ghost use Rattle.wasm_spec.specs.Bodies.{is_ref};
 ghost use Rattle.wasm_spec.specs.Features.{Features, FunctionReferences, Gc, GcTypes, ReferenceTypes, StackSwitching, bit_of, default_features};
 ghost use Rattle.wasm_spec.specs.Groups.{IsWellFormedGroup, IsWithinGroupLimits, KeepsGroupRules};
 ghost use Rattle.wasm_spec.specs.Matching.{CompositeMatches, FieldMatches, StorageBelow};
-ghost use Rattle.wasm_spec.specs.Subtyping.{HeapBelow, IsOfKind, SubTypes, ValBelow};
+ghost use Rattle.wasm_spec.specs.Subtyping.{HeapBelow, IsOfKind, SubTypes, ValBelow, bottom_of};
 ghost use Rattle.wasm_spec.specs.Trees.{section_types, type_at, unrolled};
 ghost use Rattle.wasm_spec.specs.TypeExamples.{IsOneType, alone, any, any_structure, const_field, empty_function, empty_structure, gives, of_params, one_field, open_below, open_type, pair_from, ref_null, structure_to, takes, two_fields, var_field};
 ghost use Rattle.wasm_spec.specs.TypeReferences.{group_refs, sub_refs};
-ghost use Rattle.wasm_spec.specs.Types.{Abstract, Any, Array, ArrayComposite, Concrete, Cont, ContComposite, Eq, Func, FuncComposite, Group, HeapType, I16, I31, I32, I64, I8, NoCont, NoFunc, None, Ref, Single, StorageType, Struct, StructComposite, Val, ValType};
+ghost use Rattle.wasm_spec.specs.Types.{Abstract, AbstractHeapType, Any, Array, ArrayComposite, Concrete, Cont, ContComposite, Eq, Func, FuncComposite, Group, HeapType, I16, I31, I32, I64, I8, NoCont, NoFunc, None, Ref, Single, StorageType, Struct, StructComposite, SubType, Val, ValType};
 
 /// Two structures that refer to each other, written twice, are two types and not four; and it matters which place refers to which.
 pub fn equal_groups()
@@ -56,6 +56,8 @@ pub fn bottoms<R>()
     ensures nocont { (sub_at : SubTypes R) (r : R) → IsOfKind sub_at r Cont → HeapBelow sub_at (Abstract NoCont) (Concrete r) }
     ensures none_func { (sub_at : SubTypes R) (r : R) → IsOfKind sub_at r Func → ¬ (HeapBelow sub_at (Abstract None) (Concrete r)) }
     ensures nofunc_struct { (sub_at : SubTypes R) (r : R) → IsOfKind sub_at r Struct → ¬ (HeapBelow sub_at (Abstract NoFunc) (Concrete r)) }
+    ensures others { (sub_at : SubTypes R) (r : R) (type : SubType R) (a : AbstractHeapType) → sub_at r ≡ Some type
+        → HeapBelow sub_at (Abstract a) (Concrete r) → a ≡ bottom_of type.composite_type }
     ensures i31 { (sub_at : SubTypes R) (r : R) → ¬ (HeapBelow sub_at (Abstract I31) (Concrete r)) }
 {}
 

@@ -143,14 +143,20 @@ fn seed_of(
     seed_for(alloc, config, &groups, &functions).ok()
 }
 
+// Whether a seed makes these sections, or none was expected.
+fn is_expected(alloc: Global, config: &Config, seed: Option<&[u8]>, expected: &str) -> bool {
+    match seed {
+        Some(seed) => makes(alloc, config, seed, expected),
+        None => expected == "none",
+    }
+}
+
 // Whether a row holds.
 fn holds(alloc: Global, row: &str) -> Option<bool> {
     let (settings, groups, functions, expected) = four_fields(row)?;
     let config = config_of(settings)?;
-    match seed_of(alloc, &config, groups, functions)? {
-        Some(seed) => Some(makes(alloc, &config, &seed, expected)),
-        None => Some(expected == "none"),
-    }
+    let seed = seed_of(alloc, &config, groups, functions)?;
+    Some(is_expected(alloc, &config, seed.as_deref(), expected))
 }
 
 #[test]

@@ -5,20 +5,20 @@ use std::test::Fail;
 use wasmparser_interning::snapshot_list::SnapshotList;
 
 // Whether a list has the numbers from 0 on, as many as it says.
-fn counts_to(list: &SnapshotList<u32>, len: u32) -> bool {
+fn counts_to(list: &SnapshotList<usize>, len: usize) -> bool {
     for number in 0..len {
-        if list.get(number as usize) != Some(&number) {
+        if list.get(number) != Some(&number) {
             return false;
         }
     }
-    list.len() == len as usize && list.get(len as usize).is_none()
+    list.len() == len && list.get(len).is_none()
 }
 
 #[test]
 fn copy_stays_as_it_was(rt: HostRuntime) -> Result<(), Fail> {
     let mut list = SnapshotList::new(rt.alloc());
     assert!(rt; list.is_empty(), "new");
-    list.push(7u32)?;
+    list.push(7usize)?;
     let mut kept = list.commit()?;
     list.push(8)?;
     assert!(rt; list.len() == 2 && list[1] == 8, "the list");
@@ -32,7 +32,7 @@ fn copy_stays_as_it_was(rt: HostRuntime) -> Result<(), Fail> {
 }
 
 // The numbers from 0 on, pushed one after the other, with a copy taken after each, and whether the copies that were kept stay as they were.
-fn keeps_copies(alloc: Global, len: u32) -> Result<bool, AllocError> {
+fn keeps_copies(alloc: Global, len: usize) -> Result<bool, AllocError> {
     let mut list = SnapshotList::new(alloc);
     let mut copies = Vec::new(alloc);
     for number in 0..len {
@@ -40,10 +40,8 @@ fn keeps_copies(alloc: Global, len: u32) -> Result<bool, AllocError> {
         copies.push(list.commit()?)?;
     }
     let mut are_kept = counts_to(&list, len);
-    let mut expected = 0;
-    for copy in &copies {
-        expected += 1;
-        are_kept = are_kept && counts_to(copy, expected);
+    for (place, copy) in copies.iter().enumerate() {
+        are_kept = are_kept && counts_to(copy, place.saturating_add(1));
     }
     Ok(are_kept)
 }
@@ -54,36 +52,38 @@ fn copies_are_kept(rt: HostRuntime) -> Result<(), Fail> {
     Ok(())
 }
 
+// The same of so many numbers, without a copy being kept.
+fn takes_copies(alloc: Global, len: usize) -> Result<bool, AllocError> {
+    let mut list = SnapshotList::new(alloc);
+    for number in 0..len {
+        list.push(number)?;
+        list.commit()?;
+    }
+    Ok(counts_to(&list, len))
+}
+
 #[test]
 fn a_million_copies_share_their_elements(rt: HostRuntime) -> Result<(), Fail> {
-    let mut list = SnapshotList::new(rt.alloc());
-    for number in 0..1_000_000u32 {
-        list.push(number)?;
-        let copy = list.commit()?;
-        if copy.len() != number as usize + 1 {
-            break;
-        }
-    }
-    assert!(rt; counts_to(&list, 1_000_000), "all are there");
+    assert!(rt; takes_copies(rt.alloc(), 1_000_000)?, "all are there");
     Ok(())
 }
 
 // For `rt try --test --fail-alloc N`, which refuses an allocation: the list is as it was, and takes the same call again.
 
 // Whether a number goes in after those below it and a copy is taken, at the second call where the first is refused.
-fn takes(list: &mut SnapshotList<u32>, number: u32) -> bool {
+fn takes(list: &mut SnapshotList<usize>, number: usize) -> bool {
     let is_pushed = list.push(number).is_ok();
     if !is_pushed && !(counts_to(list, number) && list.push(number).is_ok()) {
         return false;
     }
     let is_kept = list.commit().is_ok();
-    is_kept || (counts_to(list, number + 1) && list.commit().is_ok())
+    is_kept || (counts_to(list, number.saturating_add(1)) && list.commit().is_ok())
 }
 
 #[test]
 fn refusals_change_nothing(rt: HostRuntime) {
     let mut list = SnapshotList::new(rt.alloc());
-    for number in 0..20u32 {
+    for number in 0..20 {
         assert!(rt; takes(&mut list, number), "{number}");
     }
     assert!(rt; counts_to(&list, 20), "all");

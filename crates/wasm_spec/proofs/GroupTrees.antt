@@ -3,10 +3,10 @@ use Rattle.std.proofs.Common.{◌≡◌, ℕ, zero, suc, ◌+◌, ◌-◌, ◌<�
 use Rattle.std.proofs.lemmas.List.{append-nil}
 use Rattle.std.proofs.lemmas.Option.{slice_get-map, slice_get_within}
 use Rattle.std.specs.List.{slice_get, AllByRecursion, flat_map}
-use Rattle.std.specs.Option.{option_map}
+use Rattle.std.specs.Option.{option_map, unwrap_or}
 use Rattle.wasm_spec.specs.Syntax.{members}
 use Rattle.wasm_spec.specs.TypeReferences.{sub_map, subs_map, sub_refs, subs_refs, subs_fill, group_refs}
-use Rattle.wasm_spec.specs.Trees.{GroupTree, TreeReference, Own, joined, listed, roll, opened, DefType, seen_from, unrolled, reference_to, reference_of, tree_of, places_of, types_of_group, types_after, types_from, section_types, type_or_none, type_at, IsInRange, AreInRange}
+use Rattle.wasm_spec.specs.Trees.{GroupTree, TreeReference, Own, joined, listed, roll, opened, DefType, seen_from, unrolled, reference_to, reference_of, tree_of, places_of, types_of_group, types_after, types_from, section_types, no_type, type_at, RefersBelow, AreInRange}
 use Rattle.wasm_spec.specs.Types.{SubType, RecGroup, Single, Group}
 use Rattle.wasm_spec.proofs.MappedBack.{all_left, all_right}
 use Rattle.wasm_spec.proofs.Places.{get_left, get_right, get_cases, get_either}
@@ -45,18 +45,18 @@ length-types_after ts g = omega (arith, length-append ts (types_of_group ts g), 
 own_at : (ts : List DefType) (g : RecGroup ℕ) (j : ℕ) → j < length (members g) → type_at (types_after ts g) (length ts + j) ≡ record { tree = tree_of ts g; place = j }
 own_at ts g j h =
     let zero_add : 0 + j ≡ j = omega arith in
-    ap type_or_none (get_right ts (types_of_group ts g) j ∙ places_at (tree_of ts g) 0 (members g) j h) ∙ ap (λ p. record { tree = tree_of ts g; place = p }) zero_add
+    ap (λ q. unwrap_or q no_type) (get_right ts (types_of_group ts g) j ∙ places_at (tree_of ts g) 0 (members g) j h) ∙ ap (λ p. record { tree = tree_of ts g; place = p }) zero_add
 
 -- with more types after them, types keep their indexes
 pub type_kept : (ts us : List DefType) (n : ℕ) → n < length ts → type_at (ts ++ us) n ≡ type_at ts n
-type_kept ts us n h = ap type_or_none (get_left ts us n h)
+type_kept ts us n h = ap (λ q. unwrap_or q no_type) (get_left ts us n h)
 
 -- seen from its group or by index, a reference is one type
 seen_same : (ts : List DefType) (g : RecGroup ℕ) (n : ℕ) → n < length ts + length (members g) → seen_from (tree_of ts g) (reference_of ts n) ≡ type_at (types_after ts g) n
 seen_same ts g n h = elim (get_either ts n) [
   | inl at ↦
       let left : seen_from (tree_of ts g) (reference_to (slice_get ts n) (n - length ts)) ≡ at.0 = rw at.1 in
-      left ∙ sym (ap type_or_none (get_left ts (types_of_group ts g) n at.2 ∙ at.1))
+      left ∙ sym (ap (λ q. unwrap_or q no_type) (get_left ts (types_of_group ts g) n at.2 ∙ at.1))
   | inr at ↦
       let j = at.1.0 in
       let place : n - length ts ≡ j = omega (arith, at.1.1) in
@@ -91,7 +91,7 @@ pub record Stand (ss : List (SubType ℕ)) (ts : List DefType) : Type 0 where
   pub in_range : (i : ℕ) (s : SubType ℕ) → slice_get ss i ≡ Some s → AllByRecursion (λ n. n < length ts) (sub_refs s)
   pub unrolls : (i : ℕ) (s : SubType ℕ) → slice_get ss i ≡ Some s → unrolled (type_at ts i) ≡ Some (sub_map (type_at ts) s)
 
-own_unrolls : (ts : List DefType) (g : RecGroup ℕ) → IsInRange (length ts) g → (j : ℕ) (s : SubType ℕ) → slice_get (members g) j ≡ Some s → unrolled (type_at (types_after ts g) (length ts + j)) ≡ Some (sub_map (type_at (types_after ts g)) s)
+own_unrolls : (ts : List DefType) (g : RecGroup ℕ) → RefersBelow (length ts + length (members g)) g → (j : ℕ) (s : SubType ℕ) → slice_get (members g) j ≡ Some s → unrolled (type_at (types_after ts g) (length ts + j)) ≡ Some (sub_map (type_at (types_after ts g)) s)
 own_unrolls ts g range j s e =
     let t = tree_of ts g in
     let read : slice_get (opened t) j ≡ Some (sub_map (reference_of ts) s) =
@@ -103,7 +103,7 @@ own_unrolls ts g range j s e =
     ap unrolled (own_at ts g j (slice_get_within (members g) j s e)) ∙ ap (option_map (sub_map (seen_from t))) read
     ∙ ap Some (sub_map-sub_map (seen_from t) (reference_of ts) s ∙ agree)
 
-pub stand_after : {ss : List (SubType ℕ)} {ts : List DefType} → Stand ss ts → (g : RecGroup ℕ) → IsInRange (length ts) g → Stand (ss ++ members g) (types_after ts g)
+pub stand_after : {ss : List (SubType ℕ)} {ts : List DefType} → Stand ss ts → (g : RecGroup ℕ) → RefersBelow (length ts + length (members g)) g → Stand (ss ++ members g) (types_after ts g)
 stand_after {ss} {ts} it g range = record {
   lengths = omega (arith, length-types_after ts g, length-append ss (members g), it.lengths);
   in_range = λ i s e. elim (get_cases ss (members g) i s e) [

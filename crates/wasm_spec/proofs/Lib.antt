@@ -3,6 +3,7 @@ pub mod Closures
 pub mod CompactImports
 pub mod Decoding
 pub mod EncodingBytes
+pub mod Elements
 pub mod Encodings
 pub mod EqualTrees
 pub mod GateForms

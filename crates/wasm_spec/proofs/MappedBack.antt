@@ -1,15 +1,16 @@
 -- The way back: what holds after a map of references held before it, where the references of types stand for types, and no two that stand for types go to one.
 use Rattle.std.proofs.Common.{◌≡◌, true, List, [], ◌∷◌, ◌++◌, map, refl, ap, sym, ◌∙◌, inl, inr, subst, Option, Some}
 use Rattle.std.proofs.lemmas.List.{length-map}
-use Rattle.std.specs.List.{AllByRecursion, flat_map}
+use Rattle.std.specs.List.{AllByRecursion, Contains, flat_map}
 use Rattle.wasm_spec.specs.Groups.{Extends, ExtendsSupertypes, ContinuesFunc, Links, no_link, one_more, items_in, PassesLimit, many_items, many_links}
 use Rattle.wasm_spec.specs.Limits.{Limit, IsPassedBy}
 use Rattle.wasm_spec.specs.Matching.{FrontPairwise, StorageBelow, FieldMatches, ResultsMatch, FuncMatches, CompositeMatches}
 use Rattle.wasm_spec.specs.ReferenceMaps.{KeepsTypes, IsType, AreClosed, IsOneToOne}
-use Rattle.wasm_spec.specs.Subtyping.{IsAmong, Closure, same, step, abstract_of, bottom_of, Defined, Declared, Link, HeapBelow, HeapTest, RefBelow, ValBelow, is_abstract_below}
+use Rattle.wasm_spec.specs.Subtyping.{Closure, same, step, abstract_of, bottom_of, Defined, Declared, Link, HeapBelow, HeapTest, RefBelow, ValBelow, is_abstract_below}
 use Rattle.wasm_spec.specs.TypeReferences.{heap_map, ref_map, val_map, storage_map, field_map, func_map, composite_map, sub_map, heap_refs, ref_refs, val_refs, storage_refs, field_refs, func_refs, composite_refs, sub_refs}
 use Rattle.wasm_spec.specs.Types.{Func, HeapType, Abstract, Concrete, RefType, ValType, I32, I64, F32, F64, V128, Ref, StorageType, I8, I16, Val, FieldType, FuncType, CompositeType, FuncComposite, StructComposite, ArrayComposite, ContComposite, SubType}
 use Rattle.wasm_spec.proofs.Closures.{sound, complete, same_defined}
+use Rattle.wasm_spec.proofs.Elements.{contains_first, contains_more, contains_cases, contains_none}
 use Rattle.wasm_spec.proofs.MappedTypes.{abstract_of_map, bottom_of_map, items_in_map}
 
 pub all_left : {X : Type 0} (P : X → Type 0) (xs ys : List X) → AllByRecursion P (xs ++ ys) → AllByRecursion P xs
@@ -23,15 +24,17 @@ all_right P (x ∷ xs) ys h = all_right P xs ys h.1
 -- y is what f gives for a known one of the list
 record FoundBack {X Y : Type 0} (f : X → Y) (Known : X → Type 0) (y : Y) (xs : List X) : Type 0 where
   item : X
-  among : IsAmong item xs
+  among : Contains xs item
   known : Known item
   is : f item ≡ y
 
-among_back : {X Y : Type 0} (f : X → Y) (Known : X → Type 0) (y : Y) (xs : List X) → AllByRecursion Known xs → IsAmong y (map f xs) → FoundBack f Known y xs
-among_back f Known y [] all h = absurd h
-among_back f Known y (x ∷ xs) all (inl e) = record { item = x; among = inl refl; known = all.0; is = e }
-among_back f Known y (x ∷ xs) all (inr h) =
-    let b = among_back f Known y xs all.1 h in record { item = b.item; among = inr b.among; known = b.known; is = b.is }
+among_back : {X Y : Type 0} (f : X → Y) (Known : X → Type 0) (y : Y) (xs : List X) → AllByRecursion Known xs → Contains (map f xs) y → FoundBack f Known y xs
+among_back f Known y [] all h = absurd (contains_none y h)
+among_back f Known y (x ∷ xs) all h = elim (contains_cases y (f x) (map f xs) h) [
+  | inl e ↦ record { item = x; among = contains_first x xs; known = all.0; is = e }
+  | inr more ↦
+      let b = among_back f Known y xs all.1 more in record { item = b.item; among = contains_more b.item x xs b.among; known = b.known; is = b.is }
+]
 
 module _ {R S : Type 0} (f : R → S) (from : R → Option (SubType R)) (to : S → Option (SubType S)) (keeps : KeepsTypes f from to) (closed : AreClosed from) where
   -- a property of what f gives for a known reference
@@ -54,7 +57,7 @@ module _ {R S : Type 0} (f : R → S) (from : R → Option (SubType R)) (to : S 
       let (s, at) = known in
       let refs = closed r s at in
       let one : d.type ≡ sub_map f s = same_defined to (f r) d.type (sub_map f s) d.is (keeps r s at) in
-      let P : SubType S → Type 0 = λ u. IsAmong t u.supertypes in
+      let P : SubType S → Type 0 = λ u. Contains u.supertypes t in
       let b = among_back f (IsType from) t s.supertypes (all_left (IsType from) s.supertypes (composite_refs s.composite_type) refs) (subst P one d.among) in
       record { end = b.item; known = b.known; is = b.is; declared = record { type = s; is = at; among = b.among } }
 

@@ -1,20 +1,16 @@
 -- Subtyping, matching and the rules on types are kept by a map of references that keeps what they stand for.
-use Rattle.std.proofs.Common.{◌≡◌, List, [], ◌∷◌, map, refl, ap, sym, ◌∙◌, inl, inr, Option}
+use Rattle.std.proofs.Common.{◌≡◌, List, [], ◌∷◌, map, refl, sym, ◌∙◌, Option}
 use Rattle.std.proofs.lemmas.List.{length-map}
 use Rattle.std.specs.List.{AllByRecursion}
 use Rattle.wasm_spec.specs.Groups.{Extends, ExtendsSupertypes, ContinuesFunc, Links, no_link, one_more, items_in, PassesLimit, many_items, many_links}
 use Rattle.wasm_spec.specs.Limits.{Limit, Params, Results, Fields}
 use Rattle.wasm_spec.specs.Matching.{Pairwise, FrontPairwise, StorageBelow, FieldMatches, ResultsMatch, FuncMatches, CompositeMatches}
 use Rattle.wasm_spec.specs.ReferenceMaps.{KeepsTypes}
-use Rattle.wasm_spec.specs.Subtyping.{IsAmong, abstract_of, bottom_of, Declared, Link, HeapStep, HeapBelow, RefBelow, ValBelow}
+use Rattle.wasm_spec.specs.Subtyping.{abstract_of, bottom_of, Declared, Link, HeapStep, HeapBelow, RefBelow, ValBelow}
 use Rattle.wasm_spec.specs.TypeReferences.{heap_map, ref_map, val_map, storage_map, field_map, func_map, composite_map, sub_map}
 use Rattle.wasm_spec.specs.Types.{HeapType, Abstract, Concrete, RefType, ValType, I32, I64, F32, F64, V128, Ref, StorageType, I8, I16, Val, FieldType, FuncType, CompositeType, FuncComposite, StructComposite, ArrayComposite, ContComposite, SubType}
 use Rattle.wasm_spec.proofs.Closures.{mapped}
-
-pub among_map : {X Y : Type 0} (f : X → Y) (x : X) (xs : List X) → IsAmong x xs → IsAmong (f x) (map f xs)
-among_map f x [] h = h
-among_map f x (y ∷ ys) (inl e) = inl (ap f e)
-among_map f x (y ∷ ys) (inr h) = inr (among_map f x ys h)
+use Rattle.wasm_spec.proofs.Elements.{contains_map}
 
 pub abstract_of_map : {R S : Type 0} (f : R → S) (c : CompositeType R) → abstract_of (composite_map f c) ≡ abstract_of c
 abstract_of_map f (FuncComposite type) = refl
@@ -54,7 +50,7 @@ all_map P Q f one (x ∷ xs) h = (one x h.0, all_map P Q f one xs h.1)
 
 module _ {R S : Type 0} (f : R → S) (from : R → Option (SubType R)) (to : S → Option (SubType S)) (keeps : KeepsTypes f from to) where
   pub declared_map : (r t : R) → Declared from r t → Declared to (f r) (f t)
-  declared_map r t d = record { type = sub_map f d.type; is = keeps r d.type d.is; among = among_map f t d.type.supertypes d.among }
+  declared_map r t d = record { type = sub_map f d.type; is = keeps r d.type d.is; among = contains_map f t d.type.supertypes d.among }
 
   pub link_map : (r t : R) → Link from r t → Link to (f r) (f t)
   unfolding declared_map

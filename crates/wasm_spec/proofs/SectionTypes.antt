@@ -2,12 +2,13 @@
 use Rattle.std.proofs.Common.{◌≡◌, ℕ, ◌+◌, ◌<◌, ◌≤◌, Bool, true, false, List, [], ◌∷◌, ◌++◌, length, refl, ap, sym, ◌∙◌, arith, if◌then◌else◌, None, Some}
 use Rattle.std.proofs.lemmas.Option.{slice_get_within, slice_get_past}
 use Rattle.std.specs.List.{slice_get, AllByRecursion, flat_map}
+use Rattle.std.specs.Option.{unwrap_or}
 use Rattle.wasm_spec.specs.Features.{Features, Gc, has}
 use Rattle.wasm_spec.specs.Groups.{KeepsGroupRules, IsWellFormedGroup, AreWellFormedGroups}
 use Rattle.wasm_spec.specs.ReferenceMaps.{AreClosed, IsOneToOne, IsType, KeepsTypes}
 use Rattle.wasm_spec.specs.Syntax.{members}
 use Rattle.wasm_spec.specs.TypeReferences.{sub_refs, group_refs}
-use Rattle.wasm_spec.specs.Trees.{DefType, types_after, types_from, section_types, type_or_none, type_at, unrolled, IsInRange, AreInRange, AreDistinct}
+use Rattle.wasm_spec.specs.Trees.{DefType, types_after, types_from, section_types, no_type, type_at, unrolled, RefersBelow, AreInRange, AreDistinct}
 use Rattle.wasm_spec.specs.Types.{RecGroup}
 use Rattle.wasm_spec.proofs.GroupTrees.{section_stands, all_each, length-types_after}
 use Rattle.wasm_spec.proofs.Places.{get_some}
@@ -27,13 +28,13 @@ section_one_to_one groups range one r t known known' e =
     let ts = section_types groups in
     let (a, at) = get_some ts r (omega (arith, slice_get_within (flat_map members groups) r known.0 known.1, it.lengths)) in
     let (b, at') = get_some ts t (omega (arith, slice_get_within (flat_map members groups) t known'.0 known'.1, it.lengths)) in
-    let same : b ≡ a = sym (ap type_or_none at') ∙ sym e ∙ ap type_or_none at in
+    let same : b ≡ a = sym (ap (λ q. unwrap_or q no_type) at') ∙ sym e ∙ ap (λ q. unwrap_or q no_type) at in
     one r t a at (at' ∙ ap Some same)
 
-pub rules_in_range : (features : Features) (before : List DefType) (group : RecGroup ℕ) → KeepsGroupRules features before group → IsInRange (length before) group
+pub rules_in_range : (features : Features) (before : List DefType) (group : RecGroup ℕ) → KeepsGroupRules features before group → RefersBelow (length before + length (members group)) group
 rules_in_range features before group rules = go (has features Gc) rules.in_range
   where
-    go : (b : Bool) → AllByRecursion (λ i. i < (if b then length before + length (members group) else length before)) (group_refs group) → IsInRange (length before) group
+    go : (b : Bool) → AllByRecursion (λ i. i < (if b then length before + length (members group) else length before)) (group_refs group) → RefersBelow (length before + length (members group)) group
     go true h = h
     go false h = all_each (λ i. i < length before) (λ i. i < length before + length (members group)) (λ i k. omega (arith, k)) (group_refs group) h
 
@@ -62,4 +63,4 @@ groups_joined features before (g ∷ groups) group h k = (h.0, groups_joined fea
 pub past_the_end : (types : List DefType) (index : ℕ) → length types ≤ index → unrolled (type_at types index) ≡ None
 past_the_end types index h =
     let none : slice_get types index ≡ None = slice_get_past types index h in
-    ap (λ q. unrolled (type_or_none q)) none
+    ap (λ q. unrolled (unwrap_or q no_type)) none

@@ -1,10 +1,12 @@
 -- Kinds of defined types, and what a closure can't join.
 use Rattle.std.proofs.Common.{◌≡◌, true, false, List, [], refl, ap, sym, ◌∙◌, ◌⊎◌, inl, inr, subst, Option, Some}
+use Rattle.std.specs.List.{Contains}
 use Rattle.wasm_spec.specs.Groups.{Extends}
 use Rattle.wasm_spec.specs.Matching.{CompositeMatches}
-use Rattle.wasm_spec.specs.Subtyping.{IsAmong, Closure, same, step, abstract_of, bottom_of, Defined, HeapBelow, is_abstract_below}
+use Rattle.wasm_spec.specs.Subtyping.{Closure, same, step, abstract_of, bottom_of, Defined, HeapBelow, is_abstract_below}
 use Rattle.wasm_spec.specs.Types.{AbstractHeapType, I31, Abstract, Concrete, CompositeType, FuncComposite, StructComposite, ArrayComposite, ContComposite, SubType}
 use Rattle.wasm_spec.proofs.Closures.{sound, complete, bottom_under, bottom_by_abstract, same_defined, kind_kept}
+use Rattle.wasm_spec.proofs.Elements.{contains_none}
 
 module _ {R : Type 0} (sub_at : R → Option (SubType R)) where
   -- the bottom of a kind is below its types
@@ -55,9 +57,9 @@ module _ {R : Type 0} (sub_at : R → Option (SubType R)) where
     | inr more ↦
         let l = more.1.declared in
         let one : l.type ≡ s = same_defined sub_at r l.type s l.is e in
-        let P : List R → Type 0 = λ ts. IsAmong more.0 ts in
-        let empty : IsAmong more.0 [] = subst P (ap (λ q. q.supertypes) one ∙ none) l.among in
-        absurd empty
+        let P : List R → Type 0 = λ ts. Contains ts more.0 in
+        let empty : Contains [] more.0 = subst P (ap (λ q. q.supertypes) one ∙ none) l.among in
+        absurd (contains_none more.0 empty)
   ]
 
 pub bottom_is_no_i31 : {R : Type 0} (c : CompositeType R) → bottom_of c ≡ I31 → ⊥

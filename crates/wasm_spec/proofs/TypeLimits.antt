@@ -1,10 +1,12 @@
 -- Depth of types, and limits on them.
 use Rattle.std.proofs.Common.{◌≡◌, ℕ, suc, ◌<◌, ◌≤◌, ◌↔◌, List, [], ◌∷◌, refl, sym, arith, inl, inr, subst, Option, Some}
+use Rattle.std.specs.List.{Contains}
 use Rattle.wasm_spec.specs.Groups.{Links, no_link, one_more, HasDepth, items_in, PassesLimit, many_items, many_links}
 use Rattle.wasm_spec.specs.Limits.{Limit, Depth, most, IsPassedBy}
-use Rattle.wasm_spec.specs.Subtyping.{IsAmong, Declared}
+use Rattle.wasm_spec.specs.Subtyping.{Declared}
 use Rattle.wasm_spec.specs.Types.{CompositeType, FuncComposite, StructComposite, ArrayComposite, ContComposite, SubType}
 use Rattle.wasm_spec.proofs.Closures.{same_defined}
+use Rattle.wasm_spec.proofs.Elements.{contains_first, contains_cases, contains_none}
 
 no_items_of_depth : {R : Type 0} (c : CompositeType R) → items_in c Depth ≡ 0
 no_items_of_depth (FuncComposite type) = refl
@@ -13,10 +15,10 @@ no_items_of_depth (ArrayComposite field) = refl
 no_items_of_depth (ContComposite function) = refl
 
 module _ {R : Type 0} (sub_at : R → Option (SubType R)) where
-  supertype_among : (r t : R) (type : SubType R) → sub_at r ≡ Some type → Declared sub_at r t → IsAmong t type.supertypes
+  supertype_among : (r t : R) (type : SubType R) → sub_at r ≡ Some type → Declared sub_at r t → Contains type.supertypes t
   supertype_among r t type e d =
       let one : d.type ≡ type = same_defined sub_at r d.type type d.is e in
-      let P : SubType R → Type 0 = λ s. IsAmong t s.supertypes in
+      let P : SubType R → Type 0 = λ s. Contains s.supertypes t in
       subst P one d.among
 
   -- links that are none, or go on from a declared supertype
@@ -35,30 +37,30 @@ module _ {R : Type 0} (sub_at : R → Option (SubType R)) where
     most = λ m t links. elim (first_of links) [
       | nothing is ↦ omega (arith, is)
       | first n s is d more ↦
-          let P : List R → Type 0 = λ ts. IsAmong s ts in
-          let empty : IsAmong s [] = subst P none (supertype_among r s type e d) in
-          absurd empty
+          let P : List R → Type 0 = λ ts. Contains ts s in
+          let empty : Contains [] s = subst P none (supertype_among r s type e d) in
+          absurd (contains_none s empty)
     ];
   }
 
   pub depth_suc : (r t : R) (type : SubType R) (n : ℕ) → sub_at r ≡ Some type → type.supertypes ≡ t ∷ [] → HasDepth sub_at t n → HasDepth sub_at r (suc n)
   depth_suc r t type n e one d =
-      let P : List R → Type 0 = λ ts. IsAmong t ts in
-      let link : Declared sub_at r t = record { type = type; is = e; among = subst P (sym one) (inl refl) } in
+      let P : List R → Type 0 = λ ts. Contains ts t in
+      let link : Declared sub_at r t = record { type = type; is = e; among = subst P (sym one) (contains_first t []) } in
       record {
         top = d.top;
         reached = one_more link d.reached;
         most = λ m u links. elim (first_of links) [
           | nothing is ↦ omega (arith, is)
           | first k s is l more ↦
-              let Q : List R → Type 0 = λ ts. IsAmong s ts in
-              let among : IsAmong s (t ∷ []) = subst Q one (supertype_among r s type e l) in
-              elim among [
+              let Q : List R → Type 0 = λ ts. Contains ts s in
+              let among : Contains (t ∷ []) s = subst Q one (supertype_among r s type e l) in
+              elim (contains_cases s t [] among) [
                 | inl same ↦
                     let L : R → Type 0 = λ q. Links sub_at k q u in
                     let below = d.most k u (subst L (sym same) more) in
                     omega (arith, is, below)
-                | inr other ↦ absurd other
+                | inr other ↦ absurd (contains_none s other)
               ]
         ];
       }

@@ -1,12 +1,13 @@
 -- Subtyping and matching are reflexive and transitive, and where rules are kept a type matches what it is below.
-use Rattle.std.proofs.Common.{◌≡◌, true, false, List, [], ◌∷◌, refl, sym, ◌∙◌, inl, inr, subst, Option, Some}
-use Rattle.std.specs.List.{AllByRecursion}
+use Rattle.std.proofs.Common.{◌≡◌, true, false, List, [], ◌∷◌, refl, sym, ◌∙◌, subst, Option, Some}
+use Rattle.std.specs.List.{AllByRecursion, Contains}
 use Rattle.wasm_spec.specs.Bodies.{is_ref}
 use Rattle.wasm_spec.specs.Groups.{Extends, ExtendsSupertypes}
 use Rattle.wasm_spec.specs.Matching.{Pairwise, FrontPairwise, StorageBelow, FieldMatches, ResultsMatch, CompositeMatches}
-use Rattle.wasm_spec.specs.Subtyping.{IsAmong, Closure, same, step, abstract_of, Declared, Link, HeapBelow, RefBelow, ValBelow}
+use Rattle.wasm_spec.specs.Subtyping.{Closure, same, step, abstract_of, Declared, Link, HeapBelow, RefBelow, ValBelow}
 use Rattle.wasm_spec.specs.Types.{Concrete, RefType, ValType, I32, I64, F32, F64, V128, Ref, StorageType, I8, I16, Val, FieldType, CompositeType, FuncComposite, StructComposite, ArrayComposite, ContComposite, SubType}
 use Rattle.wasm_spec.proofs.Closures.{joined, complete, same_defined}
+use Rattle.wasm_spec.proofs.Elements.{all_contains}
 
 pairwise_same : {X : Type 0} (Rel : X → X → Type 0) → ((x : X) → Rel x x) → (xs : List X) → Pairwise Rel xs xs
 pairwise_same Rel one [] = tt
@@ -28,11 +29,6 @@ front_joined Rel one xs ys [] p q = tt
 front_joined Rel one (x ∷ xs) (y ∷ ys) (z ∷ zs) p q = (one x y z p.0 q.0, front_joined Rel one xs ys zs p.1 q.1)
 front_joined Rel one xs [] (z ∷ zs) p q = absurd q
 front_joined Rel one [] (y ∷ ys) (z ∷ zs) p q = absurd p
-
-among_all : {X : Type 0} (P : X → Type 0) (x : X) (xs : List X) → AllByRecursion P xs → IsAmong x xs → P x
-among_all P x [] all h = absurd h
-among_all P x (y ∷ ys) all (inl e) = subst P e all.0
-among_all P x (y ∷ ys) all (inr h) = among_all P x ys all.1 h
 
 module _ {R : Type 0} (sub_at : R → Option (SubType R)) where
   pub ref_same : (a : RefType R) → RefBelow sub_at a a
@@ -143,7 +139,7 @@ module _ {R : Type 0} (sub_at : R → Option (SubType R)) where
   declared_link r t type is rule d =
       let one : type ≡ d.type = same_defined sub_at r type d.type is d.is in
       let P : SubType R → Type 0 = λ s. ExtendsSupertypes sub_at s in
-      let e = among_all (Extends sub_at d.type) t d.type.supertypes (subst P one rule).each d.among in
+      let e = all_contains (Extends sub_at d.type) t d.type.supertypes (subst P one rule).each d.among in
       record { declared = d; kind = record { type = e.supertype; is = e.is; holds = matches_kind d.type.composite_type e.supertype.composite_type e.matches } }
 
   -- Known types keep the rule on supertypes, and these are known.
@@ -154,11 +150,11 @@ module _ {R : Type 0} (sub_at : R → Option (SubType R)) where
       subst P one (composite_same a.composite_type)
   chain_matches Known rules (step {x} {y} {z} l p) known a b is is' =
       let one : l.declared.type ≡ a = same_defined sub_at x l.declared.type a l.declared.is is in
-      let P : SubType R → Type 0 = λ s. IsAmong y s.supertypes in
+      let P : SubType R → Type 0 = λ s. Contains s.supertypes y in
       let among = subst P one l.declared.among in
       let (rule, all) = rules x a known is in
-      let e = among_all (Extends sub_at a) y a.supertypes rule.each among in
-      let next = among_all Known y a.supertypes all among in
+      let e = all_contains (Extends sub_at a) y a.supertypes rule.each among in
+      let next = all_contains Known y a.supertypes all among in
       composite_joined a.composite_type e.supertype.composite_type b.composite_type e.matches (chain_matches Known rules p next e.supertype b e.is is')
 
   pub below_matches : (Known : R → Type 0) → ((r : R) (type : SubType R) → Known r → sub_at r ≡ Some type → ExtendsSupertypes sub_at type × AllByRecursion Known type.supertypes) → (r t : R) → Known r → HeapBelow sub_at (Concrete r) (Concrete t) → (a b : SubType R) → sub_at r ≡ Some a → sub_at t ≡ Some b → CompositeMatches sub_at a.composite_type b.composite_type

@@ -8,8 +8,8 @@ use Rattle.wasm_spec.specs.Limits.{Limit, Params, Results, Fields, Depth, IsPass
 use Rattle.wasm_spec.specs.Matching.{CompositeMatches}
 use Rattle.wasm_spec.specs.Subtyping.{SubTypes, Declared, Defined, IsOfKind}
 use Rattle.wasm_spec.specs.Syntax.{members}
-use Rattle.wasm_spec.specs.Trees.{DefType, unrolled, types_of_group, types_after, type_at}
-use Rattle.wasm_spec.specs.TypeReferences.{sub_map, group_refs}
+use Rattle.wasm_spec.specs.Trees.{DefType, RefersBelow, unrolled, types_of_group, types_after, type_at}
+use Rattle.wasm_spec.specs.TypeReferences.{sub_map}
 use Rattle.wasm_spec.specs.Types.{Func, CompositeType, FuncComposite, StructComposite, ArrayComposite, ContComposite, SubType, RecGroup}
 
 -- ---- rules over any kind of references
@@ -78,7 +78,7 @@ reference_bound features before group = if has features Gc then before + length 
 -- A group that comes after these types keeps all rules.
 pub record KeepsGroupRules (features : Features) (before : List DefType) (group : RecGroup ℕ) : Type 0 where
   pub allowed : is_allowed_group features group ≡ true
-  pub in_range : AllByRecursion (λ index. index < reference_bound features (length before) group) (group_refs group)
+  pub in_range : RefersBelow (reference_bound features (length before) group) group
   pub each : AreWellFormedFrom (types_after before group) (length before) (members group)
 
 -- It passes no limit. Rules and limits are apart: a group that breaks a rule and one that passes a limit are refused for different reasons.

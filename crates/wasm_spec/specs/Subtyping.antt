@@ -1,16 +1,12 @@
 -- Subtyping, over any kind R of references to defined types: sub_at gives the sub type that a reference stands for, its references being of
 -- the same kind. Core Specification 3.0, Validation, "Matching"; what it says of continuations is as in their proposal.
-use Rattle.std.specs.Prelude.{◌≡◌, ◌⊎◌, ⊤, Bool, true, false, List, [], ◌∷◌, Option, Some}
+use Rattle.std.specs.Prelude.{◌≡◌, ⊤, Bool, true, false, Option, Some}
+use Rattle.std.specs.List.{Contains}
 use Rattle.wasm_spec.specs.Types.{AbstractHeapType, Func, Extern, Any, None, NoExtern, NoFunc, Eq, Struct, Array, I31, Exn, NoExn, Cont, NoCont, HeapType, Abstract, Concrete, RefType, ValType, I32, I64, F32, F64, V128, Ref, CompositeType, FuncComposite, StructComposite, ArrayComposite, ContComposite, SubType}
 
 -- the sub type that a reference stands for, if it stands for one
 abbrev pub SubTypes : Type 0 → Type 0
 SubTypes R = R → Option (SubType R)
-
--- x is one of the list
-abbrev pub IsAmong : {X : Type 0} → X → List X → Type 0
-IsAmong x [] = ⊥
-IsAmong x (y ∷ ys) = (y ≡ x) ⊎ IsAmong x ys
 
 -- the reflexive transitive closure of a relation
 pub data Closure {X : Type 0} (Rel : X → X → Type 0) : X → X → Type 0 where
@@ -61,7 +57,7 @@ IsOfKind sub_at r kind = Defined sub_at r (λ c. abstract_of c ≡ kind)
 pub record Declared {R : Type 0} (sub_at : SubTypes R) (r t : R) : Type 0 where
   pub type : SubType R
   pub is : sub_at r ≡ Some type
-  pub among : IsAmong t type.supertypes
+  pub among : Contains type.supertypes t
 
 -- A declared link counts only between types of one kind, which validity asks for. Among all trees there are also structures that are declared
 -- below a function; if these links counted, `none` would be below each function type.

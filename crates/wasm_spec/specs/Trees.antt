@@ -2,6 +2,7 @@
 -- not of names. Core Specification 3.0, Validation, Conventions, "Defined Types" and "Rolling and Unrolling", and Matching, "Defined Types".
 use Rattle.std.specs.Prelude.{◌≡◌, ⊤, ℕ, suc, ◌+◌, ◌-◌, ◌<◌, List, [], ◌∷◌, ◌++◌, length, slice_get, Option, Some, None, option_map}
 use Rattle.std.specs.List.{AllByRecursion}
+use Rattle.std.specs.Option.{unwrap_or}
 use Rattle.wasm_spec.specs.Syntax.{members}
 use Rattle.wasm_spec.specs.TypeReferences.{sub_map, subs_map, subs_refs, subs_fill, group_refs}
 use Rattle.wasm_spec.specs.Types.{SubType, RecGroup}
@@ -92,22 +93,22 @@ section_types groups = types_from [] groups
 
 -- ---- type indexes
 
--- the type of an index, and past the end a type of no group
-abbrev pub type_or_none : Option DefType → DefType
-type_or_none (Some type) = type
-type_or_none None = record { tree = Rolled [] NoMore; place = 0 }
+-- a type of no group
+abbrev pub no_type : DefType
+no_type = record { tree = Rolled [] NoMore; place = 0 }
 
+-- the type of an index, and past the end one of no group
 abbrev pub type_at : List DefType → ℕ → DefType
-type_at types index = type_or_none (slice_get types index)
+type_at types index = unwrap_or (slice_get types index) no_type
 
--- the references of a group are type indexes of types before it, of which there is this number, or of its own
-abbrev pub IsInRange : ℕ → RecGroup ℕ → Type 0
-IsInRange before group = AllByRecursion (λ index. index < before + length (members group)) (group_refs group)
+-- the type indexes that a group refers to are below this
+abbrev pub RefersBelow : ℕ → RecGroup ℕ → Type 0
+RefersBelow n group = AllByRecursion (λ index. index < n) (group_refs group)
 
--- so are those of each group of a section, before the first of which there is this number of types
+-- Each group of a section refers to types before it or to its own. Before the first there is this number of types.
 abbrev pub AreInRange : ℕ → List (RecGroup ℕ) → Type 0
 AreInRange before [] = ⊤
-AreInRange before (group ∷ groups) = IsInRange before group × AreInRange (before + length (members group)) groups
+AreInRange before (group ∷ groups) = RefersBelow (before + length (members group)) group × AreInRange (before + length (members group)) groups
 
 -- no type has two indexes
 abbrev pub AreDistinct : List DefType → Type 0

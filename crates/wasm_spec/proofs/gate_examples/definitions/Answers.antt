@@ -1,4 +1,4 @@
-use Rattle.std.proofs.Common.{true, ◌&&◌, refl, sym, ap, ◌∙◌}
+use Rattle.std.proofs.Common.{true, ◌&&◌, refl, sym, ap}
 use Rattle.wasm_spec.specs.Features.{Floats, Gc, GcTypes, MultiValue, StackSwitching, has}
 use Rattle.wasm_spec.proofs.GateForms.{ends, both, all_three, three_ended, thrice, in_group}
 use Rattle.wasm_spec.proofs.gate_examples.definitions.Goals as goal

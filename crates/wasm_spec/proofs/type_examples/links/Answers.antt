@@ -1,8 +1,9 @@
-use Rattle.std.proofs.Common.{ℕ, [], ◌∷◌, refl, inl}
+use Rattle.std.proofs.Common.{ℕ, [], ◌∷◌, refl}
 use Rattle.std.specs.List.{slice_get}
 use Rattle.wasm_spec.specs.Subtyping.{same, step}
 use Rattle.wasm_spec.specs.TypeExamples.{open_type, open_below, takes}
 use Rattle.wasm_spec.specs.Types.{Func, None, FuncComposite, StructComposite, SubType}
+use Rattle.wasm_spec.proofs.Elements.{contains_first}
 use Rattle.wasm_spec.proofs.TypeKinds.{bottom_alone, same_kind, none_above}
 use Rattle.wasm_spec.proofs.type_examples.links.Goals as goal
 
@@ -18,7 +19,7 @@ function = open_type (FuncComposite (takes []))
 pub returns : goal.returns
 returns c = record {
   one_kind = step (record {
-    declared = record { type = empty_below; is = refl; among = inl refl };
+    declared = record { type = empty_below; is = refl; among = contains_first 0 [] };
     kind = record { type = empty; is = refl; holds = refl };
   }) same;
   two_kinds = λ h. let e = same_kind (slice_get (function ∷ empty_below ∷ [])) 1 0 empty_below function refl refl h in cc;

@@ -1,10 +1,11 @@
-use Rattle.std.proofs.Common.{ℕ, ◌≤◌, [], ◌∷◌, arith, refl, inl}
+use Rattle.std.proofs.Common.{ℕ, ◌≤◌, [], ◌∷◌, arith, refl}
 use Rattle.wasm_spec.specs.Groups.{items_in}
 use Rattle.wasm_spec.specs.Limits.{Limit, most, Fields}
 use Rattle.wasm_spec.specs.Subtyping.{same, step}
 use Rattle.wasm_spec.specs.Trees.{DefType, section_types, type_at, unrolled}
 use Rattle.wasm_spec.specs.TypeExamples.{open_type, open_below, one_field, two_fields}
 use Rattle.wasm_spec.specs.Types.{Group, RecGroup, SubType}
+use Rattle.wasm_spec.proofs.Elements.{contains_first}
 use Rattle.wasm_spec.proofs.TypeKinds.{extends_known}
 use Rattle.wasm_spec.proofs.TypeLimits.{depth_zero, depth_suc, passes_none}
 use Rattle.wasm_spec.proofs.type_examples.wider_structures.Goals as goal
@@ -54,11 +55,11 @@ returns c = record {
         (passes_none unrolled (at 0) (open_type one_field) 0 refl top (omega arith) few_of_one, (passes_none unrolled (at 1) lower 1 refl next (omega arith) few_of_two, tt));
   };
   by_index = step (record {
-    declared = record { type = open_below 0 two_fields; is = refl; among = inl refl };
+    declared = record { type = open_below 0 two_fields; is = refl; among = contains_first 0 [] };
     kind = record { type = open_type one_field; is = refl; holds = refl };
   }) same;
   below = step (record {
-    declared = record { type = lower; is = refl; among = inl refl };
+    declared = record { type = lower; is = refl; among = contains_first (at 0) [] };
     kind = record { type = open_type one_field; is = refl; holds = refl };
   }) same;
   narrower = λ features rules. (extends_known rules.each.1.0.extends.each.0 (open_type two_fields) refl).1.1;

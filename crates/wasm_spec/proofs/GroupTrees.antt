@@ -134,3 +134,11 @@ pub section_stands : (gs : List (RecGroup ℕ)) → AreInRange 0 gs → Stand (f
 section_stands gs range =
     let nothing : Stand [] [] = record { lengths = refl; in_range = λ i s e. absurd cc; unrolls = λ i s e. absurd cc } in
     stand_from gs [] [] nothing range
+
+count_from : (gs : List (RecGroup ℕ)) (ts : List DefType) → length (types_from ts gs) ≡ length ts + length (flat_map members gs)
+count_from [] ts = omega arith
+count_from (g ∷ gs) ts =
+    omega (arith, count_from gs (types_after ts g), length-types_after ts g, length-append (members g) (flat_map members gs))
+
+pub section_count : (gs : List (RecGroup ℕ)) → length (section_types gs) ≡ length (flat_map members gs)
+section_count gs = omega (arith, count_from gs [])

@@ -88,6 +88,10 @@ sub_refs-map f x = rw (composite_refs-map f x.composite_type) (sym (map-append f
 pub subs_refs-map : {R S : Type 0} (f : R → S) (xs : List (SubType R)) → subs_refs (subs_map f xs) ≡ map f (subs_refs xs)
 subs_refs-map f xs = flat_map-refs f (sub_map f) sub_refs sub_refs (sub_refs-map f) xs
 
+pub group_refs-map : {R S : Type 0} (f : R → S) (x : RecGroup R) → group_refs (group_map f x) ≡ map f (group_refs x)
+group_refs-map f (Single type) = sub_refs-map f type
+group_refs-map f (Group types) = subs_refs-map f types
+
 -- ---- references that were taken out, put back
 
 list_fill-exact : {R X Y : Type 0} (fill : X → List R → Y × List R) (shape : Y → X) (refs : Y → List R) → ((y : Y) (rest : List R) → fill (shape y) (refs y ++ rest) ≡ (y, rest)) → (ys : List Y) (rest : List R) → list_fill fill (map shape ys) (flat_map refs ys ++ rest) ≡ (ys, rest)

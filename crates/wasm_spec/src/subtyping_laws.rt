@@ -1,20 +1,21 @@
 //! Laws of subtyping, matching and defined types. R and S are kinds of references to defined types.
 
-ghost use Rattle.std.specs.Prelude.{◌≡◌, ◌<◌, ◌≤◌, ◌↔◌, ◌++◌, ℕ, List, [], ◌∷◌, None, Some, length, slice_get, suc, true};
+ghost use Rattle.std.specs.Prelude.{◌≡◌, ◌<◌, ◌≤◌, ◌↔◌, ◌++◌, ℕ, List, [], ◌∷◌, None, Some, length, map, slice_get, suc, true};
 ghost use Rattle.std.specs.List.{flat_map};
 ghost use Rattle.wasm_spec.specs.Features.{Features};
 ghost use Rattle.wasm_spec.specs.Groups.{AreWellFormedGroups, ExtendsSupertypes, HasDepth, IsWellFormedAt, IsWellFormedGroup, PassesLimit, items_in};
 ghost use Rattle.wasm_spec.specs.Limits.{Depth, Fields, IsPassedBy, Limit, Params, Results};
 ghost use Rattle.wasm_spec.specs.Matching.{CompositeMatches, FieldMatches, StorageBelow};
-ghost use Rattle.wasm_spec.specs.ReferenceMaps.{AreClosed, Carries, CarriesBack, IsOneToOne, KeepsTypes};
+ghost use Rattle.wasm_spec.specs.ReferenceMaps.{AreClosed, Carries, CarriesBack, CarriesLimitsBack, IsOneToOne, KeepsTypes};
 ghost use Rattle.wasm_spec.specs.Subtyping.{Declared, HeapBelow, HeapTest, Link, RefBelow, SubTypes, ValBelow, is_abstract_below};
 ghost use Rattle.wasm_spec.specs.Syntax.{members};
 ghost use Rattle.wasm_spec.specs.Trees.{AreDistinct, AreInRange, DefType, TreeReference, opened, roll, section_types, tree_of, type_at, types_after, unrolled};
 ghost use Rattle.wasm_spec.specs.TypeReferences.{composite_map, external_fill, external_map, external_refs, group_fill, group_map, group_refs};
 ghost use Rattle.wasm_spec.specs.Types.{Abstract, AbstractHeapType, CompositeType, Concrete, ExternalType, FieldType, FuncComposite, FuncType, Group, HeapType, RecGroup, RefType, Single, StorageType, StructComposite, SubType, ValType};
 
-/// What is left of a type without its references, and these references, are the type again.
-pub fn references<R>()
+/// A map of references maps those that are listed; and what is left of a type without its references, and these references, are the type again.
+pub fn references<R, S>()
+    ensures mapped { (f : R → S) (group : RecGroup R) → group_refs (group_map f group) ≡ map f (group_refs group) }
     ensures groups { (d : R) (group : RecGroup R) (rest : List R)
         → group_fill d (group_map (λ (r : R). tt) group) (group_refs group ++ rest) ≡ (group, rest) }
     ensures external_types { (d : R) (type : ExternalType R) (rest : List R)
@@ -60,22 +61,25 @@ pub fn declared_links<R>()
         → sub_at r ≡ Some type → ExtendsSupertypes sub_at type → Declared sub_at r t → Link sub_at r t }
 {}
 
-/// A map of references that keeps types carries links, subtyping, matching, rules and limits along; and subtyping, matching and the rule on
-/// supertypes back, where it is one to one on references that stand for types.
+/// A map of references that keeps types carries links, subtyping, matching, rules and limits along; the rule on continuations and limits
+/// also back; and subtyping, matching and the rule on supertypes back, where it is one to one on references that stand for types.
 pub fn reference_maps<R, S>()
     ensures along { (f : R → S) (from : SubTypes R) (to : SubTypes S) → KeepsTypes f from to → Carries f from to }
+    ensures limits_back { (f : R → S) (from : SubTypes R) (to : SubTypes S) → KeepsTypes f from to → AreClosed from → CarriesLimitsBack f from to }
     ensures back { (f : R → S) (from : SubTypes R) (to : SubTypes S)
         → KeepsTypes f from to → AreClosed from → IsOneToOne f from → CarriesBack f from to }
 {}
 
 /// In a type section whose references are in range, each type index stands for a defined type that unrolls to the sub type of the index.
 pub fn type_sections()
-    ensures count { (groups : List (RecGroup ℕ)) → AreInRange 0 groups → length (section_types groups) ≡ length (flat_map members groups) }
+    ensures count { (groups : List (RecGroup ℕ)) → length (section_types groups) ≡ length (flat_map members groups) }
     ensures types { (groups : List (RecGroup ℕ)) → AreInRange 0 groups
         → KeepsTypes (type_at (section_types groups)) (slice_get (flat_map members groups)) unrolled }
     ensures closed { (groups : List (RecGroup ℕ)) → AreInRange 0 groups → AreClosed (slice_get (flat_map members groups)) }
     ensures along { (groups : List (RecGroup ℕ)) → AreInRange 0 groups
         → Carries (type_at (section_types groups)) (slice_get (flat_map members groups)) unrolled }
+    ensures limits_back { (groups : List (RecGroup ℕ)) → AreInRange 0 groups
+        → CarriesLimitsBack (type_at (section_types groups)) (slice_get (flat_map members groups)) unrolled }
 
     // Where no type has two indexes.
     ensures one_to_one { (groups : List (RecGroup ℕ)) → AreInRange 0 groups → AreDistinct (section_types groups)

@@ -2,17 +2,18 @@ use Rattle.std.proofs.Common.{[]}
 use Rattle.std.specs.List.{slice_get, flat_map}
 use Rattle.wasm_spec.specs.Syntax.{members}
 use Rattle.wasm_spec.specs.Trees.{section_types, type_at, unrolled}
-use Rattle.wasm_spec.proofs.Carried.{carried, carried_back}
-use Rattle.wasm_spec.proofs.GroupTrees.{section_stands}
+use Rattle.wasm_spec.proofs.Carried.{carried, carried_back, limits_carried_back}
+use Rattle.wasm_spec.proofs.GroupTrees.{section_count}
 use Rattle.wasm_spec.proofs.SectionTypes.{section_keeps, section_closed, section_one_to_one, well_formed_in_range, past_the_end, more_types, groups_split, groups_joined}
 use Rattle.wasm_spec.proofs.subtyping_laws.type_sections.Goals as goal
 
 pub returns : goal.returns
 returns c = record {
-  count = λ groups range. (section_stands groups range).lengths;
+  count = section_count;
   types = section_keeps;
   closed = section_closed;
   along = λ groups range. carried (type_at (section_types groups)) (slice_get (flat_map members groups)) unrolled (section_keeps groups range);
+  limits_back = λ groups range. limits_carried_back (type_at (section_types groups)) (slice_get (flat_map members groups)) unrolled (section_keeps groups range) (section_closed groups range);
   one_to_one = section_one_to_one;
   back = λ groups range one. carried_back (type_at (section_types groups)) (slice_get (flat_map members groups)) unrolled (section_keeps groups range) (section_closed groups range) (section_one_to_one groups range one);
   well_formed = λ features groups h. well_formed_in_range features [] groups h;

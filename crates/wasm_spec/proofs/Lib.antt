@@ -14,6 +14,7 @@ pub mod MappedTypes
 pub mod NumberLaws
 pub mod Places
 pub mod SectionBytes
+pub mod SectionLimits
 pub mod SectionRules
 pub mod SectionTypes
 pub mod ShortestForms

@@ -81,10 +81,13 @@ pub record KeepsGroupRules (features : Features) (before : List DefType) (group 
   pub in_range : RefersBelow (reference_bound features (length before) group) group
   pub each : AreWellFormedFrom (types_after before group) (length before) (members group)
 
--- It passes no limit. Rules and limits are apart: a group that breaks a rule and one that passes a limit are refused for different reasons.
+-- no type passes a limit
+abbrev pub AreWithinLimits : List DefType → Type 0
+AreWithinLimits types = AllByRecursion (λ type. (limit : Limit) → ¬ (PassesLimit unrolled type limit)) types
+
+-- Rules and limits are apart: a group that breaks a rule and one that passes a limit are refused for different reasons.
 abbrev pub IsWithinGroupLimits : List DefType → RecGroup ℕ → Type 0
-IsWithinGroupLimits before group =
-    AllByRecursion (λ type. (limit : Limit) → ¬ (PassesLimit unrolled type limit)) (types_of_group before group)
+IsWithinGroupLimits before group = AreWithinLimits (types_of_group before group)
 
 pub record IsWellFormedGroup (features : Features) (before : List DefType) (group : RecGroup ℕ) : Type 0 where
   pub rules : KeepsGroupRules features before group
@@ -92,8 +95,13 @@ pub record IsWellFormedGroup (features : Features) (before : List DefType) (grou
 
 -- ---- type sections
 
--- the groups come after these types, one after the other
+-- The groups come after these types, one after the other, and each is so in the context of the types before it.
+abbrev pub AllGroups : (List DefType → RecGroup ℕ → Type 0) → List DefType → List (RecGroup ℕ) → Type 0
+AllGroups Holds before [] = ⊤
+AllGroups Holds before (group ∷ groups) = Holds before group × AllGroups Holds (types_after before group) groups
+
+abbrev pub KeepGroupRules : Features → List DefType → List (RecGroup ℕ) → Type 0
+KeepGroupRules features before groups = AllGroups (KeepsGroupRules features) before groups
+
 abbrev pub AreWellFormedGroups : Features → List DefType → List (RecGroup ℕ) → Type 0
-AreWellFormedGroups features before [] = ⊤
-AreWellFormedGroups features before (group ∷ groups) =
-    IsWellFormedGroup features before group × AreWellFormedGroups features (types_after before group) groups
+AreWellFormedGroups features before groups = AllGroups (IsWellFormedGroup features) before groups

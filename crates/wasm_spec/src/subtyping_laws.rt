@@ -3,13 +3,14 @@
 ghost use Rattle.std.specs.Prelude.{◌≡◌, ◌<◌, ◌≤◌, ◌↔◌, ◌++◌, ℕ, List, [], ◌∷◌, None, Some, length, map, slice_get, suc, true};
 ghost use Rattle.std.specs.List.{flat_map};
 ghost use Rattle.wasm_spec.specs.Features.{Features};
-ghost use Rattle.wasm_spec.specs.Groups.{AreWellFormedGroups, ExtendsSupertypes, HasDepth, IsWellFormedAt, IsWellFormedGroup, PassesLimit, items_in};
+ghost use Rattle.wasm_spec.specs.Gates.{is_allowed_group};
+ghost use Rattle.wasm_spec.specs.Groups.{AllGroups, AreWellFormedGroups, AreWithinLimits, ExtendsSupertypes, HasDepth, IsWellFormedAt, IsWellFormedGroup, KeepGroupRules, KeepsGroupRules, PassesLimit, items_in, reference_bound};
 ghost use Rattle.wasm_spec.specs.Limits.{Depth, Fields, IsPassedBy, Limit, Params, Results};
 ghost use Rattle.wasm_spec.specs.Matching.{CompositeMatches, FieldMatches, StorageBelow};
 ghost use Rattle.wasm_spec.specs.ReferenceMaps.{AreClosed, Carries, CarriesBack, CarriesLimitsBack, IsOneToOne, KeepsTypes};
 ghost use Rattle.wasm_spec.specs.Subtyping.{Declared, HeapBelow, HeapTest, Link, RefBelow, SubTypes, ValBelow, is_abstract_below};
 ghost use Rattle.wasm_spec.specs.Syntax.{members};
-ghost use Rattle.wasm_spec.specs.Trees.{AreDistinct, AreInRange, DefType, TreeReference, opened, roll, section_types, tree_of, type_at, types_after, unrolled};
+ghost use Rattle.wasm_spec.specs.Trees.{AreDistinct, AreInRange, DefType, RefersBelow, TreeReference, opened, roll, section_types, tree_of, type_at, types_after, unrolled};
 ghost use Rattle.wasm_spec.specs.TypeReferences.{composite_map, external_fill, external_map, external_refs, group_fill, group_map, group_refs};
 ghost use Rattle.wasm_spec.specs.Types.{Abstract, AbstractHeapType, CompositeType, Concrete, ExternalType, FieldType, FuncComposite, FuncType, Group, HeapType, RecGroup, RefType, Single, StorageType, StructComposite, SubType, ValType};
 
@@ -86,7 +87,7 @@ pub fn type_sections()
         → IsOneToOne (type_at (section_types groups)) (slice_get (flat_map members groups)) }
     ensures back { (groups : List (RecGroup ℕ)) → AreInRange 0 groups → AreDistinct (section_types groups)
         → CarriesBack (type_at (section_types groups)) (slice_get (flat_map members groups)) unrolled }
-    ensures well_formed { (features : Features) (groups : List (RecGroup ℕ)) → AreWellFormedGroups features [] groups → AreInRange 0 groups }
+    ensures in_range { (features : Features) (groups : List (RecGroup ℕ)) → KeepGroupRules features [] groups → AreInRange 0 groups }
     ensures past_the_end { (types : List DefType) (index : ℕ) → length types ≤ index → unrolled (type_at types index) ≡ None }
 
     // One group after the others.
@@ -94,16 +95,27 @@ pub fn type_sections()
         → section_types (groups ++ (group ∷ [])) ≡ types_after (section_types groups) group }
     ensures more_groups { (features : Features) (groups : List (RecGroup ℕ)) (group : RecGroup ℕ) → AreWellFormedGroups features [] (groups ++ (group ∷ []))
         ↔ (AreWellFormedGroups features [] groups × IsWellFormedGroup features (section_types groups) group) }
+    ensures more_rules { (features : Features) (groups : List (RecGroup ℕ)) (group : RecGroup ℕ) → KeepGroupRules features [] (groups ++ (group ∷ []))
+        ↔ (KeepGroupRules features [] groups × KeepsGroupRules features (section_types groups) group) }
 {}
 
-/// The types of a well-formed section keep the rules among all of its types, and each matches what it is below.
+/// The types of a section whose groups keep the rules keep them among all of its types, and each matches what it is below. The section is
+/// well-formed where besides no type passes a limit.
 pub fn well_formed_sections()
-    ensures rules { (features : Features) (groups : List (RecGroup ℕ)) (index : ℕ) (type : SubType ℕ) → AreWellFormedGroups features [] groups
+    ensures rules { (features : Features) (groups : List (RecGroup ℕ)) (index : ℕ) (type : SubType ℕ) → KeepGroupRules features [] groups
         → slice_get (flat_map members groups) index ≡ Some type → IsWellFormedAt (section_types groups) index type }
-    ensures matches { (features : Features) (groups : List (RecGroup ℕ)) (i j : ℕ) (a b : SubType ℕ) → AreWellFormedGroups features [] groups
+    ensures group_rules { (features : Features) (groups : List (RecGroup ℕ))
+        → AllGroups (λ (before : List DefType) (group : RecGroup ℕ). (is_allowed_group features group ≡ true) × RefersBelow (reference_bound features (length before) group) group) [] groups
+        → ((index : ℕ) (type : SubType ℕ) → slice_get (flat_map members groups) index ≡ Some type → IsWellFormedAt (section_types groups) index type)
+        → KeepGroupRules features [] groups }
+    ensures matches { (features : Features) (groups : List (RecGroup ℕ)) (i j : ℕ) (a b : SubType ℕ) → KeepGroupRules features [] groups
         → slice_get (flat_map members groups) i ≡ Some a → slice_get (flat_map members groups) j ≡ Some b
         → HeapBelow unrolled (Concrete (type_at (section_types groups) i)) (Concrete (type_at (section_types groups) j))
         → CompositeMatches unrolled (composite_map (type_at (section_types groups)) a.composite_type) (composite_map (type_at (section_types groups)) b.composite_type) }
+    ensures well_formed { (features : Features) (groups : List (RecGroup ℕ))
+        → AreWellFormedGroups features [] groups ↔ (KeepGroupRules features [] groups × AreWithinLimits (section_types groups)) }
+    ensures limits { (features : Features) (groups : List (RecGroup ℕ)) (index : ℕ) (type : DefType) (limit : Limit) → AreWellFormedGroups features [] groups
+        → slice_get (section_types groups) index ≡ Some type → ¬ (PassesLimit unrolled type limit) }
 {}
 
 /// How limits on a type are found: the depth of a type is one more than that of its supertype, and what else is counted stands in the type itself.

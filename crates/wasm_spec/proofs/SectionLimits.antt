@@ -1,8 +1,8 @@
 -- In a section, rules and limits are apart.
-use Rattle.std.proofs.Common.{◌≡◌, ℕ, zero, suc, List, [], ◌∷◌, ◌++◌, sym, Some, subst}
+use Rattle.std.proofs.Common.{◌≡◌, ℕ, zero, suc, List, [], ◌∷◌, ◌++◌, Some, subst}
 use Rattle.std.specs.List.{slice_get, AllByRecursion}
 use Rattle.wasm_spec.specs.Features.{Features}
-use Rattle.wasm_spec.specs.Groups.{PassesLimit, AreWithinLimits, IsWithinGroupLimits, IsWellFormedGroup, KeepGroupRules, AreWellFormedGroups}
+use Rattle.wasm_spec.specs.Groups.{PassesLimit, AreWithinLimits, IsWithinGroupLimits, KeepGroupRules, AreWellFormedGroups}
 use Rattle.wasm_spec.specs.Limits.{Limit}
 use Rattle.wasm_spec.specs.Trees.{DefType, types_of_group, types_after, types_from, unrolled}
 use Rattle.wasm_spec.specs.Types.{RecGroup}

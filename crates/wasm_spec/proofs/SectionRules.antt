@@ -36,10 +36,13 @@ rules_at ts index (type ∷ types) h (suc j) s e =
     let Q : ℕ → Type 0 = λ i. IsWellFormedAt ts i s in
     subst Q added (rules_at ts (suc index) types h.1 j s e)
 
-rules_kept : (ts us : List DefType) (i : ℕ) (s : SubType ℕ) → DefType → AllByRecursion (λ n. n < length ts) (sub_refs s) → IsWellFormedAt ts i s → IsWellFormedAt (ts ++ us) i s
-rules_kept ts us i s d refs h =
-    let kept : sub_map (type_at ts) s ≡ sub_map (type_at (ts ++ us)) s =
-    sub_map_agree d (type_at ts) (type_at (ts ++ us)) s (all_each (λ n. n < length ts) (λ n. type_at ts n ≡ type_at (ts ++ us) n) (λ n k. sym (type_kept ts us n k)) (sub_refs s) refs) in
+-- with more types after them, types are what they were
+same_after : (ts us : List DefType) (s : SubType ℕ) → DefType → AllByRecursion (λ n. n < length ts) (sub_refs s) → sub_map (type_at (ts ++ us)) s ≡ sub_map (type_at ts) s
+same_after ts us s d refs =
+    sub_map_agree d (type_at (ts ++ us)) (type_at ts) s (all_each (λ n. n < length ts) (λ n. type_at (ts ++ us) n ≡ type_at ts n) (type_kept ts us) (sub_refs s) refs)
+
+rules_among : (ts us : List DefType) (i : ℕ) (s : SubType ℕ) → sub_map (type_at ts) s ≡ sub_map (type_at us) s → IsWellFormedAt ts i s → IsWellFormedAt us i s
+rules_among ts us i s kept h =
     let P : SubType DefType → Type 0 = λ q. ExtendsSupertypes unrolled q in
     let Q : SubType DefType → Type 0 = λ q. ContinuesFunc unrolled q.composite_type in
     record { earlier = h.earlier; extends = subst P kept h.extends; continues = subst Q kept h.continues }
@@ -48,7 +51,7 @@ rules_from : (features : Features) (gs : List (RecGroup ℕ)) (ss : List (SubTyp
 rules_from features [] ss ts it rules h = rw (append-nil ss) rules
 rules_from features (g ∷ gs) ss ts it rules h =
     let next : KeepRules (ss ++ members g) (types_after ts g) = λ i s e. elim (get_cases ss (members g) i s e) [
-      | inl at ↦ rules_kept ts (types_of_group ts g) i s (record { tree = tree_of ts g; place = 0 }) (it.in_range i s at) (rules i s at)
+      | inl at ↦ rules_among ts (types_after ts g) i s (sym (same_after ts (types_of_group ts g) s (record { tree = tree_of ts g; place = 0 }) (it.in_range i s at))) (rules i s at)
       | inr at ↦
           let i_is : length ts + at.0 ≡ i = omega (arith, at.1, it.lengths) in
           let Q : ℕ → Type 0 = λ n. IsWellFormedAt (types_after ts g) n s in
@@ -56,14 +59,6 @@ rules_from features (g ∷ gs) ss ts it rules h =
     ] in
     rw (← append_assoc ss (members g) (flat_map members gs))
     (rules_from features gs (ss ++ members g) (types_after ts g) (stand_after it g (rules_in_range features ts g h.0)) next h.1)
-
-rules_back : (ts us : List DefType) (i : ℕ) (s : SubType ℕ) → DefType → AllByRecursion (λ n. n < length ts) (sub_refs s) → IsWellFormedAt (ts ++ us) i s → IsWellFormedAt ts i s
-rules_back ts us i s d refs h =
-    let kept : sub_map (type_at (ts ++ us)) s ≡ sub_map (type_at ts) s =
-    sub_map_agree d (type_at (ts ++ us)) (type_at ts) s (all_each (λ n. n < length ts) (λ n. type_at (ts ++ us) n ≡ type_at ts n) (λ n k. type_kept ts us n k) (sub_refs s) refs) in
-    let P : SubType DefType → Type 0 = λ q. ExtendsSupertypes unrolled q in
-    let Q : SubType DefType → Type 0 = λ q. ContinuesFunc unrolled q.composite_type in
-    record { earlier = h.earlier; extends = subst P kept h.extends; continues = subst Q kept h.continues }
 
 all_well_formed : (ts : List DefType) (index : ℕ) (types : List (SubType ℕ)) → ((j : ℕ) (s : SubType ℕ) → slice_get types j ≡ Some s → IsWellFormedAt ts (index + j) s) → AreWellFormedFrom ts index types
 all_well_formed ts index [] h = tt
@@ -87,15 +82,14 @@ group_rules_from features (g ∷ gs) ss ts it h rules =
     rw (append_assoc ss (members g) (flat_map members gs)) rules in
     let here : (j : ℕ) (s : SubType ℕ) → slice_get (members g) j ≡ Some s → IsWellFormedAt (types_after ts g) (length ts + j) s =
     λ j s e.
-        let i = length ss + j in
-        let at : slice_get (ss ++ members g) i ≡ Some s = get_right ss (members g) j ∙ e in
-        let at' : slice_get ((ss ++ members g) ++ flat_map members gs) i ≡ Some s =
-        get_left (ss ++ members g) (flat_map members gs) i (slice_get_within (ss ++ members g) i s at) ∙ at in
-        let P : List DefType → Type 0 = λ q. IsWellFormedAt q i s in
-        let Q : ℕ → Type 0 = λ n. IsWellFormedAt (types_after ts g) n s in
-        let place : length ss + j ≡ length ts + j = omega (arith, it.lengths) in
-        subst Q place (rules_back (types_after ts g) more.0 i s (record { tree = tree_of ts g; place = 0 }) (next.in_range i s at) (subst P more.1 (all i s at'))) in
-    (
+    let i = length ss + j in
+    let at : slice_get (ss ++ members g) i ≡ Some s = get_right ss (members g) j ∙ e in
+    let at' : slice_get ((ss ++ members g) ++ flat_map members gs) i ≡ Some s =
+    get_left (ss ++ members g) (flat_map members gs) i (slice_get_within (ss ++ members g) i s at) ∙ at in
+    let P : List DefType → Type 0 = λ q. IsWellFormedAt q i s in
+    let Q : ℕ → Type 0 = λ n. IsWellFormedAt (types_after ts g) n s in
+    let place : length ss + j ≡ length ts + j = omega (arith, it.lengths) in
+    subst Q place (rules_among (types_after ts g ++ more.0) (types_after ts g) i s (same_after (types_after ts g) more.0 s (record { tree = tree_of ts g; place = 0 }) (next.in_range i s at)) (subst P more.1 (all i s at'))) in (
       record { allowed = h.0.0; in_range = h.0.1; each = all_well_formed (types_after ts g) (length ts) (members g) here },
       group_rules_from features gs (ss ++ members g) (types_after ts g) next h.1 all,
     )

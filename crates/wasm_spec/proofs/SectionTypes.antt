@@ -2,7 +2,7 @@
 use Rattle.std.proofs.Common.{◌≡◌, ℕ, ◌+◌, ◌<◌, ◌≤◌, Bool, true, false, List, [], ◌∷◌, ◌++◌, length, refl, ap, sym, ◌∙◌, arith, if◌then◌else◌, None, Some, append_assoc}
 use Rattle.std.proofs.lemmas.Option.{slice_get_within, slice_get_past}
 use Rattle.std.proofs.lemmas.List.{append-nil}
-use Rattle.std.specs.List.{slice_get, AllByRecursion, flat_map}
+use Rattle.std.specs.List.{slice_get, flat_map}
 use Rattle.std.specs.Option.{unwrap_or}
 use Rattle.wasm_spec.specs.Features.{Features, Gc, has}
 use Rattle.wasm_spec.specs.Groups.{reference_bound, KeepsGroupRules, AllGroups, KeepGroupRules}

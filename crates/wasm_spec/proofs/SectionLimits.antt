@@ -1,5 +1,5 @@
 -- In a section, rules and limits are apart.
-use Rattle.std.proofs.Common.{◌≡◌, ℕ, zero, suc, List, [], ◌∷◌, ◌++◌, Some, subst}
+use Rattle.std.proofs.Common.{◌≡◌, ℕ, List, [], ◌∷◌, ◌++◌, Some, subst}
 use Rattle.std.specs.List.{slice_get, AllByRecursion}
 use Rattle.wasm_spec.specs.Features.{Features}
 use Rattle.wasm_spec.specs.Groups.{PassesLimit, AreWithinLimits, IsWithinGroupLimits, KeepGroupRules, AreWellFormedGroups}
@@ -7,16 +7,12 @@ use Rattle.wasm_spec.specs.Limits.{Limit}
 use Rattle.wasm_spec.specs.Trees.{DefType, types_of_group, types_after, types_from, unrolled}
 use Rattle.wasm_spec.specs.Types.{RecGroup}
 use Rattle.wasm_spec.proofs.MappedBack.{all_left, all_right}
+use Rattle.wasm_spec.proofs.Places.{all_get}
 use Rattle.wasm_spec.proofs.SectionTypes.{types_from_more}
 
 all_append : {X : Type 0} (P : X → Type 0) (xs ys : List X) → AllByRecursion P xs → AllByRecursion P ys → AllByRecursion P (xs ++ ys)
 all_append P [] ys h k = k
 all_append P (x ∷ xs) ys h k = (h.0, all_append P xs ys h.1 k)
-
-all_get : {X : Type 0} (P : X → Type 0) (xs : List X) → AllByRecursion P xs → (i : ℕ) (x : X) → slice_get xs i ≡ Some x → P x
-all_get P [] h i x e = absurd cc
-all_get P (y ∷ xs) h zero x e = let one : y ≡ x = cc in subst P one h.0
-all_get P (y ∷ xs) h (suc i) x e = all_get P xs h.1 i x e
 
 -- it passes no limit
 abbrev IsWithin : DefType → Type 0

@@ -1,5 +1,5 @@
 -- Types that worked examples share.
-use Rattle.std.specs.Prelude.{◌≡◌, ℕ, true, false, List, [], ◌∷◌, replicate}
+use Rattle.std.specs.Prelude.{◌≡◌, ℕ, zero, suc, true, false, List, [], ◌∷◌, replicate}
 use Rattle.wasm_spec.specs.Trees.{section_types, type_at}
 use Rattle.wasm_spec.specs.Types.{Any, Struct, HeapType, Abstract, Concrete, ValType, I32, I64, Ref, Val, FieldType, FuncType, CompositeType, FuncComposite, StructComposite, SubType, RecGroup, Group}
 
@@ -44,6 +44,15 @@ empty_structure = StructComposite []
 
 abbrev pub empty_function : {R : Type 0} → CompositeType R
 empty_function = FuncComposite (takes [])
+
+-- so many open empty structures, the first of which is below the type of this index, and each other below the one before it
+abbrev pub chain_from : ℕ → ℕ → List (SubType ℕ)
+chain_from index zero = []
+chain_from index (suc n) = open_below index empty_structure ∷ chain_from (suc index) n
+
+-- an open empty structure, and so many in a chain below it
+abbrev pub chain : ℕ → RecGroup ℕ
+chain links = Group (open_type empty_structure ∷ chain_from 0 links)
 
 abbrev pub one_field : {R : Type 0} → CompositeType R
 one_field = StructComposite (const_field I32 ∷ [])

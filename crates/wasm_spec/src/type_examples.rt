@@ -7,9 +7,9 @@ ghost use Rattle.wasm_spec.specs.Groups.{IsWellFormedGroup, IsWithinGroupLimits,
 ghost use Rattle.wasm_spec.specs.Matching.{CompositeMatches, FieldMatches, StorageBelow};
 ghost use Rattle.wasm_spec.specs.Subtyping.{HeapBelow, IsOfKind, SubTypes, ValBelow, bottom_of};
 ghost use Rattle.wasm_spec.specs.Trees.{section_types, type_at, unrolled};
-ghost use Rattle.wasm_spec.specs.TypeExamples.{IsOneType, alone, any, any_structure, const_field, empty_function, empty_structure, gives, of_params, one_field, open_below, open_type, pair_from, ref_null, structure_to, takes, two_fields, var_field};
+ghost use Rattle.wasm_spec.specs.TypeExamples.{IsOneType, alone, any, any_structure, chain, const_field, empty_function, empty_structure, gives, of_params, one_field, open_below, open_type, pair_from, ref_null, structure_to, takes, two_fields, var_field};
 ghost use Rattle.wasm_spec.specs.TypeReferences.{group_refs, sub_refs};
-ghost use Rattle.wasm_spec.specs.Types.{Abstract, AbstractHeapType, Any, Array, ArrayComposite, Concrete, Cont, ContComposite, Eq, Func, FuncComposite, Group, HeapType, I16, I31, I32, I64, I8, NoCont, NoFunc, None, Ref, Single, StorageType, Struct, StructComposite, SubType, Val, ValType};
+ghost use Rattle.wasm_spec.specs.Types.{Abstract, AbstractHeapType, Any, Array, ArrayComposite, Concrete, Cont, ContComposite, Eq, Exn, Extern, Func, FuncComposite, Group, HeapType, I16, I31, I32, I64, I8, NoCont, NoExn, NoExtern, NoFunc, None, Ref, Single, StorageType, Struct, StructComposite, SubType, Val, ValType};
 
 /// Two structures that refer to each other, written twice, are two types and not four; and it matters which place refers to which.
 pub fn equal_groups()
@@ -71,6 +71,14 @@ pub fn kinds<R>()
     ensures struct_array { (sub_at : SubTypes R) (r : R) → IsOfKind sub_at r Struct → ¬ (HeapBelow sub_at (Concrete r) (Abstract Array)) }
 {}
 
+/// References to values of the host and to exceptions: each kind has a lowest type of its own, and none is internal.
+pub fn other_references<R>()
+    ensures noextern { (sub_at : SubTypes R) → HeapBelow sub_at (Abstract NoExtern) (Abstract Extern) }
+    ensures noexn { (sub_at : SubTypes R) → HeapBelow sub_at (Abstract NoExn) (Abstract Exn) }
+    ensures extern_any { (sub_at : SubTypes R) → ¬ (HeapBelow sub_at (Abstract Extern) (Abstract Any)) }
+    ensures exn_any { (sub_at : SubTypes R) → ¬ (HeapBelow sub_at (Abstract Exn) (Abstract Any)) }
+{}
+
 /// A declared link counts where it joins two types of one kind: a structure below a structure, and none below a function.
 pub fn links()
     ensures one_kind { HeapBelow (slice_get (open_type empty_structure ∷ open_below 0 empty_structure ∷ [])) (Concrete 1) (Concrete 0) }
@@ -107,17 +115,21 @@ pub fn fields<R>()
     ensures value { (sub_at : SubTypes R) (a : ValType R) (b : StorageType R) → StorageBelow sub_at (Val a) b → (c : ValType R) × (b ≡ Val c) }
 {}
 
-/// A structure may have further fields after those of the other, a function takes more and gives less, and kinds don't mix.
+/// A structure may have further fields after those of the other; a function may take more general values and give more special ones, of the
+/// same number; and kinds don't mix.
 pub fn composite_types<R>()
     ensures wider { (sub_at : SubTypes R) → CompositeMatches sub_at (StructComposite (const_field I32 ∷ var_field I64 ∷ [])) (StructComposite (const_field I32 ∷ [])) }
     ensures narrower { (sub_at : SubTypes R) → ¬ (CompositeMatches sub_at (StructComposite (const_field I32 ∷ [])) (StructComposite (const_field I32 ∷ var_field I64 ∷ []))) }
-    ensures before { (sub_at : SubTypes R) → ¬ (CompositeMatches sub_at (StructComposite (var_field I64 ∷ const_field I32 ∷ [])) (StructComposite (const_field I32 ∷ []))) }
+    ensures before { (sub_at : SubTypes R) → ¬ (CompositeMatches sub_at (StructComposite (const_field I64 ∷ const_field I32 ∷ [])) (StructComposite (const_field I32 ∷ []))) }
     ensures array { (sub_at : SubTypes R) → CompositeMatches sub_at (ArrayComposite (const_field (ref_null (Abstract Array)))) (ArrayComposite (const_field (ref_null (Abstract Eq)))) }
     ensures params { (sub_at : SubTypes R) → CompositeMatches sub_at (FuncComposite (takes (any ∷ []))) (FuncComposite (takes (any_structure ∷ []))) }
     ensures params_narrowed { (sub_at : SubTypes R) → ¬ (CompositeMatches sub_at (FuncComposite (takes (any_structure ∷ []))) (FuncComposite (takes (any ∷ [])))) }
     ensures results { (sub_at : SubTypes R) → CompositeMatches sub_at (FuncComposite (gives (any_structure ∷ []))) (FuncComposite (gives (any ∷ []))) }
     ensures results_widened { (sub_at : SubTypes R) → ¬ (CompositeMatches sub_at (FuncComposite (gives (any ∷ []))) (FuncComposite (gives (any_structure ∷ [])))) }
     ensures more_params { (sub_at : SubTypes R) → ¬ (CompositeMatches sub_at (FuncComposite (takes (I32 ∷ I32 ∷ []))) (FuncComposite (takes (I32 ∷ [])))) }
+    ensures fewer_params { (sub_at : SubTypes R) → ¬ (CompositeMatches sub_at (FuncComposite (takes (I32 ∷ []))) (FuncComposite (takes (I32 ∷ I32 ∷ [])))) }
+    ensures more_results { (sub_at : SubTypes R) → ¬ (CompositeMatches sub_at (FuncComposite (gives (I32 ∷ I32 ∷ []))) (FuncComposite (gives (I32 ∷ [])))) }
+    ensures fewer_results { (sub_at : SubTypes R) → ¬ (CompositeMatches sub_at (FuncComposite (gives (I32 ∷ []))) (FuncComposite (gives (I32 ∷ I32 ∷ [])))) }
     ensures continuation { (sub_at : SubTypes R) (r : R) → CompositeMatches sub_at (ContComposite r) (ContComposite r) }
     ensures two_kinds { (sub_at : SubTypes R) → ¬ (CompositeMatches sub_at (StructComposite (const_field I32 ∷ [])) (ArrayComposite (const_field I32))) }
 {}
@@ -167,6 +179,7 @@ pub fn continuation_types()
 pub fn continuations()
     ensures function { KeepsGroupRules 0x220000 (section_types (Single (of_params 0) ∷ [])) (Single (alone (ContComposite 0))) }
     ensures structure { (features : Features) → ¬ (KeepsGroupRules features (section_types (Single (alone empty_structure) ∷ [])) (Single (alone (ContComposite 0)))) }
+    ensures array { (features : Features) → ¬ (KeepsGroupRules features (section_types (Single (alone (ArrayComposite (const_field I32))) ∷ [])) (Single (alone (ContComposite 0)))) }
     ensures without { ¬ (KeepsGroupRules default_features (section_types (Single (of_params 0) ∷ [])) (Single (alone (ContComposite 0)))) }
     ensures features { bit_of GcTypes + bit_of StackSwitching ≡ 0x220000 }
 {}
@@ -176,6 +189,13 @@ pub fn group_limits()
     ensures rules { (features : Features) (n : ℕ) → KeepsGroupRules features [] (Single (of_params n)) }
     ensures most_params { IsWithinGroupLimits [] (Single (of_params 1000)) }
     ensures many_params { ¬ (IsWithinGroupLimits [] (Single (of_params 1001))) }
+    ensures middle { ¬ (IsWithinGroupLimits [] (Group (of_params 0 ∷ of_params 1001 ∷ of_params 0 ∷ []))) }
     ensures well_formed { (features : Features) → IsWellFormedGroup features [] (Single (of_params 1000)) }
     ensures refused { (features : Features) → ¬ (IsWellFormedGroup features [] (Single (of_params 1001))) }
+{}
+
+/// A type may have 63 declared links above it, and no more: in a chain of 64 structures all are within limits, and in one of 65 the last isn't.
+pub fn depth_limits()
+    ensures most_links { IsWithinGroupLimits [] (chain 63) }
+    ensures many_links { ¬ (IsWithinGroupLimits [] (chain 64)) }
 {}

@@ -15,6 +15,9 @@ returns c start = record {
   results = λ sub_at. record { params = tt; results = (record { null = λ e. refl; heap = sound sub_at (Abstract Struct) (Abstract Any) refl }, tt) };
   results_widened = λ sub_at m. let e = complete sub_at {a = Abstract Any} {b = Abstract Struct} m.results.0.heap in absurd cc;
   more_params = λ sub_at m. m.params.1;
+  fewer_params = λ sub_at m. m.params.1;
+  more_results = λ sub_at m. m.results.1;
+  fewer_results = λ sub_at m. m.results.1;
   continuation = λ sub_at r. same;
   two_kinds = λ sub_at m. m;
 }

@@ -8,7 +8,7 @@ use Rattle.wasm_spec.specs.Limits.{Limit, Params, most}
 use Rattle.wasm_spec.specs.Trees.{DefType, section_types, type_at, unrolled}
 use Rattle.wasm_spec.specs.TypeExamples.{of_params}
 use Rattle.wasm_spec.specs.TypeReferences.{sub_map, val_map, val_refs}
-use Rattle.wasm_spec.specs.Types.{I32, Single, SubType}
+use Rattle.wasm_spec.specs.Types.{I32, Single, Group, RecGroup, SubType}
 use Rattle.wasm_spec.proofs.SectionTypes.{section_keeps}
 use Rattle.wasm_spec.proofs.TypeLimits.{depth_zero, passes_none}
 use Rattle.wasm_spec.proofs.type_examples.group_limits.Goals as goal
@@ -61,11 +61,31 @@ passed within =
     let more : 1000 < items_in (unrolled_type 1001).composite_type Params = omega (arith, count 1001) in
     within.0 Params (many_items (record { type = unrolled_type 1001; is = unrolls 1001; holds = more }))
 
+-- a group whose middle member has so many parameters
+abbrev three : ℕ → RecGroup ℕ
+three n = Group (of_params 0 ∷ of_params n ∷ of_params 0 ∷ [])
+
+abbrev middle_type : ℕ → SubType DefType
+middle_type n = sub_map (type_at (section_types (three n ∷ []))) (of_params n)
+
+middle_unrolls : (n : ℕ) → unrolled (type_at (section_types (three n ∷ [])) 1) ≡ Some (middle_type n)
+middle_unrolls n =
+    let range = all_of_none (λ index. index < 0 + 3) _ (ap (λ rs. (rs ++ []) ++ []) (no_references n)) in
+    section_keeps (three n ∷ []) (range, tt) 1 (of_params n) refl
+
+middle_passed : (n : ℕ) → 1000 < n → IsWithinGroupLimits [] (three n) → ⊥
+middle_passed n h within =
+    let counted : items_in (middle_type n).composite_type Params ≡ n =
+    length-map (replicate n I32) (val_map (type_at (section_types (three n ∷ [])))) ∙ length-replicate n I32 in
+    let more : 1000 < items_in (middle_type n).composite_type Params = omega (arith, h, counted) in
+    within.1.0 Params (many_items (record { type = middle_type n; is = middle_unrolls n; holds = more }))
+
 pub returns : goal.returns
 returns c = record {
   rules = keeps_rules;
   most_params = within;
   many_params = passed;
+  middle = middle_passed 1001 (omega arith);
   well_formed = λ features. record { rules = keeps_rules features 1000; within_limits = within };
   refused = λ features h. passed h.within_limits;
 }

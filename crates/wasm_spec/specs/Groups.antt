@@ -53,7 +53,7 @@ items_in (FuncComposite type) Results = length type.results
 items_in (StructComposite fields) Fields = length fields
 items_in _ _ = 0
 
--- the type that r stands for passes a limit
+-- The type that r stands for passes a limit. One that is its own supertype, against the rules, also passes the limit on depth.
 pub data PassesLimit {R : Type 0} (sub_at : SubTypes R) (r : R) : Limit → Type 0 where
   many_items : {limit : Limit} → Defined sub_at r (λ c. IsPassedBy limit (items_in c limit)) → PassesLimit sub_at r limit
   many_links : {n : ℕ} {t : R} → Links sub_at n r t → IsPassedBy Depth n → PassesLimit sub_at r Depth

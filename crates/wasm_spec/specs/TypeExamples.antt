@@ -20,22 +20,22 @@ takes params = record { params = params; results = [] }
 abbrev pub gives : {R : Type 0} → List (ValType R) → FuncType R
 gives results = record { params = []; results = results }
 
--- types that are not final: without supertypes, and with one
+-- types without supertypes: final, and open
+abbrev pub final_type : {R : Type 0} → CompositeType R → SubType R
+final_type composite = record { is_final = true; supertypes = []; composite_type = composite }
+
 abbrev pub open_type : {R : Type 0} → CompositeType R → SubType R
 open_type composite = record { is_final = false; supertypes = []; composite_type = composite }
 
+-- an open type with one supertype
 abbrev pub open_below : {R : Type 0} → R → CompositeType R → SubType R
 open_below supertype composite = record { is_final = false; supertypes = supertype ∷ []; composite_type = composite }
 
--- a final type without supertypes
-abbrev pub alone : {R : Type 0} → CompositeType R → SubType R
-alone composite = record { is_final = true; supertypes = []; composite_type = composite }
-
 -- a structure that refers to one type
 abbrev pub structure_to : {R : Type 0} → R → SubType R
-structure_to r = alone (StructComposite (const_field (ref_null (Concrete r)) ∷ []))
+structure_to r = final_type (StructComposite (const_field (ref_null (Concrete r)) ∷ []))
 
--- two structures that refer to each other, the first of which has this type index
+-- two structures, the first of which refers to the second index, the second to the first
 abbrev pub pair_from : ℕ → ℕ → RecGroup ℕ
 pair_from first second = Group (structure_to second ∷ structure_to first ∷ [])
 
@@ -62,9 +62,9 @@ two_fields = StructComposite (const_field I32 ∷ var_field I64 ∷ [])
 
 -- functions of so many parameters
 abbrev pub of_params : {R : Type 0} → ℕ → SubType R
-of_params n = alone (FuncComposite (takes (replicate n I32)))
+of_params n = final_type (FuncComposite (takes (replicate n I32)))
 
--- references to anything that is collected, and to any structure
+-- any internal reference, and a reference to any structure
 abbrev pub any : {R : Type 0} → ValType R
 any = ref_null (Abstract Any)
 

@@ -27,6 +27,8 @@ pub fn references<R, S>()
 pub fn group_trees()
     ensures opened { (types : List (SubType TreeReference)) → opened (roll types) ≡ types }
     ensures one_tree { (a b : List (SubType TreeReference)) → (roll a ≡ roll b) ↔ (a ≡ b) }
+
+    // A type that stands by itself is the type of the group that is written out of it alone.
     ensures alone { (before : List DefType) (type : SubType ℕ) → tree_of before (Single type) ≡ tree_of before (Group (type ∷ [])) }
 
     // After types none of which has two indexes.

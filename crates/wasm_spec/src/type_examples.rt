@@ -7,7 +7,7 @@ ghost use Rattle.wasm_spec.specs.Groups.{IsWellFormedGroup, IsWithinGroupLimits,
 ghost use Rattle.wasm_spec.specs.Matching.{CompositeMatches, FieldMatches, StorageBelow};
 ghost use Rattle.wasm_spec.specs.Subtyping.{HeapBelow, IsOfKind, SubTypes, ValBelow, bottom_of};
 ghost use Rattle.wasm_spec.specs.Trees.{section_types, type_at, unrolled};
-ghost use Rattle.wasm_spec.specs.TypeExamples.{IsOneType, alone, any, any_structure, chain, const_field, empty_function, empty_structure, gives, of_params, one_field, open_below, open_type, pair_from, ref_null, structure_to, takes, two_fields, var_field};
+ghost use Rattle.wasm_spec.specs.TypeExamples.{IsOneType, any, any_structure, chain, const_field, empty_function, empty_structure, final_type, gives, of_params, one_field, open_below, open_type, pair_from, ref_null, structure_to, takes, two_fields, var_field};
 ghost use Rattle.wasm_spec.specs.TypeReferences.{group_refs, sub_refs};
 ghost use Rattle.wasm_spec.specs.Types.{Abstract, AbstractHeapType, Any, Array, ArrayComposite, Concrete, Cont, ContComposite, Eq, Exn, Extern, Func, FuncComposite, Group, HeapType, I16, I31, I32, I64, I8, NoCont, NoExn, NoExtern, NoFunc, None, Ref, Single, StorageType, Struct, StructComposite, SubType, Val, ValType};
 
@@ -24,16 +24,16 @@ pub fn equal_groups()
     ensures first_group { ¬ (IsOneType (pair_from 0 1 ∷ pair_from 0 1 ∷ []) 0 2) }
 {}
 
-/// A type alone is the type of the group of it, and no member of a greater group.
+/// A type that stands by itself is the type of the group that is written out of it alone, and no member of a greater group.
 pub fn lone_types()
-    ensures alone { IsOneType (Single (alone empty_structure) ∷ Group (alone empty_structure ∷ []) ∷ []) 0 1 }
-    ensures member { ¬ (IsOneType (Single (alone empty_structure) ∷ Group (alone empty_structure ∷ alone (ArrayComposite (const_field I32)) ∷ []) ∷ []) 0 1) }
+    ensures alone { IsOneType (Single (final_type empty_structure) ∷ Group (final_type empty_structure ∷ []) ∷ []) 0 1 }
+    ensures member { ¬ (IsOneType (Single (final_type empty_structure) ∷ Group (final_type empty_structure ∷ final_type (ArrayComposite (const_field I32)) ∷ []) ∷ []) 0 1) }
 {}
 
 /// What a type refers to counts as a type, and not by its index: types 0 and 1 are one type, and 2 another.
 pub fn references_to_types()
-    ensures one_type { IsOneType (Single (alone empty_structure) ∷ Single (alone empty_structure) ∷ Single (alone empty_function) ∷ Single (structure_to 0) ∷ Single (structure_to 1) ∷ Single (structure_to 2) ∷ []) 3 4 }
-    ensures another { ¬ (IsOneType (Single (alone empty_structure) ∷ Single (alone empty_structure) ∷ Single (alone empty_function) ∷ Single (structure_to 0) ∷ Single (structure_to 1) ∷ Single (structure_to 2) ∷ []) 3 5) }
+    ensures one_type { IsOneType (Single (final_type empty_structure) ∷ Single (final_type empty_structure) ∷ Single (final_type empty_function) ∷ Single (structure_to 0) ∷ Single (structure_to 1) ∷ Single (structure_to 2) ∷ []) 3 4 }
+    ensures another { ¬ (IsOneType (Single (final_type empty_structure) ∷ Single (final_type empty_structure) ∷ Single (final_type empty_function) ∷ Single (structure_to 0) ∷ Single (structure_to 1) ∷ Single (structure_to 2) ∷ []) 3 5) }
 
     // A structure that refers to itself, and one that refers to that one.
     ensures own { ¬ (IsOneType (Single (structure_to 0) ∷ Single (structure_to 0) ∷ []) 0 1) }
@@ -43,7 +43,7 @@ pub fn references_to_types()
 pub fn order_of_references()
     ensures function { sub_refs {R = ℕ} (open_below 5 (FuncComposite (record { params = ref_null (Concrete 1) ∷ I32 ∷ []; results = any ∷ ref_null (Concrete 3) ∷ ref_null (Concrete 2) ∷ [] })))
         ≡ 5 ∷ 1 ∷ 3 ∷ 2 ∷ [] }
-    ensures structure { sub_refs {R = ℕ} (alone (StructComposite (var_field (ref_null (Concrete 4)) ∷ const_field I64 ∷ const_field (ref_null (Concrete 0)) ∷ []))) ≡ 4 ∷ 0 ∷ [] }
+    ensures structure { sub_refs {R = ℕ} (final_type (StructComposite (var_field (ref_null (Concrete 4)) ∷ const_field I64 ∷ const_field (ref_null (Concrete 0)) ∷ []))) ≡ 4 ∷ 0 ∷ [] }
     ensures continuation { sub_refs {R = ℕ} (open_below 2 (ContComposite 7)) ≡ 2 ∷ 7 ∷ [] }
     ensures group { group_refs (pair_from 3 4) ≡ 4 ∷ 3 ∷ [] }
 {}
@@ -149,7 +149,7 @@ pub fn supertypes()
     ensures earlier { KeepsGroupRules default_features [] (Group (open_type empty_structure ∷ open_below 0 empty_structure ∷ [])) }
     ensures later { (features : Features) → ¬ (KeepsGroupRules features [] (Group (open_below 1 empty_structure ∷ open_type empty_structure ∷ []))) }
     ensures own { (features : Features) → ¬ (KeepsGroupRules features [] (Single (open_below 0 empty_structure))) }
-    ensures final_supertype { (features : Features) → ¬ (KeepsGroupRules features [] (Group (alone empty_structure ∷ open_below 0 empty_structure ∷ []))) }
+    ensures final_supertype { (features : Features) → ¬ (KeepsGroupRules features [] (Group (final_type empty_structure ∷ open_below 0 empty_structure ∷ []))) }
     ensures two { (features : Features) → ¬ (KeepsGroupRules features []
         (Group (open_type empty_structure ∷ open_type empty_structure
         ∷ record { is_final = false; supertypes = 0 ∷ 1 ∷ []; composite_type = empty_structure } ∷ []))) }
@@ -158,9 +158,9 @@ pub fn supertypes()
 
 /// References name earlier types, and with the feature for garbage collection types of the own group, also later ones.
 pub fn group_references()
-    ensures earlier { KeepsGroupRules 0x8008 (section_types (Single (of_params 0) ∷ [])) (Single (alone (FuncComposite (takes (ref_null (Concrete 0) ∷ []))))) }
-    ensures own { KeepsGroupRules 0x18008 [] (Single (alone (FuncComposite (takes (ref_null (Concrete 0) ∷ []))))) }
-    ensures own_without_gc { ¬ (KeepsGroupRules 0x8008 [] (Single (alone (FuncComposite (takes (ref_null (Concrete 0) ∷ [])))))) }
+    ensures earlier { KeepsGroupRules 0x8008 (section_types (Single (of_params 0) ∷ [])) (Single (final_type (FuncComposite (takes (ref_null (Concrete 0) ∷ []))))) }
+    ensures own { KeepsGroupRules 0x18008 [] (Single (final_type (FuncComposite (takes (ref_null (Concrete 0) ∷ []))))) }
+    ensures own_without_gc { ¬ (KeepsGroupRules 0x8008 [] (Single (final_type (FuncComposite (takes (ref_null (Concrete 0) ∷ [])))))) }
     ensures later { KeepsGroupRules default_features [] (pair_from 0 1) }
     ensures past_the_group { (features : Features) → ¬ (KeepsGroupRules features [] (pair_from 0 2)) }
 
@@ -177,10 +177,10 @@ pub fn continuation_types()
 
 /// A continuation type goes on with a function type, where the feature for it is on.
 pub fn continuations()
-    ensures function { KeepsGroupRules 0x220000 (section_types (Single (of_params 0) ∷ [])) (Single (alone (ContComposite 0))) }
-    ensures structure { (features : Features) → ¬ (KeepsGroupRules features (section_types (Single (alone empty_structure) ∷ [])) (Single (alone (ContComposite 0)))) }
-    ensures array { (features : Features) → ¬ (KeepsGroupRules features (section_types (Single (alone (ArrayComposite (const_field I32))) ∷ [])) (Single (alone (ContComposite 0)))) }
-    ensures without { ¬ (KeepsGroupRules default_features (section_types (Single (of_params 0) ∷ [])) (Single (alone (ContComposite 0)))) }
+    ensures function { KeepsGroupRules 0x220000 (section_types (Single (of_params 0) ∷ [])) (Single (final_type (ContComposite 0))) }
+    ensures structure { (features : Features) → ¬ (KeepsGroupRules features (section_types (Single (final_type empty_structure) ∷ [])) (Single (final_type (ContComposite 0)))) }
+    ensures array { (features : Features) → ¬ (KeepsGroupRules features (section_types (Single (final_type (ArrayComposite (const_field I32))) ∷ [])) (Single (final_type (ContComposite 0)))) }
+    ensures without { ¬ (KeepsGroupRules default_features (section_types (Single (of_params 0) ∷ [])) (Single (final_type (ContComposite 0)))) }
     ensures features { bit_of GcTypes + bit_of StackSwitching ≡ 0x220000 }
 {}
 

@@ -1,5 +1,5 @@
 use Rattle.std.proofs.Common.{◌≡◌, ◌<◌, ◌≤◌, true, false, arith, refl}
-use Rattle.wasm_spec.specs.TypeExamples.{open_type, alone, empty_structure}
+use Rattle.wasm_spec.specs.TypeExamples.{empty_structure, final_type, open_type}
 use Rattle.wasm_spec.proofs.TypeKinds.{extends_known}
 use Rattle.wasm_spec.proofs.type_examples.supertypes.Goals as goal
 
@@ -25,7 +25,7 @@ returns c = record {
   };
   later = λ features rules. let h : 1 < 0 = rules.each.0.earlier.0 in absurd (omega (arith, h));
   own = λ features rules. let h : 0 < 0 = rules.each.0.earlier.0 in absurd (omega (arith, h));
-  final_supertype = λ features rules. let e : true ≡ false = (extends_known rules.each.1.0.extends.each.0 (alone empty_structure) refl).0 in absurd cc;
+  final_supertype = λ features rules. let e : true ≡ false = (extends_known rules.each.1.0.extends.each.0 (final_type empty_structure) refl).0 in absurd cc;
   two = λ features rules. let h : 2 ≤ 1 = rules.each.1.1.0.extends.at_most_one in absurd (omega (arith, h));
   other_kind = λ features rules. (extends_known rules.each.1.0.extends.each.0 (open_type empty_structure) refl).1;
 }

@@ -8,7 +8,7 @@ use Rattle.wasm_spec.specs.Limits.{Limit, Params, Results, Fields, Depth, IsPass
 use Rattle.wasm_spec.specs.Matching.{CompositeMatches}
 use Rattle.wasm_spec.specs.Subtyping.{SubTypes, Declared, Defined, IsOfKind}
 use Rattle.wasm_spec.specs.Syntax.{members}
-use Rattle.wasm_spec.specs.Trees.{DefType, RefersBelow, unrolled, types_of_group, types_after, type_at}
+use Rattle.wasm_spec.specs.Trees.{DefType, unrolled, types_of_group, types_after, type_at, RefersBelow}
 use Rattle.wasm_spec.specs.TypeReferences.{sub_map}
 use Rattle.wasm_spec.specs.Types.{Func, CompositeType, FuncComposite, StructComposite, ArrayComposite, ContComposite, SubType, RecGroup}
 
@@ -95,7 +95,7 @@ pub record IsWellFormedGroup (features : Features) (before : List DefType) (grou
 
 -- ---- type sections
 
--- The groups come after these types, one after the other, and each is so in the context of the types before it.
+-- The groups come after these types, one after the other, and each has the property in the context of the types before it.
 abbrev pub AllGroups : (List DefType → RecGroup ℕ → Type 0) → List DefType → List (RecGroup ℕ) → Type 0
 AllGroups Holds before [] = ⊤
 AllGroups Holds before (group ∷ groups) = Holds before group × AllGroups Holds (types_after before group) groups

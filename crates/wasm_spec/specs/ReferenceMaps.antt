@@ -43,13 +43,12 @@ pub record Carries {R S : Type 0} (f : R → S) (from : SubTypes R) (to : SubTyp
   pub depth : (n : ℕ) (r t : R) → Links from n r t → Links to n (f r) (f t)
   pub limits : (r : R) (limit : Limit) → PassesLimit from r limit → PassesLimit to (f r) limit
 
--- What holds after f held before it, where all references stand for types: of the rule on continuations and of limits, also where f takes two
--- references to one.
+-- What holds after f held before it, where all references stand for types. For the rule on continuations and for limits f needn't be one to one.
 pub record CarriesLimitsBack {R S : Type 0} (f : R → S) (from : SubTypes R) (to : SubTypes S) : Type 0 where
   pub continuations : (c : CompositeType R) → AreTypes from (composite_refs c) → ContinuesFunc to (composite_map f c) → ContinuesFunc from c
   pub limits : (r : R) (limit : Limit) → IsType from r → PassesLimit to (f r) limit → PassesLimit from r limit
 
--- what else holds after f held before it, where all references stand for types
+-- For the rest it is one to one.
 pub record CarriesBack {R S : Type 0} (f : R → S) (from : SubTypes R) (to : SubTypes S) : Type 0 where
   pub heap_types : (a b : HeapType R)
       → AreTypes from (heap_refs a) → AreTypes from (heap_refs b)

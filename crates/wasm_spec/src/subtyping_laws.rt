@@ -101,8 +101,8 @@ pub fn type_sections()
         ↔ (KeepGroupRules features [] groups × KeepsGroupRules features (section_types groups) group) }
 {}
 
-/// The types of a section whose groups keep the rules keep them among all of its types, and each matches what it is below. The section is
-/// well-formed where besides no type passes a limit.
+/// Where the groups of a section keep the rules, each type keeps them among all types of the section, and matches what it is below; the groups
+/// are well-formed where besides no type passes a limit.
 pub fn well_formed_sections()
     ensures rules { (features : Features) (groups : List (RecGroup ℕ)) (index : ℕ) (type : SubType ℕ) → KeepGroupRules features [] groups
         → slice_get (flat_map members groups) index ≡ Some type → IsWellFormedAt (section_types groups) index type }

@@ -1,8 +1,7 @@
 -- Indexes of defined types, and the numbers that they are packed into.
-use Rattle.std.specs.Prelude.{◌≡◌, ℕ, ◌+◌, ◌-◌, ◌*◌, ◌^◌, ◌<◌, ◌≤◌, Bool, true, false, Option, Some, None, if◌then◌else◌, nat_lt, refl}
+use Rattle.std.specs.Prelude.{◌≡◌, ℕ, ◌+◌, ◌*◌, ◌/◌, ◌%◌, ◌^◌, ◌<◌, ◌==◌, Bool, true, false, Option, Some, None, if◌then◌else◌, refl}
 use Rattle.std.proofs.Common.{arith, ap}
 use Rattle.std.proofs.lemmas.Bool.Decides.{nat_tests}
-use Rattle.std.proofs.lemmas.Bool.{cases_lt}
 
 -- how a defined type is named: by its place in the module, by its place in its own recursive group, or by its id
 pub data Index : Type 0 where
@@ -33,18 +32,26 @@ core_type_id (Id n) = Some n
 
 -- the numbers that are packed are below this one
 abbrev pub packable : ℕ
-packable = 1048576
+packable = 2 ^ 20
 
--- 20 bits of number, and its kind above them
+-- the number, and its kind in the lowest 2 bits
 abbrev pub packed : Index → ℕ
-packed (Module n) = n
-packed (RecGroup n) = packable + n
-packed (Id n) = 2 * packable + n
+packed (Module n) = 4 * n
+packed (RecGroup n) = 4 * n + 1
+packed (Id n) = 4 * n + 2
 
 abbrev pub unpacked : ℕ → Index
-unpacked bits =
-  if nat_lt bits packable then Module bits else (if nat_lt bits (2 * packable) then RecGroup (bits - packable) else Id (bits - 2 * packable))
+unpacked bits = if bits % 4 == 0 then Module (bits / 4) else (if bits % 4 == 1 then RecGroup (bits / 4) else Id (bits / 4))
 
--- what is unpacked is packed into the same bits
-pub packed-unpacked : (bits : ℕ) → packed (unpacked bits) ≡ bits
-packed-unpacked bits = grind (arith, nat_tests)
+-- these bits are those of an index
+pub record IsPacked (bits : ℕ) : Type 0 where
+  pub number : bits < 4 * packable
+  pub kind : bits % 4 < 3
+
+pub packed-unpacked : (bits : ℕ) → bits % 4 < 3 → packed (unpacked bits) ≡ bits
+packed-unpacked bits is = grind (arith, nat_tests)
+
+pub unpacked-packed : (index : Index) → unpacked (packed index) ≡ index
+unpacked-packed (Module n) = grind (arith, nat_tests)
+unpacked-packed (RecGroup n) = grind (arith, nat_tests)
+unpacked-packed (Id n) = grind (arith, nat_tests)

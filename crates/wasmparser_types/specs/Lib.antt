@@ -1,2 +1,7 @@
+pub mod CompositeTypes
+pub mod HeapTypes
 pub mod Index
+pub mod RefBits
+pub mod SubTypes
 pub mod UnpackedIndex
+pub mod ValTypes

@@ -150,35 +150,43 @@ impl UnpackedIndex {
     }
 }
 
-/// An index in 22 bits: 20 of its number, and 2 of its kind above them.
+/// An index in 22 bits: 20 of its number, and the lowest 2 of its kind. It is ordered by its number first.
 #[derive(Clone, Copy, Debug, PartialEq, Eq, PartialOrd, Ord, Hash)]
 pub struct PackedIndex {
     bits: u32,
 }
 
 impl Model for PackedIndex {
-    ghost use Rattle.std.specs.Prelude.{◌<◌, ◌*◌};
     ghost use Rattle.std.proofs.Common.{ap};
-    ghost use Rattle.wasmparser_types.specs.Index.{Index, packable, packed, unpacked, packed-unpacked};
+    ghost use Rattle.wasmparser_types.specs.Index.{Index, IsPacked, packed, unpacked, packed-unpacked};
 
     ghost Value = { Index };
 
     ghost view = { λ index. unpacked index.bits };
 
-    ghost invariant = { λ index. index.bits < 3 * packable };
+    ghost invariant = { λ index. IsPacked index.bits };
 
     ghost inverse = { λ index. record { bits = packed index } };
 
-    ghost inverse_ok = { λ index _. ap (λ bits. record { bits = bits }) (packed-unpacked index.bits) };
+    ghost inverse_ok = { λ index is. ap (λ bits. record { bits = bits }) (packed-unpacked index.bits is.kind) };
 }
 
-// Numbers below this one are packed, and it is the lowest bit of the kind.
+// Numbers below this one are packed.
 const PACKABLE: u32 = 1 << 20;
+
+// A number is packed as its multiple of this, and its kind.
+const KINDS: u32 = 4;
+
+const MODULE: u32 = 0;
+
+const REC_GROUP: u32 = 1;
+
+const ID: u32 = 2;
 
 impl PackedIndex {
     ghost use Rattle.std.specs.Prelude.{◌≡◌, ◌<◌, is_some};
     ghost use Rattle.std.specs.Option.{SomeIff};
-    ghost use Rattle.wasmparser_types.specs.Index.{Module, RecGroup, Id, packable, module_index, rec_group_index, core_type_id};
+    ghost use Rattle.wasmparser_types.specs.Index.{Module, RecGroup, Id, IsPacked, packable, unpacked, module_index, rec_group_index, core_type_id};
     ghost use Rattle.wasmparser_types.specs.UnpackedIndex as spec;
 
     /// The type index in a module, packed, or None where it is 2^20 or more.
@@ -186,7 +194,9 @@ impl PackedIndex {
         ensures { SomeIff result (index < packable) (Module index) }
     {
         if index < PACKABLE {
-            Some(PackedIndex { bits: index })
+            Some(PackedIndex {
+                bits: KINDS * index + MODULE,
+            })
         } else {
             None
         }
@@ -198,7 +208,7 @@ impl PackedIndex {
     {
         if index < PACKABLE {
             Some(PackedIndex {
-                bits: PACKABLE + index,
+                bits: KINDS * index + REC_GROUP,
             })
         } else {
             None
@@ -212,7 +222,7 @@ impl PackedIndex {
         let index = id.index();
         if index < PACKABLE {
             Some(PackedIndex {
-                bits: 2 * PACKABLE + index,
+                bits: KINDS * index + ID,
             })
         } else {
             None
@@ -223,13 +233,28 @@ impl PackedIndex {
     pub fn unpack(&self) -> UnpackedIndex
         ensures { spec.index result ≡ self.now }
     {
-        if self.bits < PACKABLE {
-            UnpackedIndex::Module(self.bits)
-        } else if self.bits < 2 * PACKABLE {
-            UnpackedIndex::RecGroup(self.bits - PACKABLE)
-        } else {
-            UnpackedIndex::Id(CoreTypeId::from_index(self.bits - 2 * PACKABLE))
+        let index = self.bits / KINDS;
+        match self.bits % KINDS {
+            MODULE => UnpackedIndex::Module(index),
+            REC_GROUP => UnpackedIndex::RecGroup(index),
+            _ => UnpackedIndex::Id(CoreTypeId::from_index(index)),
         }
+    }
+
+    // The bits.
+    pub(crate) fn bits(self) -> u32
+        ensures value { unpacked result ≡ self }
+        ensures packed { IsPacked result }
+    {
+        self.bits
+    }
+
+    // The index with these bits.
+    pub(crate) fn from_bits(bits: u32) -> PackedIndex
+        requires { IsPacked bits }
+        ensures { result ≡ unpacked bits }
+    {
+        PackedIndex { bits }
     }
 
     /// Whether this is a type index in a module.

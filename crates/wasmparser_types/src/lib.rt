@@ -2,6 +2,7 @@
 #![tactic(auto)]
 
 pub mod composite_type;
+pub mod equality;
 pub mod heap_type;
 pub mod index;
 pub mod ref_type;

@@ -1,7 +1,9 @@
 //! Sub types and recursive groups (Core Specification 3.0, Structure, "Recursive Types").
 
-use crate::composite_type::CompositeType;
+use crate::composite_type::{ArrayType, CompositeType, ContType, FuncType, StructType};
 use crate::index::PackedIndex;
+use std::alloc::{AllocError, Global};
+use std::slice;
 
 /// A sub type: a member of a recursive group.
 #[derive(Debug, PartialEq, Eq, Hash, Drop)]
@@ -12,4 +14,123 @@ pub struct SubType {
     pub supertype_idx: Option<PackedIndex>,
     /// What it is made of.
     pub composite_type: CompositeType,
+}
+
+impl SubType {
+    ghost use Rattle.std.specs.Prelude.{◌≡◌, [], true, Some, IsSome};
+    ghost use Rattle.wasm_spec.specs.Types as spec;
+    ghost use Rattle.wasmparser_types.specs.ValTypes.{field_type};
+    ghost use Rattle.wasmparser_types.specs.CompositeTypes.{func_type, struct_fields, composite_type, func_of, array_of, struct_of, cont_of};
+    ghost use Rattle.wasmparser_types.specs.SubTypes.{sub_type};
+
+    /// The final sub type of no other type that a function type by itself stands for.
+    pub fn func(signature: FuncType) -> SubType
+        ensures { sub_type result ≡ record { is_final = true; supertypes = []; composite_type = spec.FuncComposite (func_type signature) } }
+    {
+        SubType {
+            is_final: true,
+            supertype_idx: None,
+            composite_type: CompositeType::Func(signature),
+        }
+    }
+
+    /// The function type that it is made of.
+    pub fn unwrap_func(&self) -> &FuncType
+        requires { IsSome (func_of (composite_type self.now.composite_type)) }
+        ensures { Some (func_type result.now) ≡ func_of (composite_type self.now.composite_type) }
+    {
+        self.composite_type.as_func().unwrap()
+    }
+
+    /// The array type that it is made of.
+    pub fn unwrap_array(&self) -> &ArrayType
+        requires { IsSome (array_of (composite_type self.now.composite_type)) }
+        ensures { Some (field_type result.now.0) ≡ array_of (composite_type self.now.composite_type) }
+    {
+        self.composite_type.as_array().unwrap()
+    }
+
+    /// The structure type that it is made of.
+    pub fn unwrap_struct(&self) -> &StructType
+        requires { IsSome (struct_of (composite_type self.now.composite_type)) }
+        ensures { Some (struct_fields result.now) ≡ struct_of (composite_type self.now.composite_type) }
+    {
+        self.composite_type.as_struct().unwrap()
+    }
+
+    /// The continuation type that it is made of.
+    pub fn unwrap_cont(&self) -> &ContType
+        requires { IsSome (cont_of (composite_type self.now.composite_type)) }
+        ensures { Some (result.now.0) ≡ cont_of (composite_type self.now.composite_type) }
+    {
+        self.composite_type.as_cont().unwrap()
+    }
+}
+
+/// A recursive group. A sub type by itself and a group that is written out and has that type alone are two groups,
+/// although they have the same types.
+#[derive(Debug, PartialEq, Eq, Hash, Drop)]
+pub struct RecGroup {
+    inner: GroupTypes,
+}
+
+#[derive(Debug, PartialEq, Eq, Hash, Drop)]
+enum GroupTypes {
+    Implicit(SubType),
+    Explicit(Vec<SubType>),
+}
+
+impl RecGroup {
+    ghost use Rattle.std.specs.Prelude.{◌≡◌, IfOk, map};
+    ghost use Rattle.wasm_spec.specs.Types as spec;
+    ghost use Rattle.wasmparser_types.specs.SubTypes.{sub_type};
+    ghost use Rattle.wasmparser_types.specs.RecGroups.{rec_group, is_explicit, members};
+
+    /// A sub type by itself.
+    pub fn implicit(it: SubType) -> RecGroup
+        ensures { rec_group result ≡ spec.Single (sub_type it) }
+    {
+        RecGroup {
+            inner: GroupTypes::Implicit(it),
+        }
+    }
+
+    /// A group that is written out, of any number of sub types.
+    pub fn explicit(types: Vec<SubType>) -> RecGroup
+        ensures { rec_group result ≡ spec.Group (map sub_type types.items) }
+    {
+        RecGroup {
+            inner: GroupTypes::Explicit(types),
+        }
+    }
+
+    /// Whether the group is written out.
+    pub fn is_explicit_rec_group(&self) -> bool
+        ensures { result ≡ is_explicit (rec_group self.now) }
+    {
+        match &self.inner {
+            GroupTypes::Implicit(_) => false,
+            GroupTypes::Explicit(_) => true,
+        }
+    }
+
+    /// The sub types, in order.
+    pub fn types(&self) -> &[SubType]
+        ensures { map sub_type result.now ≡ members (rec_group self.now) }
+    {
+        match &self.inner {
+            GroupTypes::Implicit(it) => slice::from_ref(it),
+            GroupTypes::Explicit(types) => types,
+        }
+    }
+
+    /// The sub types, in order. Memory is taken for a sub type by itself alone.
+    pub fn into_types(self, alloc: Global) -> Result<Vec<SubType>, AllocError>
+        ensures { IfOk result (λ types. map sub_type types.items ≡ members (rec_group self)) }
+    {
+        match self.inner {
+            GroupTypes::Implicit(it) => Ok(vec![in alloc; it]?),
+            GroupTypes::Explicit(types) => Ok(types),
+        }
+    }
 }

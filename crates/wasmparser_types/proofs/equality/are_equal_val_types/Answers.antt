@@ -1,0 +1,4 @@
+use Rattle.wasmparser_types.proofs.equality.are_equal_val_types.Goals as goal
+
+pub returns : goal.returns
+returns c = let h = c.eq.ensures in ?

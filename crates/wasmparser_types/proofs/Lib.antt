@@ -1,1 +1,2 @@
 mod AbstractBits
+mod EqualityLaws

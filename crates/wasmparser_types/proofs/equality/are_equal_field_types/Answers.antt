@@ -1,4 +1,6 @@
+use Rattle.std.proofs.Common.{rules}
+use Rattle.wasmparser_types.proofs.EqualityLaws.{equality}
 use Rattle.wasmparser_types.proofs.equality.are_equal_field_types.Goals as goal
 
 pub returns : goal.returns
-returns c = let h = c.eq.ensures in ?
+returns c = search (rules, equality)

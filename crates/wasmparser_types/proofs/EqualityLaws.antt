@@ -89,5 +89,3 @@ inner_decides (Explicit xs) (Explicit ys) = Decides-like _ (ap spec.Group) (λ p
 
 pub groups_decide : (a b : RecGroup) → Decides (rec_groups.ghosts.eq a b) (rec_group a ≡ rec_group b)
 groups_decide a b = inner_decides a.inner b.inner
-
-pub ruleset equality = (refs_decide, vals_decide, storages_decide, fields_decide, funcs_decide, structs_decide, composites_decide, subs_decide, groups_decide)

@@ -1,5 +1,5 @@
 -- Heap types of the code as those of the specification.
-use Rattle.std.specs.Prelude.{◌<◌, Option, Some, None}
+use Rattle.std.specs.Prelude.{◌<◌, Bool, true, Option, Some, None}
 use Rattle.wasm_spec.specs.Types as spec
 use Rattle.wasmparser_types.specs.Index.{Index, number_of, packable}
 use Rattle.wasmparser_types.specs.UnpackedIndex.{index}
@@ -37,3 +37,10 @@ Packs (spec.Concrete i) = number_of i < packable
 abbrev pub defined : spec.HeapType Index → Option Index
 defined (spec.Abstract heap) = None
 defined (spec.Concrete i) = Some i
+
+-- references to an abstract heap type
+abbrev pub abstract_ref : Bool → spec.AbstractHeapType → spec.RefType Index
+abstract_ref nullable heap = record { nullable = nullable; heap_type = spec.Abstract heap }
+
+abbrev pub abstract_val : spec.AbstractHeapType → spec.ValType Index
+abstract_val heap = spec.Ref true (spec.Abstract heap)

@@ -1,27 +1,19 @@
 -- The bits of a reference type.
-use Rattle.std.specs.Prelude.{◌≡◌, ℕ, ◌+◌, ◌*◌, ◌/◌, ◌%◌, ◌^◌, ◌<◌, ◌==◌, Bool, true, false, Option, Some, None, if◌then◌else◌, refl}
+use Rattle.std.specs.Prelude.{◌≡◌, ℕ, ◌+◌, ◌-◌, ◌*◌, ◌≤◌, List, [], ◌∷◌, slice_index_or, ◌/◌, ◌%◌, ◌^◌, ◌<◌, ◌==◌, Bool, true, false, Option, Some, None, if◌then◌else◌, refl}
 use Rattle.std.proofs.Common.{arith, ap, ◌∙◌}
 use Rattle.std.proofs.lemmas.Bool.Decides.{nat_tests}
 use Rattle.wasm_spec.specs.Types as spec
 use Rattle.wasm_spec.specs.TypeGrammar.{heap_code}
 use Rattle.wasmparser_types.specs.Index.{Index, IsPacked, packed, unpacked, packed-unpacked, unpacked-packed}
 
+-- the abstract heap types, in the order of their bytes
+abbrev pub abstract_heap_types : List spec.AbstractHeapType
+abstract_heap_types =
+    spec.Cont ∷ spec.Exn ∷ spec.Array ∷ spec.Struct ∷ spec.I31 ∷ spec.Eq ∷ spec.Any ∷ spec.Extern ∷ spec.Func ∷ spec.None ∷ spec.NoExtern ∷ spec.NoFunc ∷ spec.NoExn ∷ spec.NoCont ∷ []
+
 -- the abstract heap type of a byte
-unfoldable pub abstract_at : ℕ → spec.AbstractHeapType
-abstract_at code =
-    if code == 0x75 then spec.NoCont else (
-    if code == 0x74 then spec.NoExn else (
-    if code == 0x73 then spec.NoFunc else (
-    if code == 0x72 then spec.NoExtern else (
-    if code == 0x71 then spec.None else (
-    if code == 0x70 then spec.Func else (
-    if code == 0x6f then spec.Extern else (
-    if code == 0x6e then spec.Any else (
-    if code == 0x6d then spec.Eq else (
-    if code == 0x6c then spec.I31 else (
-    if code == 0x6b then spec.Struct else (
-    if code == 0x6a then spec.Array else (
-    if code == 0x69 then spec.Exn else spec.Cont))))))))))))
+abbrev pub abstract_at : ℕ → spec.AbstractHeapType
+abstract_at code = slice_index_or abstract_heap_types (code - 0x68) spec.Cont
 
 -- in the lowest bit whether it is a defined type, and above that its packed index, or the byte of an abstract heap type
 abbrev pub heap_bits : spec.HeapType Index → ℕ
@@ -51,7 +43,6 @@ pub ref_bits-at : (bits : ℕ) → IsHeapBits (bits / 2) → ref_bits (ref_type_
 ref_bits-at bits is = grind (arith, nat_tests, heap_bits-at (bits / 2) is)
 
 pub abstract_at-code : (heap : spec.AbstractHeapType) → abstract_at (heap_code heap) ≡ heap
-unfolding abstract_at
 abstract_at-code spec.Func = refl
 abstract_at-code spec.Extern = refl
 abstract_at-code spec.Any = refl
@@ -68,7 +59,10 @@ abstract_at-code spec.Cont = refl
 abstract_at-code spec.NoCont = refl
 
 pub heap_type_at-bits : (type : spec.HeapType Index) → heap_type_at (heap_bits type) ≡ type
-heap_type_at-bits (spec.Abstract heap) = grind (arith, nat_tests, abstract_at-code heap)
+heap_type_at-bits (spec.Abstract heap) =
+    let even : 2 * heap_code heap % 2 ≡ 0 = omega arith in
+    let half : 2 * heap_code heap / 2 ≡ heap_code heap = omega arith in
+    rw (even, half) (ap spec.Abstract (abstract_at-code heap))
 heap_type_at-bits (spec.Concrete index) = grind (arith, nat_tests, unpacked-packed index)
 
 pub ref_type_at-heap : (nullable : Bool) (bits : ℕ) → ref_type_at (2 * bits + (if nullable then 1 else 0)) ≡ record { nullable = nullable; heap_type = heap_type_at bits }

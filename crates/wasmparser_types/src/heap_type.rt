@@ -36,7 +36,7 @@ pub enum AbstractHeapType {
 }
 
 impl AbstractHeapType {
-    ghost use Rattle.std.specs.Prelude.{◌≡◌, ◌<◌, ◌^◌};
+    ghost use Rattle.std.specs.Prelude.{◌≡◌, ◌<◌, ◌≤◌, ◌^◌};
     ghost use Rattle.wasm_spec.specs.TypeGrammar.{heap_code};
     ghost use Rattle.wasmparser_types.specs.HeapTypes as spec;
     ghost use Rattle.wasmparser_types.specs.RefBits.{abstract_at};
@@ -65,8 +65,9 @@ impl AbstractHeapType {
     }
 
     // The abstract heap type of this byte.
-    #[tactic(auto, unfolding(crate::specs::RefBits::abstract_at))]
     pub(crate) fn from_code(code: u32) -> AbstractHeapType
+        requires low { 0x68 ≤ code }
+        requires high { code ≤ 0x75 }
         ensures { spec.abstract_heap_type result ≡ abstract_at code }
     {
         match code {

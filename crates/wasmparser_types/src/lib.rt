@@ -2,9 +2,9 @@
 #![tactic(auto)]
 
 pub mod composite_type;
-pub mod equality;
 pub mod heap_type;
 pub mod index;
+pub mod laws;
 pub mod ref_type;
 pub mod sub_type;
 pub mod val_type;

@@ -158,7 +158,6 @@ impl RefType {
         RefType::from_heap_bits(nullable, 2 * heap.code())
     }
 
-    #[tactic(auto, using(crate::proofs::AbstractBits::making))]
     fn from_heap_bits(nullable: bool, bits: u32) -> RefType
         requires { IsHeapBits bits }
         ensures { result ≡ record { nullable = nullable; heap_type = heap_type_at bits } }
@@ -179,11 +178,11 @@ impl RefType {
     pub fn heap_type(&self) -> HeapType
         ensures { heap_type result ≡ self.now.heap_type }
     {
-        let bits = self.bits / 4;
-        if self.bits / 2 % 2 == 0 {
-            HeapType::Abstract(AbstractHeapType::from_code(bits))
+        let heap = self.bits / 2;
+        if heap % 2 == 0 {
+            HeapType::Abstract(AbstractHeapType::from_code(heap / 2))
         } else {
-            HeapType::Concrete(PackedIndex::from_bits(bits).unpack())
+            HeapType::Concrete(PackedIndex::from_bits(heap / 2).unpack())
         }
     }
 
@@ -212,10 +211,11 @@ impl RefType {
     pub fn type_index(&self) -> Option<PackedIndex>
         ensures { result ≡ defined self.now.heap_type }
     {
-        if self.bits / 2 % 2 == 0 {
+        let heap = self.bits / 2;
+        if heap % 2 == 0 {
             None
         } else {
-            Some(PackedIndex::from_bits(self.bits / 4))
+            Some(PackedIndex::from_bits(heap / 2))
         }
     }
 

@@ -1,10 +1,10 @@
 -- The bits of a reference to an abstract heap type.
-use Rattle.std.specs.Prelude.{◌≡◌, ℕ, ◌*◌, ◌/◌, ◌%◌, ◌^◌, ◌<◌, ◌+◌, Bool, true, false, refl}
+use Rattle.std.specs.Prelude.{◌≡◌, ℕ, ◌*◌, ◌/◌, ◌^◌, ◌<◌, ◌+◌, Bool, true, false, refl}
 use Rattle.std.proofs.Common.{arith}
 use mir.Val.{bool_byte}
 use Rattle.wasm_spec.specs.Types as spec
 use Rattle.wasm_spec.specs.TypeGrammar.{heap_code}
-use Rattle.wasmparser_types.specs.RefBits.{abstract_at, IsHeapBits, abstract_at-code, heap_type_at, heap_type_at-bits, ref_type_at, ref_type_at-heap}
+use Rattle.wasmparser_types.specs.RefBits.{IsHeapBits, abstract_at-code, heap_type_at, heap_type_at-bits, ref_type_at, ref_type_at-heap}
 
 pub abstract_bits : (heap : spec.AbstractHeapType) (code : ℕ) → code < 2 ^ 8 → code ≡ heap_code heap → IsHeapBits (2 * code)
 abstract_bits heap code small is =

@@ -1,5 +1,4 @@
 -- Sub types and recursive groups of the code as those of the specification.
-use Rattle.std.specs.Prelude.{List, [], ◌∷◌, map}
 use Rattle.std.specs.Option.{option_to_list}
 use Rattle.wasm_spec.specs.Types as spec
 use Rattle.wasmparser_types.specs.Index.{Index}

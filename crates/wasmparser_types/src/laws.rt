@@ -36,7 +36,22 @@ pub fn equality()
 pub fn nullable_ref_types() -> [RefType; 14]
     ensures { result ≡ map (abstract_ref true) (spec.Func ∷ spec.Extern ∷ spec.Any ∷ spec.Eq ∷ spec.I31 ∷ spec.Struct ∷ spec.Array ∷ spec.Exn ∷ spec.Cont ∷ spec.None ∷ spec.NoExtern ∷ spec.NoFunc ∷ spec.NoExn ∷ spec.NoCont ∷ []) }
 {
-    [RefType::FUNCREF, RefType::EXTERNREF, RefType::ANYREF, RefType::EQREF, RefType::I31REF, RefType::STRUCTREF, RefType::ARRAYREF, RefType::EXNREF, RefType::CONTREF, RefType::NULLREF, RefType::NULLEXTERNREF, RefType::NULLFUNCREF, RefType::NULLEXNREF, RefType::NULLCONTREF]
+    [
+        RefType::FUNCREF,
+        RefType::EXTERNREF,
+        RefType::ANYREF,
+        RefType::EQREF,
+        RefType::I31REF,
+        RefType::STRUCTREF,
+        RefType::ARRAYREF,
+        RefType::EXNREF,
+        RefType::CONTREF,
+        RefType::NULLREF,
+        RefType::NULLEXTERNREF,
+        RefType::NULLFUNCREF,
+        RefType::NULLEXNREF,
+        RefType::NULLCONTREF,
+    ]
 }
 
 /// The reference types with a name that may not be null.
@@ -50,5 +65,10 @@ pub fn non_null_ref_types() -> [RefType; 4]
 pub fn val_types() -> [ValType; 4]
     ensures { map val_type result ≡ map abstract_val (spec.Func ∷ spec.Extern ∷ spec.Exn ∷ spec.Cont ∷ []) }
 {
-    [ValType::FUNCREF, ValType::EXTERNREF, ValType::EXNREF, ValType::CONTREF]
+    [
+        ValType::FUNCREF,
+        ValType::EXTERNREF,
+        ValType::EXNREF,
+        ValType::CONTREF,
+    ]
 }

@@ -81,7 +81,7 @@ enum GroupTypes {
 }
 
 impl RecGroup {
-    ghost use Rattle.std.specs.Prelude.{◌≡◌, IfOk, map};
+    ghost use Rattle.std.specs.Prelude.{◌≡◌, IfOk, IsOk, IsTrue, map};
     ghost use Rattle.wasm_spec.specs.Types as spec;
     ghost use Rattle.wasmparser_types.specs.SubTypes.{sub_type};
     ghost use Rattle.wasmparser_types.specs.RecGroups.{rec_group, is_explicit, members};
@@ -124,9 +124,10 @@ impl RecGroup {
         }
     }
 
-    /// The sub types, in order. Memory is taken for a sub type by itself alone.
+    /// The sub types, in order. Only for a sub type by itself is memory taken.
     pub fn into_types(self, alloc: Global) -> Result<Vec<SubType>, AllocError>
-        ensures { IfOk result (λ types. map sub_type types.items ≡ members (rec_group self)) }
+        ensures types { IfOk result (λ types. map sub_type types.items ≡ members (rec_group self)) }
+        ensures explicit { IsTrue (is_explicit (rec_group self)) → IsOk result }
     {
         match self.inner {
             GroupTypes::Implicit(it) => Ok(vec![in alloc; it]?),

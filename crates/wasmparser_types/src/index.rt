@@ -29,10 +29,10 @@ impl CoreTypeId {
     }
 
     /// The number.
-    pub fn index(&self) -> u32
+    pub fn index(&self) -> usize
         ensures { result ≡ self.now }
     {
-        self.index
+        self.index as usize
     }
 }
 
@@ -63,10 +63,10 @@ impl RecGroupId {
     }
 
     /// The number.
-    pub fn index(&self) -> u32
+    pub fn index(&self) -> usize
         ensures { result ≡ self.now }
     {
-        self.index
+        self.index as usize
     }
 }
 
@@ -153,6 +153,7 @@ impl UnpackedIndex {
 /// An index in 22 bits: 20 of its number, and the lowest 2 of its kind. It is ordered by its number first.
 #[derive(Clone, Copy, Debug, PartialEq, Eq, PartialOrd, Ord, Hash)]
 pub struct PackedIndex {
+    // The kind in the lowest 2 bits, and the number above them.
     bits: u32,
 }
 
@@ -219,10 +220,9 @@ impl PackedIndex {
     pub fn from_id(id: CoreTypeId) -> Option<PackedIndex>
         ensures { SomeIff result (id < packable) (Id id) }
     {
-        let index = id.index();
-        if index < PACKABLE {
+        if id.index < PACKABLE {
             Some(PackedIndex {
-                bits: KINDS * index + ID,
+                bits: KINDS * id.index + ID,
             })
         } else {
             None

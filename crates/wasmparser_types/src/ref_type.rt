@@ -7,6 +7,8 @@ use std::marker::Model;
 /// A reference type in 24 bits. Contracts see it as whether it may be null, and its heap type.
 #[derive(Clone, Copy, Debug, PartialEq, Eq, Hash)]
 pub struct RefType {
+    // From the lowest bit: whether it may be null, whether it refers to a defined type, and in 22 bits that type's
+    // packed index or the byte of an abstract heap type.
     bits: u32,
 }
 
@@ -28,11 +30,10 @@ impl Model for RefType {
     ghost inverse_ok = { λ type is. ap (λ bits. record { bits = bits }) (ref_bits-at type.bits is) };
 }
 
-// Set where the reference may be null.
-const NULLABLE: u32 = 1;
-
-// The byte of an abstract heap type stands from this bit on, below which the bit of a defined type is not set.
+// A reference to an abstract heap type is the type's byte times this, and one more where it may be null.
 const ABSTRACT: u32 = 4;
+
+const NULLABLE: u32 = 1;
 
 impl RefType {
     ghost use Rattle.std.specs.Prelude.{◌≡◌, ◌↔◌, IsTrue, true, false, is_some};

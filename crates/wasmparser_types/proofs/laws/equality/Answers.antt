@@ -27,3 +27,6 @@ returns-clause-sub_types c = subs_decide
 
 pub returns-clause-rec_groups : goal.returns-clause-rec_groups
 returns-clause-rec_groups c = groups_decide
+
+pub returns-clause-array_types : goal.returns-clause-array_types
+returns-clause-array_types c = λ a b. fields_decide a.0 b.0

@@ -4,8 +4,9 @@ use Rattle.std.specs.Bool.{Decides}
 use Rattle.std.specs.Cmp.Lexicographic.{pointwise}
 use Rattle.std.proofs.Common.{rules, ap, sym, ◌∙◌}
 use Rattle.std.proofs.lemmas.Bool.Decides.{Decides-eqb, Decides-like, Decides-and}
+use Rattle.std.proofs.lemmas.Slice.Eq.{slice_eq-Decides}
 use Rattle.wasm_spec.specs.Types as spec
-use Rattle.wasmparser_types.specs.Index.{Index}
+use Rattle.wasmparser_types.specs.Index.{Index, unpacked-packed}
 use Rattle.wasmparser_types.specs.RefBits.{ref_bits, ref_type_at, ref_type_at-bits}
 use Rattle.wasmparser_types.specs.ValTypes.{val_type, storage_type, field_type}
 use Rattle.wasmparser_types.specs.CompositeTypes.{func_type, struct_fields, composite_type}
@@ -23,6 +24,7 @@ use Rattle.wasmparser_types.specs.declared.sub_type.RecGroup.{RecGroup}
 use Rattle.wasmparser_types.specs.declared.sub_type.GroupTypes.{GroupTypes}
 use Rattle.wasmparser_types.specs.declared.sub_type.GroupTypes.TheVariants.{Implicit, Explicit}
 use Rattle.std.specs.contracts.prelude.BoolPartialEq.TheImpl as flags
+use Rattle.wasmparser_types.specs.contracts.index.PackedIndexPartialEq.TheImpl as packed_indexes
 use Rattle.wasmparser_types.specs.contracts.val_type.ValTypePartialEq.TheImpl as val_types
 use Rattle.wasmparser_types.specs.contracts.val_type.StorageTypePartialEq.TheImpl as storage_types
 use Rattle.wasmparser_types.specs.contracts.val_type.FieldTypePartialEq.TheImpl as field_types
@@ -78,8 +80,14 @@ structs_decide a b = lists_decide _ field_type fields_decide a.fields.items b.fi
 pub composites_decide : (a b : CompositeType) → Decides (composite_types.ghosts.eq a b) (composite_type a ≡ composite_type b)
 composites_decide a b = search (rules, fields_decide, funcs_decide, structs_decide)
 
+indexes_decide : (a b : Index) → Decides (packed_indexes.ghosts.eq a b) (a ≡ b)
+indexes_decide a b = search (rules, Decides-eqb, unpacked-packed)
+
+supertypes_decide : (xs ys : List Index) → Decides (pointwise packed_indexes.ghosts.eq xs ys) (xs ≡ ys)
+supertypes_decide xs ys = slice_eq-Decides indexes_decide xs ys _ refl
+
 pub subs_decide : (a b : SubType) → Decides (sub_types.ghosts.eq a b) (sub_type a ≡ sub_type b)
-subs_decide a b = search (rules, composites_decide)
+subs_decide a b = search (rules, supertypes_decide, composites_decide)
 
 inner_decides : (a b : GroupTypes) → Decides (group_types.ghosts.eq a b) (group_of a ≡ group_of b)
 inner_decides (Implicit a) (Implicit b) = Decides-like _ (ap spec.Single) (λ p. cc) (subs_decide a b)

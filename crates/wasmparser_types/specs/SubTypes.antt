@@ -1,5 +1,4 @@
 -- Sub types and recursive groups of the code as those of the specification.
-use Rattle.std.specs.Option.{option_to_list}
 use Rattle.wasm_spec.specs.Types as spec
 use Rattle.wasmparser_types.specs.Index.{Index}
 use Rattle.wasmparser_types.specs.CompositeTypes.{composite_type}
@@ -8,6 +7,6 @@ use Rattle.wasmparser_types.specs.declared.sub_type.SubType.{SubType}
 abbrev pub sub_type : SubType → spec.SubType Index
 sub_type type = record {
   is_final = type.is_final;
-  supertypes = option_to_list type.supertype_idx;
+  supertypes = type.supertype_idxs.items;
   composite_type = composite_type type.composite_type;
 }

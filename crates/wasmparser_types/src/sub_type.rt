@@ -10,8 +10,8 @@ use std::slice;
 pub struct SubType {
     /// Whether no type may have it as its supertype.
     pub is_final: bool,
-    /// Its supertype, where it has one.
-    pub supertype_idx: Option<PackedIndex>,
+    /// Its supertypes. Bytes may state any number; valid types have at most one.
+    pub supertype_idxs: Vec<PackedIndex>,
     /// What it is made of.
     pub composite_type: CompositeType,
 }
@@ -24,12 +24,12 @@ impl SubType {
     ghost use Rattle.wasmparser_types.specs.SubTypes.{sub_type};
 
     /// The final sub type of no other type that a function type by itself stands for.
-    pub fn func(signature: FuncType) -> SubType
+    pub fn func(alloc: Global, signature: FuncType) -> SubType
         ensures { sub_type result ≡ record { is_final = true; supertypes = []; composite_type = spec.FuncComposite (func_type signature) } }
     {
         SubType {
             is_final: true,
-            supertype_idx: None,
+            supertype_idxs: Vec::new(alloc),
             composite_type: CompositeType::Func(signature),
         }
     }

@@ -1,0 +1,11 @@
+//! Tests of `wasmparser_types`, through its public calls.
+#![tactic(auto)]
+
+#[cfg(test)]
+mod index;
+#[cfg(test)]
+mod ref_type;
+#[cfg(test)]
+mod sub_type;
+#[cfg(test)]
+mod val_type;

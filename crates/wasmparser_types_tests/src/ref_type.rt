@@ -1,0 +1,137 @@
+//! References: their parts, the constants, and the questions.
+
+use std::alloc::Global;
+use std::test::Fail;
+use wasm_test_rows::fields::four_fields;
+use wasm_test_rows::rows::check_rows;
+use wasmparser_types::heap_type::{AbstractHeapType, HeapType};
+use wasmparser_types::ref_type::RefType;
+
+// An abstract heap type, the one question that says yes of references to it, and the constants for them: that with null, and that without, where there
+// is one.
+const ABSTRACT_HEAP_TYPES: &str = "
+    Func | is_func_ref | FUNCREF | FUNC
+    Extern | is_extern_ref | EXTERNREF | EXTERN
+    Any | is_any_ref | ANYREF |
+    None | is_none_ref | NULLREF |
+    NoExtern | is_noextern_ref | NULLEXTERNREF |
+    NoFunc | is_nofunc_ref | NULLFUNCREF |
+    Eq | is_eq_ref | EQREF |
+    Struct | is_struct_ref | STRUCTREF |
+    Array | is_array_ref | ARRAYREF |
+    I31 | is_i31_ref | I31REF |
+    Exn | is_exn_ref | EXNREF | EXN
+    NoExn | is_noexn_ref | NULLEXNREF |
+    Cont | is_cont_ref | CONTREF | CONT
+    NoCont | is_nocont_ref | NULLCONTREF |
+";
+
+// The abstract heap types by their names.
+const HEAP_TYPES: &[(&str, AbstractHeapType)] = &[
+    ("Func", AbstractHeapType::Func),
+    ("Extern", AbstractHeapType::Extern),
+    ("Any", AbstractHeapType::Any),
+    ("None", AbstractHeapType::None),
+    ("NoExtern", AbstractHeapType::NoExtern),
+    ("NoFunc", AbstractHeapType::NoFunc),
+    ("Eq", AbstractHeapType::Eq),
+    ("Struct", AbstractHeapType::Struct),
+    ("Array", AbstractHeapType::Array),
+    ("I31", AbstractHeapType::I31),
+    ("Exn", AbstractHeapType::Exn),
+    ("NoExn", AbstractHeapType::NoExn),
+    ("Cont", AbstractHeapType::Cont),
+    ("NoCont", AbstractHeapType::NoCont),
+];
+
+/// What has this name.
+pub fn named<T: Copy>(table: &[(&str, T)], name: &str) -> Option<T> {
+    for (it, found) in table {
+        if *it == name {
+            return Some(*found);
+        }
+    }
+    None
+}
+
+// The constant of this name.
+fn constant(name: &str) -> Option<RefType> {
+    let names = [
+        ("FUNCREF", RefType::FUNCREF),
+        ("FUNC", RefType::FUNC),
+        ("EXTERNREF", RefType::EXTERNREF),
+        ("EXTERN", RefType::EXTERN),
+        ("ANYREF", RefType::ANYREF),
+        ("NULLREF", RefType::NULLREF),
+        ("NULLEXTERNREF", RefType::NULLEXTERNREF),
+        ("NULLFUNCREF", RefType::NULLFUNCREF),
+        ("EQREF", RefType::EQREF),
+        ("STRUCTREF", RefType::STRUCTREF),
+        ("ARRAYREF", RefType::ARRAYREF),
+        ("I31REF", RefType::I31REF),
+        ("EXNREF", RefType::EXNREF),
+        ("EXN", RefType::EXN),
+        ("NULLEXNREF", RefType::NULLEXNREF),
+        ("CONTREF", RefType::CONTREF),
+        ("CONT", RefType::CONT),
+        ("NULLCONTREF", RefType::NULLCONTREF),
+    ];
+    named(&names, name)
+}
+
+// What each question says.
+fn answers(ty: RefType) -> [(&'static str, bool); 15] {
+    [
+        ("is_concrete_type_ref", ty.is_concrete_type_ref()),
+        ("is_func_ref", ty.is_func_ref()),
+        ("is_extern_ref", ty.is_extern_ref()),
+        ("is_any_ref", ty.is_any_ref()),
+        ("is_none_ref", ty.is_none_ref()),
+        ("is_noextern_ref", ty.is_noextern_ref()),
+        ("is_nofunc_ref", ty.is_nofunc_ref()),
+        ("is_eq_ref", ty.is_eq_ref()),
+        ("is_struct_ref", ty.is_struct_ref()),
+        ("is_array_ref", ty.is_array_ref()),
+        ("is_i31_ref", ty.is_i31_ref()),
+        ("is_exn_ref", ty.is_exn_ref()),
+        ("is_noexn_ref", ty.is_noexn_ref()),
+        ("is_cont_ref", ty.is_cont_ref()),
+        ("is_nocont_ref", ty.is_nocont_ref()),
+    ]
+}
+
+// Whether this question says yes, and no other.
+fn says_alone(ty: RefType, question: &str) -> bool {
+    for (name, is_so) in answers(ty) {
+        if is_so != (name == question) {
+            return false;
+        }
+    }
+    true
+}
+
+/// Whether references to a heap type, with null and without, keep their parts, and this question alone says yes of both.
+pub fn are_references(heap_type: HeapType, question: &str) -> Option<bool> {
+    let with_null = RefType::new(true, heap_type)?;
+    let without = RefType::new(false, heap_type)?;
+    let have_parts = with_null.is_nullable()
+        && !without.is_nullable()
+        && with_null.heap_type() == heap_type
+        && without.heap_type() == heap_type;
+    let turn = with_null.as_non_null() == without && without.nullable() == with_null;
+    Some(have_parts && turn && says_alone(with_null, question) && says_alone(without, question))
+}
+
+fn holds(_alloc: Global, row: &str) -> Option<bool> {
+    let (name, question, with_null, without) = four_fields(row)?;
+    let heap_type = HeapType::Abstract(named(HEAP_TYPES, name)?);
+    let is_constant = RefType::new(true, heap_type) == constant(with_null);
+    let are_constants = is_constant
+        && (without.is_empty() || RefType::new(false, heap_type) == constant(without));
+    Some(are_constants && are_references(heap_type, question)?)
+}
+
+#[test]
+fn abstract_references_are_what_they_are_named(rt: HostRuntime) -> Result<(), Fail> {
+    Ok(check_rows(rt.alloc(), ABSTRACT_HEAP_TYPES, 14, holds)?)
+}

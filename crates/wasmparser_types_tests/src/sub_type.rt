@@ -1,0 +1,149 @@
+//! Sub types and recursive groups: which are equal, and what they keep.
+
+use crate::val_type::val_type_of;
+use std::alloc::Global;
+use std::test::Fail;
+use wasm_test_rows::fields::{is_row, three_fields, word_and_rest};
+use wasm_test_rows::rows::check_rows;
+use wasmparser_types::composite_type::{ArrayType, CompositeType, ContType, FuncType, StructType};
+use wasmparser_types::index::PackedIndex;
+use wasmparser_types::sub_type::{RecGroup, SubType};
+use wasmparser_types::val_type::{FieldType, StorageType, ValType};
+
+// Groups, each unlike the others: `single` and a sub type, or `group` and sub types with `;` between them. A sub type is `final` or `open`, the type
+// indexes of its supertypes, and what it is made of.
+const GROUPS: &str = "
+    single final | func | ->
+    single open | func | ->
+    single open 3 | func | ->
+    single open 4 | func | ->
+    single open 3 4 | func | ->
+    single open 4 3 | func | ->
+    single final | func | i32 ->
+    single final | func | i64 ->
+    single final | func | i32 i32 ->
+    single final | func | funcref ->
+    single final | func | func ->
+    single final | func | -> i32
+    single final | struct |
+    single final | struct | i32
+    single final | struct | mut:i32
+    single final | struct | i8
+    single final | struct | i16
+    single final | struct | i8 i16
+    single final | array | i8
+    single final | array | mut:i8
+    single final | cont | 5
+    single final | cont | 6
+    group
+    group final | func | ->
+    group open 3 | func | ->
+    group final | func | ->; open 3 | func | ->
+    group open 3 | func | ->; final | func | ->
+";
+
+fn val_types_of(alloc: Global, field: &str) -> Option<Vec<ValType>> {
+    let mut types = Vec::new(alloc);
+    for name in field.split_whitespace() {
+        types.push(val_type_of(name)?).ok()?;
+    }
+    Some(types)
+}
+
+// Fields with spaces between them, each after `mut:` where it can be set.
+fn fields_of(alloc: Global, field: &str) -> Option<Vec<FieldType>> {
+    let mut fields = Vec::new(alloc);
+    for word in field.split_whitespace() {
+        let name = word.strip_prefix("mut:").unwrap_or(word);
+        let element_type = match name {
+            "i8" => StorageType::I8,
+            "i16" => StorageType::I16,
+            _ => StorageType::Val(val_type_of(name)?),
+        };
+        let mutable = name.len() < word.len();
+        fields
+            .push(FieldType {
+                element_type,
+                mutable,
+            })
+            .ok()?;
+    }
+    Some(fields)
+}
+
+fn composite_type_of(alloc: Global, kind: &str, parts: &str) -> Option<CompositeType> {
+    match kind {
+        "func" => {
+            let (params, results) = parts.split_once("->")?;
+            let params = val_types_of(alloc, params)?;
+            Some(CompositeType::Func(FuncType::new(params, val_types_of(alloc, results)?)))
+        }
+        "struct" => {
+            let fields = fields_of(alloc, parts)?;
+            Some(CompositeType::Struct(StructType { fields }))
+        }
+        "array" => Some(CompositeType::Array(ArrayType(fields_of(alloc, parts)?.pop()?))),
+        "cont" => {
+            let index = PackedIndex::from_module_index(parts.parse().ok()?)?;
+            Some(CompositeType::Cont(ContType(index)))
+        }
+        _ => None,
+    }
+}
+
+fn sub_type_of(alloc: Global, field: &str) -> Option<SubType> {
+    let (head, kind, parts) = three_fields(field)?;
+    let (word, supertypes) = word_and_rest(head);
+    let mut supertype_idxs = Vec::new(alloc);
+    for number in supertypes.split_whitespace() {
+        let index = PackedIndex::from_module_index(number.parse().ok()?)?;
+        supertype_idxs.push(index).ok()?;
+    }
+    Some(SubType {
+        is_final: word == "final",
+        supertype_idxs,
+        composite_type: composite_type_of(alloc, kind, parts)?,
+    })
+}
+
+fn sub_types_of(alloc: Global, fields: &str) -> Option<Vec<SubType>> {
+    let mut types = Vec::new(alloc);
+    for field in fields.split_terminator(';') {
+        types.push(sub_type_of(alloc, field)?).ok()?;
+    }
+    Some(types)
+}
+
+fn group_of(alloc: Global, row: &str) -> Option<RecGroup> {
+    match word_and_rest(row) {
+        ("single", fields) => Some(RecGroup::implicit(sub_type_of(alloc, fields)?)),
+        (_, fields) => Some(RecGroup::explicit(sub_types_of(alloc, fields)?)),
+    }
+}
+
+// Whether the group of a row equals that of no other row of a table.
+fn is_unlike_others(alloc: Global, table: &str, row: &str) -> Option<bool> {
+    let group = group_of(alloc, row)?;
+    for other in table.lines() {
+        if is_row(other) && (group == group_of(alloc, other)?) != (row == other) {
+            return Some(false);
+        }
+    }
+    Some(true)
+}
+
+// Whether a group has the types of its row, also after it is taken apart.
+fn holds(alloc: Global, row: &str) -> Option<bool> {
+    let (kind, fields) = word_and_rest(row);
+    let types = sub_types_of(alloc, fields)?;
+    let group = group_of(alloc, row)?;
+    let is_right = group.types() == types.as_slice();
+    let is_told = group.is_explicit_rec_group() == (kind == "group");
+    let is_kept = group.into_types(alloc).ok()? == types;
+    Some(is_right && is_told && is_kept && is_unlike_others(alloc, GROUPS, row)?)
+}
+
+#[test]
+fn groups_keep_their_types(rt: HostRuntime) -> Result<(), Fail> {
+    Ok(check_rows(rt.alloc(), GROUPS, 27, holds)?)
+}

@@ -91,18 +91,24 @@ fn composite_type_of(alloc: Global, kind: &str, parts: &str) -> Option<Composite
     }
 }
 
+fn indexes_of(alloc: Global, field: &str) -> Option<Vec<PackedIndex>> {
+    let mut indexes = Vec::new(alloc);
+    for number in field.split_whitespace() {
+        let index = PackedIndex::from_module_index(number.parse().ok()?)?;
+        indexes.push(index).ok()?;
+    }
+    Some(indexes)
+}
+
 fn sub_type_of(alloc: Global, field: &str) -> Option<SubType> {
     let (head, kind, parts) = three_fields(field)?;
     let (word, supertypes) = word_and_rest(head);
-    let mut supertype_idxs = Vec::new(alloc);
-    for number in supertypes.split_whitespace() {
-        let index = PackedIndex::from_module_index(number.parse().ok()?)?;
-        supertype_idxs.push(index).ok()?;
-    }
+    let supertype_idxs = indexes_of(alloc, supertypes)?;
+    let composite_type = composite_type_of(alloc, kind, parts)?;
     Some(SubType {
         is_final: word == "final",
         supertype_idxs,
-        composite_type: composite_type_of(alloc, kind, parts)?,
+        composite_type,
     })
 }
 
@@ -121,12 +127,18 @@ fn group_of(alloc: Global, row: &str) -> Option<RecGroup> {
     }
 }
 
-// Whether the group of a row equals that of no other row of a table.
-fn is_unlike_others(alloc: Global, table: &str, row: &str) -> Option<bool> {
-    let group = group_of(alloc, row)?;
+// Whether a group is that of this row.
+fn is_of(alloc: Global, group: &RecGroup, row: &str) -> Option<bool> {
+    Some(*group == group_of(alloc, row)?)
+}
+
+// Whether the group of a row is that of no other row of a table.
+fn is_unlike_others(alloc: Global, group: &RecGroup, table: &str, row: &str) -> Option<bool> {
     for other in table.lines() {
-        if is_row(other) && (group == group_of(alloc, other)?) != (row == other) {
-            return Some(false);
+        if is_row(other) {
+            if is_of(alloc, group, other)? != (row == other) {
+                return Some(false);
+            }
         }
     }
     Some(true)
@@ -139,8 +151,9 @@ fn holds(alloc: Global, row: &str) -> Option<bool> {
     let group = group_of(alloc, row)?;
     let is_right = group.types() == types.as_slice();
     let is_told = group.is_explicit_rec_group() == (kind == "group");
+    let is_unlike = is_unlike_others(alloc, &group, GROUPS, row)?;
     let is_kept = group.into_types(alloc).ok()? == types;
-    Some(is_right && is_told && is_kept && is_unlike_others(alloc, GROUPS, row)?)
+    Some(is_right && is_told && is_unlike && is_kept)
 }
 
 #[test]

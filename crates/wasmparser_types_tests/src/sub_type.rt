@@ -158,5 +158,9 @@ fn holds(alloc: Global, row: &str) -> Option<bool> {
 
 #[test]
 fn groups_keep_their_types(rt: HostRuntime) -> Result<(), Fail> {
-    Ok(check_rows(rt.alloc(), GROUPS, 27, holds)?)
+    let alloc = rt.alloc();
+    let ty = SubType::func(alloc, FuncType::new(Vec::new(alloc), Vec::new(alloc)));
+    let is_func = sub_type_of(alloc, "final | func | ->") == Some(ty);
+    assert!(rt; is_func);
+    Ok(check_rows(alloc, GROUPS, 27, holds)?)
 }

@@ -54,8 +54,8 @@ pub fn named<T: Copy>(table: &[(&str, T)], name: &str) -> Option<T> {
     None
 }
 
-// The constant of this name.
-fn constant(name: &str) -> Option<RefType> {
+/// The constant of this name.
+pub fn constant(name: &str) -> Option<RefType> {
     let names = [
         ("FUNCREF", RefType::FUNCREF),
         ("FUNC", RefType::FUNC),

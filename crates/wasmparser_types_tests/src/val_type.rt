@@ -1,6 +1,6 @@
 //! Value types, and what fields hold.
 
-use crate::ref_type::named;
+use crate::ref_type::{constant, named};
 use std::alloc::Global;
 use std::test::Fail;
 use wasm_test_rows::fields::three_fields;
@@ -9,18 +9,18 @@ use wasm_test_rows::values::bool_of;
 use wasmparser_types::ref_type::RefType;
 use wasmparser_types::val_type::{StorageType, ValType};
 
-// A value type, whether it is a reference type, and whether it has a default value.
+// A value type, whether it has a default value, and the constant that names its reference type, if it is one.
 const VALUE_TYPES: &str = "
-    i32 | no | yes
-    i64 | no | yes
-    f32 | no | yes
-    f64 | no | yes
-    v128 | no | yes
-    funcref | yes | yes
-    externref | yes | yes
-    exnref | yes | yes
-    contref | yes | yes
-    func | yes | no
+    i32 | yes |
+    i64 | yes |
+    f32 | yes |
+    f64 | yes |
+    v128 | yes |
+    funcref | yes | FUNCREF
+    externref | yes | EXTERNREF
+    exnref | yes | EXNREF
+    contref | yes | CONTREF
+    func | no | FUNC
 ";
 
 /// The value type of this name. `func` is a reference without null.
@@ -41,25 +41,18 @@ pub fn val_type_of(name: &str) -> Option<ValType> {
 }
 
 fn holds(_alloc: Global, row: &str) -> Option<bool> {
-    let (name, is_ref, is_defaultable) = three_fields(row)?;
-    let (is_ref, is_defaultable) = (bool_of(is_ref)?, bool_of(is_defaultable)?);
-    let ty = val_type_of(name)?;
-    let is_told = match ty.as_reference_type() {
-        Some(it) => is_ref && ty == ValType::Ref(it),
-        None => !is_ref,
-    };
-    let are_told = ty.is_ref() == is_ref && ty.is_reference_type() == is_ref && is_told;
+    let (name, is_defaultable, reference) = three_fields(row)?;
+    let (ty, reference) = (val_type_of(name)?, constant(reference));
+    let are_told = ty.is_ref() == reference.is_some()
+        && ty.is_reference_type() == reference.is_some()
+        && ty.as_reference_type() == reference;
     let is_kept = StorageType::Val(ty).unpack() == ty;
-    Some(are_told && is_kept && ty.is_defaultable() == is_defaultable)
+    Some(are_told && is_kept && ty.is_defaultable() == bool_of(is_defaultable)?)
 }
 
 #[test]
 fn value_types_answer(rt: HostRuntime) -> Result<(), Fail> {
-    let are_constants = ValType::FUNCREF == ValType::Ref(RefType::FUNCREF)
-        && ValType::EXTERNREF == ValType::Ref(RefType::EXTERNREF)
-        && ValType::EXNREF == ValType::Ref(RefType::EXNREF)
-        && ValType::CONTREF == ValType::Ref(RefType::CONTREF);
     let (of_i8, of_i16) = (StorageType::I8.unpack(), StorageType::I16.unpack());
-    assert!(rt; are_constants && of_i8 == ValType::I32 && of_i16 == ValType::I32);
+    assert!(rt; of_i8 == ValType::I32 && of_i16 == ValType::I32);
     Ok(check_rows(rt.alloc(), VALUE_TYPES, 10, holds)?)
 }

@@ -1,11 +1,7 @@
-//! Tests of `wasmparser_types`, through its public calls.
+//! Tests of `wasmparser_types` up to value types, through its public calls.
 #![tactic(auto)]
 
 #[cfg(test)]
 mod index;
-#[cfg(test)]
-mod ref_type;
-#[cfg(test)]
-mod sub_type;
-#[cfg(test)]
-mod val_type;
+pub mod ref_type;
+pub mod val_type;

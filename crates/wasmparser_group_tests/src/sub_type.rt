@@ -1,6 +1,5 @@
 //! Sub types and recursive groups: which are equal, and what they keep.
 
-use crate::val_type::val_type_of;
 use std::alloc::Global;
 use std::test::Fail;
 use wasm_test_rows::fields::{is_row, three_fields, word_and_rest};
@@ -9,6 +8,7 @@ use wasmparser_types::composite_type::{ArrayType, CompositeType, ContType, FuncT
 use wasmparser_types::index::PackedIndex;
 use wasmparser_types::sub_type::{RecGroup, SubType};
 use wasmparser_types::val_type::{FieldType, StorageType, ValType};
+use wasmparser_types_tests::val_type::val_type_of;
 
 // Groups, each unlike the others: `single` and a sub type, or `group` and sub types with `;` between them. A sub type is `final` or `open`, the type
 // indexes of its supertypes, and what it is made of.

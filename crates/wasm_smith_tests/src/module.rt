@@ -10,10 +10,10 @@ use wasm_smith_config_tests::settings::config_of;
 use wasm_test_rows::fields::four_fields;
 use wasm_test_rows::rows::check_rows;
 use wasm_test_rows::shown::{debugs, debugs_same, displays};
-use wasm_test_types::types::sub_types_of;
 use wasm_test_rows::values::bytes_of;
+use wasm_test_types::types::sub_types_of;
 
-// In what a configuration is not the plain one, the bytes, the types that are made, and the functions with their locals. Where no module is made, the
+// In what a configuration differs from the supported one, the bytes, the types that are made, and the functions with their locals. Where no module is made, the
 // third field is `refused`, and then there is the cause.
 const MADE: &str = "
     | | | ([], [])

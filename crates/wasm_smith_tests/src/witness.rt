@@ -12,10 +12,10 @@ use wasm_smith_config_tests::settings::config_of;
 use wasm_test_rows::fields::four_fields;
 use wasm_test_rows::rows::check_rows;
 use wasm_test_rows::shown::debugs_same;
-use wasm_test_types::types::groups_of;
 use wasm_test_rows::values::{are_bytes, numbers_of};
+use wasm_test_types::types::groups_of;
 
-// In what a configuration is not the plain one, groups of types, the functions' types, and the seed: its bytes, `some`, or `none`.
+// In what a configuration differs from the supported one, groups of types, the functions' types, and the seed: its bytes, `some`, or `none`.
 const SEEDS: &str = "
     | func -> ; | 0 | some
     | func i32 i64 f32 f64 v128 func? extern? exn? -> i32 i64 f32 f64 v128 func? extern? exn? ; | 0 | some

@@ -87,8 +87,8 @@ pub fn check_next<R: Source, W: Sink>(
     answer
 }
 
-/// The same of an input that may not have been opened, which is a fault.
-pub fn check_opened<R: Source + Drop, W: Sink>(
+// The same of an input that may not have been opened, which is a fault.
+fn check_opened<R: Source + Drop, W: Sink>(
     alloc: Global,
     session: &mut Session,
     next: ValidatorId,
@@ -99,6 +99,9 @@ pub fn check_opened<R: Source + Drop, W: Sink>(
     ensures validated { IfSome input (λ r. IfOk result (λ is_yes. (left : Option (List ℕ)) × WritesLine session.old next session.new
         (R.remaining r) left (W.contents writer.old) (W.contents writer.new) is_yes)) }
     ensures unopened { input ≡ None → (result ≡ Err RunError.Read) × (session.new ≡ session.old) }
+    ensures memory { IfErr result (λ e. e ≡ RunError.Memory → session.new ≡ restarted session.old next) }
+    ensures unread { IfErr result (λ e. (e ≡ RunError.Read) ⊎ (e ≡ RunError.TooLong) → session.new ≡ session.old) }
+    ensures kinds { IfErr result (λ e. (e ≡ RunError.Read) ⊎ (e ≡ RunError.TooLong) ⊎ (e ≡ RunError.Memory) ⊎ (e ≡ RunError.Write)) }
     ensures ready { ends_run result ≡ false → session.new.has_failed ≡ false }
     ensures ended { ends_run result ≡ false → EndsInput result session.old next session.new (W.contents writer.old) (W.contents writer.new) }
     ensures front { ends_run result ≡ true → EndsRun session.old (W.contents writer.old) (W.contents writer.new) }

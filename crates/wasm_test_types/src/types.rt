@@ -1,6 +1,9 @@
 //! Types in words. A number or vector type is its name. A reference to a heap type is the name or index of that type, followed by `?` where it may be
 //! null: `func?`, `7`. A function type is `i32 i64 -> f32`.
 
+ghost use Rattle.std.specs.Prelude.{◌≡◌, IfSome};
+ghost use Rattle.wasm_test_types.specs.TypeWords.{heap_word, number_word, packed_word};
+
 use std::alloc::Global;
 use wasm_core_types::types::{
     AbstractHeapType, ArrayType, CompositeType, ContType, FieldType, FuncType, HeapType, RefType,
@@ -9,7 +12,9 @@ use wasm_core_types::types::{
 use wasm_test_rows::fields::word_and_rest;
 
 // The abstract heap type of this name.
-fn abstract_heap_type_of(word: &str) -> Option<AbstractHeapType> {
+fn abstract_heap_type_of(word: &str) -> Option<AbstractHeapType>
+    ensures { IfSome result (λ type. heap_word type ≡ word.now) }
+{
     match word {
         "func" => Some(AbstractHeapType::Func),
         "extern" => Some(AbstractHeapType::Extern),
@@ -47,7 +52,9 @@ fn ref_type_of(word: &str) -> Option<RefType> {
 }
 
 /// A value type.
-pub fn val_type_of(word: &str) -> Option<ValType> {
+pub fn val_type_of(word: &str) -> Option<ValType>
+    ensures { IfSome result (λ type. IfSome (number_word type) (λ it. it ≡ word.now)) }
+{
     match word {
         "i32" => Some(ValType::I32),
         "i64" => Some(ValType::I64),
@@ -79,7 +86,9 @@ pub fn func_type_of(alloc: Global, field: &str) -> Option<FuncType> {
 }
 
 // What a field holds.
-fn storage_type_of(word: &str) -> Option<StorageType> {
+fn storage_type_of(word: &str) -> Option<StorageType>
+    ensures { IfSome result (λ type. IfSome (packed_word type) (λ it. it ≡ word.now)) }
+{
     match word {
         "i8" => Some(StorageType::I8),
         "i16" => Some(StorageType::I16),

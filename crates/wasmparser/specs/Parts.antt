@@ -1,7 +1,7 @@
 -- The types of the parts, under the name of this crate.
-pub use Rattle.wasmparser_parser.specs.declared.error.Error.{Error}
-pub use Rattle.wasmparser_parser.specs.declared.error.ErrorKind.{ErrorKind}
-pub use Rattle.wasmparser_parser.specs.declared.error.ErrorKind.TheVariants.{Malformed, Invalid, Limit, Operator, Body, Total, Order, Failed, Memory}
+pub use Rattle.wasmparser_error.specs.declared.error.Error.{Error}
+pub use Rattle.wasmparser_error.specs.declared.error.ErrorKind.{ErrorKind}
+pub use Rattle.wasmparser_error.specs.declared.error.ErrorKind.TheVariants.{Malformed, Invalid, Limit, Operator, Body, Total, Order, Failed, Memory}
 pub use Rattle.wasmparser_validator.specs.Shown.{shown, exports_left}
 pub use Rattle.wasmparser_validator.specs.declared.types.CoreExports.{CoreExports}
 pub use Rattle.wasmparser_validator.specs.declared.types.EntityType.{EntityType}

@@ -1,15 +1,8 @@
 -- What readers that take memory answer.
 use Rattle.std.specs.Prelude.{◌≡◌, ℕ, List, Option, Some, None, Result, Ok, Err}
 use Rattle.wasm_core_read.specs.Input.{Input, GoesOn, IsWithin}
-use Rattle.wasmparser_parser.specs.declared.error.Error.{Error}
-use Rattle.wasmparser_parser.specs.declared.error.ErrorKind.{ErrorKind}
-use Rattle.wasmparser_parser.specs.declared.error.ErrorKind.TheVariants as kinds
-
--- a refusal is that of bytes that don't read, or memory ran out, which has no place
-abbrev pub IsRefusal : ErrorKind → ℕ → Type 0 → Type 0
-IsRefusal kinds.Malformed offset unread = unread
-IsRefusal kinds.Memory offset unread = offset ≡ 0
-IsRefusal _ offset unread = ⊥
+use Rattle.wasmparser_error.specs.Error.{IsRefusal}
+use Rattle.wasmparser_error.specs.declared.error.Error.{Error}
 
 -- What a call returned, seen by view, is what reading gives, unless memory runs out. A refusal leaves the reader somewhere between where
 -- it was and its end.

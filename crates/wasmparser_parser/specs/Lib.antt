@@ -1,5 +1,4 @@
 pub mod Answers
 pub mod CoreTypes
-pub mod Error
 pub mod Sections
 pub mod SupportedReading

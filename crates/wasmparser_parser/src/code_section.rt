@@ -9,12 +9,12 @@ ghost use Rattle.wasmparser_parser.specs.Answers.{AnswersOrFills, AnswersAllOrFi
 ghost use Rattle.wasmparser_parser.specs.Sections.{IsInside, at_front, code_section};
 ghost use Rattle.wasmparser_parser.specs.SupportedReading.{supported_content};
 
-use crate::error::Error;
 use crate::raw_section::{RawSection, check_end};
 use std::alloc::Global;
 use std::marker::Model;
 use wasm_core_read::binary_reader::BinaryReader;
 use wasm_core_read::malformed::Malformed;
+use wasmparser_error::error::Error;
 
 /// The body of a function: its locals and its expression, unread. Contracts see it as its bytes and the
 /// place of the first of them in the input.

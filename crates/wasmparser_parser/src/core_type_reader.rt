@@ -10,10 +10,10 @@ ghost use Rattle.wasmparser_parser.specs.CoreTypes.{abstract_heap_type, val_type
 ghost use Rattle.wasmparser_parser.specs.SupportedReading.{abstract_heap_at, supported_type_at, supported_signature_at, supported_func_at};
 
 use crate::core_types::{AbstractHeapType, FuncType, HeapType, RefType, ValType};
-use crate::error::Error;
 use std::alloc::Global;
 use wasm_core_read::binary_reader::BinaryReader;
 use wasm_core_read::malformed::Malformed;
+use wasmparser_error::error::Error;
 
 // What a reference that may be null begins with where it is written out.
 const NULLABLE: u8 = 0x63;

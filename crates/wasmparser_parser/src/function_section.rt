@@ -8,10 +8,10 @@ ghost use Rattle.wasmparser_parser.specs.Answers.{AnswersOrFills, AnswersAllOrFi
 ghost use Rattle.wasmparser_parser.specs.Sections.{at_front};
 ghost use Rattle.wasmparser_parser.specs.SupportedReading.{supported_content};
 
-use crate::error::Error;
 use crate::raw_section::{RawSection, check_end};
 use std::alloc::Global;
 use wasm_core_read::binary_reader::BinaryReader;
+use wasmparser_error::error::Error;
 
 #[tactic(auto, using(wasm_core_read::proofs::ReadingLaws::list_loop), unfolding(wasm_core_read::specs::TypeReading::list_at))]
 fn read_indexes(alloc: Global, reader: &mut BinaryReader<'_>) -> Result<Vec<u32>, Error>

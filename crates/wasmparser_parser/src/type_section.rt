@@ -9,11 +9,11 @@ ghost use Rattle.wasmparser_parser.specs.SupportedReading.{supported_group_at, s
 
 use crate::core_type_reader::{FUNC, read_func_type, read_signature};
 use crate::core_types::FuncType;
-use crate::error::Error;
 use crate::raw_section::{RawSection, check_end};
 use std::alloc::Global;
 use wasm_core_read::binary_reader::BinaryReader;
 use wasm_core_read::malformed::Malformed;
+use wasmparser_error::error::Error;
 
 // What a final type begins with where its supertypes are written.
 const FINAL: u8 = 0x4f;

@@ -10,10 +10,10 @@ use Rattle.wasm_spec.specs.Features.{Features}
 use Rattle.wasm_spec.specs.Gates.{is_allowed}
 use Rattle.wasm_spec.specs.Types.{ValType}
 use Rattle.wasmparser_parser.specs.SupportedReading.{supported_type_at}
-use Rattle.wasmparser_parser.specs.declared.error.Error.{Error}
+use Rattle.wasmparser_error.specs.declared.error.Error.{Error}
 use Rattle.wasm_core_base.specs.declared.limits.Limit.TheVariants as core
-use Rattle.wasmparser_parser.specs.declared.error.ErrorKind.{ErrorKind}
-use Rattle.wasmparser_parser.specs.declared.error.ErrorKind.TheVariants as kinds
+use Rattle.wasmparser_error.specs.declared.error.ErrorKind.{ErrorKind}
+use Rattle.wasmparser_error.specs.declared.error.ErrorKind.TheVariants as kinds
 use Rattle.wasmparser_validator.specs.BodyReading.{NamesFault, ValidatesBody, BodyOutcome, Broken, ManyLocals, OtherOperator, end_outcome, validate_code, run_at, with_run, validate_runs, validate_body}
 
 pub neq-eqb : (a b : ℕ) → a ≢ b → eqb a b ≡ false

@@ -18,9 +18,9 @@ use Rattle.wasm_spec.specs.Types.{ValType, FuncType}
 use Rattle.wasm_core_read.specs.Input.{Input}
 use Rattle.wasm_core_base.specs.declared.limits.Limit.TheVariants as core
 use Rattle.wasm_core_base.specs.declared.limits.Limit.{Limit}
-use Rattle.wasmparser_parser.specs.declared.error.Error.{Error}
-use Rattle.wasmparser_parser.specs.declared.error.ErrorKind.{ErrorKind}
-use Rattle.wasmparser_parser.specs.declared.error.ErrorKind.TheVariants as kinds
+use Rattle.wasmparser_error.specs.declared.error.Error.{Error}
+use Rattle.wasmparser_error.specs.declared.error.ErrorKind.{ErrorKind}
+use Rattle.wasmparser_error.specs.declared.error.ErrorKind.TheVariants as kinds
 use Rattle.wasmparser_validator.specs.BodyValidation.{IsBodyValidated}
 use Rattle.wasmparser_parser.specs.SupportedReading.{supported_type_at}
 use Rattle.wasmparser_validator.proofs.SupportedLaws.{reads_local_type}

@@ -17,13 +17,13 @@ use Rattle.wasm_spec.specs.Supported.{is_supported_section}
 use Rattle.wasm_spec.specs.Syntax.{Section, Custom, TypeSection, FunctionSection, CodeSection, members}
 use Rattle.wasm_spec.specs.Types.{FuncType, SubType}
 use Rattle.wasm_spec.specs.Validity.{func_type_of, func_type_at, is_past}
-use Rattle.wasmparser_parser.specs.Answers.{IsRefusal}
+use Rattle.wasmparser_error.specs.Error.{IsRefusal}
 use Rattle.wasmparser_parser.specs.CoreTypes.{func_group}
 use Rattle.wasmparser_parser.specs.Sections.{Part, IsInside, at_front, type_section, code_section}
 use Rattle.wasmparser_parser.specs.SupportedReading.{supported_content}
-use Rattle.wasmparser_parser.specs.declared.error.Error.{Error}
-use Rattle.wasmparser_parser.specs.declared.error.ErrorKind.{ErrorKind}
-use Rattle.wasmparser_parser.specs.declared.error.ErrorKind.TheVariants as kinds
+use Rattle.wasmparser_error.specs.declared.error.Error.{Error}
+use Rattle.wasmparser_error.specs.declared.error.ErrorKind.{ErrorKind}
+use Rattle.wasmparser_error.specs.declared.error.ErrorKind.TheVariants as kinds
 use Rattle.wasmparser_validator.proofs.BodyLaws.{neq-eqb}
 use Rattle.wasmparser_validator.proofs.SupportedLaws.{supported_passes, supported_id, supported_groups, supported_functions, supported_bodies}
 use Rattle.wasmparser_validator.specs.Sections.{Progress, EndsBy, func_sub, Outcome, Unread, Past, Broken, unless, types_fault, place_fault, after, stated, validate_content, Names, ValidatesContent, ValidatesTypes}

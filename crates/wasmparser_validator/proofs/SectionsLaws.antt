@@ -7,7 +7,7 @@ use Rattle.wasm_spec.specs.Features.{Features}
 use Rattle.wasm_spec.specs.Syntax.{Section}
 use Rattle.wasmparser_parser.specs.Sections.{Part}
 use Rattle.wasmparser_parser.specs.SupportedReading.{supported_content}
-use Rattle.wasmparser_parser.specs.declared.error.Error.{Error}
+use Rattle.wasmparser_error.specs.declared.error.Error.{Error}
 use Rattle.wasmparser_validator.proofs.BodyLaws.{neq-eqb}
 use Rattle.wasmparser_validator.specs.Sections.{Progress, Outcome, Accepted, Unread, unless, fault, after, with_content, validate_content, with_frame, at_last, validate_at, validate_sections, Names, ValidatesContent}
 

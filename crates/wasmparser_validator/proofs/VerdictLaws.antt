@@ -16,9 +16,9 @@ use Rattle.wasm_spec.specs.Syntax.{Section, Custom, TypeSection, FunctionSection
 use Rattle.wasm_spec.specs.Types.{ValType, FuncType}
 use Rattle.wasm_spec.specs.Validity.{func_type_at, BodyAt, IsTypedBody, IsBodyPast, IsOtherBody, IsBrokenBody, IsValid, HasBody}
 use Rattle.wasmparser_parser.specs.Sections.{Part}
-use Rattle.wasmparser_parser.specs.declared.error.Error.{Error}
-use Rattle.wasmparser_parser.specs.declared.error.ErrorKind.{ErrorKind}
-use Rattle.wasmparser_parser.specs.declared.error.ErrorKind.TheVariants as kinds
+use Rattle.wasmparser_error.specs.declared.error.Error.{Error}
+use Rattle.wasmparser_error.specs.declared.error.ErrorKind.{ErrorKind}
+use Rattle.wasmparser_error.specs.declared.error.ErrorKind.TheVariants as kinds
 use Rattle.wasmparser_validator.specs.Bodies.{HasBodyAt, ValidatesBodies}
 use Rattle.wasmparser_validator.specs.Validation.{IsNamed, IsValidated}
 use Rattle.wasmparser_validator.specs.Sections.{Progress, Outcome, Accepted, Past, EndsBy, at_first, func_sub, Names, validate_module}

@@ -4,7 +4,7 @@ use Rattle.std.specs.List.{slice_get}
 use Rattle.wasm_spec.specs.Features.{Features}
 use Rattle.wasm_spec.specs.Types.{FuncType}
 use Rattle.wasmparser_parser.specs.Sections.{Part}
-use Rattle.wasmparser_parser.specs.declared.error.Error.{Error}
+use Rattle.wasmparser_error.specs.declared.error.Error.{Error}
 use Rattle.wasmparser_validator.specs.BodyValidation.{IsBodyValidatedUnder}
 
 -- the function at a place has this type and this body

@@ -8,9 +8,9 @@ use Rattle.wasm_spec.specs.Features.{Features}
 use Rattle.wasm_spec.specs.Gates.{is_allowed}
 use Rattle.wasm_spec.specs.Limits.{Locals, most}
 use Rattle.wasmparser_parser.specs.SupportedReading.{supported_type_at}
-use Rattle.wasmparser_parser.specs.declared.error.Error.{Error}
-use Rattle.wasmparser_parser.specs.declared.error.ErrorKind.{ErrorKind}
-use Rattle.wasmparser_parser.specs.declared.error.ErrorKind.TheVariants as kinds
+use Rattle.wasmparser_error.specs.declared.error.Error.{Error}
+use Rattle.wasmparser_error.specs.declared.error.ErrorKind.{ErrorKind}
+use Rattle.wasmparser_error.specs.declared.error.ErrorKind.TheVariants as kinds
 
 pub data BodyOutcome : Type 0 where
   Fine : BodyOutcome

@@ -4,8 +4,8 @@ use Rattle.wasm_core_base.specs.declared.limits.Limit.TheVariants.{Locals}
 use Rattle.wasm_spec.specs.Bodies.{Context, IsFunctionBody, HasManyLocals, HasOtherOperator}
 use Rattle.wasm_spec.specs.Features.{Features}
 use Rattle.wasm_spec.specs.Types.{ValType, FuncType}
-use Rattle.wasmparser_parser.specs.declared.error.Error.{Error}
-use Rattle.wasmparser_parser.specs.declared.error.ErrorKind.TheVariants as kinds
+use Rattle.wasmparser_error.specs.declared.error.Error.{Error}
+use Rattle.wasmparser_error.specs.declared.error.ErrorKind.TheVariants as kinds
 
 -- The answer, in a context, to the bytes of a body of a function of this type, the first of which stands at a position of the input. No
 -- memory is taken.

@@ -15,9 +15,9 @@ use Rattle.wasm_spec.specs.Types.{FuncType, FuncComposite, SubType, RecGroup}
 use Rattle.wasm_spec.specs.Validity.{func_type_of, func_type_at, is_past}
 use Rattle.wasmparser_parser.specs.Sections.{Part}
 use Rattle.wasmparser_parser.specs.SupportedReading.{supported_content}
-use Rattle.wasmparser_parser.specs.declared.error.Error.{Error}
-use Rattle.wasmparser_parser.specs.declared.error.ErrorKind.{ErrorKind}
-use Rattle.wasmparser_parser.specs.declared.error.ErrorKind.TheVariants as kinds
+use Rattle.wasmparser_error.specs.declared.error.Error.{Error}
+use Rattle.wasmparser_error.specs.declared.error.ErrorKind.{ErrorKind}
+use Rattle.wasmparser_error.specs.declared.error.ErrorKind.TheVariants as kinds
 use Rattle.wasmparser_validator.specs.declared.module_state.ModuleState.{ModuleState}
 
 -- what is known of a module after some of its sections: the place of the last one, and what they have

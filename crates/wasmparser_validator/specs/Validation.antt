@@ -9,9 +9,9 @@ use Rattle.wasm_spec.specs.Spaces.{Sizes, sizes_of}
 use Rattle.wasm_spec.specs.Supported.{IsSupported}
 use Rattle.wasm_spec.specs.Syntax.{Section}
 use Rattle.wasm_spec.specs.Validity.{IsValid, BeginsPast, BeginsInvalid, HasBody, IsBodyPast, IsOtherBody, IsBrokenBody}
-use Rattle.wasmparser_parser.specs.declared.error.Error.{Error}
-use Rattle.wasmparser_parser.specs.declared.error.ErrorKind.{ErrorKind}
-use Rattle.wasmparser_parser.specs.declared.error.ErrorKind.TheVariants as kinds
+use Rattle.wasmparser_error.specs.declared.error.Error.{Error}
+use Rattle.wasmparser_error.specs.declared.error.ErrorKind.{ErrorKind}
+use Rattle.wasmparser_error.specs.declared.error.ErrorKind.TheVariants as kinds
 
 -- the bytes read as a module that is valid under the features
 pub record IsAccepted (features : Features) (bytes : List ℕ) (sections : List Section) : Type 0 where

@@ -3,7 +3,7 @@
 ghost use Rattle.std.specs.Prelude.{◌≡◌, ◌≤◌, ◌==◌, length};
 ghost use Rattle.wasm_core_base.specs.Features.{feature_set};
 ghost use Rattle.wasm_core_base.specs.declared.limits.Limit.TheVariants.{Locals};
-ghost use Rattle.wasmparser_parser.specs.declared.error.ErrorKind.TheVariants as kinds;
+ghost use Rattle.wasmparser_error.specs.declared.error.ErrorKind.TheVariants as kinds;
 ghost use Rattle.wasmparser_validator.specs.BodyValidation.{IsBodyValidatedUnder};
 ghost use Rattle.wasmparser_validator.specs.BodyReading.{ValidatesBody, ValidatesRun, end_outcome, validate_code, validate_runs, validate_body};
 
@@ -11,10 +11,10 @@ use crate::gates::is_allowed;
 use wasm_core_base::features::WasmFeatures;
 use wasm_core_base::limits::{Limit, MAX_WASM_FUNCTION_LOCALS};
 use wasm_core_read::binary_reader::BinaryReader;
+use wasmparser_error::error::{Error, ErrorKind};
 use wasmparser_parser::code_section::FunctionBody;
 use wasmparser_parser::core_type_reader::read_val_type;
 use wasmparser_parser::core_types::FuncType;
-use wasmparser_parser::error::{Error, ErrorKind};
 
 /// Validates a body of a function of this type.
 pub fn validate_body(

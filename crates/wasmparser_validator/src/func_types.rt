@@ -11,8 +11,8 @@ ghost use Rattle.wasmparser_validator.specs.Sections.{ValidatesTypes};
 use crate::gates::is_allowed_func;
 use wasm_core_base::features::WasmFeatures;
 use wasm_core_base::limits::{Limit, MAX_WASM_FUNCTION_PARAMS, MAX_WASM_FUNCTION_RETURNS};
+use wasmparser_error::error::{Error, ErrorKind};
 use wasmparser_parser::core_types::FuncType;
-use wasmparser_parser::error::{Error, ErrorKind};
 
 fn is_past_params(ty: &FuncType) -> bool
     ensures { result ≡ is_past Params (length ty.now.params) }

@@ -16,10 +16,10 @@ use wasm_core_base::features::WasmFeatures;
 use wasm_core_base::limits::{
     Limit, MAX_WASM_FUNCTION_SIZE, MAX_WASM_FUNCTIONS, MAX_WASM_REC_GROUPS, MAX_WASM_STRING_SIZE,
 };
+use wasmparser_error::error::{Error, ErrorKind};
 use wasmparser_parser::code_section::{FunctionBody, read_code_section};
 use wasmparser_parser::core_types::FuncType;
 use wasmparser_parser::custom::read_custom_section;
-use wasmparser_parser::error::{Error, ErrorKind};
 use wasmparser_parser::function_section::read_function_section;
 use wasmparser_parser::raw_section::RawSection;
 use wasmparser_parser::type_section::read_type_section;

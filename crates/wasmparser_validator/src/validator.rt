@@ -14,9 +14,9 @@ use crate::types::Types;
 use std::alloc::Global;
 use wasm_core_base::features::WasmFeatures;
 use wasm_core_read::binary_reader::BinaryReader;
+use wasmparser_error::error::{Error, ErrorKind};
 use wasmparser_parser::code_section::FunctionBody;
 use wasmparser_parser::core_types::FuncType;
-use wasmparser_parser::error::{Error, ErrorKind};
 use wasmparser_parser::raw_section::RawSection;
 
 // What each module begins with.

@@ -1,7 +1,7 @@
 //! What a validator answers when it refuses a module.
 
 ghost use Rattle.std.specs.Prelude.{◌≡◌};
-ghost use Rattle.wasmparser_parser.specs.declared.error.ErrorKind.TheVariants as kinds;
+ghost use Rattle.wasmparser_error.specs.declared.error.ErrorKind.TheVariants as kinds;
 
 use std::alloc::{AllocError, AllocFailed};
 use thiserror::Error;
@@ -34,7 +34,7 @@ pub enum ErrorKind {
 
 impl ErrorKind {
     ghost use Rattle.std.specs.Prelude.{◌≡◌};
-    ghost use Rattle.wasmparser_parser.specs.Error.{kind_name};
+    ghost use Rattle.wasmparser_error.specs.Error.{kind_name};
 
     /// The kind in lower case.
     pub fn name(&self) -> &'static str

@@ -2,4 +2,6 @@
 #![tactic(auto)]
 
 #[cfg(test)]
+mod remap;
+#[cfg(test)]
 mod sub_type;

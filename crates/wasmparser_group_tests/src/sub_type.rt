@@ -6,6 +6,7 @@ use wasm_test_rows::fields::{is_row, three_fields, word_and_rest};
 use wasm_test_rows::rows::check_rows;
 use wasmparser_types::composite_type::{ArrayType, CompositeType, ContType, FuncType, StructType};
 use wasmparser_types::index::PackedIndex;
+use wasmparser_types::ref_type::RefType;
 use wasmparser_types::sub_type::{RecGroup, SubType};
 use wasmparser_types::val_type::{FieldType, StorageType, ValType};
 use wasmparser_types_tests::val_type::val_type_of;
@@ -42,10 +43,27 @@ const GROUPS: &str = "
     group open 3 | func | ->; final | func | ->
 ";
 
+// An index after `place:` is a place in the group, any other a type index.
+fn index_of(word: &str) -> Option<PackedIndex> {
+    match word.strip_prefix("place:") {
+        Some(number) => PackedIndex::from_rec_group_index(number.parse().ok()?),
+        None => PackedIndex::from_module_index(word.parse().ok()?),
+    }
+}
+
+// A value type by its name, or a reference: an index after `ref:`, or after `null:` where it may be null.
+fn type_of(word: &str) -> Option<ValType> {
+    match word.split_once(':') {
+        Some(("null", index)) => Some(ValType::Ref(RefType::concrete(true, index_of(index)?))),
+        Some((_, index)) => Some(ValType::Ref(RefType::concrete(false, index_of(index)?))),
+        None => val_type_of(word),
+    }
+}
+
 fn val_types_of(alloc: Global, field: &str) -> Option<Vec<ValType>> {
     let mut types = Vec::new(alloc);
-    for name in field.split_whitespace() {
-        types.push(val_type_of(name)?).ok()?;
+    for word in field.split_whitespace() {
+        types.push(type_of(word)?).ok()?;
     }
     Some(types)
 }
@@ -58,7 +76,7 @@ fn fields_of(alloc: Global, field: &str) -> Option<Vec<FieldType>> {
         let element_type = match name {
             "i8" => StorageType::I8,
             "i16" => StorageType::I16,
-            _ => StorageType::Val(val_type_of(name)?),
+            _ => StorageType::Val(type_of(name)?),
         };
         let mutable = name.len() < word.len();
         fields
@@ -84,7 +102,7 @@ fn composite_type_of(alloc: Global, kind: &str, parts: &str) -> Option<Composite
         }
         "array" => Some(CompositeType::Array(ArrayType(fields_of(alloc, parts)?.pop()?))),
         "cont" => {
-            let index = PackedIndex::from_module_index(parts.parse().ok()?)?;
+            let index = index_of(parts)?;
             Some(CompositeType::Cont(ContType(index)))
         }
         _ => None,
@@ -93,9 +111,8 @@ fn composite_type_of(alloc: Global, kind: &str, parts: &str) -> Option<Composite
 
 fn indexes_of(alloc: Global, field: &str) -> Option<Vec<PackedIndex>> {
     let mut indexes = Vec::new(alloc);
-    for number in field.split_whitespace() {
-        let index = PackedIndex::from_module_index(number.parse().ok()?)?;
-        indexes.push(index).ok()?;
+    for word in field.split_whitespace() {
+        indexes.push(index_of(word)?).ok()?;
     }
     Some(indexes)
 }
@@ -120,7 +137,7 @@ fn sub_types_of(alloc: Global, fields: &str) -> Option<Vec<SubType>> {
     Some(types)
 }
 
-fn group_of(alloc: Global, row: &str) -> Option<RecGroup> {
+pub fn group_of(alloc: Global, row: &str) -> Option<RecGroup> {
     match word_and_rest(row) {
         ("single", fields) => Some(RecGroup::implicit(sub_type_of(alloc, fields)?)),
         (_, fields) => Some(RecGroup::explicit(sub_types_of(alloc, fields)?)),
@@ -128,7 +145,7 @@ fn group_of(alloc: Global, row: &str) -> Option<RecGroup> {
 }
 
 // Whether a group is that of this row.
-fn is_of(alloc: Global, group: &RecGroup, row: &str) -> Option<bool> {
+pub fn is_of(alloc: Global, group: &RecGroup, row: &str) -> Option<bool> {
     Some(*group == group_of(alloc, row)?)
 }
 

@@ -1,2 +1,3 @@
 mod AbstractBits
 mod EqualityLaws
+pub mod Remapping

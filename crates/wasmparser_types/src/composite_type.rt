@@ -6,8 +6,8 @@ use crate::val_type::{FieldType, ValType};
 /// A function type.
 #[derive(Debug, PartialEq, Eq, Hash, Drop)]
 pub struct FuncType {
-    params: Vec<ValType>,
-    results: Vec<ValType>,
+    pub(crate) params: Vec<ValType>,
+    pub(crate) results: Vec<ValType>,
 }
 
 impl FuncType {

@@ -71,7 +71,7 @@ impl RecGroupId {
 }
 
 /// How a type refers to a defined type.
-#[derive(Clone, Copy, Debug, PartialEq, Eq, PartialOrd, Ord, Hash)]
+#[derive(Clone, Copy, Debug, PartialEq, Eq, Hash)]
 pub enum UnpackedIndex {
     /// The type index in a module.
     Module(u32),
@@ -150,8 +150,8 @@ impl UnpackedIndex {
     }
 }
 
-/// An index in 22 bits: 20 of its number, and the lowest 2 of its kind. It is ordered by its number first.
-#[derive(Clone, Copy, Debug, PartialEq, Eq, PartialOrd, Ord, Hash)]
+/// An index in 22 bits: 20 of its number, and the lowest 2 of its kind.
+#[derive(Clone, Copy, Debug, PartialEq, Eq, Hash)]
 pub struct PackedIndex {
     // The kind in the lowest 2 bits, and the number above them.
     bits: u32,
@@ -187,7 +187,7 @@ const ID: u32 = 2;
 impl PackedIndex {
     ghost use Rattle.std.specs.Prelude.{◌≡◌, ◌<◌, is_some};
     ghost use Rattle.std.specs.Option.{SomeIff};
-    ghost use Rattle.wasmparser_types.specs.Index.{Module, RecGroup, Id, IsPacked, packable, unpacked, module_index, rec_group_index, core_type_id};
+    ghost use Rattle.wasmparser_types.specs.Index.{Module, RecGroup, Id, IsPacked, packable, packed, unpacked, module_index, rec_group_index, core_type_id};
     ghost use Rattle.wasmparser_types.specs.UnpackedIndex as spec;
 
     /// The type index in a module, packed, or None where it is 2^20 or more.
@@ -241,9 +241,9 @@ impl PackedIndex {
         }
     }
 
-    // The bits.
-    pub(crate) fn bits(self) -> u32
-        ensures value { unpacked result ≡ self }
+    /// The number that it is packed to, which no other index has: below 2^22.
+    pub fn bits(self) -> u32
+        ensures value { result ≡ packed self }
         ensures packed { IsPacked result }
     {
         self.bits

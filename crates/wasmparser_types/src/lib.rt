@@ -6,5 +6,6 @@ pub mod heap_type;
 pub mod index;
 pub mod laws;
 pub mod ref_type;
+pub mod remap;
 pub mod sub_type;
 pub mod val_type;

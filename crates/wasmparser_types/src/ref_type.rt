@@ -36,11 +36,11 @@ const ABSTRACT: u32 = 4;
 const NULLABLE: u32 = 1;
 
 impl RefType {
-    ghost use Rattle.std.specs.Prelude.{◌≡◌, ◌↔◌, IsTrue, true, false, is_some};
+    ghost use Rattle.std.specs.Prelude.{◌≡◌, ◌↔◌, ◌<◌, ◌^◌, IsTrue, true, false, is_some};
     ghost use Rattle.std.specs.Option.{SomeIff};
     ghost use Rattle.wasm_spec.specs.Types as spec;
     ghost use Rattle.wasmparser_types.specs.HeapTypes.{abstract_heap_type, heap_type, Packs, defined};
-    ghost use Rattle.wasmparser_types.specs.RefBits.{IsHeapBits, heap_type_at};
+    ghost use Rattle.wasmparser_types.specs.RefBits.{IsHeapBits, heap_type_at, ref_bits};
 
     /// References to any function, or null.
     pub const FUNCREF: RefType = RefType {
@@ -218,6 +218,15 @@ impl RefType {
         } else {
             Some(PackedIndex::from_bits(heap / 2))
         }
+    }
+
+    /// The number that it is packed to, which no other reference type has: below 2^24.
+    pub fn bits(&self) -> u32
+        ensures value { result ≡ ref_bits self.now }
+        ensures small { result < 2 ^ 24 }
+    {
+        let RefType { bits } = self;
+        *bits
     }
 
     fn is_abstract(&self, heap: AbstractHeapType) -> bool

@@ -71,11 +71,11 @@ impl SubType {
 /// although they have the same types.
 #[derive(Debug, PartialEq, Eq, Hash, Drop)]
 pub struct RecGroup {
-    inner: GroupTypes,
+    pub(crate) inner: GroupTypes,
 }
 
 #[derive(Debug, PartialEq, Eq, Hash, Drop)]
-enum GroupTypes {
+pub(crate) enum GroupTypes {
     Implicit(SubType),
     Explicit(Vec<SubType>),
 }

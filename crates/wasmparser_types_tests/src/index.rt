@@ -88,7 +88,11 @@ fn holds(_alloc: Global, row: &str) -> Option<bool> {
     let number = number.parse().ok()?;
     let (index, packed) = index_of(kind, number)?;
     let is_right = match packed {
-        Some(packed) => is_packed(packed, index) && is_referred_to(packed, index)?,
+        Some(packed) => {
+            packed.bits() / 4 == number
+                && is_packed(packed, index)
+                && is_referred_to(packed, index)?
+        }
         None => RefType::new(true, HeapType::Concrete(index)) == None,
     };
     let is_told = answers(index, kind, number) && index.pack() == packed;

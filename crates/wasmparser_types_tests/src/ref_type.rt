@@ -119,7 +119,14 @@ pub fn are_references(heap_type: HeapType, question: &str) -> Option<bool> {
         && with_null.heap_type() == heap_type
         && without.heap_type() == heap_type;
     let turn = with_null.as_non_null() == without && without.nullable() == with_null;
-    Some(have_parts && turn && says_alone(with_null, question) && says_alone(without, question))
+    let are_told_apart = with_null.bits() == without.bits() + 1;
+    Some(
+        have_parts
+            && turn
+            && are_told_apart
+            && says_alone(with_null, question)
+            && says_alone(without, question),
+    )
 }
 
 fn holds(_alloc: Global, row: &str) -> Option<bool> {

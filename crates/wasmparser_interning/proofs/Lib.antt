@@ -1,1 +1,8 @@
+mod Agreement
+mod ChainLaws
+mod ChainsOfTypes
+mod KeptChains
+mod KeyLaws
+mod KeyLookups
 mod Places
+mod TableLaws

@@ -1,1 +1,5 @@
+pub mod Chains
+pub mod GroupKeys
+pub mod GroupMaps
 pub mod Snapshots
+pub mod TypeTables

@@ -33,3 +33,8 @@ pub record IsLastPair {T : Type 0} (snapshots : List (Snapshot T)) (pair : Snaps
   pub counted : IsCounted pair
   pub several : 2 ≤ length snapshots
   pub elements_are : snapshot_elements (take (length snapshots - 2) snapshots ++ pair ∷ []) ≡ snapshot_elements snapshots
+
+-- what a list is seen as: its elements, and for how many more it has room
+pub record Kept (T : Type 0) : Type 0 where
+  pub items : List T
+  pub room : ℕ

@@ -157,22 +157,25 @@ pub struct SnapshotList<T: Drop> {
 }
 
 impl<T: Drop> Model for SnapshotList<T> {
-    ghost use Rattle.std.specs.Prelude.{List, ◌++◌, length};
-    ghost use Rattle.wasmparser_interning.specs.Snapshots.{AreSnapshots, snapshot_elements};
+    ghost use Rattle.std.specs.Prelude.{◌-◌, ◌++◌, length, vec_capacity};
+    ghost use Rattle.wasmparser_interning.specs.Snapshots.{AreSnapshots, Kept, snapshot_elements};
 
-    ghost Value = { List T };
+    ghost Value = { Kept T };
 
-    ghost view = { λ list. snapshot_elements list.snapshots.items ++ list.current.items };
+    ghost view = { λ list. record {
+      items = snapshot_elements list.snapshots.items ++ list.current.items;
+      room = vec_capacity list.current - length list.current.items;
+    } };
 
     ghost invariant = { λ list. AreSnapshots list.snapshots.items list.committed (length list.current.items) };
 }
 
 impl<T: Drop> SnapshotList<T> {
-    ghost use Rattle.std.specs.Prelude.{◌≡◌, [], ◌∷◌, ◌++◌, length, slice_get, IfOk, IfErr};
+    ghost use Rattle.std.specs.Prelude.{◌≡◌, ◌+◌, ◌<◌, ◌≤◌, ◌^◌, [], ◌∷◌, ◌++◌, length, slice_get, IfOk, IfErr};
 
     /// A list without elements.
     pub fn new(alloc: Global) -> SnapshotList<T>
-        ensures { result ≡ [] }
+        ensures { result.items ≡ [] }
     {
         SnapshotList {
             alloc,
@@ -184,21 +187,21 @@ impl<T: Drop> SnapshotList<T> {
 
     /// How many elements there are.
     pub fn len(&self) -> usize
-        ensures { result ≡ length self.now }
+        ensures { result ≡ length self.now.items }
     {
         self.committed + self.current.len()
     }
 
     /// Whether there are none.
     pub fn is_empty(&self) -> bool
-        ensures { IsTrue result ↔ (self.now ≡ []) }
+        ensures { IsTrue result ↔ (self.now.items ≡ []) }
     {
         self.len() == 0
     }
 
     /// The element at a place, if there is one. It takes logarithmic time.
     pub fn get(&self, index: usize) -> Option<&T>
-        ensures { option_copied result ≡ slice_get self.now index }
+        ensures { option_copied result ≡ slice_get self.now.items index }
     {
         let mut left = index;
         for snapshot in &self.snapshots {
@@ -213,10 +216,10 @@ impl<T: Drop> SnapshotList<T> {
     /// Appends an element.
     ///
     /// # Errors
-    /// Where memory runs out, the list is as it was.
+    /// Where memory runs out, or there are `usize::MAX` elements. The list is as it was, and the element is dropped.
     pub fn push(&mut self, value: T) -> Result<(), AllocError>
-        ensures pushed { IfOk result (λ _. self.new ≡ self.old ++ value ∷ []) }
-        ensures kept { IfErr result (λ _. self.new ≡ self.old) }
+        ensures pushed { IfOk result (λ _. self.new.items ≡ self.old.items ++ value ∷ []) }
+        ensures kept { IfErr result (λ _. self.new.items ≡ self.old.items) }
     {
         if self.len() == usize::MAX {
             return Err(AllocError);
@@ -225,14 +228,44 @@ impl<T: Drop> SnapshotList<T> {
         Ok(())
     }
 
+    /// Makes room for as many elements more, so that [`SnapshotList::push_reserved`] can take them.
+    ///
+    /// # Errors
+    /// Where memory runs out.
+    pub fn reserve(&mut self, additional: usize) -> Result<(), AllocError>
+        ensures same { self.new.items ≡ self.old.items }
+        ensures room { IfOk result (λ _. additional ≤ self.new.room) }
+    {
+        self.current.reserve(additional)
+    }
+
+    /// Appends an element for which there is room.
+    pub fn push_reserved(&mut self, value: T)
+        requires room { 0 < self.old.room }
+        requires count { length self.old.items + 1 < 2 ^ 64 }
+        ensures pushed { self.new.items ≡ self.old.items ++ value ∷ [] }
+        ensures room { self.old.room ≤ self.new.room + 1 }
+    {
+        self.current.push_reserved(value);
+    }
+
+    /// Appends elements for which there is room.
+    pub fn append_reserved(&mut self, mut items: Vec<T>)
+        requires room { length items.items ≤ self.old.room }
+        requires count { length self.old.items + length items.items < 2 ^ 64 }
+        ensures { self.new.items ≡ self.old.items ++ items.items }
+    {
+        let _ = self.current.append(&mut items);
+    }
+
     /// Gives a list of the same elements, which are shared and not copied. Both lists may grow on, each by itself. Taken over all pushes, a call costs
     /// logarithmic time.
     ///
     /// # Errors
     /// Where memory runs out, the list is as it was.
     pub fn commit(&mut self) -> Result<SnapshotList<T>, AllocError>
-        ensures same { self.new ≡ self.old }
-        ensures copy { IfOk result (λ list. list ≡ self.old) }
+        ensures same { self.new.items ≡ self.old.items }
+        ensures copy { IfOk result (λ list. list.items ≡ self.old.items) }
     {
         if !self.current.is_empty() {
             let len = self.len();
@@ -254,9 +287,9 @@ impl<T: Drop> Index<usize> for SnapshotList<T> {
 
     type Output = T;
 
-    ghost can_index = { λ list place. place < length list };
+    ghost can_index = { λ list place. place < length list.items };
 
-    ghost index_gives = { λ list place element. slice_get list place ≡ Some element };
+    ghost index_gives = { λ list place element. slice_get list.items place ≡ Some element };
 
     /// The element at a place, which is below the length.
     fn index(&self, index: usize) -> &T {

@@ -3,3 +3,5 @@
 
 #[cfg(test)]
 mod snapshot_list;
+#[cfg(test)]
+mod type_list;

@@ -7,5 +7,5 @@ use Rattle.wasmparser_interning.proofs.snapshot_list.SnapshotList.get.Given as g
 abbrev pub invariant-loop-snapshot : goal.invariant-loop-snapshot
 invariant-loop-snapshot g l = record {
   counted : AllByRecursion IsCounted (drop l.snapshot-index l.snapshot-items);
-  left : slice_get (snapshot_elements (drop l.snapshot-index l.snapshot-items) ++ l.self-inside.current.items) l.left ≡ slice_get l.self l.index;
+  left : slice_get (snapshot_elements (drop l.snapshot-index l.snapshot-items) ++ l.self-inside.current.items) l.left ≡ slice_get l.self.items l.index;
 }

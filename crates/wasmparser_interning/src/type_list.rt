@@ -73,7 +73,8 @@ fn key_of(
     }
 }
 
-/// The types that a validator knows. Types that were interned as canonical have one id exactly where they are equal.
+/// The types that a validator knows. Types of groups that were interned as canonical, and name no type by its index in a module, have one id exactly where
+/// they are equal.
 #[derive(Drop)]
 pub struct TypeList {
     alloc: Global,
@@ -212,8 +213,8 @@ impl TypeList {
     /// new: where equal types are to be one (`needs_type_canonicalization`), a group that is known is not added again.
     ///
     /// # Errors
-    /// `Total` at the offset where the list's types and the group's are more than 1,048,576, whether or not the group is known. `Memory` where memory runs out.
-    /// The list is as it was.
+    /// `Total` at the offset where the list's types and the group's are more than 1,048,576, whether or not the group is known. `Memory` where memory runs out,
+    /// or the group would be one past 2^32. The list is as it was.
     pub fn intern_canonical_rec_group(
         &mut self,
         needs_type_canonicalization: bool,
@@ -246,10 +247,10 @@ impl TypeList {
         Ok((true, id))
     }
 
-    /// Interns a sub type as a group by itself, whose types are to be one where they are equal.
+    /// Interns a sub type as a group of one, under any features so that equal ones are one, and answers its id.
     ///
     /// # Errors
-    /// As of [`TypeList::intern_canonical_rec_group`].
+    /// As for [`TypeList::intern_canonical_rec_group`].
     pub fn intern_sub_type(&mut self, it: SubType, offset: u64) -> Result<CoreTypeId, Error>
         requires agree { TablesAgree self.old }
         requires grows { IsSome self.old.known }
@@ -258,6 +259,7 @@ impl TypeList {
         ensures grows { IsSome self.new.known }
         ensures interned { IfOk result (λ id. (is_new : Bool) × (number : ℕ) × Interns self.old self.new true (sub_type it ∷ []) is_new number × (local_id self.new number 0 ≡ Some id)) }
         ensures known { IfOk result (λ id. id < length self.new.types) }
+        ensures room { OnOk result (has_room self.old (sub_type it ∷ []) ≡ true) }
         ensures refusal { IfErr result (λ e. IsNoIntern (has_room self.old (sub_type it ∷ [])) e offset) }
         ensures refused { IfErr result (λ _. self.new ≡ self.old) }
     {
@@ -268,7 +270,7 @@ impl TypeList {
     /// Interns a final function type as [`TypeList::intern_sub_type`] does.
     ///
     /// # Errors
-    /// As of [`TypeList::intern_canonical_rec_group`].
+    /// As for [`TypeList::intern_canonical_rec_group`].
     pub fn intern_func_type(&mut self, it: FuncType, offset: u64) -> Result<CoreTypeId, Error>
         requires agree { TablesAgree self.old }
         requires grows { IsSome self.old.known }
@@ -277,6 +279,7 @@ impl TypeList {
         ensures grows { IsSome self.new.known }
         ensures interned { IfOk result (λ id. (is_new : Bool) × (number : ℕ) × Interns self.old self.new true (final_func (func_type it) ∷ []) is_new number × (local_id self.new number 0 ≡ Some id)) }
         ensures known { IfOk result (λ id. id < length self.new.types) }
+        ensures room { OnOk result (has_room self.old (final_func (func_type it) ∷ []) ≡ true) }
         ensures refusal { IfErr result (λ e. IsNoIntern (has_room self.old (final_func (func_type it) ∷ [])) e offset) }
         ensures refused { IfErr result (λ _. self.new ≡ self.old) }
     {
@@ -379,6 +382,7 @@ impl TypeList {
     pub fn commit(&mut self) -> Result<TypeList, AllocError>
         ensures same { self.new ≡ self.old }
         ensures copy { IfOk result (λ list. list ≡ committed self.old) }
+        ensures agree { TablesAgree self.old → IfOk result TablesAgree }
     {
         Ok(TypeList {
             alloc: self.alloc,

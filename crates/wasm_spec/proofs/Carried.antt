@@ -1,5 +1,5 @@
 -- What a map of references that keeps types carries along, and back.
-use Rattle.wasm_spec.specs.ReferenceMaps.{KeepsTypes, AreClosed, IsOneToOne, Carries, CarriesBack, CarriesLimitsBack}
+use Rattle.wasm_spec.specs.ReferenceMaps.{KeepsTypes, ReferToTypes, IsOneToOne, Carries, CarriesBack, CarriesLimitsBack}
 use Rattle.wasm_spec.specs.Subtyping.{SubTypes}
 use Rattle.wasm_spec.proofs.MappedBack.{heap_below_back, ref_below_back, val_below_back, storage_below_back, field_matches_back, composite_matches_back, supertypes_back, continues_back, passes_back}
 use Rattle.wasm_spec.proofs.MappedTypes.{link_map, step_map, heap_below_map, ref_below_map, val_below_map, storage_below_map, field_matches_map, composite_matches_map, supertypes_map, continues_map, links_map, passes_map}
@@ -20,13 +20,13 @@ carried f from to keeps = record {
   limits = λ r limit h. passes_map f from to keeps r h;
 }
 
-pub limits_carried_back : {R S : Type 0} (f : R → S) (from : SubTypes R) (to : SubTypes S) → KeepsTypes f from to → AreClosed from → CarriesLimitsBack f from to
+pub limits_carried_back : {R S : Type 0} (f : R → S) (from : SubTypes R) (to : SubTypes S) → KeepsTypes f from to → ReferToTypes from → CarriesLimitsBack f from to
 limits_carried_back f from to keeps closed = record {
   continuations = continues_back f from to keeps closed;
   limits = λ r limit known h. passes_back f from to keeps closed r known h;
 }
 
-pub carried_back : {R S : Type 0} (f : R → S) (from : SubTypes R) (to : SubTypes S) → KeepsTypes f from to → AreClosed from → IsOneToOne f from → CarriesBack f from to
+pub carried_back : {R S : Type 0} (f : R → S) (from : SubTypes R) (to : SubTypes S) → KeepsTypes f from to → ReferToTypes from → IsOneToOne f from → CarriesBack f from to
 carried_back f from to keeps closed one = record {
   heap_types = heap_below_back f from to keeps closed one;
   ref_types = ref_below_back f from to keeps closed one;

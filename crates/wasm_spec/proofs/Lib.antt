@@ -6,6 +6,7 @@ pub mod EncodingBytes
 pub mod Elements
 pub mod Encodings
 pub mod EqualTrees
+pub mod FieldLaws
 pub mod GateForms
 pub mod GroupTrees
 pub mod ListEncodings
@@ -21,6 +22,7 @@ pub mod ShortestForms
 pub mod ShortestTypes
 pub mod SignedEncodings
 pub mod TypeBytes
+pub mod TypeChains
 pub mod TypeDecoding
 pub mod TypeKinds
 pub mod TypeLimits

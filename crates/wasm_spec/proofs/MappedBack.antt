@@ -5,7 +5,7 @@ use Rattle.std.specs.List.{AllByRecursion, Contains, flat_map}
 use Rattle.wasm_spec.specs.Groups.{Extends, ExtendsSupertypes, ContinuesFunc, Links, no_link, one_more, items_in, PassesLimit, many_items, many_links}
 use Rattle.wasm_spec.specs.Limits.{Limit, IsPassedBy}
 use Rattle.wasm_spec.specs.Matching.{FrontPairwise, StorageBelow, FieldMatches, ResultsMatch, FuncMatches, CompositeMatches}
-use Rattle.wasm_spec.specs.ReferenceMaps.{KeepsTypes, IsType, AreClosed, IsOneToOne}
+use Rattle.wasm_spec.specs.ReferenceMaps.{KeepsTypes, IsType, ReferToTypes, IsOneToOne}
 use Rattle.wasm_spec.specs.Subtyping.{Closure, same, step, abstract_of, bottom_of, Defined, Declared, Link, HeapBelow, HeapTest, RefBelow, ValBelow, is_abstract_below}
 use Rattle.wasm_spec.specs.TypeReferences.{heap_map, ref_map, val_map, storage_map, field_map, func_map, composite_map, sub_map, heap_refs, ref_refs, val_refs, storage_refs, field_refs, func_refs, composite_refs, sub_refs}
 use Rattle.wasm_spec.specs.Types.{Func, HeapType, Abstract, Concrete, RefType, ValType, I32, I64, F32, F64, V128, Ref, StorageType, I8, I16, Val, FieldType, FuncType, CompositeType, FuncComposite, StructComposite, ArrayComposite, ContComposite, SubType}
@@ -36,7 +36,7 @@ among_back f Known y (x ∷ xs) all h = elim (contains_cases y (f x) (map f xs) 
       let b = among_back f Known y xs all.1 more in record { item = b.item; among = contains_more b.item x xs b.among; known = b.known; is = b.is }
 ]
 
-module _ {R S : Type 0} (f : R → S) (from : R → Option (SubType R)) (to : S → Option (SubType S)) (keeps : KeepsTypes f from to) (closed : AreClosed from) where
+module _ {R S : Type 0} (f : R → S) (from : R → Option (SubType R)) (to : S → Option (SubType S)) (keeps : KeepsTypes f from to) (closed : ReferToTypes from) where
   -- a property of what f gives for a known reference
   defined_back : (r : R) → IsType from r → (P : CompositeType S → Type 0) → Defined to (f r) P → Defined from r (λ c. P (composite_map f c))
   defined_back r known P d =

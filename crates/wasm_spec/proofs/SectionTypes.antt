@@ -6,7 +6,7 @@ use Rattle.std.specs.List.{slice_get, flat_map}
 use Rattle.std.specs.Option.{unwrap_or}
 use Rattle.wasm_spec.specs.Features.{Features, Gc, has}
 use Rattle.wasm_spec.specs.Groups.{reference_bound, KeepsGroupRules, AllGroups, KeepGroupRules}
-use Rattle.wasm_spec.specs.ReferenceMaps.{AreClosed, IsOneToOne, IsType, KeepsTypes}
+use Rattle.wasm_spec.specs.ReferenceMaps.{IsOneToOne, IsType, KeepsTypes, ReferToTypes}
 use Rattle.wasm_spec.specs.Syntax.{members}
 use Rattle.wasm_spec.specs.TypeReferences.{sub_refs, group_refs}
 use Rattle.wasm_spec.specs.Trees.{DefType, types_of_group, types_after, types_from, section_types, no_type, type_at, unrolled, RefersBelow, AreInRange, AreDistinct}
@@ -17,7 +17,7 @@ use Rattle.wasm_spec.proofs.Places.{get_some}
 pub section_keeps : (groups : List (RecGroup ℕ)) → AreInRange 0 groups → KeepsTypes (type_at (section_types groups)) (slice_get (flat_map members groups)) unrolled
 section_keeps groups range = (section_stands groups range).unrolls
 
-pub section_closed : (groups : List (RecGroup ℕ)) → AreInRange 0 groups → AreClosed (slice_get (flat_map members groups))
+pub section_closed : (groups : List (RecGroup ℕ)) → AreInRange 0 groups → ReferToTypes (slice_get (flat_map members groups))
 section_closed groups range index type at =
     let it = section_stands groups range in
     let types = flat_map members groups in

@@ -1,12 +1,12 @@
 -- Kinds of defined types, and what a closure can't join.
-use Rattle.std.proofs.Common.{◌≡◌, true, false, List, [], refl, ap, sym, ◌∙◌, ◌⊎◌, inl, inr, subst, Option, Some}
+use Rattle.std.proofs.Common.{◌≡◌, true, false, List, [], ◌∷◌, refl, ap, sym, ◌∙◌, ◌⊎◌, inl, inr, subst, Option, Some}
 use Rattle.std.specs.List.{Contains}
 use Rattle.wasm_spec.specs.Groups.{Extends}
 use Rattle.wasm_spec.specs.Matching.{CompositeMatches}
 use Rattle.wasm_spec.specs.Subtyping.{Closure, same, step, abstract_of, bottom_of, Defined, HeapBelow, is_abstract_below}
 use Rattle.wasm_spec.specs.Types.{AbstractHeapType, I31, Abstract, Concrete, CompositeType, FuncComposite, StructComposite, ArrayComposite, ContComposite, SubType}
 use Rattle.wasm_spec.proofs.Closures.{sound, complete, bottom_under, bottom_by_abstract, same_defined, kind_kept}
-use Rattle.wasm_spec.proofs.Elements.{contains_none}
+use Rattle.wasm_spec.proofs.Elements.{contains_cases, contains_none}
 
 module _ {R : Type 0} (sub_at : R → Option (SubType R)) where
   -- the bottom of a kind is below its types
@@ -60,6 +60,22 @@ module _ {R : Type 0} (sub_at : R → Option (SubType R)) where
         let P : List R → Type 0 = λ ts. Contains ts more.0 in
         let empty : Contains [] more.0 = subst P (ap (λ q. q.supertypes) one ∙ none) l.among in
         absurd (contains_none more.0 empty)
+  ]
+
+  -- a type with one supertype is below that one's types and itself alone
+  pub one_above : (r t u : R) (s : SubType R) → sub_at r ≡ Some s → s.supertypes ≡ t ∷ [] → HeapBelow sub_at (Concrete r) (Concrete u) → (r ≡ u) ⊎ HeapBelow sub_at (Concrete t) (Concrete u)
+  one_above r t u s e one h = elim (first_link (complete sub_at {a = Concrete r} {b = Concrete u} h)) [
+    | inl is ↦ inl is
+    | inr more ↦
+        let l = more.1.declared in
+        let known : l.type ≡ s = same_defined sub_at r l.type s l.is e in
+        let P : List R → Type 0 = λ ts. Contains ts more.0 in
+        elim (contains_cases more.0 t [] (subst P (ap (λ q. q.supertypes) known ∙ one) l.among)) [
+          | inl is ↦
+              let Q : R → Type 0 = λ q. HeapBelow sub_at (Concrete q) (Concrete u) in
+              inr (subst Q (sym is) (sound sub_at (Concrete more.0) (Concrete u) more.2))
+          | inr none ↦ absurd (contains_none more.0 none)
+        ]
   ]
 
 pub bottom_is_no_i31 : {R : Type 0} (c : CompositeType R) → bottom_of c ≡ I31 → ⊥

@@ -20,9 +20,9 @@ IsType {R} from r = (type : SubType R) × (from r ≡ Some type)
 abbrev pub AreTypes : {R : Type 0} → SubTypes R → List R → Type 0
 AreTypes from refs = AllByRecursion (IsType from) refs
 
--- the references of types stand for types
-abbrev pub AreClosed : {R : Type 0} → SubTypes R → Type 0
-AreClosed {R} from = (r : R) (type : SubType R) → from r ≡ Some type → AreTypes from (sub_refs type)
+-- whatever type a reference stands for, all references in it stand for types too
+abbrev pub ReferToTypes : {R : Type 0} → SubTypes R → Type 0
+ReferToTypes {R} from = (r : R) (type : SubType R) → from r ≡ Some type → AreTypes from (sub_refs type)
 
 -- f takes no two references that stand for types to one
 abbrev pub IsOneToOne : {R S : Type 0} → (R → S) → SubTypes R → Type 0

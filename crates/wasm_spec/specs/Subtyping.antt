@@ -49,7 +49,7 @@ pub record Defined {R : Type 0} (sub_at : SubTypes R) (r : R) (Holds : Composite
   pub is : sub_at r ≡ Some type
   pub holds : Holds type.composite_type
 
--- a reference stands for a type of the kind that has this abstract type
+-- A reference stands for a type of the kind that has this abstract type. No type is of the kind `any` or `eq`: `abstract_of` gives neither.
 abbrev pub IsOfKind : {R : Type 0} → SubTypes R → R → AbstractHeapType → Type 0
 IsOfKind sub_at r kind = Defined sub_at r (λ c. abstract_of c ≡ kind)
 
@@ -77,7 +77,7 @@ HeapStep sub_at (Concrete r) (Concrete t) = Link sub_at r t
 abbrev pub HeapBelow : {R : Type 0} → SubTypes R → HeapType R → HeapType R → Type 0
 HeapBelow sub_at a b = Closure (HeapStep sub_at) a b
 
--- a reference that may be null is below none that may not (Matching, "Reference Types")
+-- a reference that may be null is never below one that may not (Matching, "Reference Types")
 pub record RefBelow {R : Type 0} (sub_at : SubTypes R) (a b : RefType R) : Type 0 where
   pub null : a.nullable ≡ true → b.nullable ≡ true
   pub heap : HeapBelow sub_at a.heap_type b.heap_type

@@ -11,13 +11,13 @@ use Rattle.wasm_spec.specs.Types.{SubType, RecGroup}
 
 -- A group tree is a recursive group that is rolled up: sub types whose references are places in the group, or places in other group trees.
 -- It is kept as the sub types without their references and, beside them, the references in the order of writing: `roll` makes it of the
--- sub types that are meant, and `opened` gives these back. No other trees arise.
+-- sub types that are meant, and `opened` gives these back. Types of a module have no other trees.
 mutual
   pub data GroupTree : Type 0 where
     Rolled : List (SubType ⊤) → TreeReferences → GroupTree
 
   pub data TreeReference : Type 0 where
-    -- a type of the group itself, by its place
+    -- a type of the group itself, by its place: what the standard writes `rec.i`
     Own : ℕ → TreeReference
     -- a type of another group, by its place there
     Other : GroupTree → ℕ → TreeReference
@@ -93,11 +93,11 @@ section_types groups = types_from [] groups
 
 -- ---- type indexes
 
--- a type of no group
+-- place 0 of the empty group: no type, because that group has none
 abbrev pub no_type : DefType
 no_type = record { tree = Rolled [] NoMore; place = 0 }
 
--- the type of an index, and past the end one of no group
+-- the type of an index, and past the end `no_type`
 abbrev pub type_at : List DefType → ℕ → DefType
 type_at types index = unwrap_or (slice_get types index) no_type
 

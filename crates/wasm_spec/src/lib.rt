@@ -7,6 +7,7 @@
 pub mod gate_examples;
 pub mod grammar_examples;
 pub mod laws;
+pub mod matching_examples;
 pub mod number_laws;
 pub mod section_examples;
 pub mod subtyping_laws;

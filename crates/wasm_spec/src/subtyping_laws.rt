@@ -7,7 +7,7 @@ ghost use Rattle.wasm_spec.specs.Gates.{is_allowed_group};
 ghost use Rattle.wasm_spec.specs.Groups.{AllGroups, AreWellFormedGroups, AreWithinLimits, ExtendsSupertypes, HasDepth, IsWellFormedAt, IsWellFormedGroup, KeepGroupRules, KeepsGroupRules, PassesLimit, items_in, reference_bound};
 ghost use Rattle.wasm_spec.specs.Limits.{Depth, Fields, IsPassedBy, Limit, Params, Results};
 ghost use Rattle.wasm_spec.specs.Matching.{CompositeMatches, FieldMatches, StorageBelow};
-ghost use Rattle.wasm_spec.specs.ReferenceMaps.{AreClosed, Carries, CarriesBack, CarriesLimitsBack, IsOneToOne, KeepsTypes};
+ghost use Rattle.wasm_spec.specs.ReferenceMaps.{Carries, CarriesBack, CarriesLimitsBack, IsOneToOne, KeepsTypes, ReferToTypes};
 ghost use Rattle.wasm_spec.specs.Subtyping.{Declared, HeapBelow, HeapTest, Link, RefBelow, SubTypes, ValBelow, is_abstract_below};
 ghost use Rattle.wasm_spec.specs.Syntax.{members};
 ghost use Rattle.wasm_spec.specs.Trees.{AreDistinct, AreInRange, DefType, RefersBelow, TreeReference, opened, roll, section_types, tree_of, type_at, types_after, unrolled};
@@ -68,9 +68,9 @@ pub fn declared_links<R>()
 /// also back; and subtyping, matching and the rule on supertypes back, where it is one to one on references that stand for types.
 pub fn reference_maps<R, S>()
     ensures along { (f : R → S) (from : SubTypes R) (to : SubTypes S) → KeepsTypes f from to → Carries f from to }
-    ensures limits_back { (f : R → S) (from : SubTypes R) (to : SubTypes S) → KeepsTypes f from to → AreClosed from → CarriesLimitsBack f from to }
+    ensures limits_back { (f : R → S) (from : SubTypes R) (to : SubTypes S) → KeepsTypes f from to → ReferToTypes from → CarriesLimitsBack f from to }
     ensures back { (f : R → S) (from : SubTypes R) (to : SubTypes S)
-        → KeepsTypes f from to → AreClosed from → IsOneToOne f from → CarriesBack f from to }
+        → KeepsTypes f from to → ReferToTypes from → IsOneToOne f from → CarriesBack f from to }
 {}
 
 /// In a type section whose references are in range, each type index stands for a defined type that unrolls to the sub type of the index.
@@ -78,7 +78,7 @@ pub fn type_sections()
     ensures count { (groups : List (RecGroup ℕ)) → length (section_types groups) ≡ length (flat_map members groups) }
     ensures types { (groups : List (RecGroup ℕ)) → AreInRange 0 groups
         → KeepsTypes (type_at (section_types groups)) (slice_get (flat_map members groups)) unrolled }
-    ensures closed { (groups : List (RecGroup ℕ)) → AreInRange 0 groups → AreClosed (slice_get (flat_map members groups)) }
+    ensures closed { (groups : List (RecGroup ℕ)) → AreInRange 0 groups → ReferToTypes (slice_get (flat_map members groups)) }
     ensures along { (groups : List (RecGroup ℕ)) → AreInRange 0 groups
         → Carries (type_at (section_types groups)) (slice_get (flat_map members groups)) unrolled }
     ensures limits_back { (groups : List (RecGroup ℕ)) → AreInRange 0 groups

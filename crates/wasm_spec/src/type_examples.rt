@@ -104,6 +104,7 @@ pub fn fields<R>()
     ensures const_widened { (sub_at : SubTypes R) → ¬ (FieldMatches sub_at (const_field any) (const_field any_structure)) }
     ensures var_same { (sub_at : SubTypes R) → FieldMatches sub_at (var_field any) (var_field any) }
     ensures var_narrowed { (sub_at : SubTypes R) → ¬ (FieldMatches sub_at (var_field any_structure) (var_field any)) }
+    ensures var_widened { (sub_at : SubTypes R) → ¬ (FieldMatches sub_at (var_field any) (var_field any_structure)) }
     ensures const_var { (sub_at : SubTypes R) → ¬ (FieldMatches sub_at (const_field I32) (var_field I32)) }
     ensures var_const { (sub_at : SubTypes R) → ¬ (FieldMatches sub_at (var_field I32) (const_field I32)) }
     ensures packed { (sub_at : SubTypes R) (mutable : Bool)

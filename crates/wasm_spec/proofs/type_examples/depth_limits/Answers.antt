@@ -3,8 +3,8 @@ use Rattle.std.proofs.lemmas.List.{append-nil}
 use Rattle.std.proofs.lemmas.Option.{slice_get_within}
 use Rattle.std.specs.List.{slice_get, AllByRecursion, flat_map}
 use Rattle.std.specs.Option.{unwrap_or}
-use Rattle.wasm_spec.specs.Groups.{HasDepth, IsWithinGroupLimits, PassesLimit, items_in}
-use Rattle.wasm_spec.specs.Limits.{Limit, Depth, Fields, most}
+use Rattle.wasm_spec.specs.Groups.{HasDepth, IsWithinGroupLimits, PassesLimit}
+use Rattle.wasm_spec.specs.Limits.{Limit, Depth}
 use Rattle.wasm_spec.specs.Syntax.{members}
 use Rattle.wasm_spec.specs.Trees.{AreInRange, DefType, no_type, section_types, type_at, unrolled}
 use Rattle.wasm_spec.specs.TypeExamples.{chain, chain_from, empty_structure, open_below, open_type}
@@ -12,18 +12,9 @@ use Rattle.wasm_spec.specs.TypeReferences.{sub_refs}
 use Rattle.wasm_spec.proofs.GroupTrees.{section_count}
 use Rattle.wasm_spec.proofs.Places.{all_by_place, all_get, get_left, get_some}
 use Rattle.wasm_spec.proofs.SectionTypes.{section_keeps}
+use Rattle.wasm_spec.proofs.TypeChains.{chain_from_at, few, length-chain_from}
 use Rattle.wasm_spec.proofs.TypeLimits.{depth_zero, depth_suc, depth_passed, passes_none}
 use Rattle.wasm_spec.proofs.type_examples.depth_limits.Goals as goal
-
-length-chain_from : (i n : ℕ) → length (chain_from i n) ≡ n
-length-chain_from i zero = refl
-length-chain_from i (suc n) = ap suc (length-chain_from (suc i) n)
-
-chain_from_at : (i n j : ℕ) → j < n → slice_get (chain_from i n) j ≡ Some (open_below (i + j) empty_structure)
-chain_from_at i zero j h = absurd (omega (arith, h))
-chain_from_at i (suc n) zero h = let e : i + 0 ≡ i = omega arith in rw e
-chain_from_at i (suc n) (suc j) h =
-    let e : i + suc j ≡ suc i + j = omega arith in rw e (chain_from_at (suc i) n j (omega (arith, h)))
 
 refs_below : (i n bound : ℕ) → i + n ≤ bound → AllByRecursion (λ r. r < bound) (flat_map sub_refs (chain_from i n))
 refs_below i zero bound h = tt
@@ -55,10 +46,6 @@ depth : (n j : ℕ) → j ≤ n → HasDepth unrolled (at n j) j
 depth n zero h = depth_zero unrolled (at n 0) (open_type empty_structure) (first n) refl
 depth n (suc j) h =
     depth_suc unrolled (at n (suc j)) (at n j) (open_below (at n j) empty_structure) j (next n j (omega (arith, h))) refl (depth n j (omega (arith, h)))
-
-few : (limit : Limit) → items_in (empty_structure {R = DefType}) limit ≤ most limit
-few Fields = omega arith
-few _ = omega arith
 
 no_limit : (n j : ℕ) → n ≤ 63 → j ≤ n → (limit : Limit) → PassesLimit unrolled (at n j) limit → ⊥
 no_limit n zero few_links h =

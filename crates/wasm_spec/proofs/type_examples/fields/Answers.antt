@@ -11,6 +11,7 @@ returns c start = record {
   const_widened = λ sub_at m. let e = complete sub_at {a = Abstract Any} {b = Abstract Struct} m.below.heap in absurd cc;
   var_same = λ sub_at. record { same = refl; below = record { null = λ e. refl; heap = same }; back = λ e. record { null = λ e. refl; heap = same } };
   var_narrowed = λ sub_at m. let e = complete sub_at {a = Abstract Any} {b = Abstract Struct} (m.back refl).heap in absurd cc;
+  var_widened = λ sub_at m. let e = complete sub_at {a = Abstract Any} {b = Abstract Struct} m.below.heap in absurd cc;
   const_var = λ sub_at m. let e = m.same in absurd cc;
   var_const = λ sub_at m. let e = m.same in absurd cc;
   packed = λ sub_at mutable. record { same = refl; below = tt; back = λ e. tt };

@@ -5,20 +5,23 @@ use Rattle.std.proofs.lemmas.Bool.{ltb-true}
 use Rattle.std.proofs.lemmas.List.{append-nil, append_assoc, drop-append-le, length-append, length-drop, length-map, take_all, take-append-le}
 use Rattle.std.proofs.lemmas.Option.{slice_get_within}
 use Rattle.std.proofs.lemmas.Slice.Eq.{bytes_eq-Decides}
+use Rattle.std.specs.List.{AllByRecursion}
 use Rattle.std.specs.declared.alloc.Global.{Global}
 use Rattle.std.specs.declared.ops.Range.{Range}
 use Rattle.std.specs.Str.{bytes_eq}
-use Rattle.wasm_spec.proofs.Places.{get_left}
-use Rattle.wasm_spec.specs.TypeReferences.{sub_map, subs_map}
+use Rattle.wasm_spec.proofs.MappedTypes.{all_map}
+use Rattle.wasm_spec.proofs.Places.{all_by_place, all_get, get_left}
+use Rattle.wasm_spec.proofs.TypeMaps.{subs_refs-map}
+use Rattle.wasm_spec.specs.TypeReferences.{sub_map, subs_map, subs_refs}
 use Rattle.wasm_spec.specs.Types.{SubType}
-use Rattle.wasmparser_types.specs.Index.{Index}
+use Rattle.wasmparser_types.specs.Index.{Index, Module, RecGroup, Id}
 use Rattle.wasmparser_types.specs.SubTypes.{sub_type}
-use Rattle.wasmparser_interning.specs.Chains.{chain_after, chains_after}
-use Rattle.wasmparser_interning.specs.GroupKeys.{group_key}
-use Rattle.wasmparser_interning.specs.GroupMaps.{found}
-use Rattle.wasmparser_interning.specs.TypeTables.{Adds, AddsAs, AreConsecutive, AreWithin, EntersKey, IsGroupAt, IsKeyOf, TablesAgree, TypeTables, absolute, found_by, known_group, local_id, max_types, place_in, numbers_from, range_after, sub_types}
-use Rattle.wasmparser_interning.proofs.ChainLaws.{at_last}
-use Rattle.wasmparser_interning.proofs.KeyLaws.{groups_apart}
+use Rattle.wasmparser_chains.specs.Chains.{chain_after, chains_after}
+use Rattle.wasmparser_group_keys.specs.GroupKeys.{group_key}
+use Rattle.wasmparser_group_keys.specs.GroupMaps.{found}
+use Rattle.wasmparser_interning.specs.TypeTables.{Adds, AddsAs, AreConsecutive, AreWithin, EntersKey, IsGroupAt, IsKeyOf, IsWithin, RefersBack, TablesAgree, TypeTables, absolute, found_by, known_group, local_id, max_types, place_in, numbers_from, range_after, sub_types}
+use Rattle.wasmparser_chains.proofs.ChainLaws.{at_last}
+use Rattle.wasmparser_group_keys.proofs.KeyLaws.{groups_apart}
 
 chains_joined : (chains : List (Option (List ℕ))) (types more : List (SubType Index)) → chains_after (chains_after chains types) more ≡ chains_after chains (types ++ more)
 chains_joined chains [] more = refl
@@ -39,7 +42,7 @@ numbers_more number (first ∷ ranges) range =
     ∙ sym (append_assoc front (numbers_from (number + 1) ranges) (replicate (range.end - range.start) (number + suc (length ranges))))
 
 -- a group ends among the types
-group_within : (start : ℕ) (ranges : List (Range ℕ)) (end number : ℕ) (range : Range ℕ) → AreConsecutive start ranges end → slice_get ranges number ≡ Some range → range.end ≤ end
+pub group_within : (start : ℕ) (ranges : List (Range ℕ)) (end number : ℕ) (range : Range ℕ) → AreConsecutive start ranges end → slice_get ranges number ≡ Some range → range.end ≤ end
 group_within start [] end number range are e = absurd cc
 group_within start (first ∷ ranges) end zero range are e =
     let one : first ≡ range = cc in subst (λ r. r.end ≤ end) one (below first.end ranges end are.2) where
@@ -47,6 +50,22 @@ group_within start (first ∷ ranges) end zero range are e =
       below start [] end are = omega (arith, are)
       below start (range ∷ ranges) end are = let h = below range.end ranges end are.2 in omega (arith, h, are.0, are.1)
 group_within start (first ∷ ranges) end (suc number) range are e = group_within first.end ranges end number range are.2 e
+
+-- its ids are in order
+range_in_order : (start : ℕ) (ranges : List (Range ℕ)) (end number : ℕ) (range : Range ℕ) → AreConsecutive start ranges end → slice_get ranges number ≡ Some range → range.start ≤ range.end
+range_in_order start [] end number range are e = absurd cc
+range_in_order start (first ∷ ranges) end zero range are e = let one : first ≡ range = cc in subst (λ r. r.start ≤ r.end) one are.1
+range_in_order start (first ∷ ranges) end (suc number) range are e = range_in_order first.end ranges end number range are.2 e
+
+-- what refers to a group's own types, and to those before it, still does where places became ids
+known_after : (start count : ℕ) (index : Index) → IsWithin start count index → IsWithin (start + count) 0 (absolute start index)
+known_after start count (Module n) h = tt
+known_after start count (RecGroup place) h = omega (arith, h)
+known_after start count (Id n) h = omega (arith, h)
+
+all_more : {X : Type 0} (P : X → Type 0) (xs : List X) (x : X) → AllByRecursion P xs → P x → AllByRecursion P (xs ++ x ∷ [])
+all_more P [] x h k = (k, tt)
+all_more P (y ∷ xs) x h k = (h.0, all_more P xs x h.1 k)
 
 module _ (old new : TypeTables) (group : List (SubType Index)) (number : ℕ) (agree : TablesAgree old) (adds : Adds old new group number) (within : AreWithin (length old.types) group) where
   abbrev added : List (SubType Index)
@@ -61,16 +80,27 @@ module _ (old new : TypeTables) (group : List (SubType Index)) (number : ℕ) (a
   count_is : length new.types ≡ length old.types + length group
   count_is = omega (arith, ap length adds.types, length-map new.types sub_type, length-append (sub_types old) added, added_count, old_count)
 
+  -- types that were there are where they were
+  still_types : (start count : ℕ) → start + count ≤ length old.types → take count (drop start (sub_types new)) ≡ take count (drop start (sub_types old))
+  still_types start count ends =
+      let dropped = drop-append-le start (sub_types old) added (omega (arith, ends, old_count)) in
+      let enough : count ≤ length (drop start (sub_types old)) = omega (arith, ends, old_count, length-drop start (sub_types old)) in
+      ap (λ q. take count (drop start q)) adds.types ∙ ap (take count) dropped ∙ take-append-le count (drop start (sub_types old)) added enough
+
+  now_types : take (length group) (drop (length old.types) (sub_types new)) ≡ added
+  now_types =
+      ap (λ q. take (length group) (drop (length old.types) q)) adds.types
+      ∙ ap (λ n. take (length group) (drop n (sub_types old ++ added))) (sym old_count) ∙ ap (take (length group)) (drop-append_seam (sub_types old) added)
+      ∙ ap (λ n. take n added) (sym added_count) ∙ take_all (length added) added (omega arith)
+
   -- a group that was there is where it was
   pub still_at : (n : ℕ) (other : List (SubType Index)) → IsGroupAt old n other → IsGroupAt new n other
   still_at n other is =
       let ends : is.start + length other ≤ length old.types = group_within 0 old.groups (length old.types) n _ agree.groups is.at in
-      let dropped = drop-append-le is.start (sub_types old) added (omega (arith, ends, old_count)) in
-      let enough : length other ≤ length (drop is.start (sub_types old)) = omega (arith, ends, old_count, length-drop is.start (sub_types old)) in
       record {
         start = is.start;
         at = ap (λ q. slice_get q n) adds.groups ∙ get_left old.groups (range_after (length old.types) (length group) ∷ []) n (slice_get_within old.groups n _ is.at) ∙ is.at;
-        types = ap (λ q. take (length other) (drop is.start q)) adds.types ∙ ap (take (length other)) dropped ∙ take-append-le (length other) (drop is.start (sub_types old)) added enough ∙ is.types;
+        types = still_types is.start (length other) ends ∙ is.types;
         within = is.within;
       }
 
@@ -79,11 +109,31 @@ module _ (old new : TypeTables) (group : List (SubType Index)) (number : ℕ) (a
     start = length old.types;
     at = ap (λ q. slice_get q number) adds.groups ∙ ap (slice_get (old.groups ++ range_after (length old.types) (length group) ∷ [])) adds.number_is
         ∙ at_last old.groups (range_after (length old.types) (length group));
-    types = ap (λ q. take (length group) (drop (length old.types) q)) adds.types
-        ∙ ap (λ n. take (length group) (drop n (sub_types old ++ added))) (sym old_count) ∙ ap (take (length group)) (drop-append_seam (sub_types old) added)
-        ∙ ap (λ n. take n added) (sym added_count) ∙ take_all (length added) added (omega arith);
+    types = now_types;
     within = within;
   }
+
+  -- groups that were there refer to what they did, and the new one to its own types and to earlier ones
+  still_known : (n : ℕ) (range : Range ℕ) → slice_get old.groups n ≡ Some range → RefersBack new range
+  still_known n range at =
+      let ends : range.end ≤ length old.types = group_within 0 old.groups (length old.types) n range agree.groups at in
+      let order : range.start ≤ range.end = range_in_order 0 old.groups (length old.types) n range agree.groups at in
+      subst (λ q. AllByRecursion (IsWithin range.end 0) (subs_refs q)) (sym (still_types range.start (range.end - range.start) (omega (arith, ends, order))))
+      (all_get (RefersBack old) old.groups agree.references n range at)
+
+  now_known : RefersBack new (range_after (length old.types) (length group))
+  now_known =
+      let count : length group ≡ length old.types + length group - length old.types = omega arith in
+      let end = length old.types + length group in
+      subst (λ n. AllByRecursion (IsWithin end 0) (subs_refs (take n (drop (length old.types) (sub_types new))))) count
+      (subst (λ q. AllByRecursion (IsWithin end 0) (subs_refs q)) (sym now_types)
+      (subst (AllByRecursion (IsWithin end 0)) (sym (subs_refs-map (absolute (length old.types)) group))
+      (all_map (IsWithin (length old.types) (length group)) (IsWithin end 0) (absolute (length old.types)) (known_after (length old.types) (length group)) (subs_refs group) within)))
+
+  all_known : AllByRecursion (RefersBack new) new.groups
+  all_known =
+      subst (AllByRecursion (RefersBack new)) (sym adds.groups)
+      (all_more (RefersBack new) old.groups (range_after (length old.types) (length group)) (all_by_place (RefersBack new) old.groups still_known) now_known)
 
   found_groups : (key : Option (Vec ℕ Global)) → IfSome key (λ k. k.items ≡ group_key group) → EntersKey old.known new.known key number
       → (other : List (SubType Index)) → IfSome (known_group new.known other) (λ n. IsGroupAt new n other)
@@ -125,6 +175,7 @@ module _ (old new : TypeTables) (group : List (SubType Index)) (number : ℕ) (a
     rec_groups = adds.rec_groups ∙ ap (λ q. q ++ replicate (length group) number) agree.rec_groups ∙ ap (λ q. numbers_from 0 old.groups ++ q) same_numbers
         ∙ sym (numbers_more 0 old.groups (range_after (length old.types) (length group))) ∙ ap (numbers_from 0) (sym adds.groups);
     chains = adds.chains ∙ ap (λ q. chains_after q added) agree.chains ∙ chains_joined [] (sub_types old) added ∙ ap (chains_after []) (sym adds.types);
+    references = all_known;
     known = found_groups key of enters;
   }
 
@@ -160,12 +211,6 @@ adds_as old new group number canonical key adds is enters unknown some =
 pub nothing : {X : Type 0} (o : Option X) → ((x : X) → o ≡ Some x → ⊥) → o ≡ None
 nothing None not = refl
 nothing (Some x) not = absurd (not x refl)
-
--- a group's ids are in order, and those of types
-range_in_order : (start : ℕ) (ranges : List (Range ℕ)) (end number : ℕ) (range : Range ℕ) → AreConsecutive start ranges end → slice_get ranges number ≡ Some range → range.start ≤ range.end
-range_in_order start [] end number range are e = absurd cc
-range_in_order start (first ∷ ranges) end zero range are e = let one : first ≡ range = cc in subst (λ r. r.start ≤ r.end) one are.1
-range_in_order start (first ∷ ranges) end (suc number) range are e = range_in_order first.end ranges end number range are.2 e
 
 pub range_of : (tables : TypeTables) (number : ℕ) (range : Range ℕ) → TablesAgree tables → slice_get tables.groups number ≡ Some range → (range.start ≤ range.end) × (range.end ≤ max_types)
 range_of tables number range agree e =

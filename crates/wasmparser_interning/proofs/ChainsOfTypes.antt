@@ -1,6 +1,7 @@
 -- The chains that are kept beside types are their chains of supertypes.
-use Rattle.std.proofs.Common.{◌≡◌, ◌≢◌, ℕ, zero, suc, ◌+◌, ◌<◌, Bool, true, false, List, [], ◌∷◌, ◌++◌, length, slice_get, Option, Some, None, refl, sym, ap, ◌∙◌, subst, arith, ◌↔◌, nat_lt, ◌⊎◌, inl, inr, if◌then◌else◌, option_and_then}
-use Rattle.std.proofs.lemmas.List.{append-nil, append_assoc, length-append, length-map}
+use Rattle.std.proofs.Common.{◌≡◌, ◌≢◌, ℕ, zero, suc, ◌+◌, ◌<◌, ◌≤◌, Bool, true, false, List, [], ◌∷◌, ◌++◌, length, slice_get, Option, Some, None, refl, sym, ap, ◌∙◌, subst, arith, ◌↔◌, nat_lt, ◌⊎◌, inl, inr, if◌then◌else◌, option_and_then}
+use Rattle.std.proofs.lemmas.List.{append-nil, append_assoc, length-append}
+use Rattle.std.proofs.lemmas.Bool.{lt-ltb}
 use Rattle.std.proofs.lemmas.Option.{slice_get_within}
 use Rattle.wasm_spec.proofs.Closures.{mapped, sound, complete}
 use Rattle.std.specs.List.{Contains}
@@ -9,10 +10,9 @@ use Rattle.wasm_spec.proofs.Places.{get_left, get_some}
 use Rattle.wasm_spec.specs.Subtyping.{Closure, same, step, HeapBelow, IsOfKind, abstract_of}
 use Rattle.wasm_spec.specs.Types.{Concrete, SubType}
 use Rattle.wasmparser_types.specs.Index.{Index, Id}
-use Rattle.wasmparser_types.specs.SubTypes.{sub_type}
-use Rattle.wasmparser_interning.specs.Chains.{AreBelowEarlier, IsBelowEarlier, StandsIn, IsChain, IsLinked, below, below_none, below_one, by_id, chain_after, chain_below, chain_of, chains_after, greatest, longer, supertype_in}
+use Rattle.wasmparser_chains.specs.Chains.{AreBelowEarlier, HasChain, IsBelowEarlier, StandsIn, IsChain, IsLinked, below, below_none, below_one, by_id, chain_after, chain_below, chain_of, chains_after, greatest, longer, supertype_in}
 use Rattle.wasmparser_interning.specs.TypeTables.{TablesAgree, TypeTables, sub_types, supertype_at}
-use Rattle.wasmparser_interning.proofs.ChainLaws.{is_below, no_chain_is_empty, up_to_ids}
+use Rattle.wasmparser_chains.proofs.ChainLaws.{is_below, no_chain_is_empty, up_to_ids}
 use Rattle.wasmparser_interning.proofs.TableLaws.{chains_count}
 
 -- the chains so far stay
@@ -70,12 +70,12 @@ module _ (types : List (SubType Index)) (earlier : AreBelowEarlier (slice_get ty
   placed_at n type e = let k : 0 + n ≡ n = omega arith in subst (λ q. IsPlaced all q type) k (placed [] types n type e)
 
   -- the chain of a type without a supertype, and of one with a supertype
-  alone : (n : ℕ) (type : SubType Index) → type_at n ≡ Some type → type.supertypes ≡ [] → slice_get all n ≡ Some (Some (n ∷ []))
+  pub alone : (n : ℕ) (type : SubType Index) → type_at n ≡ Some type → type.supertypes ≡ [] → slice_get all n ≡ Some (Some (n ∷ []))
   alone n type e none =
       let it = placed_at n type e in
       here n type it ∙ ap (λ s. Some (chain_below it.front (supertype_in s))) none ∙ ap (λ k. Some (Some (k ∷ []))) it.count
 
-  under : (n t : ℕ) (type : SubType Index) → type_at n ≡ Some type → type.supertypes ≡ Id t ∷ [] → t < n → slice_get all n ≡ Some (longer (chain_of (slice_get all t)) n)
+  pub under : (n t : ℕ) (type : SubType Index) → type_at n ≡ Some type → type.supertypes ≡ Id t ∷ [] → t < n → slice_get all n ≡ Some (longer (chain_of (slice_get all t)) n)
   under n t type e one lower =
       let it = placed_at n type e in
       let before : slice_get it.front t ≡ slice_get all t =
@@ -142,6 +142,26 @@ module _ (types : List (SubType Index)) (earlier : AreBelowEarlier (slice_get ty
     go rest (nothing_above none is) = subst (λ q. IsChain type_at q n) is (greatest n none)
     go rest (one_above t d lower has is link only) = subst (λ q. IsChain type_at q n) is (below (rest t lower d has) n link only)
 
+  -- the chain of a known type is kept, unless it is too long
+  pub is_kept : {c : List ℕ} {n : ℕ} → IsChain type_at c n → (type : SubType Index) → type_at n ≡ Some type → length c ≤ 64 → slice_get all n ≡ Some (Some c)
+  is_kept (greatest n none) type is short = go (earlier n type is) where
+    go : IsBelowEarlier type_at n type → slice_get all n ≡ Some (Some (n ∷ []))
+    go (below_none empty) = alone n type is empty
+    go (below_one t one lower kind) = absurd (none t (linked n t type is one kind))
+  is_kept (below {chain} {t} higher n link only) type is short = go (is_kept higher link.kind.type link.kind.is (omega (arith, short, count))) (earlier n type is) where
+    count : length (chain ++ n ∷ []) ≡ length chain + 1
+    count = length-append chain (n ∷ [])
+
+    fits : nat_lt (length chain) 64 ≡ true
+    fits = lt-ltb (length chain) 64 (omega (arith, short, count))
+
+    go : slice_get all t ≡ Some (Some chain) → IsBelowEarlier type_at n type → slice_get all n ≡ Some (Some (chain ++ n ∷ []))
+    go has (below_none empty) = absurd (only_none n type is empty t link)
+    go has (below_one u one lower kind) =
+        let same_id : t ≡ u = only_one n u type is one t link in
+        under n u type is one lower ∙ ap (λ k. Some (longer (chain_of (slice_get all k)) n)) (sym same_id) ∙ ap (λ q. Some (longer (chain_of q) n)) has
+        ∙ ap (λ (b : Bool). Some (if b then Some (chain ++ n ∷ []) else None)) fits
+
   -- what is above a type with a chain has one
   has_chain : {n b : ℕ} → Closure (IsLinked type_at) n b → (c : List ℕ) → slice_get all n ≡ Some (Some c) → (d : List ℕ) × (slice_get all b ≡ Some (Some d))
   has_chain same c e = (c, e)
@@ -192,6 +212,13 @@ module _ (types : List (SubType Index)) (earlier : AreBelowEarlier (slice_get ty
     go (below_none empty) = ends (to_links n m h) refl (only_none n type is empty)
     go (below_one u one lower kind) = absurd (let e = ap supertype_in one in cc)
 
+  -- an unknown id is below itself alone
+  pub unknown : (n m : ℕ) → type_at n ≡ None → n ≢ m → ¬ (HeapBelow (by_id type_at) (Concrete (Id n)) (Concrete (Id m)))
+  unknown n m is differs h = ends (to_links n m h) refl where
+    ends : {k : ℕ} → Closure (IsLinked type_at) k m → k ≡ n → ⊥
+    ends same e = differs (sym e)
+    ends (step {y} link path) e = let at = (subst (λ q. IsLinked type_at q y) e link).declared.is in cc
+
   -- a supertype is earlier
   pub lower : (n t : ℕ) (type : SubType Index) → type_at n ≡ Some type → supertype_in type.supertypes ≡ Some t → t < n
   lower n t type is up = go (earlier n type is) where
@@ -226,6 +253,22 @@ module _ (tables : TypeTables) (agree : TablesAgree tables) (earlier : AreBelowE
           (λ h. (length d, refl, law.1 h)),
         )
 
+  all_chains_are : tables.chains ≡ chains_after [] (sub_types tables)
+  all_chains_are = agree.chains
+
+  -- what is kept is a chain, and the chain of each type that has one is kept
+  pub kept_is_chain : (n : ℕ) (c : List ℕ) → chain_of (slice_get tables.chains n) ≡ Some c → IsChain (slice_get (sub_types tables)) c n
+  kept_is_chain n c e =
+      let is = kept _ earlier (slice_get (chains_after [] (sub_types tables)) n) c (ap (λ q. chain_of (slice_get q n)) (sym all_chains_are) ∙ e) in
+      is_chain (sub_types tables) earlier (suc n) n (omega arith) c is
+
+  pub chain_is_kept : (n : ℕ) (has : HasChain (slice_get (sub_types tables)) n) → chain_of (slice_get tables.chains n) ≡ Some has.chain
+  chain_is_kept n has =
+      ap (λ q. chain_of (slice_get q n)) all_chains_are ∙ ap chain_of (is_kept (sub_types tables) earlier has.is_chain has.type has.known has.within)
+
+  pub told_chain : (n : ℕ) (has : HasChain (slice_get (sub_types tables)) n) (c : List ℕ) → chain_of (slice_get tables.chains n) ≡ Some c → has.chain ≡ c
+  told_chain n has c e = let kept_one = chain_is_kept n has in cc
+
   pub up : (n t m : ℕ) → supertype_at tables n ≡ Some t → n ≢ m → (t < n) × (Below n m ↔ Below t m)
   up n t m e differs = go (slice_get (sub_types tables) n) refl e where
     go : (o : Option (SubType Index)) → slice_get (sub_types tables) n ≡ o → option_and_then (λ (type : SubType Index). supertype_in type.supertypes) o ≡ Some t
@@ -233,7 +276,8 @@ module _ (tables : TypeTables) (agree : TablesAgree tables) (earlier : AreBelowE
     go None is has = absurd cc
     go (Some type) is has = (lower (sub_types tables) earlier n t type is has, past (sub_types tables) earlier n t m type is has differs)
 
-  pub top : (n m : ℕ) → n < length tables.types → supertype_at tables n ≡ None → n ≢ m → ¬ (Below n m)
-  top n m known e differs =
-      let at = get_some (sub_types tables) n (omega (arith, known, length-map tables.types sub_type)) in
-      at_top (sub_types tables) earlier n m at.0 at.1 (sym (ap (option_and_then (λ (type : SubType Index). supertype_in type.supertypes)) at.1) ∙ e) differs
+  pub top : (n m : ℕ) → supertype_at tables n ≡ None → n ≢ m → ¬ (Below n m)
+  top n m e differs = go (slice_get (sub_types tables) n) refl e where
+    go : (o : Option (SubType Index)) → slice_get (sub_types tables) n ≡ o → option_and_then (λ (type : SubType Index). supertype_in type.supertypes) o ≡ None → ¬ (Below n m)
+    go (Some type) is none = at_top (sub_types tables) earlier n m type is none differs
+    go None is none = unknown (sub_types tables) earlier n m is differs

@@ -1,8 +1,7 @@
-mod Agreement
-mod ChainLaws
+pub mod Agreement
 mod ChainsOfTypes
-mod KeptChains
-mod KeyLaws
-mod KeyLookups
-mod Places
-mod TableLaws
+mod Depths
+mod IdRanges
+mod Indexes
+mod KeptReferences
+pub mod TableLaws

@@ -1,14 +1,16 @@
 -- Tables of types, as groups are added.
-use Rattle.std.proofs.Common.{◌≡◌, ℕ, ◌+◌, ◌-◌, ◌≤◌, List, [], ◌∷◌, ◌++◌, length, map, replicate, Option, ap, ◌∙◌, arith}
+use Rattle.std.proofs.Common.{◌≡◌, ℕ, ◌+◌, ◌-◌, ◌≤◌, List, [], ◌∷◌, ◌++◌, length, map, replicate, slice_get, Option, ap, sym, ◌∙◌, arith}
 use Rattle.std.proofs.lemmas.List.{length-append, length-map, length-replicate}
+use Rattle.std.proofs.lemmas.Option.{slice_get-map}
 use Rattle.std.specs.List.{AllByRecursion}
+use Rattle.std.specs.Option.{option_map}
 use Rattle.std.specs.declared.ops.Range.{Range}
 use Rattle.wasm_spec.specs.TypeReferences.{sub_map, subs_map, subs_refs}
 use Rattle.wasm_spec.specs.Types.{SubType}
 use Rattle.wasmparser_types.specs.Index.{Index, Module, RecGroup, Id}
 use Rattle.wasmparser_types.specs.SubTypes.{sub_type}
 use Rattle.wasmparser_types.specs.declared.sub_type.SubType as Code
-use Rattle.wasmparser_interning.specs.Chains.{chain_after, chains_after}
+use Rattle.wasmparser_chains.specs.Chains.{chain_after, chains_after}
 use Rattle.wasmparser_interning.specs.TypeTables.{TypeTables, TablesAgree, AreConsecutive, AreWithin, CanBeAbsolute, IsWithin, max_types, numbers_from, range_after, sub_types}
 
 -- ---- how many there are
@@ -28,6 +30,12 @@ rec_groups_count tables agree = omega (arith, ap length agree.rec_groups, number
 
 pub all_chains : (tables : TypeTables) → TablesAgree tables → length tables.chains ≡ length tables.types
 all_chains tables agree = omega (arith, ap length agree.chains, chains_count [] (sub_types tables), length-map tables.types sub_type)
+
+-- ---- what ids stand for
+
+-- what is read of an id is what it stands for
+pub stands_for : (tables : TypeTables) (id : ℕ) (o : Option Code.SubType) → o ≡ slice_get tables.types id → option_map sub_type o ≡ slice_get (sub_types tables) id
+stands_for tables id o is = ap (option_map sub_type) is ∙ sym (slice_get-map sub_type tables.types id)
 
 -- ---- places become ids
 

@@ -1,5 +1,6 @@
-pub mod Chains
-pub mod GroupKeys
-pub mod GroupMaps
-pub mod Snapshots
+pub mod CountedReads
+pub mod HeldValues
+pub mod Lending
+pub mod LentValues
+pub mod TypeSizes
 pub mod TypeTables

@@ -1,8 +1,11 @@
 -- What a list of types holds, and when its tables agree.
-use Rattle.std.specs.Prelude.{◌≡◌, ◌≢◌, ℕ, replicate, ◌+◌, ◌-◌, ◌<◌, ◌≤◌, ◌^◌, ⊤, Bool, true, false, ◌⊎◌, nat_le, nat_lt, if◌then◌else◌, option_and_then, List, [], ◌∷◌, ◌++◌, Vec, length, map, take, drop, slice_get, Option, Some, None, IfSome}
-use Rattle.std.specs.List.{AllByRecursion}
+use Rattle.std.specs.Prelude.{◌≡◌, ◌≢◌, ℕ, replicate, ◌+◌, ◌-◌, ◌<◌, ◌≤◌, ⊤, Bool, true, false, ◌⊎◌, nat_le, nat_lt, if◌then◌else◌, option_and_then, List, [], ◌∷◌, ◌++◌, Vec, length, map, take, drop, slice_get, Option, Some, None, IfSome}
+use Rattle.std.specs.List.{AllByRecursion, range_with_len}
 use Rattle.std.specs.declared.alloc.Global.{Global}
 use Rattle.std.specs.declared.ops.Range.{Range}
+use Rattle.wasm_spec.specs.Limits.{total_of_types}
+use Rattle.wasm_spec.specs.Matching.{CompositeMatches}
+use Rattle.wasm_spec.specs.Subtyping.{SubTypes}
 use Rattle.wasm_spec.specs.TypeReferences.{subs_map, subs_refs}
 use Rattle.wasm_spec.specs.Types as spec
 use Rattle.wasmparser_error.specs.declared.error.Error.{Error}
@@ -10,9 +13,9 @@ use Rattle.wasmparser_error.specs.declared.error.ErrorKind.TheVariants.{Memory, 
 use Rattle.wasmparser_types.specs.Index.{Index, Module, RecGroup, Id, packable}
 use Rattle.wasmparser_types.specs.SubTypes.{sub_type}
 use Rattle.wasmparser_types.specs.declared.sub_type.SubType.{SubType}
-use Rattle.wasmparser_interning.specs.Chains.{chains_after, supertype_in}
-use Rattle.wasmparser_interning.specs.GroupKeys.{group_key}
-use Rattle.wasmparser_interning.specs.GroupMaps.{found}
+use Rattle.wasmparser_chains.specs.Chains.{AreBelowEarlier, by_id, chains_after, supertype_in}
+use Rattle.wasmparser_group_keys.specs.GroupKeys.{group_key}
+use Rattle.wasmparser_group_keys.specs.GroupMaps.{found}
 
 -- the tables
 pub record TypeTables : Type 0 where
@@ -25,6 +28,9 @@ pub record TypeTables : Type 0 where
   pub groups : List (Range ℕ)
   -- the groups that equal ones are sought among, by their keys; none in a list that doesn't grow on
   pub known : Option (List (List ℕ × ℕ))
+
+abbrev pub no_types : TypeTables
+no_types = record { types = []; rec_groups = []; chains = []; groups = []; known = Some [] }
 
 -- the types as the specification has them
 abbrev pub sub_types : TypeTables → List (spec.SubType Index)
@@ -49,6 +55,15 @@ abbrev pub AreWithin : ℕ → List (spec.SubType Index) → Type 0
 AreWithin before group = AllByRecursion (IsWithin before (length group)) (subs_refs group)
 
 -- ---- groups in a list
+
+-- the types with these ids
+abbrev pub types_in : TypeTables → Range ℕ → List (spec.SubType Index)
+types_in tables range = take (range.end - range.start) (drop range.start (sub_types tables))
+
+-- A kept group refers to its own types and to earlier ones by their ids, and no place is left. Type indexes in a module may stand in it, which stand for
+-- nothing here.
+abbrev pub RefersBack : TypeTables → Range ℕ → Type 0
+RefersBack tables range = AllByRecursion (IsWithin range.end 0) (subs_refs (types_in tables range))
 
 abbrev pub range_after : ℕ → ℕ → Range ℕ
 range_after start count = record { start = start; end = start + count }
@@ -77,7 +92,7 @@ AreConsecutive start (range ∷ ranges) end = (range.start ≡ start) × (range.
 
 -- the most types that a list holds
 abbrev pub max_types : ℕ
-max_types = 2 ^ 20
+max_types = total_of_types
 
 -- All tables are those of groups that were interned one after the other.
 pub record TablesAgree (tables : TypeTables) : Type 0 where
@@ -85,6 +100,7 @@ pub record TablesAgree (tables : TypeTables) : Type 0 where
   pub groups : AreConsecutive 0 tables.groups (length tables.types)
   pub rec_groups : tables.rec_groups ≡ numbers_from 0 tables.groups
   pub chains : tables.chains ≡ chains_after [] (sub_types tables)
+  pub references : AllByRecursion (RefersBack tables) tables.groups
   pub known : (group : List (spec.SubType Index)) → IfSome (known_group tables.known group) (λ number. IsGroupAt tables number group)
 
 -- ---- interning
@@ -161,12 +177,55 @@ place_in None place = None
 abbrev pub local_id : TypeTables → ℕ → ℕ → Option ℕ
 local_id tables group place = place_in (slice_get tables.groups group) place
 
+-- the ids of a group's types, in order
+abbrev pub ids_in : Option (Range ℕ) → List ℕ
+ids_in (Some range) = range_with_len range.start (range.end - range.start)
+ids_in None = []
+
+abbrev pub group_ids : TypeTables → ℕ → List ℕ
+group_ids tables group = ids_in (slice_get tables.groups group)
+
 -- the id that an index of a type in this group stands for; none for a type index in a module
 abbrev pub id_of : TypeTables → ℕ → Index → Option ℕ
 id_of tables group (Module n) = None
 id_of tables group (RecGroup place) = local_id tables group place
 id_of tables group (Id n) = Some n
 
+-- a place, where the group has no such one, and else its id
+abbrev pub id_or_place : ℕ → Option ℕ → Index
+id_or_place place None = RecGroup place
+id_or_place place (Some id) = Id id
+
+-- An index in a type of a group, as one that is valid outside of it. A place that the group doesn't have stays a place.
+abbrev pub resolved_in : TypeTables → ℕ → Index → Index
+resolved_in tables group (Module n) = Module n
+resolved_in tables group (RecGroup place) = id_or_place place (local_id tables group place)
+resolved_in tables group (Id n) = Id n
+
+-- what ids stand for
+abbrev pub type_by_id : TypeTables → SubTypes Index
+type_by_id tables = by_id (slice_get (sub_types tables))
+
+-- what must hold where subtyping is asked for
+pub record CanAskSubtyping (tables : TypeTables) : Type 0 where
+  pub agree : TablesAgree tables
+  pub earlier : AreBelowEarlier (slice_get (sub_types tables))
+
+-- two ids stand for types the first of which matches the second
+pub record IdMatches (tables : TypeTables) (a b : ℕ) : Type 0 where
+  pub lower : spec.SubType Index
+  pub upper : spec.SubType Index
+  pub a_is : slice_get (sub_types tables) a ≡ Some lower
+  pub b_is : slice_get (sub_types tables) b ≡ Some upper
+  pub matches : CompositeMatches (type_by_id tables) lower.composite_type upper.composite_type
+
 -- the same types, in a list that doesn't grow on
 abbrev pub committed : TypeTables → TypeTables
 committed tables = record tables { known = None }
+
+-- other types, or other groups, in tables that stay as they are
+abbrev pub with_types : TypeTables → List SubType → TypeTables
+with_types tables types = record tables { types = types }
+
+abbrev pub with_groups : TypeTables → List (Range ℕ) → TypeTables
+with_groups tables groups = record tables { groups = groups }

@@ -2,12 +2,13 @@
 #![tactic(auto)]
 
 mod absolute;
-pub mod chain;
-mod group_key;
-mod group_map;
-pub mod laws;
-pub mod lookup;
-pub mod snapshot_list;
+mod matching;
+pub mod maybe_owned;
+pub mod read_counter;
+pub mod rec_group_elements;
 mod subtyping;
+pub mod type_alloc;
+pub mod type_data;
 pub mod type_identifier;
+pub mod type_info;
 pub mod type_list;

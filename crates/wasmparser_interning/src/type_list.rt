@@ -7,21 +7,22 @@ ghost use Rattle.wasmparser_types.specs.SubTypes.{sub_type};
 ghost use Rattle.wasmparser_interning.specs.TypeTables.{Adds, AreWithin, EntersKey, Interns, IsKeyOf, IsNoIntern, TablesAgree, found_by, has_room, max_types};
 
 use crate::absolute::make_absolute;
-use crate::chain::{Chain, group_chains};
-use crate::group_key::group_key;
-use crate::group_map::GroupMap;
-use crate::snapshot_list::SnapshotList;
 use crate::type_identifier::TypeIdentifier;
 use std::alloc::{AllocError, Global};
+use std::fmt;
 use std::marker::Model;
 use std::ops::{Index, Range};
+use wasmparser_chains::chain::{Chain, group_chains};
 use wasmparser_error::error::{Error, ErrorKind};
+use wasmparser_group_keys::group_key::group_key;
+use wasmparser_group_keys::group_map::GroupMap;
+use wasmparser_snapshots::snapshot_list::SnapshotList;
 use wasmparser_types::composite_type::FuncType;
 use wasmparser_types::index::{CoreTypeId, PackedIndex, RecGroupId, UnpackedIndex};
 use wasmparser_types::sub_type::{RecGroup, SubType};
 
-/// The most types that a list holds.
-pub const MAX_TYPES: usize = 1 << 20;
+// The most types that a list holds, which is `MAX_WASM_TOTAL_TYPES`.
+const MAX_TYPES: usize = 1 << 20;
 
 // Room in all tables for a group of so many types.
 fn reserve(
@@ -73,8 +74,8 @@ fn key_of(
     }
 }
 
-/// The types that a validator knows. Types of groups that were interned as canonical, and name no type by its index in a module, have one id exactly where
-/// they are equal.
+/// The types that a validator knows. Two of them have one id exactly when they are equal, where two definitions count as two types if either was interned
+/// without canonicalization. A group that names a type by its index in a module is kept as it is: such an index stands for nothing here.
 #[derive(Drop)]
 pub struct TypeList {
     alloc: Global,
@@ -103,12 +104,13 @@ impl Model for TypeList {
 impl TypeList {
     ghost use Rattle.std.specs.Prelude.{◌≡◌, ◌+◌, ◌≤◌, [], Some, None, IfErr, IfOk, IsSome, OnOk, Bool, ℕ, ◌<◌, ◌∷◌, length, map, nat_le, slice_get, true};
     ghost use Rattle.wasmparser_error.specs.declared.error.ErrorKind.TheVariants as kinds;
-    ghost use Rattle.wasmparser_types.specs.Index.{module_index};
     ghost use Rattle.wasmparser_types.specs.UnpackedIndex as unpacked;
-    ghost use Rattle.wasmparser_interning.specs.Chains.{chain_of};
+    ghost use Rattle.wasmparser_chains.specs.Chains.{chain_of};
     ghost use Rattle.wasmparser_interning.specs.TypeTables.{committed, final_func, id_of, local_id, supertype_at};
     ghost use Rattle.wasmparser_types.specs.CompositeTypes.{func_type};
     ghost use Rattle.wasmparser_types.specs.RecGroups as spec;
+    ghost use Rattle.std.specs.Borrow.{sem};
+    ghost use Rattle.wasmparser_interning.specs.Lending.{LendsGroups, LendsTypes};
 
     /// A list without types.
     pub fn new(alloc: Global) -> TypeList
@@ -171,6 +173,22 @@ impl TypeList {
         &self.core_types
     }
 
+    // The types, to be changed.
+    pub(crate) fn core_types_mut(&mut self) -> &mut SnapshotList<SubType>
+        ensures* lends { sem 𝓛 (LendsTypes self.entry result) }
+        ensures value { result.now.items ≡ self.old.types }
+    {
+        &mut self.core_types
+    }
+
+    // The ids of each group, to be changed.
+    pub(crate) fn groups_mut(&mut self) -> &mut SnapshotList<Range<CoreTypeId>>
+        ensures* lends { sem 𝓛 (LendsGroups self.entry result) }
+        ensures value { result.now.items ≡ self.old.groups }
+    {
+        &mut self.rec_group_elements
+    }
+
     // The chain of a type, where it is known and has one.
     pub(crate) fn chain(&self, id: CoreTypeId) -> Option<&Chain>
         ensures { option_copied result ≡ chain_of (slice_get self.now.chains id) }
@@ -179,7 +197,7 @@ impl TypeList {
     }
 
     // The ids of each group.
-    pub(crate) fn rec_group_elements(&self) -> &SnapshotList<Range<CoreTypeId>>
+    pub(crate) fn groups(&self) -> &SnapshotList<Range<CoreTypeId>>
         ensures { result.now.items ≡ self.now.groups }
     {
         &self.rec_group_elements
@@ -299,16 +317,32 @@ impl TypeList {
 
     /// The group that a known type was defined in.
     pub fn rec_group_id_of(&self, id: CoreTypeId) -> RecGroupId
-        requires { id < length self.now.rec_groups }
+        requires agree { TablesAgree self.now }
+        requires known { id < length self.now.types }
         ensures { slice_get self.now.rec_groups id ≡ Some result }
     {
         self.core_type_to_rec_group[id.index()]
     }
 
-    /// The id of the type at a place in a known group.
+    // The id of a place in a group, if the group is known and has such a place.
+    pub(crate) fn place_in_group(&self, rec_group: RecGroupId, place: u32) -> Option<CoreTypeId>
+        requires { TablesAgree self.now }
+        ensures { result ≡ local_id self.now rec_group place }
+    {
+        let elements = self.get(rec_group)?;
+        let start = elements.start.index();
+        let place = place as usize;
+        if place < elements.end.index() - start {
+            Some(CoreTypeId::from_index((start + place) as u32))
+        } else {
+            None
+        }
+    }
+
+    /// The id of the type at a place in a group.
     ///
     /// # Errors
-    /// `Invalid` at the offset where the group has no such place.
+    /// `Invalid` at the offset where the group has no such place, or is unknown.
     pub fn rec_group_local_id(
         &self,
         rec_group: RecGroupId,
@@ -316,27 +350,22 @@ impl TypeList {
         offset: u64,
     ) -> Result<CoreTypeId, Error>
         requires agree { TablesAgree self.now }
-        requires known { rec_group < length self.now.groups }
         ensures found { IfOk result (λ id. local_id self.now rec_group index ≡ Some id) }
         ensures absent { IfErr result (λ e. (local_id self.now rec_group index ≡ None) × (e ≡ record { offset = offset; kind = kinds.Invalid })) }
     {
-        let elements = &self.rec_group_elements[rec_group.index()];
-        let start = elements.start.index();
-        let place = index as usize;
-        if place < elements.end.index() - start {
-            Ok(CoreTypeId::from_index((start + place) as u32))
-        } else {
-            Err(Error {
+        match self.place_in_group(rec_group, index) {
+            Some(id) => Ok(id),
+            None => Err(Error {
                 offset,
                 kind: ErrorKind::Invalid,
-            })
+            }),
         }
     }
 
-    /// The id that an index of a type in a known group stands for, which is no type index in a module.
+    /// The id that an index of a type in a group stands for.
     ///
     /// # Errors
-    /// `Invalid` at the offset where the group has no such place.
+    /// `Invalid` at the offset where the group has no such place or is unknown, or for a type index in a module.
     pub fn at_canonicalized_unpacked_index(
         &self,
         rec_group: RecGroupId,
@@ -344,22 +373,23 @@ impl TypeList {
         offset: u64,
     ) -> Result<CoreTypeId, Error>
         requires agree { TablesAgree self.now }
-        requires known { rec_group < length self.now.groups }
-        requires canonical { module_index (unpacked.index index) ≡ None }
         ensures found { IfOk result (λ id. id_of self.now rec_group (unpacked.index index) ≡ Some id) }
         ensures absent { IfErr result (λ e. (id_of self.now rec_group (unpacked.index index) ≡ None) × (e ≡ record { offset = offset; kind = kinds.Invalid })) }
     {
         match index {
             UnpackedIndex::RecGroup(place) => self.rec_group_local_id(rec_group, place, offset),
-            UnpackedIndex::Module(id) => Ok(CoreTypeId::from_index(id)),
+            UnpackedIndex::Module(_) => Err(Error {
+                offset,
+                kind: ErrorKind::Invalid,
+            }),
             UnpackedIndex::Id(id) => Ok(id),
         }
     }
 
-    /// The id that a packed index of a type in a known group stands for, which is no type index in a module.
+    /// The id that a packed index of a type in a group stands for.
     ///
     /// # Errors
-    /// `Invalid` at the offset where the group has no such place.
+    /// `Invalid` at the offset where the group has no such place or is unknown, or for a type index in a module.
     pub fn at_canonicalized_packed_index(
         &self,
         rec_group: RecGroupId,
@@ -367,8 +397,6 @@ impl TypeList {
         offset: u64,
     ) -> Result<CoreTypeId, Error>
         requires agree { TablesAgree self.now }
-        requires known { rec_group < length self.now.groups }
-        requires canonical { module_index index ≡ None }
         ensures found { IfOk result (λ id. id_of self.now rec_group index ≡ Some id) }
         ensures absent { IfErr result (λ e. (id_of self.now rec_group index ≡ None) × (e ≡ record { offset = offset; kind = kinds.Invalid })) }
     {
@@ -392,6 +420,16 @@ impl TypeList {
             rec_group_elements: self.rec_group_elements.commit()?,
             canonical_rec_groups: None,
         })
+    }
+}
+
+/// Shows how many types and groups there are, and none of them.
+impl fmt::Debug for TypeList {
+    fn fmt<W: fmt::Write>(&self, f: &mut fmt::Formatter<W>) -> fmt::Result {
+        f.debug_struct("TypeList")
+            .field("types", &self.core_types.len())
+            .field("groups", &self.rec_group_elements.len())
+            .finish_non_exhaustive()
     }
 }
 

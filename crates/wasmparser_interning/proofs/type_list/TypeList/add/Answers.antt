@@ -2,7 +2,7 @@ use Rattle.std.proofs.Common.{◌≡◌, ◌+◌, [], ◌∷◌, ◌++◌, lengt
 use Rattle.std.proofs.lemmas.List.{length-map, map-append}
 use Rattle.wasm_spec.specs.TypeReferences.{subs_map}
 use Rattle.wasmparser_types.specs.SubTypes.{sub_type}
-use Rattle.wasmparser_interning.specs.Chains.{chains_after}
+use Rattle.wasmparser_chains.specs.Chains.{chains_after}
 use Rattle.wasmparser_interning.specs.TypeTables.{absolute, sub_types}
 use Rattle.wasmparser_interning.proofs.TableLaws.{rec_groups_count, all_chains, can_be_absolute, same_count, added_chains, same_range}
 use Rattle.wasmparser_interning.proofs.type_list.TypeList.add.Goals as goal

@@ -1,16 +1,14 @@
-use Rattle.std.proofs.Common.{◌↔◌, ◌<◌, length, slice_get}
+use Rattle.std.proofs.Common.{◌↔◌, slice_get}
 use Rattle.wasm_spec.specs.Subtyping.{HeapBelow}
 use Rattle.wasm_spec.specs.Types.{Concrete}
 use Rattle.wasmparser_types.specs.Index.{Id}
-use Rattle.wasmparser_interning.specs.Chains.{by_id}
+use Rattle.wasmparser_chains.specs.Chains.{by_id}
 use Rattle.wasmparser_interning.specs.TypeTables.{sub_types}
 use Rattle.wasmparser_interning.proofs.type_list.TypeList.id_is_subtype.Given as goal
 
 abbrev pub invariant-loop-b : goal.invariant-loop-b
-invariant-loop-b l = record {
-  known : l.at < length l.self.types;
-  same : HeapBelow (by_id (slice_get (sub_types l.self))) (Concrete (Id l.fn.a)) (Concrete (Id l.b)) ↔ HeapBelow (by_id (slice_get (sub_types l.self))) (Concrete (Id l.at)) (Concrete (Id l.b));
-}
+invariant-loop-b l =
+    HeapBelow (by_id (slice_get (sub_types l.self))) (Concrete (Id l.fn.a)) (Concrete (Id l.b)) ↔ HeapBelow (by_id (slice_get (sub_types l.self))) (Concrete (Id l.at)) (Concrete (Id l.b))
 
 abbrev pub decreases-loop-b : goal.decreases-loop-b
 decreases-loop-b l = l.at

@@ -1,0 +1,2 @@
+pub mod ChainLaws
+mod KeptChains

@@ -1,0 +1,5 @@
+//! Types with their supertypes in a row: a part of `wasmparser`.
+#![tactic(auto)]
+
+pub mod chain;
+pub mod lookup;

@@ -1,0 +1,2 @@
+pub mod KeyLaws
+mod KeyLookups

@@ -1,0 +1,2 @@
+pub mod GroupKeys
+pub mod GroupMaps

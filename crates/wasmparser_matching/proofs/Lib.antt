@@ -1,0 +1,3 @@
+mod Fronts
+mod HeapLaws
+mod TopLaws

@@ -1,0 +1,38 @@
+//! What matching asks of defined types.
+
+ghost use Rattle.std.specs.Prelude.{◌≡◌, ◌↔◌, IsTrue, ℕ, option_map};
+ghost use Rattle.std.specs.Option.{option_copied};
+ghost use Rattle.wasm_spec.specs.Subtyping.{HeapBelow, SubTypes};
+ghost use Rattle.wasm_spec.specs.Types as spec;
+ghost use Rattle.wasmparser_types.specs.CompositeTypes.{composite_type};
+ghost use Rattle.wasmparser_types.specs.Index.{Index};
+ghost use Rattle.wasmparser_types.specs.UnpackedIndex.{index};
+
+use wasmparser_types::composite_type::CompositeType;
+use wasmparser_types::index::{RecGroupId, UnpackedIndex};
+
+/// Something that knows what the indexes in types stand for.
+pub trait KnownTypes {
+    // The sub types that indexes stand for.
+    ghost sub_at: { Self → SubTypes Index };
+
+    // An index in a type of this recursive group, as one that is valid outside of it.
+    ghost resolved: { Self → ℕ → Index → Index };
+
+    // When subtyping may be asked for.
+    ghost can_ask: { Self → Type 0 };
+
+    /// The composite type of what an index stands for.
+    fn composite_type(&self, it: UnpackedIndex) -> Option<&CompositeType>
+        ensures { option_map composite_type (option_copied result) ≡ option_map (λ (type : spec.SubType Index). type.composite_type) (sub_at self.now (index it)) };
+
+    /// Whether the type of one index is that of another, or was declared below it, in however many steps.
+    fn index_is_subtype(&self, a: UnpackedIndex, b: UnpackedIndex) -> bool
+        requires { can_ask self.now }
+        ensures { IsTrue result ↔ HeapBelow (sub_at self.now) (spec.Concrete (index a)) (spec.Concrete (index b)) };
+
+    /// Turns an index in a type of a recursive group into one that is valid outside of it. A place that the group doesn't have stays a place.
+    fn resolve(&self, rec_group: RecGroupId, it: UnpackedIndex) -> UnpackedIndex
+        requires { can_ask self.now }
+        ensures { index result ≡ resolved self.now rec_group (index it) };
+}

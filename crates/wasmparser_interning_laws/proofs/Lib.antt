@@ -1,0 +1,7 @@
+mod DistinctTypes
+mod GroupTypes
+mod IdLaws
+mod InternedGroups
+mod KeptGroups
+mod KeyTrees
+mod MarkedTrees

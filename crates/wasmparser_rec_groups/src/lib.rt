@@ -1,0 +1,4 @@
+//! Recursive groups by the rules of validity, over a list of types: a part of `wasmparser`.
+#![tactic(auto)]
+
+pub mod rules;

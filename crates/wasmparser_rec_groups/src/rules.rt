@@ -1,0 +1,120 @@
+//! Rules on types that a list knows (Core Specification 3.0, Validation, Types, "Recursive Types").
+
+ghost use Rattle.std.specs.Prelude.{◌≡◌, ◌↔◌, ◌<◌, IfErr, IfOk, IsTrue, Some, length, slice_get};
+ghost use Rattle.wasm_spec.specs.Groups.{ContinuesFunc, ExtendsSupertypes};
+ghost use Rattle.wasmparser_chains.specs.Chains.{AreBelowEarlier};
+ghost use Rattle.wasmparser_interning.specs.TypeTables.{TablesAgree, sub_types, type_by_id};
+ghost use Rattle.wasmparser_rec_groups.specs.Rules.{IdExtends, IsFine, IsOpen, IsRefused, IsRefusedGroup, KeepsRules, PassesNoLimit};
+ghost use Rattle.wasmparser_types.specs.CompositeTypes.{composite_type};
+ghost use Rattle.wasmparser_types.specs.SubTypes.{sub_type};
+
+use wasm_core_base::limits::Limit;
+use wasmparser_error::error::ErrorKind;
+use wasmparser_group_rules::limits::passed_limit;
+use wasmparser_interning::type_list::TypeList;
+use wasmparser_matching::known_types::KnownTypes;
+use wasmparser_types::composite_type::CompositeType;
+use wasmparser_types::index::{CoreTypeId, PackedIndex, RecGroupId};
+use wasmparser_types::sub_type::SubType;
+
+// Whether a continuation type goes on with a function type.
+fn continues_func(types: &TypeList, it: &CompositeType) -> bool
+    ensures { IsTrue result ↔ ContinuesFunc (type_by_id types.now) (composite_type it.now) }
+{
+    match it {
+        CompositeType::Cont(it) => match types.composite_type(it.0.unpack()) {
+            Some(CompositeType::Func(_)) => true,
+            _ => false,
+        },
+        _ => true,
+    }
+}
+
+// Whether types may be declared below what an id stands for.
+fn is_open(types: &TypeList, id: CoreTypeId) -> bool
+    ensures { IsTrue result ↔ IsOpen types.now id }
+{
+    match types.get(id) {
+        Some(it) => !it.is_final,
+        None => false,
+    }
+}
+
+// Whether what an id stands for may be declared below what an index stands for.
+fn extends(types: &TypeList, id: CoreTypeId, supertype: PackedIndex) -> bool
+    requires agree { TablesAgree types.now }
+    requires earlier { AreBelowEarlier (slice_get (sub_types types.now)) }
+    ensures { IsTrue result ↔ IdExtends types.now id supertype }
+{
+    match supertype.as_core_type_id() {
+        Some(supertype) => is_open(types, supertype) && types.matches(id, supertype),
+        None => false,
+    }
+}
+
+// Whether a type has at most one supertype, and may be declared below it.
+fn extends_supertypes(types: &TypeList, id: CoreTypeId, it: &SubType) -> bool
+    requires agree { TablesAgree types.now }
+    requires earlier { AreBelowEarlier (slice_get (sub_types types.now)) }
+    requires is { slice_get (sub_types types.now) id ≡ Some (sub_type it.now) }
+    ensures { IsTrue result ↔ ExtendsSupertypes (type_by_id types.now) (sub_type it.now) }
+{
+    match it.supertype_idxs.as_slice() {
+        [] => true,
+        [supertype] => extends(types, id, *supertype),
+        _ => false,
+    }
+}
+
+// Whether a type keeps the rules on supertypes and on continuations.
+fn keeps_rules(types: &TypeList, id: CoreTypeId, it: &SubType) -> bool
+    requires agree { TablesAgree types.now }
+    requires earlier { AreBelowEarlier (slice_get (sub_types types.now)) }
+    requires is { slice_get (sub_types types.now) id ≡ Some (sub_type it.now) }
+    ensures { IsTrue result ↔ KeepsRules types.now id }
+{
+    if !extends_supertypes(types, id, it) {
+        return false;
+    }
+    continues_func(types, &it.composite_type)
+}
+
+// Whether a known type keeps the rules on supertypes and continuations, and passes no limit.
+fn check_type(types: &TypeList, id: CoreTypeId) -> Result<(), ErrorKind>
+    requires agree { TablesAgree types.now }
+    requires earlier { AreBelowEarlier (slice_get (sub_types types.now)) }
+    requires known { id < length types.now.types }
+    ensures kept { IfOk result (λ _. KeepsRules types.now id) }
+    ensures within { IfOk result (λ _. PassesNoLimit types.now id) }
+    ensures refused { IfErr result (IsRefused types.now id) }
+{
+    let it = &types[id];
+    if let Some(limit) = passed_limit(&it.composite_type) {
+        return Err(ErrorKind::Limit(limit));
+    }
+    if !types.is_within_depth(id) {
+        return Err(ErrorKind::Limit(Limit::Depth));
+    }
+    if !keeps_rules(types, id, it) {
+        return Err(ErrorKind::Invalid);
+    }
+    Ok(())
+}
+
+/// Whether all types of a known group keep the rules on supertypes and on continuations, and pass no limit on parameters, results, fields and depth.
+///
+/// # Errors
+/// `Limit` where one of the types passes a limit, `Invalid` where one breaks a rule.
+pub fn check_rec_group(types: &TypeList, group: RecGroupId) -> Result<(), ErrorKind>
+    requires agree { TablesAgree types.now }
+    requires earlier { AreBelowEarlier (slice_get (sub_types types.now)) }
+    requires known { group < length types.now.groups }
+    ensures fine { IfOk result (λ _. IsFine types.now group) }
+    ensures refused { IfErr result (IsRefusedGroup types.now group) }
+{
+    let elements = &types[group];
+    for index in elements.start.index()..elements.end.index() {
+        check_type(types, CoreTypeId::from_index(index as u32))?;
+    }
+    Ok(())
+}

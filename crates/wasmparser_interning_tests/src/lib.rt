@@ -2,6 +2,4 @@
 #![tactic(auto)]
 
 #[cfg(test)]
-mod snapshot_list;
-#[cfg(test)]
 mod type_list;

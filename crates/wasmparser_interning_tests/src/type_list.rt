@@ -1,89 +1,85 @@
-//! Lists of types: which types get one id.
+//! Lists of types: which types get one id, and what is asked of them.
 
-ghost use Rattle.std.specs.Prelude.{◌≡◌, ◌<◌, ℕ, [], ◌∷◌, IfOk, true, false};
-ghost use Rattle.wasm_spec.specs.Types as spec;
-ghost use Rattle.wasmparser_interning.specs.TypeTables.{AreWithin};
-ghost use Rattle.wasmparser_types.specs.CompositeTypes.{func_type};
-ghost use Rattle.wasmparser_types.specs.Index as index;
-ghost use Rattle.wasmparser_types.specs.Index.{packable};
-ghost use Rattle.wasmparser_types.specs.RecGroups.{members, rec_group};
-ghost use Rattle.wasmparser_types.specs.SubTypes.{sub_type};
-
-use std::alloc::{AllocError, Global};
+use std::alloc::Global;
 use std::test::Fail;
-use wasmparser_interning::type_list::TypeList;
-use wasmparser_types::composite_type::{CompositeType, FuncType, StructType};
-use wasmparser_types::index::PackedIndex;
-use wasmparser_types::ref_type::RefType;
-use wasmparser_types::sub_type::{RecGroup, SubType};
-use wasmparser_types::val_type::{FieldType, StorageType, ValType};
+use wasm_test_rows::fields::three_fields;
+use wasm_test_rows::rows::check_rows;
+use wasmparser_interning_rows::checked_list::CheckedList;
+use wasmparser_interning_rows::steps::steps_hold;
 
-// The function type without parameters and results.
-fn nothing(alloc: Global) -> FuncType
-    ensures { func_type result ≡ record { params = []; results = [] } }
-{
-    FuncType::new(Vec::new(alloc), Vec::new(alloc))
-}
+// Steps on a new list.
+const LISTS: &str = "
+    // equal types are one, whichever call interns them
+    func i32 -> f64 = #0; func -> = #1; func i32 -> f64 = #0; types = 2; groups = 2
+    func i32 -> = #0; func i32 -> = #0; lone func i32 -> = #0; single func i32 -> = known #0; group func i32 -> = known #0; types = 1
+    single func -> i32 = new #0; func -> i32 = #0; lone func -> i32 = #0; lone open : func -> i32 = #1; func i32 -> = #2
+    single struct = new #0; group struct, array i8 = new #1 #2; types = 3; group struct = known #0; lone array i8 = #3
 
-// From i32 to f64.
-fn conversion(alloc: Global) -> Result<FuncType, AllocError>
-    ensures { IfOk result (λ it. func_type it ≡ record { params = spec.I32 ∷ []; results = spec.F64 ∷ [] }) }
-{
-    Ok(FuncType::new(vec![in alloc; ValType::I32]?, vec![in alloc; ValType::F64]?))
-}
+    // groups that refer to themselves, with canonicalisation and without
+    group struct own.1?, struct own.0? = new #0 #1; group struct own.1?, struct own.0? = known #0 #1; types = 2
+    apart struct own.1?, struct own.0? = new #0 #1; apart struct own.1?, struct own.0? = new #2 #3; groups = 2
+    group struct own.1?, struct own.0? = new #0 #1; apart struct own.1?, struct own.0? = new #2 #3; group struct own.1?, struct own.0? = known #0 #1
+    apart struct own.0 = new #0; group struct own.0 = new #1; group struct own.0 = known #1; lone struct own.0 = #1; lone struct #0 = #2
+    group struct own.1?, struct own.0? = new #0 #1; group struct own.1?, struct own.1? = new #2 #3; group struct own.1, struct own.0? = new #4 #5
+    group = new; group = known; groups = 1; types = 0; apart = new; groups = 2; ids 1 = #0 #0; ids 2 = none
 
-// A final structure of one field, which is null or refers to the type at this place in its own group.
-fn structure(alloc: Global, place: u32) -> Result<SubType, AllocError>
-    requires { place < packable }
-    ensures { IfOk result (λ it. sub_type it ≡ record {
-      is_final = true;
-      supertypes = [];
-      composite_type = spec.StructComposite (record {
-        element_type = spec.Val (spec.Ref true (spec.Concrete (index.RecGroup place)));
-        mutable = false;
-      } ∷ []);
-    }) }
-{
-    let place = PackedIndex::from_rec_group_index(place).unwrap();
-    let field = FieldType {
-        element_type: StorageType::Val(ValType::Ref(RefType::concrete(true, place))),
-        mutable: false,
-    };
-    Ok(SubType {
-        is_final: true,
-        supertype_idxs: Vec::new(alloc),
-        composite_type: CompositeType::Struct(StructType {
-            fields: vec![in alloc; field]?,
-        }),
-    })
-}
+    // places become ids
+    func -> = #0; group struct own.1 mut:#0?, func own.0 -> #0 = new #1 #2; type #1 = struct #2 mut:#0?; type #2 = func #1 -> #0; type #3 = none
+    lone open : struct = #0; lone #0 : struct = #1; type #1 = #0 : struct; type #0 = open : struct; type #2 = none
+    group open : func -> own.0, cont own.0, array mut:own.2? = new #0 #1 #2; type #0 = open : func -> #0; type #1 = cont #0; type #2 = array mut:#2?
 
-// Two structures that refer to each other.
-fn pair(alloc: Global) -> Result<RecGroup, AllocError>
-    ensures { IfOk result (λ group. (before : ℕ) → AreWithin before (members (rec_group group))) }
-{
-    let types = vec![in alloc; structure(alloc, 1)?, structure(alloc, 0)?]?;
-    Ok(RecGroup::explicit(types))
+    // supertypes
+    lone open : struct = #0; lone #0 : struct = #1; supertype #1 = #0; supertype #0 = none; supertype #2 = none
+    group open : struct, open own.0 : struct i8, own.1 : struct i8 i16 = new #0 #1 #2; supertype #2 = #1; supertype #1 = #0; supertype #0 = none
+
+    // groups of ids, and places in groups
+    func -> = #0; group func -> i32, func -> = new #1 #2; group_of #0 = 0; group_of #1 = 1; group_of #2 = 1; group_of #3 = none
+    func -> = #0; group func -> i32, func -> = new #1 #2; ids 0 = #0 #1; ids 1 = #1 #3; ids 2 = none
+    func -> = #0; group func -> i32, func -> = new #1 #2; index 1 own.0 = #1; index 1 own.1 = #2; index 1 own.2 = invalid; index 0 own.1 = invalid
+    func -> = #0; group func -> i32, func -> = new #1 #2; index 1 #0 = #0; index 0 #2 = #2; index 0 #9 = #9
+
+    // what a group may not refer to
+    group struct own.1 = beyond; lone struct #0 = beyond; func #0 -> = beyond; func own.0 -> own.0 = #0; func -> own.1 = beyond; types = 1
+    func -> = #0; group struct own.2, struct = beyond; group struct #1, struct = beyond; single #1 : struct = beyond; groups = 1; types = 1
+";
+
+fn list_holds(alloc: Global, row: &str) -> Option<bool> {
+    let mut list = CheckedList::new(alloc);
+    Some(steps_hold(alloc, &mut list, row))
 }
 
 #[test]
-fn equal_types_have_one_id(rt: HostRuntime) -> Result<(), Fail> {
-    let mut list = TypeList::new(rt.alloc());
-    let first = list.intern_func_type(conversion(rt.alloc())?, 0)?;
-    let second = list.intern_func_type(nothing(rt.alloc()), 0)?;
-    let third = list.intern_func_type(conversion(rt.alloc())?, 0)?;
-    assert!(rt; first.index() == 0 && second.index() == 1 && third == first);
-    Ok(())
+fn steps_answer(rt: HostRuntime) -> Result<(), Fail> {
+    Ok(check_rows(rt.alloc(), LISTS, 21, list_holds)?)
+}
+
+// Steps on a new list, those after a copy was kept, and those on the copy.
+const COPIES: &str = "
+    func -> = #0 | func i32 -> = #1; types = 2; func -> = #0 | types = 1; type #0 = func ->; type #1 = none; groups = 1; func -> = beyond
+    types = 0 | func -> = #0 | types = 0; groups = 0; type #0 = none; group_of #0 = none; group = beyond
+    lone open : struct = #0; lone #0 : struct = #1 | lone array i8 = #2 | supertype #1 = #0; supertype #2 = none; group_of #1 = 1; group_of #2 = none; ids 1 = #1 #2
+    group struct, array i8 = new #0 #1 | apart struct, array i8 = new #2 #3 | index 0 own.1 = #1; index 0 own.2 = invalid; ids 1 = none
+";
+
+fn copy_stays(alloc: Global, list: &mut CheckedList, after: &str, of_copy: &str) -> bool {
+    match list.commit() {
+        Ok(mut copy) => steps_hold(alloc, list, after) && steps_hold(alloc, &mut copy, of_copy),
+        Err(_) => false,
+    }
+}
+
+fn copies(alloc: Global, list: &mut CheckedList, row: &str) -> Option<bool> {
+    let (before, after, of_copy) = three_fields(row)?;
+    let is_made = steps_hold(alloc, list, before);
+    Some(is_made && copy_stays(alloc, list, after, of_copy))
+}
+
+fn copy_holds(alloc: Global, row: &str) -> Option<bool> {
+    let mut list = CheckedList::new(alloc);
+    copies(alloc, &mut list, row)
 }
 
 #[test]
-fn equal_groups_are_one(rt: HostRuntime) -> Result<(), Fail> {
-    let mut list = TypeList::new(rt.alloc());
-    let (is_new, first) = list.intern_canonical_rec_group(true, pair(rt.alloc())?, 0)?;
-    assert!(rt; is_new && first.index() == 0);
-    let (is_new, second) = list.intern_canonical_rec_group(true, pair(rt.alloc())?, 0)?;
-    assert!(rt; !is_new && second == first);
-    assert!(rt; list.rec_group_local_id(second, 1, 0)?.index() == 1);
-    assert!(rt; list.rec_group_local_id(second, 2, 7).is_err());
-    Ok(())
+fn copies_stay_as_they_were(rt: HostRuntime) -> Result<(), Fail> {
+    Ok(check_rows(rt.alloc(), COPIES, 4, copy_holds)?)
 }

@@ -1,0 +1,4 @@
+//! A validator's types as fields of a test's rows.
+#![tactic(auto)]
+
+pub mod types;

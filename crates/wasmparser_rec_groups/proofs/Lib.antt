@@ -1,2 +1,5 @@
+pub mod CanonicalGroups
 mod GroupLaws
+mod Keeping
+pub mod KnownIds
 mod RuleLaws

@@ -1,1 +1,3 @@
+pub mod Interning
+pub mod Kinds
 pub mod Rules

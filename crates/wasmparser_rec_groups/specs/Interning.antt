@@ -1,0 +1,65 @@
+-- When a module's recursive group is added to a list of types.
+use Rattle.std.specs.Prelude.{◌≡◌, ◌<◌, ⊤, ℕ, Bool, true, false, List, ◌++◌, length}
+use Rattle.std.specs.List.{AllByRecursion}
+use Rattle.wasm_spec.specs.Features.{Features, Gc, has, needs_type_canonicalization}
+use Rattle.wasm_spec.specs.Gates.{is_allowed_group}
+use Rattle.wasm_spec.specs.TypeReferences.{group_map, group_refs}
+use Rattle.wasm_spec.specs.Types.{SubType, RecGroup}
+use Rattle.wasmparser_error.specs.declared.error.Error.{Error}
+use Rattle.wasmparser_error.specs.declared.error.ErrorKind.{ErrorKind}
+use Rattle.wasmparser_error.specs.declared.error.ErrorKind.TheVariants.{Invalid, Memory, Total}
+use Rattle.wasmparser_group_rules.specs.Canonical.{HaveEarlierSupertypes, IsBelow, canonical_index, index_bound}
+use Rattle.wasmparser_interning.specs.TypeTables.{Interns, TypeTables, group_ids, has_room}
+use Rattle.wasmparser_rec_groups.specs.Kinds.{earlier_or_own, keep_kinds}
+use Rattle.wasmparser_rec_groups.specs.Rules.{IsFine, IsRefusedGroup}
+use Rattle.wasmparser_types.specs.Index.{Index, Module, RecGroup as Place, Id}
+use Rattle.wasmparser_types.specs.RecGroups.{members}
+
+-- the index is one in a module
+abbrev pub IsModuleIndex : Index → Type 0
+IsModuleIndex (Module n) = ⊤
+IsModuleIndex (Place place) = ⊥
+IsModuleIndex (Id id) = ⊥
+
+-- a group as a module writes it
+abbrev pub NamesModuleTypes : RecGroup Index → Type 0
+NamesModuleTypes group = AllByRecursion IsModuleIndex (group_refs group)
+
+-- all ids are known
+abbrev pub AreKnown : TypeTables → List ℕ → Type 0
+AreKnown tables ids = AllByRecursion (λ id. id < length tables.types) ids
+
+-- the types of a group in canonical form, in a module whose earlier types have these ids
+abbrev pub canonical_members : List ℕ → RecGroup Index → List (SubType Index)
+canonical_members ids group = members (group_map (canonical_index ids) group)
+
+-- What is asked of a group before it is kept. ids: those of the types before it, by type index.
+pub record CanBeKept (features : Features) (ids : List ℕ) (tables : TypeTables) (group : RecGroup Index) : Type 0 where
+  pub allowed : is_allowed_group features group ≡ true
+  pub supertypes : HaveEarlierSupertypes (length ids) (members group)
+  pub in_range : AllByRecursion (IsBelow (index_bound (has features Gc) (length ids) (length (members group)))) (group_refs group)
+  pub kinds : keep_kinds (earlier_or_own tables (canonical_members ids group)) (canonical_members ids group) ≡ true
+
+-- A group was interned in canonical form, or was known so, and its types keep all rules.
+pub record Keeps (features : Features) (ids : List ℕ) (old new : TypeTables) (group : RecGroup Index) (number : ℕ) : Type 0 where
+  pub is_new : Bool
+  pub kept : CanBeKept features ids old group
+  pub room : has_room old (canonical_members ids group) ≡ true
+  pub interned : Interns old new (needs_type_canonicalization features) (canonical_members ids group) is_new number
+  pub fine : IsFine new number
+
+-- Why a group is refused at an offset, and what is left of the list. One that breaks a rule on subtyping, or passes a limit, has been interned by then.
+pub data Refuses (features : Features) (ids : List ℕ) (old new : TypeTables) (group : RecGroup Index) (offset : ℕ) : Error → Type 0 where
+  breaks_a_rule : ¬ (CanBeKept features ids old group) → new ≡ old → Refuses features ids old new group offset (record { offset = offset; kind = Invalid })
+  has_no_room : CanBeKept features ids old group → has_room old (canonical_members ids group) ≡ false → new ≡ old
+      → Refuses features ids old new group offset (record { offset = offset; kind = Total })
+  is_refused : (is_new : Bool) (number : ℕ) (kind : ErrorKind) → CanBeKept features ids old group
+      → Interns old new (needs_type_canonicalization features) (canonical_members ids group) is_new number → IsRefusedGroup new number kind
+      → Refuses features ids old new group offset (record { offset = offset; kind = kind })
+  out_of_memory : new ≡ old → Refuses features ids old new group offset (record { offset = 0; kind = Memory })
+
+-- A group was accepted, and the ids of its types follow the others.
+pub record Accepts (features : Features) (ids : List ℕ) (old new : TypeTables) (group : RecGroup Index) (new_ids : List ℕ) : Type 0 where
+  pub number : ℕ
+  pub keeps : Keeps features ids old new group number
+  pub added : new_ids ≡ ids ++ group_ids new number

@@ -1,0 +1,178 @@
+//! Adding a module's recursive groups to a list of types.
+
+ghost use Rattle.std.specs.Prelude.{◌≡◌, ◌+◌, ◌++◌, ◌<◌, ◌≤◌, ◌^◌, IfErr, IfOk, IsSome, length, slice_get};
+ghost use Rattle.wasm_spec.specs.TypeReferences.{group_map};
+ghost use Rattle.wasmparser_chains.specs.Chains.{AreBelowEarlier};
+ghost use Rattle.wasmparser_error.specs.declared.error.ErrorKind.TheVariants as kinds;
+ghost use Rattle.wasmparser_group_rules.specs.Canonical.{canonical_index};
+ghost use Rattle.wasmparser_interning.specs.TypeTables.{TablesAgree, group_ids, sub_types};
+ghost use Rattle.wasmparser_rec_groups.specs.Interning.{Accepts, AreKnown, CanBeKept, Keeps, NamesModuleTypes, Refuses};
+ghost use Rattle.wasmparser_types.specs.RecGroups as spec;
+ghost use Rattle.wasmparser_types.specs.RecGroups.{members};
+ghost use Rattle.wasm_core_base.specs.Features.{feature_set};
+
+use crate::kinds::keep_kinds;
+use crate::rules::check_rec_group;
+use std::alloc::AllocError;
+use wasm_core_base::features::WasmFeatures;
+use wasmparser_error::error::{Error, ErrorKind};
+use wasmparser_group_rules::canonical::canonicalize_rec_group;
+use wasmparser_group_rules::gates::is_allowed_group;
+use wasmparser_interning::type_list::TypeList;
+use wasmparser_types::index::{CoreTypeId, RecGroupId};
+use wasmparser_types::sub_type::RecGroup;
+
+/// What gives types their indexes, such as a module: the types of each group that is added follow those of the groups before.
+pub trait InternRecGroup {
+    ghost use Rattle.std.specs.Prelude.{◌≡◌, ◌+◌, ◌≤◌, ◌<◌, ◌^◌, ◌∷◌, ◌++◌, [], suc, ℕ, List, IfErr, IfOk, IsSome, length, slice_get};
+    ghost use Rattle.wasm_core_base.specs.Features.{feature_set};
+    ghost use Rattle.wasm_spec.specs.Features.{Features};
+    ghost use Rattle.wasmparser_chains.specs.Chains.{AreBelowEarlier};
+    ghost use Rattle.wasmparser_interning.specs.TypeTables.{TablesAgree, group_ids, sub_types};
+    ghost use Rattle.wasmparser_rec_groups.specs.Interning.{Accepts, AreKnown, NamesModuleTypes, Refuses};
+    ghost use Rattle.wasmparser_types.specs.RecGroups as spec;
+    ghost use Rattle.wasmparser_types.specs.RecGroups.{members};
+
+    // The ids of the types, by type index.
+    ghost ids: { Self → List ℕ };
+
+    // How many ids can be added without memory.
+    ghost room: { Self → ℕ };
+
+    // The features that are on.
+    ghost enabled: { Self → Features };
+
+    /// The features by which groups are judged.
+    fn features(&self) -> WasmFeatures
+        ensures { feature_set result ≡ enabled self.now };
+
+    /// The ids of the types, by type index.
+    fn type_ids(&self) -> &[CoreTypeId]
+        ensures { result.now ≡ ids self.now };
+
+    /// Makes room for so many ids.
+    fn reserve_type_ids(&mut self, count: usize) -> Result<(), AllocError>
+        ensures ids { ids self.new ≡ ids self.old }
+        ensures enabled { enabled self.new ≡ enabled self.old }
+        ensures room { IfOk result (λ _. count ≤ room self.new) };
+
+    /// Adds the id of the next type, for which there is room.
+    fn add_type_id(&mut self, id: CoreTypeId)
+        requires { 0 < room self.old }
+        ensures ids { ids self.new ≡ ids self.old ++ id ∷ [] }
+        ensures enabled { enabled self.new ≡ enabled self.old }
+        ensures room { suc (room self.new) ≡ room self.old };
+
+    /// Adds the ids of a known group's types, for which there is room.
+    fn add_group_ids(&mut self, types: &TypeList, group: RecGroupId)
+        requires agree { TablesAgree types.now }
+        requires room { length (group_ids types.now group) ≤ room self.old }
+        ensures ids { ids self.new ≡ ids self.old ++ group_ids types.now group }
+        ensures enabled { enabled self.new ≡ enabled self.old }
+    {
+        for id in types.rec_group_elements(group) {
+            self.add_type_id(id);
+        }
+    }
+
+    /// Interns a recursive group whose references are type indexes, if it is well-formed, and adds the ids of its types. Where types are canonicalized, equal
+    /// groups have the same ids, else each has its own.
+    ///
+    /// # Errors
+    /// `Invalid` where the group breaks a rule, and `Limit` where one of its types passes that limit. `Total` where the list's types and the group's are more
+    /// than 1,048,576, whether or not the group is known. These are at the offset. `Memory` where memory runs out. No id is added then; but the list has
+    /// interned a group that breaks a rule on what its types match, or passes a limit.
+    fn canonicalize_and_intern_rec_group(
+        &mut self,
+        types: &mut TypeList,
+        rec_group: RecGroup,
+        offset: u64,
+    ) -> Result<(), Error>
+        requires agree { TablesAgree types.old }
+        requires grows { IsSome types.old.known }
+        requires earlier { AreBelowEarlier (slice_get (sub_types types.old)) }
+        requires known { AreKnown types.old (ids self.old) }
+        requires indexes { NamesModuleTypes (spec.rec_group rec_group) }
+        requires room { length (ids self.old) + length (members (spec.rec_group rec_group)) < 2 ^ 32 }
+        ensures agree { TablesAgree types.new }
+        ensures grows { IsSome types.new.known }
+        ensures earlier { AreBelowEarlier (slice_get (sub_types types.new)) }
+        ensures known { AreKnown types.new (ids self.new) }
+        ensures enabled { enabled self.new ≡ enabled self.old }
+        ensures accepted { IfOk result (λ _. Accepts (enabled self.old) (ids self.old) types.old types.new (spec.rec_group rec_group) (ids self.new)) }
+        ensures refused { IfErr result (λ e. Refuses (enabled self.old) (ids self.old) types.old types.new (spec.rec_group rec_group) offset e) }
+        ensures same_ids { IfErr result (λ _. ids self.new ≡ ids self.old) }
+    {
+        self.reserve_type_ids(rec_group.types().len())?;
+        let features = self.features();
+        let group = keep_rec_group(features, self.type_ids(), types, rec_group, offset)?;
+        self.add_group_ids(types, group);
+        Ok(())
+    }
+}
+
+// A rule that is broken.
+fn invalid(offset: u64) -> Error
+    ensures { result ≡ record { offset = offset; kind = kinds.Invalid } }
+{
+    Error {
+        offset,
+        kind: ErrorKind::Invalid,
+    }
+}
+
+// A group in canonical form, if it may be kept.
+fn canonical_rec_group(
+    features: WasmFeatures,
+    ids: &[CoreTypeId],
+    types: &TypeList,
+    mut rec_group: RecGroup,
+    offset: u64,
+) -> Result<RecGroup, Error>
+    requires agree { TablesAgree types.now }
+    requires known { AreKnown types.now ids.now }
+    requires indexes { NamesModuleTypes (spec.rec_group rec_group) }
+    requires room { length ids.now + length (members (spec.rec_group rec_group)) < 2 ^ 32 }
+    ensures canonical { IfOk result (λ c. spec.rec_group c ≡ group_map (canonical_index ids.now) (spec.rec_group rec_group)) }
+    ensures kept { IfOk result (λ _. CanBeKept (feature_set features) ids.now types.now (spec.rec_group rec_group)) }
+    ensures refused { IfErr result (λ e. (¬ (CanBeKept (feature_set features) ids.now types.now (spec.rec_group rec_group))) × (e ≡ record { offset = offset; kind = kinds.Invalid })) }
+{
+    if !is_allowed_group(features, &rec_group) {
+        return Err(invalid(offset));
+    }
+    canonicalize_rec_group(ids, features.gc(), &mut rec_group, offset)?;
+    if !keep_kinds(types, rec_group.types()) {
+        return Err(invalid(offset));
+    }
+    Ok(rec_group)
+}
+
+// Interns a group in canonical form, if it may be kept, and checks what is left to be checked.
+fn keep_rec_group(
+    features: WasmFeatures,
+    ids: &[CoreTypeId],
+    types: &mut TypeList,
+    rec_group: RecGroup,
+    offset: u64,
+) -> Result<RecGroupId, Error>
+    requires agree { TablesAgree types.old }
+    requires grows { IsSome types.old.known }
+    requires earlier { AreBelowEarlier (slice_get (sub_types types.old)) }
+    requires known { AreKnown types.old ids.now }
+    requires indexes { NamesModuleTypes (spec.rec_group rec_group) }
+    requires room { length ids.now + length (members (spec.rec_group rec_group)) < 2 ^ 32 }
+    ensures agree { TablesAgree types.new }
+    ensures grows { IsSome types.new.known }
+    ensures earlier { AreBelowEarlier (slice_get (sub_types types.new)) }
+    ensures known { IfOk result (λ number. number < length types.new.groups) }
+    ensures kept { IfOk result (λ number. Keeps (feature_set features) ids.now types.old types.new (spec.rec_group rec_group) number) }
+    ensures refused { IfErr result (λ e. Refuses (feature_set features) ids.now types.old types.new (spec.rec_group rec_group) offset e) }
+{
+    let canonical = canonical_rec_group(features, ids, types, rec_group, offset)?;
+    let needs_canonicalization = features.needs_type_canonicalization();
+    let (_, id) = types.intern_canonical_rec_group(needs_canonicalization, canonical, offset)?;
+    match check_rec_group(types, id) {
+        Ok(()) => Ok(id),
+        Err(kind) => Err(Error { offset, kind }),
+    }
+}

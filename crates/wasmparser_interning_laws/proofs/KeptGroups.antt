@@ -30,7 +30,7 @@ all_two : {X : Type 0} (P Q R : X → Type 0) → ((x : X) → P x → Q x → R
 all_two P Q R one [] h k = tt
 all_two P Q R one (x ∷ xs) h k = (one x h.0 k.0, all_two P Q R one xs h.1 k.1)
 
-all_of_map : {X Y : Type 0} (P : Y → Type 0) (f : X → Y) (xs : List X) → AllByRecursion P (map f xs) → AllByRecursion (λ x. P (f x)) xs
+pub all_of_map : {X Y : Type 0} (P : Y → Type 0) (f : X → Y) (xs : List X) → AllByRecursion P (map f xs) → AllByRecursion (λ x. P (f x)) xs
 all_of_map P f [] h = tt
 all_of_map P f (x ∷ xs) h = (h.0, all_of_map P f xs h.1)
 
@@ -81,7 +81,7 @@ module _ (tables : TypeTables) where
       let end : range.start + count ≡ range.end = omega (arith, order) in
       ap (λ q. types_in tables range ++ q) (sym (drop-drop count range.start types ∙ ap (λ n. drop n types) end)) ∙ take-append-drop count (drop range.start types)
 
-  count_in : (range : Range ℕ) → range.start ≤ range.end → range.end ≤ length types → length (types_in tables range) ≡ range.end - range.start
+  pub count_in : (range : Range ℕ) → range.start ≤ range.end → range.end ≤ length types → length (types_in tables range) ≡ range.end - range.start
   count_in range order within =
       omega (arith, order, within, length-take (range.end - range.start) (drop range.start types), length-drop range.start types)
 

@@ -1,7 +1,7 @@
 mod DistinctTypes
-mod GroupTypes
-mod IdLaws
-mod InternedGroups
-mod KeptGroups
+pub mod GroupTypes
+pub mod IdLaws
+pub mod InternedGroups
+pub mod KeptGroups
 mod KeyTrees
-mod MarkedTrees
+pub mod MarkedTrees

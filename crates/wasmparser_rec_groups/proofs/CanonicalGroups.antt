@@ -80,12 +80,12 @@ within features ids tables group known names kept =
 -- ---- supertypes of a group in canonical form
 
 -- what was mapped at a place
-mapped_at : {X Y : Type 0} (f : X → Y) (xs : List X) (i : ℕ) (y : Y) → slice_get (map f xs) i ≡ Some y → (x : X) × (slice_get xs i ≡ Some x) × (y ≡ f x)
+pub mapped_at : {X Y : Type 0} (f : X → Y) (xs : List X) (i : ℕ) (y : Y) → slice_get (map f xs) i ≡ Some y → (x : X) × (slice_get xs i ≡ Some x) × (y ≡ f x)
 mapped_at f [] i y e = absurd cc
 mapped_at f (x ∷ xs) zero y e = (x, refl, cc)
 mapped_at f (x ∷ xs) (suc i) y e = mapped_at f xs i y e
 
-have_at : (first : ℕ) (types : List (SubType Index)) (place : ℕ) (type : SubType Index) → HaveEarlierSupertypes first types → slice_get types place ≡ Some type
+pub have_at : (first : ℕ) (types : List (SubType Index)) (place : ℕ) (type : SubType Index) → HaveEarlierSupertypes first types → slice_get types place ≡ Some type
     → HasEarlierSupertype (first + place) type
 have_at first [] place type have e = absurd cc
 have_at first (t ∷ types) zero type have e =
@@ -95,12 +95,12 @@ have_at first (t ∷ types) zero type have e =
 have_at first (t ∷ types) (suc place) type have e =
     let here : suc first + place ≡ first + suc place = omega arith in subst (λ n. HasEarlierSupertype n type) here (have_at (suc first) types place type have.1 e)
 
-both_true : (a b : Bool) → (a && b) ≡ true → (a ≡ true) × (b ≡ true)
+pub both_true : (a b : Bool) → (a && b) ≡ true → (a ≡ true) × (b ≡ true)
 both_true true true h = (refl, refl)
 both_true true false h = absurd cc
 both_true false b h = absurd cc
 
-test_at : {X : Type 0} (test : X → Bool) (xs : List X) (i : ℕ) (x : X) → list_all test xs ≡ true → slice_get xs i ≡ Some x → test x ≡ true
+pub test_at : {X : Type 0} (test : X → Bool) (xs : List X) (i : ℕ) (x : X) → list_all test xs ≡ true → slice_get xs i ≡ Some x → test x ≡ true
 test_at test [] i x all e = absurd cc
 test_at test (y ∷ xs) zero x all e = let one : y ≡ x = cc in subst (λ z. test z ≡ true) one (both_true (test y) (list_all test xs) all).0
 test_at test (y ∷ xs) (suc i) x all e = test_at test xs i x (both_true (test y) (list_all test xs) all).1 e

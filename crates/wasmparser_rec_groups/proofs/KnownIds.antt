@@ -13,7 +13,7 @@ use Rattle.wasmparser_interning.proofs.Agreement.{group_within, now_at, range_of
 use Rattle.std.proofs.lemmas.List.FromFn.{length-range_with_len}
 use Rattle.wasmparser_interning.specs.TypeTables.{Interns, IsGroupAt, TablesAgree, TypeTables, group_ids, ids_in, known_group}
 use Rattle.wasmparser_rec_groups.proofs.CanonicalGroups.{members_mapped, within}
-use Rattle.wasmparser_rec_groups.specs.Interning.{AreKnown, Keeps, NamesModuleTypes, Refuses, breaks_a_rule, canonical_members, has_no_room, is_refused, out_of_memory}
+use Rattle.wasmparser_rec_groups.specs.Interning.{AreKnown, CanBeKept, NamesModuleTypes, Refuses, breaks_a_rule, canonical_members, has_no_room, is_refused, out_of_memory}
 use Rattle.wasmparser_types.specs.Index.{Index}
 use Rattle.wasmparser_types.specs.RecGroups.{members}
 
@@ -54,11 +54,12 @@ join : (P : ℕ → Type 0) (xs ys : List ℕ) → AllByRecursion P xs → AllBy
 join P [] ys h k = k
 join P (x ∷ xs) ys h k = (h.0, join P xs ys h.1 k)
 
-module _ (features : Features) (ids : List ℕ) (old new : TypeTables) (group : RecGroup Index) (number : ℕ) (agree : TablesAgree old) (now : TablesAgree new) (keeps : Keeps features ids old new group number) where
-  pub known_after : (new_ids : List ℕ) → new_ids ≡ ids ++ group_ids new number → AreKnown old ids → AreKnown new new_ids
-  known_after new_ids is known =
+module _ (features : Features) (ids : List ℕ) (old new : TypeTables) (group : RecGroup Index) (number : ℕ) (agree : TablesAgree old) (now : TablesAgree new) (known : AreKnown old ids)
+    (names : NamesModuleTypes group) (kept : CanBeKept features ids old group) (is_new : Bool) (interned : Interns old new (needs_type_canonicalization features) (canonical_members ids group) is_new number) where
+  pub known_after : (new_ids : List ℕ) → new_ids ≡ ids ++ group_ids new number → AreKnown new new_ids
+  known_after new_ids is =
       subst (AreKnown new) (sym is)
-      (join (λ id. id < length new.types) ids (group_ids new number) (still_known old new ids (no_fewer old new _ keeps.is_new _ number keeps.interned) known) (group_known new number now))
+      (join (λ id. id < length new.types) ids (group_ids new number) (still_known old new ids (no_fewer old new _ is_new _ number interned) known) (group_known new number now))
 
   same_count : length (canonical_members ids group) ≡ length (members group)
   same_count = ap length (members_mapped (canonical_index ids) group) ∙ length-map (members group) (sub_map (canonical_index ids))
@@ -70,17 +71,17 @@ module _ (features : Features) (ids : List ℕ) (old new : TypeTables) (group : 
       ap (λ o. length (ids_in o)) at.at ∙ counted ∙ rest
 
   -- the group stands under its number
-  pub group_at : AreKnown old ids → NamesModuleTypes group → IsGroupAt new number (canonical_members ids group)
-  group_at known names = go keeps.is_new keeps.interned where
+  pub group_at : IsGroupAt new number (canonical_members ids group)
+  group_at = go is_new interned where
     found : (o : Option ℕ) → o ≡ Some number → IfSome o (λ n. IsGroupAt new n (canonical_members ids group)) → IsGroupAt new number (canonical_members ids group)
     found None is h = absurd cc
     found (Some n) is h = let one : n ≡ number = cc in subst (λ m. IsGroupAt new m (canonical_members ids group)) one h
 
     go : (is_new : Bool) → Interns old new (needs_type_canonicalization features) (canonical_members ids group) is_new number → IsGroupAt new number (canonical_members ids group)
-    go true interned = now_at old new (canonical_members ids group) number agree interned.adds (within features ids old group known names keeps.kept)
+    go true interned = now_at old new (canonical_members ids group) number agree interned.adds (within features ids old group known names kept)
     go false interned =
         found (known_group new.known (canonical_members ids group)) (ap (λ (t : TypeTables). known_group t.known (canonical_members ids group)) interned.1 ∙ interned.2)
         (now.known (canonical_members ids group))
 
-  pub group_count : AreKnown old ids → NamesModuleTypes group → length (group_ids new number) ≡ length (members group)
-  group_count known names = count_at (canonical_members ids group) (group_at known names) ∙ same_count
+  pub group_count : length (group_ids new number) ≡ length (members group)
+  group_count = count_at (canonical_members ids group) group_at ∙ same_count

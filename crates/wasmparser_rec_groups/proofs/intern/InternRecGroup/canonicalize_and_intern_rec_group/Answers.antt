@@ -27,7 +27,7 @@ add_group_ids-requires-clause-room g c =
     let known = subst (AreKnown c.args.types.now) (sym (c.type_ids.ensures ∙ c.in_ok-reserve_type_ids.ensures.ids)) c.requires.known in
     let told = c.in_ok-group.ensures in
     let count = group_count (feature_set c.features-features.result) c.type_ids.result.now c.args.types.now c.keep_rec_group.new.types (rec_group c.args.rec_group) c.in_ok-group.group
-    c.requires.agree told.agree told.kept known c.requires.indexes in
+    c.requires.agree told.agree known c.requires.indexes told.kept.kept told.kept.is_new told.kept.interned in
     omega (arith, count, ap length c.types.ensures, length-map c.types.result.now sub_type, c.in_ok-reserve_type_ids.ensures.room)
 
 pub returns-clause-known : goal.returns-clause-known
@@ -36,4 +36,4 @@ returns-clause-known g c =
     let told = c.in_ok-group.ensures in
     let ids = c.add_group_ids.ensures.ids ∙ ap (λ q. q ++ group_ids c.keep_rec_group.new.types c.in_ok-group.group) (sym c.type_ids.ensures) in
     known_after (feature_set c.features-features.result) c.type_ids.result.now c.args.types.now c.keep_rec_group.new.types (rec_group c.args.rec_group) c.in_ok-group.group
-    c.requires.agree told.agree told.kept _ ids known
+    c.requires.agree told.agree known c.requires.indexes told.kept.kept told.kept.is_new told.kept.interned _ ids

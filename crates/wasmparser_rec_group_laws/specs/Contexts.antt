@@ -1,0 +1,40 @@
+-- The context in which a module's group is judged, where ids stand for its types.
+use Rattle.std.specs.Prelude.{◌≡◌, ℕ, Bool, true, List, map}
+use Rattle.wasm_spec.specs.Features.{Features, needs_type_canonicalization}
+use Rattle.wasm_spec.specs.Groups.{IsWithinGroupLimits, KeepsGroupRules}
+use Rattle.wasm_spec.specs.Trees.{DefType, type_at}
+use Rattle.wasm_spec.specs.TypeReferences.{group_map}
+use Rattle.wasm_spec.specs.Types.{RecGroup}
+use Rattle.wasmparser_error.specs.declared.error.ErrorKind.{ErrorKind}
+use Rattle.wasmparser_error.specs.declared.error.ErrorKind.TheVariants.{Invalid, Limit}
+use Rattle.wasmparser_interning.specs.TypeTables.{TablesAgree, TypeTables}
+use Rattle.wasmparser_interning_laws.specs.IdTypes.{AreFoundByKey, RefersToNoModule, id_types}
+use Rattle.wasmparser_rec_groups.specs.Interning.{AreKnown, NamesModuleTypes}
+use Rattle.wasmparser_types.specs.Index.{Index, number_of}
+
+-- the types that these ids stand for
+abbrev pub types_of : (ℕ → Bool) → TypeTables → List ℕ → List DefType
+types_of canonical tables ids = map (type_at (id_types canonical tables)) ids
+
+-- a group that names types by their indexes in a module, as a type section has it
+abbrev pub in_section : RecGroup Index → RecGroup ℕ
+in_section group = group_map number_of group
+
+-- The group of this number counts as canonical. Where types are canonicalized, all groups that do so are found by their keys.
+pub record CountsAsCanonical (features : Features) (canonical : ℕ → Bool) (tables : TypeTables) (number : ℕ) : Type 0 where
+  pub own : canonical number ≡ true
+  pub all : needs_type_canonicalization features ≡ true → AreFoundByKey canonical tables
+
+-- A module's types have these ids in a list, which became another one as the group was handed in. Type indexes in a module stand for nothing in a list, and
+-- in the group for the module's types.
+pub record IsModuleOf (old new : TypeTables) (ids : List ℕ) (group : RecGroup Index) : Type 0 where
+  pub agree : TablesAgree old
+  pub now : TablesAgree new
+  pub none : RefersToNoModule old
+  pub known : AreKnown old ids
+  pub names : NamesModuleTypes group
+
+-- what the kind of a refusal tells of a group that comes after these types
+pub data Tells (features : Features) (before : List DefType) (group : RecGroup ℕ) : ErrorKind → Type 0 where
+  breaks_a_rule : ¬ (KeepsGroupRules features before group) → Tells features before group Invalid
+  passes_a_limit : (l : _) → ¬ (IsWithinGroupLimits before group) → Tells features before group (Limit l)

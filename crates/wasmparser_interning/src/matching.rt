@@ -11,8 +11,8 @@ ghost use Rattle.wasmparser_types.specs.ValTypes.{val_type};
 
 use crate::type_list::TypeList;
 use wasmparser_matching::known_types::KnownTypes;
-use wasmparser_matching::matches::Matches;
 use wasmparser_matching::subtyping;
+use wasmparser_matching::with_rec_group::WithRecGroup;
 use wasmparser_types::composite_type::CompositeType;
 use wasmparser_types::heap_type::HeapType;
 use wasmparser_types::index::{CoreTypeId, RecGroupId, UnpackedIndex};
@@ -26,6 +26,7 @@ fn same_index(a: &UnpackedIndex, b: &UnpackedIndex) -> bool
 }
 
 impl KnownTypes for TypeList {
+    ghost use Rattle.std.specs.Prelude.{◌<◌, Some, length};
     ghost use Rattle.wasmparser_interning.specs.TypeTables.{CanAskSubtyping, resolved_in, type_by_id};
 
     ghost sub_at = { type_by_id };
@@ -33,6 +34,10 @@ impl KnownTypes for TypeList {
     ghost resolved = { resolved_in };
 
     ghost can_ask = { CanAskSubtyping };
+
+    ghost is_known = { λ tables id. id < length tables.types };
+
+    ghost is_group_of = { λ tables id group. slice_get tables.rec_groups id ≡ Some group };
 
     fn composite_type(&self, it: UnpackedIndex) -> Option<&CompositeType> {
         match it {
@@ -57,6 +62,10 @@ impl KnownTypes for TypeList {
             _ => it,
         }
     }
+
+    fn rec_group_id_of(&self, id: CoreTypeId) -> RecGroupId {
+        TypeList::rec_group_id_of(self, id)
+    }
 }
 
 impl TypeList {
@@ -69,11 +78,9 @@ impl TypeList {
     {
         match (self.get(a), self.get(b)) {
             (Some(lower), Some(upper)) => {
-                let a_group = self.rec_group_id_of(a);
-                let b_group = self.rec_group_id_of(b);
-                lower
-                    .composite_type
-                    .matches(a_group, &upper.composite_type, b_group, self)
+                let a = WithRecGroup::new(self, a).map(|_| lower);
+                let b = WithRecGroup::new(self, b).map(|_| upper);
+                WithRecGroup::matches(self, a, b)
             }
             _ => false,
         }

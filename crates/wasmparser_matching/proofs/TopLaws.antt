@@ -1,5 +1,5 @@
 -- The greatest type above another one.
-use Rattle.std.proofs.Common.{◌≡◌, Bool, true, Option, Some, None, option_map, refl, sym, ap, ◌∙◌}
+use Rattle.std.proofs.Common.{◌≡◌, true, Option, Some, None, option_map, refl, sym, ap, ◌∙◌}
 use Rattle.wasm_spec.proofs.Closures.{same_defined, sound}
 use Rattle.wasm_spec.specs.Subtyping.{SubTypes, AbstractStep, none_i31, none_struct, none_array, i31_eq, struct_eq, array_eq, eq_any, nofunc_func, noextern_extern, noexn_exn, nocont_cont, abstract_of, bottom_of, Defined, HeapStep, HeapBelow, is_abstract_below, same, step}
 use Rattle.wasm_spec.specs.Types.{AbstractHeapType, Func, Extern, Any, None as NoInternal, NoExtern, NoFunc, Eq, Struct, Array, I31, Exn, NoExn, Cont, NoCont, HeapType, Abstract, Concrete, CompositeType, FuncComposite, StructComposite, ArrayComposite, ContComposite, SubType}

@@ -9,7 +9,7 @@ ghost use Rattle.wasmparser_types.specs.Index.{Index};
 ghost use Rattle.wasmparser_types.specs.UnpackedIndex.{index};
 
 use wasmparser_types::composite_type::CompositeType;
-use wasmparser_types::index::{RecGroupId, UnpackedIndex};
+use wasmparser_types::index::{CoreTypeId, RecGroupId, UnpackedIndex};
 
 /// Something that knows what the indexes in types stand for.
 pub trait KnownTypes {
@@ -21,6 +21,12 @@ pub trait KnownTypes {
 
     // When subtyping may be asked for.
     ghost can_ask: { Self → Type 0 };
+
+    // Whether an id stands for a type.
+    ghost is_known: { Self → ℕ → Type 0 };
+
+    // Whether an id was defined in this recursive group.
+    ghost is_group_of: { Self → ℕ → ℕ → Type 0 };
 
     /// The composite type of what an index stands for.
     fn composite_type(&self, it: UnpackedIndex) -> Option<&CompositeType>
@@ -35,4 +41,10 @@ pub trait KnownTypes {
     fn resolve(&self, rec_group: RecGroupId, it: UnpackedIndex) -> UnpackedIndex
         requires { can_ask self.now }
         ensures { index result ≡ resolved self.now rec_group (index it) };
+
+    /// The recursive group that a known id was defined in.
+    fn rec_group_id_of(&self, id: CoreTypeId) -> RecGroupId
+        requires can_ask { can_ask self.now }
+        requires known { is_known self.now id }
+        ensures { is_group_of self.now id result };
 }

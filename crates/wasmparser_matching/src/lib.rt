@@ -4,3 +4,4 @@
 pub mod known_types;
 pub mod matches;
 pub mod subtyping;
+pub mod with_rec_group;

@@ -1,22 +1,24 @@
 //! Structural matching of types (Core Specification 3.0, Validation, "Matching"). Of the types that a type refers to only declared subtyping is consulted:
 //! they were matched when they were declared.
 
-ghost use Rattle.std.specs.Prelude.{◌≡◌, ◌↔◌, IsTrue, length, map};
+ghost use Rattle.std.specs.Prelude.{◌≡◌, ◌↔◌, IsTrue, List, length, map};
 ghost use Rattle.wasm_spec.specs.Matching.{CompositeMatches, FieldMatches, FrontPairwise, FuncMatches, Pairwise, StorageBelow};
 ghost use Rattle.wasm_spec.specs.Subtyping.{HeapBelow, RefBelow, SubTypes, ValBelow};
-ghost use Rattle.wasm_spec.specs.TypeReferences.{composite_map, field_map, func_map, heap_map, ref_map, storage_map, val_map};
+ghost use Rattle.wasm_spec.specs.TypeReferences.{composite_map, field_map, func_map, heap_map, ref_map, storage_map, sub_map, val_map};
 ghost use Rattle.wasm_spec.specs.Types as spec;
-ghost use Rattle.wasmparser_types.specs.CompositeTypes.{composite_type, func_type};
+ghost use Rattle.wasmparser_types.specs.CompositeTypes.{composite_type, func_type, struct_fields};
 ghost use Rattle.wasmparser_types.specs.HeapTypes.{heap_type};
 ghost use Rattle.wasmparser_types.specs.Index.{Index};
+ghost use Rattle.wasmparser_types.specs.SubTypes.{sub_type};
 ghost use Rattle.wasmparser_types.specs.ValTypes.{field_type, storage_type, val_type};
 
 use crate::known_types::KnownTypes;
 use crate::subtyping::{heap_is_subtype, null_is_allowed};
-use wasmparser_types::composite_type::{CompositeType, FuncType};
+use wasmparser_types::composite_type::{ArrayType, CompositeType, ContType, FuncType, StructType};
 use wasmparser_types::heap_type::HeapType;
 use wasmparser_types::index::{PackedIndex, RecGroupId};
 use wasmparser_types::ref_type::RefType;
+use wasmparser_types::sub_type::SubType;
 use wasmparser_types::val_type::{FieldType, StorageType, ValType};
 
 /// A part of a type that another such part can match.
@@ -92,6 +94,26 @@ fn all_match<T: Matches, L: KnownTypes>(
         return false;
     }
     front_matches(items, rec_group, others, other_group, types)
+}
+
+impl<T: Matches> Matches for &T {
+    ghost Meaning = { T.Meaning };
+
+    ghost meaning = { λ part. T.meaning part.now };
+
+    ghost mapped = { T.mapped };
+
+    ghost matching = { T.matching };
+
+    fn matches<L: KnownTypes>(
+        &self,
+        rec_group: RecGroupId,
+        other: &Self,
+        other_group: RecGroupId,
+        types: &L,
+    ) -> bool {
+        T::matches(*self, rec_group, *other, other_group, types)
+    }
 }
 
 impl Matches for PackedIndex {
@@ -241,6 +263,66 @@ impl Matches for FuncType {
     }
 }
 
+impl Matches for StructType {
+    ghost Meaning = { List (spec.FieldType Index) };
+
+    ghost meaning = { struct_fields };
+
+    ghost mapped = { λ f fields. map (field_map f) fields };
+
+    ghost matching = { λ sub_at xs ys. FrontPairwise (FieldMatches sub_at) xs ys };
+
+    fn matches<L: KnownTypes>(
+        &self,
+        rec_group: RecGroupId,
+        other: &StructType,
+        other_group: RecGroupId,
+        types: &L,
+    ) -> bool {
+        front_matches(&self.fields, rec_group, &other.fields, other_group, types)
+    }
+}
+
+impl Matches for ArrayType {
+    ghost Meaning = { spec.FieldType Index };
+
+    ghost meaning = { λ type. field_type type.0 };
+
+    ghost mapped = { field_map };
+
+    ghost matching = { FieldMatches };
+
+    fn matches<L: KnownTypes>(
+        &self,
+        rec_group: RecGroupId,
+        other: &ArrayType,
+        other_group: RecGroupId,
+        types: &L,
+    ) -> bool {
+        self.0.matches(rec_group, &other.0, other_group, types)
+    }
+}
+
+impl Matches for ContType {
+    ghost Meaning = { Index };
+
+    ghost meaning = { λ type. type.0 };
+
+    ghost mapped = { λ f. f };
+
+    ghost matching = { λ sub_at a b. HeapBelow sub_at (spec.Concrete a) (spec.Concrete b) };
+
+    fn matches<L: KnownTypes>(
+        &self,
+        rec_group: RecGroupId,
+        other: &ContType,
+        other_group: RecGroupId,
+        types: &L,
+    ) -> bool {
+        self.0.matches(rec_group, &other.0, other_group, types)
+    }
+}
+
 impl Matches for CompositeType {
     ghost Meaning = { spec.CompositeType Index };
 
@@ -262,15 +344,37 @@ impl Matches for CompositeType {
                 a.matches(rec_group, b, other_group, types)
             }
             (CompositeType::Struct(a), CompositeType::Struct(b)) => {
-                front_matches(&a.fields, rec_group, &b.fields, other_group, types)
+                a.matches(rec_group, b, other_group, types)
             }
             (CompositeType::Array(a), CompositeType::Array(b)) => {
-                a.0.matches(rec_group, &b.0, other_group, types)
+                a.matches(rec_group, b, other_group, types)
             }
             (CompositeType::Cont(a), CompositeType::Cont(b)) => {
-                a.0.matches(rec_group, &b.0, other_group, types)
+                a.matches(rec_group, b, other_group, types)
             }
             _ => false,
         }
+    }
+}
+
+// By what it is made of: finality, supertypes and order are asked where a type is defined.
+impl Matches for SubType {
+    ghost Meaning = { spec.SubType Index };
+
+    ghost meaning = { sub_type };
+
+    ghost mapped = { sub_map };
+
+    ghost matching = { λ sub_at a b. CompositeMatches sub_at a.composite_type b.composite_type };
+
+    fn matches<L: KnownTypes>(
+        &self,
+        rec_group: RecGroupId,
+        other: &SubType,
+        other_group: RecGroupId,
+        types: &L,
+    ) -> bool {
+        self.composite_type
+            .matches(rec_group, &other.composite_type, other_group, types)
     }
 }

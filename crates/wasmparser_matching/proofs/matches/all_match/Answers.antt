@@ -1,4 +1,4 @@
-use Rattle.std.proofs.Common.{◌≡◌, ap, arith, length, map, ◌∙◌, sym}
+use Rattle.std.proofs.Common.{◌≡◌, arith, length, map}
 use Rattle.std.proofs.lemmas.List.{length-map}
 use Rattle.wasmparser_matching.proofs.Fronts.{all_by_front, as_many}
 use Rattle.wasmparser_matching.proofs.matches.all_match.Goals as goal

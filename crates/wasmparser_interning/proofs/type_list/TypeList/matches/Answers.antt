@@ -1,4 +1,4 @@
-use Rattle.std.proofs.Common.{◌∙◌, ap, inl, inr, sym}
+use Rattle.std.proofs.Common.{◌≡◌, ◌∙◌, Some, ap, inl, inr, sym}
 use Rattle.std.specs.Option.{option_copied}
 use Rattle.wasmparser_types.specs.SubTypes.{sub_type}
 use Rattle.wasmparser_interning.proofs.KeptReferences.{matches_by_id, no_match}
@@ -10,8 +10,11 @@ returns-in-Some-Some c =
     let tables = c.args.self.now in
     let at_a = sym (stands_for tables c.args.a _ (ap option_copied (sym c.in-Some-Some.is-0) ∙ c.get.ensures)) in
     let at_b = sym (stands_for tables c.args.b _ (ap option_copied (sym c.in-Some-Some.is-1) ∙ c.get-2.ensures)) in
-    matches_by_id tables c.requires.agree _ c.args.a c.args.b c.rec_group_id_of-a_group.result c.rec_group_id_of-b_group.result
-    (sub_type c.in-Some-Some.lower.now) (sub_type c.in-Some-Some.upper.now) at_a at_b c.matches.ensures
+    let same_a : c.in-Some-Some.lower.now ≡ c.map-a.result.inner.now = search in
+    let same_b : c.in-Some-Some.upper.now ≡ c.map-b.result.inner.now = search in
+    matches_by_id tables c.requires.agree _ c.args.a c.args.b c.map-a.result.rec_group_id c.map-b.result.rec_group_id
+    (sub_type c.map-a.result.inner.now) (sub_type c.map-b.result.inner.now)
+    (at_a ∙ ap (λ it. Some (sub_type it)) same_a) (at_b ∙ ap (λ it. Some (sub_type it)) same_b) c.matches.ensures
 
 pub returns-in_default : goal.returns-in_default
 returns-in_default c =

@@ -1,5 +1,5 @@
 //! Types in words. A number or vector type is its name, as is a reference to what is no defined type (`funcref`). A reference to a defined type is its
-//! place in the group (`own.1`) or its id (`#1`), followed by `?` where it may be null. A function type is `i32 #1? -> f32`.
+//! place in the group (`own.1`), its id (`#1`) or its index in a module (`1`), followed by `?` where it may be null. A function type is `i32 #1? -> f32`.
 
 use std::alloc::Global;
 use wasm_test_rows::fields::word_and_rest;
@@ -15,11 +15,14 @@ pub fn id_of(word: &str) -> Option<CoreTypeId> {
     Some(CoreTypeId::from_index(word.strip_prefix('#')?.parse().ok()?))
 }
 
-/// An id, or the place after `own.`.
+/// An id, the place after `own.`, or an index in a module.
 pub fn index_of(word: &str) -> Option<PackedIndex> {
-    match word.strip_prefix("own.") {
-        Some(place) => PackedIndex::from_rec_group_index(place.parse().ok()?),
-        None => PackedIndex::from_id(id_of(word)?),
+    if let Some(place) = word.strip_prefix("own.") {
+        return PackedIndex::from_rec_group_index(place.parse().ok()?);
+    }
+    match id_of(word) {
+        Some(id) => PackedIndex::from_id(id),
+        None => PackedIndex::from_module_index(word.parse().ok()?),
     }
 }
 

@@ -36,6 +36,9 @@ pub fn val_type_of(name: &str) -> Option<ValType> {
         ("exnref", ValType::EXNREF),
         ("contref", ValType::CONTREF),
         ("func", ValType::Ref(RefType::FUNC)),
+        ("anyref", ValType::Ref(RefType::ANYREF)),
+        ("eqref", ValType::Ref(RefType::EQREF)),
+        ("i31ref", ValType::Ref(RefType::I31REF)),
     ];
     named(&names, name)
 }

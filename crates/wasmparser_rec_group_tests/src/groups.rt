@@ -1,0 +1,171 @@
+//! Groups of type sections: which are accepted, which ids their types get, and why others are refused.
+
+use crate::checked_section::CheckedSection;
+use std::alloc::Global;
+use std::test::Fail;
+use wasm_core_base::features::{Flags, WasmFeatures};
+use wasm_test_rows::fields::{two_fields, word_and_rest};
+use wasm_test_rows::rows::check_rows;
+use wasm_test_rows::values::number_of;
+use wasmparser_error::error::{Error, ErrorKind};
+use wasmparser_type_words::types::{id_of, sub_type_of, sub_types_of};
+use wasmparser_types::index::CoreTypeId;
+use wasmparser_types::sub_type::RecGroup;
+
+// The place in the bytes that each call is handed.
+const OFFSET: u64 = 7;
+
+// Features, and groups that are added one after the other under these, each with the ids that its types get or the kind of its refusal. The default features
+// with others and without some. `module` begins another module, and `types` tells how many types the list has.
+const SECTIONS: &str = "
+    // equal groups have the same ids, and a member is no lone type
+    | single func -> = #0; single func i32 -> = #1; single func -> = #0; types = 2
+    | group struct 1?, struct 0? = #0 #1; group struct 3?, struct 2? = #0 #1; types = 2
+    | group struct 1?, struct 0? = #0 #1; group struct 2?, struct 3? = #2 #3; group struct 0?, struct 0? = #4 #5; types = 6
+    | single struct = #0; group struct, array i8 = #1 #2; group struct = #0; single array i8 = #3
+    | single struct 0? = #0; group struct 1? = #0; single struct 0? = #1; types = 2
+    | group = ; group = ; single func -> = #0; types = 1
+    | single func -> = #0; single struct 0 = #1; module = ; single struct = #2; single func -> = #0; single struct 1 = #1; types = 3
+
+    // without canonicalisation each group has types of its own; then no type names another
+    -gc -function_references | single func -> = #0; single func -> = #1; single func i32 -> i32 = #2; types = 3
+    -gc -function_references | single func funcref -> = #0; single func 0? -> = invalid; single cont 0 = invalid; types = 1
+
+    // references: to earlier types, and to the group's own with garbage collection
+    | single struct 1? = invalid; single struct 0? = #0; single struct 0 = #1; single struct 3? = invalid; types = 2
+    | group struct 2?, struct = invalid; group struct 1?, struct 0? = #0 #1; single array mut:2 = #2; single array mut:4 = invalid
+    -gc | single func -> = #0; single func 0 -> 0? = #1; single func 2 -> = invalid; single func -> 2? = invalid; types = 2
+    | single struct own.0 = beyond; single struct #0 = beyond; single own.0 : struct = beyond; types = 0
+
+    // gates
+    -gc | group func -> = invalid; group = invalid; single struct = invalid; single array i8 = invalid; single open : func -> = invalid; types = 0
+    -gc_types | single struct = invalid; single array i8 = invalid; single func externref -> = invalid; single func -> = #0
+    -multi_value | single func -> i32 i32 = invalid; single func i32 i32 -> i32 = #0; group func ->, func -> i64 i64 = invalid; types = 1
+    -simd | single func v128 -> = invalid; single struct i8 v128 = invalid; single func -> = #0
+    -floats | single func f32 -> = invalid; single func -> f64 = invalid; single array f64 = invalid; types = 0
+    -reference_types | single func funcref -> = invalid; single struct 0? = invalid; types = 0
+    | single func -> = #0; single cont 0 = invalid; types = 1
+
+    // continuations go on with functions
+    stack_switching | single func -> = #0; single cont 0 = #1; single cont 1 = invalid; single struct = #3; single cont 2 = invalid
+    stack_switching | single cont 0 = invalid; group func ->, cont 0 = #1 #2; group cont 3, func -> = #3 #4; group cont 1, struct = invalid
+    stack_switching -gc | single func -> = #0; single cont 0 = #1; single func 1 -> = #2; single cont 4 = invalid; single cont 3 = invalid
+
+    // supertypes: one, earlier, open, of the own kind, and matched
+    | single open : struct = #0; single 0 : struct = #1; single open 0 : struct i8 = #2; single 2 : struct i8 i16 = #3; types = 4
+    | single struct = #0; single 0 : struct = invalid; types = 2
+    | single open : struct = #0; single 1 : struct = invalid; single 7 : struct = invalid; types = 1
+    | group 1 : struct, open : struct = invalid; group open : struct, 0 : struct = #0 #1; group open : struct, open 2 : struct i8, 3 : struct i8 i8 = #2 #3 #4
+    | single open : struct = #0; single open : struct = #0; single 0 1 : struct = invalid; single open 0 1 : struct = invalid; types = 1
+    | single open : struct = #0; single 0 : func -> = invalid; single 0 : array i8 = invalid; single open : func -> = #1; single 1 : struct = invalid; types = 2
+    | single open : struct i8 = #0; single 0 : struct = invalid; single 0 : struct i16 = invalid; single 0 : struct i8 = #3; types = 4
+    | single open : array mut:anyref = #0; single 0 : array mut:eqref = invalid; single 0 : array mut:anyref = #2; types = 3
+    | single open : array anyref = #0; single 0 : array eqref = #1; single 0 : array mut:anyref = invalid; types = 3
+    | single open : struct mut:anyref i8 = #0; single 0 : struct mut:i31ref i8 = invalid; single 0 : struct mut:anyref i8 anyref = #2
+    | single open : func eqref -> anyref = #0; single 0 : func anyref -> eqref = #1; single 0 : func i31ref -> anyref = invalid; single 0 : func eqref -> = invalid
+    | single open : func i32 eqref -> = #0; single 0 : func i32 i31ref -> = invalid; single 0 : func i32 anyref -> = #2
+    | group open : struct 0?, open 0 : struct 1?, 1 : struct 2? = #0 #1 #2; types = 3
+    | group open : struct 0?, 0 : struct 2?, func -> = invalid; types = 3
+    | group open : struct 0?, 0 : struct 2?, 0 : func -> = invalid; types = 0
+    stack_switching | single open : func -> = #0; single 0 : func -> = #1; single open : cont 0 = #2; single 2 : cont 1 = #3; single open : cont 1 = #4; single 4 : cont 0 = invalid
+";
+
+// The default features, with this one or without it.
+fn changed(features: WasmFeatures, word: &str) -> Option<WasmFeatures> {
+    let flag = match word.trim_start_matches('-') {
+        "gc" => WasmFeatures::GC,
+        "gc_types" => WasmFeatures::GC_TYPES,
+        "function_references" => WasmFeatures::FUNCTION_REFERENCES,
+        "reference_types" => WasmFeatures::REFERENCE_TYPES,
+        "multi_value" => WasmFeatures::MULTI_VALUE,
+        "simd" => WasmFeatures::SIMD,
+        "floats" => WasmFeatures::FLOATS,
+        "stack_switching" => WasmFeatures::STACK_SWITCHING,
+        _ => return None,
+    };
+    Some(if word.starts_with('-') {
+        features.difference(flag)
+    } else {
+        features.union(flag)
+    })
+}
+
+fn features_of(field: &str) -> Option<WasmFeatures> {
+    let mut features = WasmFeatures::default();
+    for word in field.split_whitespace() {
+        features = changed(features, word)?;
+    }
+    Some(features)
+}
+
+fn group_of(alloc: Global, word: &str, types: &str) -> Option<RecGroup> {
+    match word {
+        "single" => Some(RecGroup::implicit(sub_type_of(alloc, types)?)),
+        "group" => Some(RecGroup::explicit(sub_types_of(alloc, types)?)),
+        _ => None,
+    }
+}
+
+// Whether these are the ids, in words.
+fn are_ids(ids: &[CoreTypeId], expected: &str) -> bool {
+    let mut count = 0;
+    for word in expected.split_whitespace() {
+        if ids.get(count).copied() != id_of(word) {
+            return false;
+        }
+        count += 1;
+    }
+    count == ids.len()
+}
+
+fn is_refusal(error: Error, expected: &str) -> bool {
+    error.offset == OFFSET && error.kind != ErrorKind::Memory && error.kind.name() == expected
+}
+
+// Whether adding a group answers so.
+fn adds(section: &mut CheckedSection, group: RecGroup, expected: &str) -> bool {
+    let before = section.type_ids().len();
+    match section.add(group, OFFSET) {
+        None => expected == "beyond",
+        Some(Ok(())) => match section.type_ids().get(before..) {
+            Some(added) => are_ids(added, expected),
+            None => false,
+        },
+        Some(Err(error)) => section.type_ids().len() == before && is_refusal(error, expected),
+    }
+}
+
+fn step_holds(
+    alloc: Global,
+    section: &mut CheckedSection,
+    features: WasmFeatures,
+    step: &str,
+) -> Option<bool> {
+    let (call, expected) = step.split_once('=')?;
+    let (word, types) = word_and_rest(call);
+    match word {
+        "types" => Some(number_of(expected.trim()) == Some(section.list_len() as u64)),
+        "module" => {
+            section.next_module(alloc, features);
+            Some(true)
+        }
+        _ => Some(adds(section, group_of(alloc, word, types)?, expected.trim())),
+    }
+}
+
+fn section_holds(alloc: Global, row: &str) -> Option<bool> {
+    let (features, steps) = two_fields(row)?;
+    let features = features_of(features)?;
+    let mut section = CheckedSection::new(alloc, features);
+    for step in steps.split_terminator(';') {
+        if !step_holds(alloc, &mut section, features, step)? {
+            return Some(false);
+        }
+    }
+    Some(true)
+}
+
+#[test]
+fn groups_are_judged(rt: HostRuntime) -> Result<(), Fail> {
+    Ok(check_rows(rt.alloc(), SECTIONS, 39, section_holds)?)
+}

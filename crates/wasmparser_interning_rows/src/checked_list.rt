@@ -32,6 +32,10 @@ impl Model for CheckedList {
 }
 
 impl CheckedList {
+    ghost use Rattle.std.specs.Prelude.{◌≡◌, slice_get};
+    ghost use Rattle.wasmparser_chains.specs.Chains.{IsDepth};
+    ghost use Rattle.wasmparser_interning.specs.TypeTables.{TablesAgree, sub_types};
+
     /// A list without types.
     pub fn new(alloc: Global) -> CheckedList {
         CheckedList {
@@ -39,6 +43,14 @@ impl CheckedList {
             list: TypeList::new(alloc),
             grows: true,
         }
+    }
+
+    /// The list.
+    pub fn list(&self) -> &TypeList
+        ensures same { result.now ≡ self.now }
+        ensures agree { TablesAgree result.now }
+    {
+        &self.list
     }
 
     /// How many types there are.
@@ -68,6 +80,14 @@ impl CheckedList {
     /// `TypeList::supertype_of`.
     pub fn supertype_of(&self, id: CoreTypeId) -> Option<CoreTypeId> {
         self.list.supertype_of(id)
+    }
+
+    /// `TypeList::set_subtyping_depth`, which asks for the depth that the type has.
+    pub fn set_subtyping_depth(&mut self, id: CoreTypeId, depth: u8)
+        requires { IsDepth (slice_get (sub_types self.old)) id depth }
+        ensures { self.new ≡ self.old }
+    {
+        self.list.set_subtyping_depth(id, depth);
     }
 
     /// `TypeList::rec_group_id_of` for a known id.

@@ -108,14 +108,14 @@ fn group_of(alloc: Global, word: &str, types: &str) -> Option<RecGroup> {
 
 // Whether these are the ids, in words.
 fn are_ids(ids: &[CoreTypeId], expected: &str) -> bool {
-    let mut count = 0;
-    for word in expected.split_whitespace() {
-        if ids.get(count).copied() != id_of(word) {
-            return false;
+    let mut words = expected.split_whitespace();
+    for id in ids {
+        match words.next() {
+            Some(word) if id_of(word) == Some(*id) => {}
+            _ => return false,
         }
-        count += 1;
     }
-    count == ids.len()
+    words.next().is_none()
 }
 
 fn is_refusal(error: Error, expected: &str) -> bool {

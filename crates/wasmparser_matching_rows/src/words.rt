@@ -1,0 +1,32 @@
+//! References in words.
+
+use wasmparser_type_words::types::index_of;
+use wasmparser_types::heap_type::{AbstractHeapType, HeapType};
+use wasmparser_types::ref_type::RefType;
+use wasmparser_types_tests::ref_type::named;
+
+// The abstract heap types by their names.
+const ABSTRACT: &[(&str, AbstractHeapType)] = &[
+    ("any", AbstractHeapType::Any),
+    ("eq", AbstractHeapType::Eq),
+    ("i31", AbstractHeapType::I31),
+    ("struct", AbstractHeapType::Struct),
+    ("array", AbstractHeapType::Array),
+    ("none", AbstractHeapType::None),
+    ("func", AbstractHeapType::Func),
+    ("nofunc", AbstractHeapType::NoFunc),
+    ("extern", AbstractHeapType::Extern),
+    ("noextern", AbstractHeapType::NoExtern),
+    ("exn", AbstractHeapType::Exn),
+    ("noexn", AbstractHeapType::NoExn),
+    ("cont", AbstractHeapType::Cont),
+    ("nocont", AbstractHeapType::NoCont),
+];
+
+/// A reference to an abstract heap type by its name, or to a defined type by its id (`#1`) or its place in a group (`own.1`).
+pub fn ref_type_of(is_nullable: bool, word: &str) -> Option<RefType> {
+    match named(ABSTRACT, word) {
+        Some(it) => RefType::new(is_nullable, HeapType::Abstract(it)),
+        None => Some(RefType::concrete(is_nullable, index_of(word)?)),
+    }
+}

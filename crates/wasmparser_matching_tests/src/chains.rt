@@ -1,0 +1,126 @@
+//! Chains of types, each of which is declared below the one before.
+
+ghost use Rattle.std.specs.Prelude.{IfSome, slice_get};
+ghost use Rattle.wasmparser_chains.specs.Chains.{IsDepth};
+ghost use Rattle.wasmparser_interning.specs.TypeTables.{sub_types};
+
+use std::alloc::Global;
+use wasmparser_interning_rows::checked_list::CheckedList;
+use wasmparser_matching_rows::asked_list::AskedList;
+use wasmparser_types::composite_type::{CompositeType, StructType};
+use wasmparser_types::index::{CoreTypeId, PackedIndex};
+use wasmparser_types::sub_type::SubType;
+
+// The most types that may be above one.
+const MAX_DEPTH: u32 = 63;
+
+// An open structure without fields, below the type with this id.
+fn structure(alloc: Global, above: Option<u32>) -> Option<SubType> {
+    let mut supertype_idxs = Vec::new(alloc);
+    if let Some(above) = above {
+        let index = PackedIndex::from_id(CoreTypeId::from_index(above))?;
+        supertype_idxs.push(index).ok()?;
+    }
+    Some(SubType {
+        is_final: false,
+        supertype_idxs,
+        composite_type: CompositeType::Struct(StructType {
+            fields: Vec::new(alloc),
+        }),
+    })
+}
+
+// Interns so many structures, each below the one before.
+fn add_chain(alloc: Global, list: &mut CheckedList, count: u32) -> Option<()> {
+    for number in 0..count {
+        let it = structure(alloc, number.checked_sub(1))?;
+        list.intern_sub_type(it, 0)?.ok()?;
+    }
+    Some(())
+}
+
+// How many supertypes a type has, of which there are at most so many.
+fn links_above(list: &CheckedList, id: u32, most: u32) -> u32 {
+    let (mut at, mut links) = (CoreTypeId::from_index(id), 0u32);
+    for _ in 0..most {
+        if let Some(above) = list.supertype_of(at) {
+            at = above;
+            links = links.saturating_add(1);
+        }
+    }
+    links
+}
+
+// Whether one type is below another, and is found so by two reads, where both are within the limit on depth.
+fn is_pair(asked: &AskedList, a: u32, b: u32) -> bool {
+    let (lower, upper) = (CoreTypeId::from_index(a), CoreTypeId::from_index(b));
+    let are_within = a <= MAX_DEPTH && b <= MAX_DEPTH;
+    let is_counted = match asked.counted(lower, upper) {
+        Some((answer, reads)) => are_within && answer == (b <= a) && reads <= 2,
+        None => !are_within,
+    };
+    asked.id_is_subtype(lower, upper) == (b <= a) && is_counted
+}
+
+// Whether a type has as many supertypes as types come before it, and these are the types above it.
+fn is_placed(list: &CheckedList, asked: &AskedList, id: u32, count: u32) -> bool {
+    let depth = asked.depth(CoreTypeId::from_index(id));
+    let is_within = match depth {
+        Some(depth) => u32::from(depth) == id,
+        None => id > MAX_DEPTH,
+    };
+    for other in 0..count {
+        if !is_pair(asked, id, other) {
+            return false;
+        }
+    }
+    is_within && links_above(list, id, count) == id
+}
+
+fn have_places(list: &CheckedList, asked: &AskedList, count: u32) -> bool {
+    for id in 0..count {
+        if !is_placed(list, asked, id, count) {
+            return false;
+        }
+    }
+    true
+}
+
+fn are_placed(list: &CheckedList, count: u32) -> bool {
+    match AskedList::new(list.list()) {
+        Some(asked) => have_places(list, &asked, count),
+        None => false,
+    }
+}
+
+// What depth a type has.
+fn depth(list: &CheckedList, id: CoreTypeId) -> Option<u8>
+    ensures { IfSome result (IsDepth (slice_get (sub_types list.now)) id) }
+{
+    match AskedList::new(list.list()) {
+        Some(asked) => asked.depth(id),
+        None => None,
+    }
+}
+
+// Sets the depth that a type has, which changes nothing.
+fn set_depth(list: &mut CheckedList, id: CoreTypeId) {
+    if let Some(found) = depth(list, id) {
+        list.set_subtyping_depth(id, found);
+    }
+}
+
+fn is_chain(alloc: Global, count: u32) -> bool {
+    let mut list = CheckedList::new(alloc);
+    let is_made = add_chain(alloc, &mut list, count).is_some();
+    set_depth(&mut list, CoreTypeId::from_index(count / 2));
+    is_made && are_placed(&list, count)
+}
+
+// In a chain of 64 types the last has 63 above it, which is the limit; in one of 65 it has 64.
+#[test]
+fn chains_are_walked_by_two_reads(rt: HostRuntime) {
+    for count in [1, 2, 64, 65, 70] {
+        assert!(rt; is_chain(rt.alloc(), count), "{count}");
+    }
+}

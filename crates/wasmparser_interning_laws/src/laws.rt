@@ -35,6 +35,12 @@ pub fn equal_types_have_one_id()
         → IsOneToOne (type_of_index canonical tables) (type_by_id tables) }
     ensures back { (canonical : ℕ → Bool) (tables : TypeTables) → TablesAgree tables → RefersToNoModule tables → AreFoundByKey canonical tables
         → CarriesBack (type_of_index canonical tables) (type_by_id tables) unrolled }
+
+    // So it is of a copy that doesn't grow on, whose groups are found in the list that it was taken of.
+    ensures copies_distinct { (canonical : ℕ → Bool) (tables : TypeTables) → TablesAgree tables → RefersToNoModule tables → AreFoundByKey canonical tables
+        → AreDistinct (id_types canonical (committed tables)) }
+    ensures copies_back { (canonical : ℕ → Bool) (tables : TypeTables) → TablesAgree tables → RefersToNoModule tables → AreFoundByKey canonical tables
+        → CarriesBack (type_of_index canonical (committed tables)) (type_by_id (committed tables)) unrolled }
 {}
 
 /// Interning adds the types of a new group after the others, whose ids stand for what they stood for. What was interned with canonicalization is found by

@@ -12,4 +12,8 @@ returns c = record {
   back = λ canonical tables agree no_module are_canonical.
       carried_back (type_of_index canonical tables) (type_by_id tables) unrolled (ids_unroll tables agree no_module canonical) (ids_closed tables agree no_module)
       (ids_one_to_one tables agree no_module canonical are_canonical);
+  copies_distinct = λ canonical tables agree no_module. ids_distinct tables agree no_module canonical;
+  copies_back = λ canonical tables agree no_module are_canonical.
+      carried_back (type_of_index canonical tables) (type_by_id tables) unrolled (ids_unroll tables agree no_module canonical) (ids_closed tables agree no_module)
+      (ids_one_to_one tables agree no_module canonical are_canonical);
 }

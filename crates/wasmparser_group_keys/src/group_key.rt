@@ -137,6 +137,14 @@ fn put_composite_type(key: &mut Vec<u32>, it: &CompositeType) -> Result<(), Allo
 fn put_sub_type(key: &mut Vec<u32>, it: &SubType) -> Result<(), AllocError>
     ensures { IfOk result (λ _. key.new.items ≡ key.old.items ++ spec.sub_key (sub_type it.now)) }
 {
+    let parts = match &it.composite_type {
+        CompositeType::Func(it) => it.params().len().saturating_add(it.results().len()),
+        CompositeType::Struct(it) => it.fields.len(),
+        CompositeType::Array(_) | CompositeType::Cont(_) => 0,
+    };
+    let indexes = it.supertype_idxs.len();
+    // Finality, kind, up to three ends of lists, and that of the group: so a type by itself takes memory once.
+    key.reserve(parts.saturating_add(indexes).saturating_add(6))?;
     key.push(if it.is_final { FINAL } else { OPEN })?;
     put_supertypes(key, &it.supertype_idxs)?;
     put_composite_type(key, &it.composite_type)

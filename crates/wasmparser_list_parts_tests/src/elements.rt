@@ -45,17 +45,20 @@ fn gives(elements: &mut RecGroupElements, ids: &str) -> bool {
     elements.len() == 0 && elements.next().is_none() && elements.next().is_none()
 }
 
-fn has_elements(alloc: Global, list: &mut CheckedList, row: &str) -> Option<bool> {
+fn has_elements(list: &CheckedList, group: RecGroupId, ids: &str) -> bool {
+    let mut elements = list.list().rec_group_elements(group);
+    gives(&mut elements, ids)
+}
+
+fn row_is_so(alloc: Global, list: &mut CheckedList, row: &str) -> Option<bool> {
     let (group, ids) = two_fields(row)?;
     let group = RecGroupId::from_index(group.parse().ok()?);
-    let is_made = steps_hold(alloc, list, GROUPS);
-    let mut elements = list.list().rec_group_elements(group);
-    Some(is_made && gives(&mut elements, ids))
+    Some(steps_hold(alloc, list, GROUPS) && has_elements(list, group, ids))
 }
 
 fn holds(alloc: Global, row: &str) -> Option<bool> {
     let mut list = CheckedList::new(alloc);
-    has_elements(alloc, &mut list, row)
+    row_is_so(alloc, &mut list, row)
 }
 
 #[test]

@@ -27,7 +27,7 @@ use Rattle.wasmparser_interning_laws.specs.IdTypes.{AreFoundByKey, RefersToNoMod
 use Rattle.wasmparser_rec_group_laws.proofs.MappedGates.{same_gate}
 use Rattle.wasmparser_rec_group_laws.proofs.Members.{member_same, own_by_id}
 use Rattle.wasmparser_rec_group_laws.proofs.OwnTypes.{all_weaker, both, places_at, section_members}
-use Rattle.wasmparser_rec_group_laws.specs.Contexts.{in_section, types_of}
+use Rattle.wasmparser_rec_group_laws.specs.Contexts.{PassesGroupLimit, in_section, types_of}
 use Rattle.wasmparser_rec_groups.proofs.CanonicalGroups.{both_true, have_at, mapped_at, members_mapped, of_members, of_type, test_at}
 use Rattle.wasmparser_rec_groups.specs.Interning.{CanBeKept, IsModuleIndex, NamesModuleTypes, canonical_members}
 use Rattle.wasmparser_rec_groups.specs.Rules.{IsFine, IsIn, KeepsRules}
@@ -256,12 +256,15 @@ module _ (canonical : ℕ → Bool) (features : Features) (ids : List ℕ) (old 
       let before : id < at.start + length (canonical_members ids group) = let h = is.before in omega (arith, h, ap (λ r. r.end) one) in
       (id - at.start, omega (arith, after), omega (arith, after, before, count_is))
 
-  pub no_limit_passed : (id : ℕ) (limit : Limit) → IsIn new number id → PassesLimit (type_by_id new) (Id id) limit → ¬ (IsWithinGroupLimits context (in_section group))
-  no_limit_passed id limit is passes within =
+  pub limit_passed : (id : ℕ) (limit : Limit) → IsIn new number id → PassesLimit (type_by_id new) (Id id) limit → PassesGroupLimit context (in_section group) limit
+  limit_passed id limit is passes =
       let place = place_of id is in
-      let found = types_listed place.0 place.2 in
-      all_get (λ type. (l : Limit) → ¬ (PassesLimit unrolled type l)) (types_of_group context (in_section group)) within place.0 _ found limit
-      (subst (λ i. PassesLimit unrolled (stands_for (Id i)) limit) place.1 (carries.limits (Id id) limit passes)) where
+      record {
+        place = place.0;
+        type = stands_for (Id (at.start + place.0));
+        at = types_listed place.0 place.2;
+        passes = subst (λ i. PassesLimit unrolled (stands_for (Id i)) limit) place.1 (carries.limits (Id id) limit passes);
+      } where
         types_listed : (place : ℕ) → place < length (members group) → slice_get (types_of_group context (in_section group)) place ≡ Some (stands_for (Id (at.start + place)))
         types_listed place less =
             let members_count : length (syntax.members (in_section group)) ≡ length (members group) = ap length (section_members group) ∙ length-map (members group) (sub_map number_of) in

@@ -1,6 +1,8 @@
 -- Ids stand for what they stood for before more was interned, and no kept type names a type by its index in a module.
-use Rattle.std.proofs.Common.{◌≡◌, ℕ, ◌-◌, ◌<◌, Bool, true, false, List, [], ◌∷◌, ◌++◌, length, map, Option, Some, None, refl, sym, ap, ◌∙◌, subst, arith}
+use Rattle.std.proofs.Common.{◌+◌, ◌≡◌, ℕ, ◌-◌, ◌<◌, Bool, true, false, List, [], ◌∷◌, ◌++◌, length, map, Option, Some, None, refl, sym, ap, ◌∙◌, subst, arith, nat_lt, ◌≤◌}
+use Rattle.std.proofs.lemmas.Bool.{ltb-false, ltb-true}
 use Rattle.std.proofs.lemmas.Grind.{flat_map-append}
+use Rattle.std.proofs.lemmas.List.{length-append}
 use Rattle.std.specs.List.{AllByRecursion, slice_get}
 use Rattle.wasm_spec.proofs.GroupTrees.{type_kept}
 use Rattle.wasm_spec.proofs.MappedTypes.{all_map}
@@ -10,10 +12,10 @@ use Rattle.wasm_spec.specs.TypeReferences.{sub_refs, subs_map, subs_refs}
 use Rattle.wasm_spec.specs.Trees.{DefType, places_of, tree_of, type_at}
 use Rattle.wasm_spec.specs.Types.{RecGroup, SubType}
 use Rattle.wasmparser_group_rules.specs.Canonical.{canonical_index, id_or_place}
-use Rattle.wasmparser_interning.specs.TypeTables.{Interns, TablesAgree, TypeTables, absolute, sub_types}
+use Rattle.wasmparser_interning.specs.TypeTables.{Interns, range_after, TablesAgree, TypeTables, absolute, sub_types}
 use Rattle.wasmparser_interning_laws.proofs.IdLaws.{id_count}
-use Rattle.wasmparser_interning_laws.proofs.InternedGroups.{types_more}
-use Rattle.wasmparser_interning_laws.specs.IdTypes.{RefersToNoModule, group_after, id_types, tree_as}
+use Rattle.wasmparser_interning_laws.proofs.InternedGroups.{still_found, types_more}
+use Rattle.wasmparser_interning_laws.specs.IdTypes.{AreFoundByKey, IsFoundByKey, RefersToNoModule, group_after, id_types, tree_as}
 use Rattle.wasmparser_rec_group_laws.specs.Contexts.{types_of}
 use Rattle.wasmparser_rec_groups.proofs.CanonicalGroups.{members_mapped, of_members}
 use Rattle.wasmparser_rec_groups.specs.Interning.{AreKnown, IsModuleIndex, NamesModuleTypes, canonical_members}
@@ -68,3 +70,23 @@ still_no_module old new ids group is_canonical true number interned names none =
     let parts : subs_refs (sub_types new) ≡ subs_refs (sub_types old) ++ subs_refs (subs_map (absolute start) added) =
     ap subs_refs interned.adds.types ∙ flat_map-append sub_refs (sub_types old) (subs_map (absolute start) added) in
     subst (AllByRecursion IsNone) (sym (parts ∙ ap (λ q. subs_refs (sub_types old) ++ q) refs)) (join IsNone (subs_refs (sub_types old)) _ none own)
+
+-- groups that count as canonical are still found by their keys
+pub still_canonical : (canonical : ℕ → Bool) (old new : TypeTables) (is_canonical is_new : Bool) (group : List (SubType Index)) (number : ℕ) → Interns old new is_canonical group is_new number
+    → (canonical number ≡ true → is_canonical ≡ true) → AreFoundByKey canonical old → AreFoundByKey canonical new
+still_canonical canonical old new is_canonical false group number interned own found n less counted = subst (AreFoundByKey canonical) (sym interned.1) found n less counted
+still_canonical canonical old new is_canonical true group number interned own found n less counted = go (nat_lt n (length old.groups)) refl where
+  was_found : n < length old.groups → IsFoundByKey new n
+  was_found before = still_found old new is_canonical group true number n interned (found n before counted)
+
+  is_last : length old.groups ≤ n → n ≡ number
+  is_last after =
+      let count : length new.groups ≡ length old.groups + 1 = ap length interned.adds.groups ∙ length-append old.groups (range_after (length old.types) (length group) ∷ []) in
+      omega (arith, after, less, count, interned.adds.number_is)
+
+  now_found : n ≡ number → IsFoundByKey new n
+  now_found is = subst (IsFoundByKey new) (sym is) (group, interned.known (own (subst (λ m. canonical m ≡ true) is counted)))
+
+  go : (b : Bool) → nat_lt n (length old.groups) ≡ b → IsFoundByKey new n
+  go true before = was_found (ltb-true n (length old.groups) before)
+  go false after = now_found (is_last (ltb-false n (length old.groups) after))

@@ -1,12 +1,15 @@
 -- The context in which a module's group is judged, where ids stand for its types.
-use Rattle.std.specs.Prelude.{◌≡◌, ℕ, Bool, true, List, map}
+use Rattle.std.specs.Prelude.{◌≡◌, ℕ, Bool, true, List, Some, map, slice_get}
+use Rattle.wasm_core_base.specs.Limits.{limit}
 use Rattle.wasm_spec.specs.Features.{Features, needs_type_canonicalization}
-use Rattle.wasm_spec.specs.Groups.{IsWithinGroupLimits, KeepsGroupRules}
-use Rattle.wasm_spec.specs.Trees.{DefType, type_at}
+use Rattle.wasm_spec.specs.Groups.{KeepsGroupRules, PassesLimit}
+use Rattle.wasm_spec.specs.Limits.{Limit}
+use Rattle.wasm_spec.specs.Trees.{DefType, type_at, types_of_group, unrolled}
 use Rattle.wasm_spec.specs.TypeReferences.{group_map}
 use Rattle.wasm_spec.specs.Types.{RecGroup}
 use Rattle.wasmparser_error.specs.declared.error.ErrorKind.{ErrorKind}
-use Rattle.wasmparser_error.specs.declared.error.ErrorKind.TheVariants.{Invalid, Limit}
+use Rattle.wasmparser_error.specs.declared.error.ErrorKind.TheVariants as kinds
+use Rattle.wasmparser_error.specs.declared.error.ErrorKind.TheVariants.{Invalid}
 use Rattle.wasmparser_interning.specs.TypeTables.{TablesAgree, TypeTables}
 use Rattle.wasmparser_interning_laws.specs.IdTypes.{AreFoundByKey, RefersToNoModule, id_types}
 use Rattle.wasmparser_rec_groups.specs.Interning.{AreKnown, NamesModuleTypes}
@@ -25,8 +28,8 @@ pub record CountsAsCanonical (features : Features) (canonical : ℕ → Bool) (t
   pub own : canonical number ≡ true
   pub all : needs_type_canonicalization features ≡ true → AreFoundByKey canonical tables
 
--- A module's types have these ids in a list, which became another one as the group was handed in. Type indexes in a module stand for nothing in a list, and
--- in the group for the module's types.
+-- The types of a module have these ids in a list, before a group of the module was handed in and after that. The list keeps no type that names another by its
+-- index in a module; the group names its types so.
 pub record IsModuleOf (old new : TypeTables) (ids : List ℕ) (group : RecGroup Index) : Type 0 where
   pub agree : TablesAgree old
   pub now : TablesAgree new
@@ -34,7 +37,14 @@ pub record IsModuleOf (old new : TypeTables) (ids : List ℕ) (group : RecGroup 
   pub known : AreKnown old ids
   pub names : NamesModuleTypes group
 
+-- one of a group's types passes a limit
+pub record PassesGroupLimit (before : List DefType) (group : RecGroup ℕ) (l : Limit) : Type 0 where
+  pub place : ℕ
+  pub type : DefType
+  pub at : slice_get (types_of_group before group) place ≡ Some type
+  pub passes : PassesLimit unrolled type l
+
 -- what the kind of a refusal tells of a group that comes after these types
 pub data Tells (features : Features) (before : List DefType) (group : RecGroup ℕ) : ErrorKind → Type 0 where
   breaks_a_rule : ¬ (KeepsGroupRules features before group) → Tells features before group Invalid
-  passes_a_limit : (l : _) → ¬ (IsWithinGroupLimits before group) → Tells features before group (Limit l)
+  passes_a_limit : (l : _) → PassesGroupLimit before group (limit l) → Tells features before group (kinds.Limit l)

@@ -1,24 +1,24 @@
 //! Laws of recursive groups that are added to a list of types. A module's types have ids, which stand for defined types; the group is judged after these.
 
-ghost use Rattle.std.specs.Prelude.{◌≡◌, ℕ, Bool, List};
+ghost use Rattle.std.specs.Prelude.{◌≡◌, ℕ, Bool, List, true};
 ghost use Rattle.wasm_spec.specs.Features.{Features, needs_type_canonicalization};
 ghost use Rattle.wasm_spec.specs.Groups.{IsWellFormedGroup, KeepsGroupRules};
 ghost use Rattle.wasm_spec.specs.Trees.{types_after};
 ghost use Rattle.wasm_spec.specs.Types.{RecGroup};
 ghost use Rattle.wasmparser_interning.specs.TypeTables.{Interns, TypeTables};
-ghost use Rattle.wasmparser_interning_laws.specs.IdTypes.{RefersToNoModule};
+ghost use Rattle.wasmparser_interning_laws.specs.IdTypes.{AreFoundByKey, RefersToNoModule};
 ghost use Rattle.wasmparser_rec_group_laws.specs.Contexts.{CountsAsCanonical, IsModuleOf, Tells, in_section, types_of};
-ghost use Rattle.wasmparser_rec_groups.specs.Interning.{Accepts, CanBeKept, canonical_members};
+ghost use Rattle.wasmparser_rec_groups.specs.Interning.{Accepts, AreKnown, CanBeKept, canonical_members};
 ghost use Rattle.wasmparser_rec_groups.specs.Rules.{IsRefusedGroup};
 ghost use Rattle.wasmparser_types.specs.Index.{Index};
 
 /// A group that is accepted is well-formed, and the ids that are added stand for its types.
 pub fn accepted_groups_are_well_formed()
     ensures well_formed { (canonical : ℕ → Bool) (features : Features) (ids new_ids : List ℕ) (old new : TypeTables) (group : RecGroup Index) → IsModuleOf old new ids group
-        → (accepts : Accepts features ids old new group new_ids) → CountsAsCanonical features canonical new accepts.number
+        → (accepts : Accepts features ids old new group new_ids) → canonical accepts.number ≡ true
         → IsWellFormedGroup features (types_of canonical old ids) (in_section group) }
     ensures types { (canonical : ℕ → Bool) (features : Features) (ids new_ids : List ℕ) (old new : TypeTables) (group : RecGroup Index) → IsModuleOf old new ids group
-        → (accepts : Accepts features ids old new group new_ids) → CountsAsCanonical features canonical new accepts.number
+        → (accepts : Accepts features ids old new group new_ids) → canonical accepts.number ≡ true
         → types_of canonical new new_ids ≡ types_after (types_of canonical old ids) (in_section group) }
 {}
 
@@ -31,10 +31,15 @@ pub fn refused_groups_are_ill_formed()
         → CountsAsCanonical features canonical new number → (kind : _) → IsRefusedGroup new number kind → Tells features (types_of canonical old ids) (in_section group) kind }
 {}
 
-/// A list whose types name none by its index in a module stays so, and ids stand for what they stood for.
+/// A list whose types name none by its index in a module stays so, ids stand for what they stood for, those of other modules too, and where groups that count as
+/// canonical are found by their keys, they still are.
 pub fn context_is_kept()
     ensures no_module { (features : Features) (ids : List ℕ) (old new : TypeTables) (group : RecGroup Index) (is_new : Bool) (number : ℕ) → IsModuleOf old new ids group
         → Interns old new (needs_type_canonicalization features) (canonical_members ids group) is_new number → RefersToNoModule new }
-    ensures types { (canonical : ℕ → Bool) (features : Features) (ids : List ℕ) (old new : TypeTables) (group : RecGroup Index) (is_new : Bool) (number : ℕ) → IsModuleOf old new ids group
-        → Interns old new (needs_type_canonicalization features) (canonical_members ids group) is_new number → types_of canonical new ids ≡ types_of canonical old ids }
+    ensures types { (canonical : ℕ → Bool) (features : Features) (ids others : List ℕ) (old new : TypeTables) (group : RecGroup Index) (is_new : Bool) (number : ℕ) → IsModuleOf old new ids group
+        → Interns old new (needs_type_canonicalization features) (canonical_members ids group) is_new number → AreKnown old others
+        → types_of canonical new others ≡ types_of canonical old others }
+    ensures found { (canonical : ℕ → Bool) (features : Features) (ids : List ℕ) (old new : TypeTables) (group : RecGroup Index) (is_new : Bool) (number : ℕ)
+        → Interns old new (needs_type_canonicalization features) (canonical_members ids group) is_new number
+        → (canonical number ≡ true → needs_type_canonicalization features ≡ true) → AreFoundByKey canonical old → AreFoundByKey canonical new }
 {}

@@ -31,6 +31,10 @@ const SECTIONS: &str = "
     -gc -function_references | single func -> = #0; single func -> = #1; single func i32 -> i32 = #2; types = 3
     -gc -function_references | single func funcref -> = #0; single func 0? -> = invalid; single cont 0 = invalid; types = 1
 
+    // one of three features is enough for canonicalisation
+    -gc | single func -> = #0; single func -> = #0; types = 1
+    stack_switching -gc -function_references | single func -> = #0; single func -> = #0; single cont 0 = #1; single cont 1 = #1; types = 2
+
     // references: to earlier types, and to the group's own with garbage collection
     | single struct 1? = invalid; single struct 0? = #0; single struct 0 = #1; single struct 3? = invalid; types = 2
     | group struct 2?, struct = invalid; group struct 1?, struct 0? = #0 #1; single array mut:2 = #2; single array mut:4 = invalid
@@ -45,6 +49,14 @@ const SECTIONS: &str = "
     -floats | single func f32 -> = invalid; single func -> f64 = invalid; single array f64 = invalid; types = 0
     -reference_types | single func funcref -> = invalid; single struct 0? = invalid; types = 0
     | single func -> = #0; single cont 0 = invalid; types = 1
+
+    -exceptions | single func exnref -> = invalid; single struct exnref = invalid; single func -> = #0
+    -gc_types | single func exnref -> = #0; single func -> exnref externref = invalid
+    | single func contref -> = invalid; single struct contref = invalid; types = 0
+    stack_switching -gc_types | single func -> = #0; single cont 0 = invalid; single func contref -> = invalid
+    -gc | single func eqref -> = invalid; single func -> anyref = invalid; single func funcref -> = #0
+    -function_references | single func -> = #0; single func 0? -> = #1; single func func -> = invalid; single func funcref -> = #2
+    | single func func -> func = #0; single func funcref -> = #1; single func -> func = #2; types = 3
 
     // continuations go on with functions
     stack_switching | single func -> = #0; single cont 0 = #1; single cont 1 = invalid; single struct = #3; single cont 2 = invalid
@@ -64,6 +76,11 @@ const SECTIONS: &str = "
     | single open : struct mut:anyref i8 = #0; single 0 : struct mut:i31ref i8 = invalid; single 0 : struct mut:anyref i8 anyref = #2
     | single open : func eqref -> anyref = #0; single 0 : func anyref -> eqref = #1; single 0 : func i31ref -> anyref = invalid; single 0 : func eqref -> = invalid
     | single open : func i32 eqref -> = #0; single 0 : func i32 i31ref -> = invalid; single 0 : func i32 anyref -> = #2
+    | single struct = #0; single 0 : struct = invalid; single 0 : struct = invalid; types = 2
+    | single open : struct = #0; single open : struct 0? = #1; single 1 : struct 0 = #2; single open : struct 0 = #3; single 3 : struct 0? = invalid
+    | single open : struct = #0; single open 0 : struct = #1; single 1 : struct = #2; single open : struct 0 = #3; single 3 : struct 2 = #4
+    | single struct = #0; single struct = #0; single open : array mut:0 = #1; single 2 : array mut:1 = #2; types = 3
+    | single struct = #0; single open : struct anyref = #1; single 1 : struct 0? = #2; single 1 : struct funcref = invalid; types = 4
     | group open : struct 0?, open 0 : struct 1?, 1 : struct 2? = #0 #1 #2; types = 3
     | group open : struct 0?, 0 : struct 2?, func -> = invalid; types = 3
     | group open : struct 0?, 0 : struct 2?, 0 : func -> = invalid; types = 0
@@ -80,6 +97,7 @@ fn changed(features: WasmFeatures, word: &str) -> Option<WasmFeatures> {
         "multi_value" => WasmFeatures::MULTI_VALUE,
         "simd" => WasmFeatures::SIMD,
         "floats" => WasmFeatures::FLOATS,
+        "exceptions" => WasmFeatures::EXCEPTIONS,
         "stack_switching" => WasmFeatures::STACK_SWITCHING,
         _ => return None,
     };
@@ -167,5 +185,5 @@ fn section_holds(alloc: Global, row: &str) -> Option<bool> {
 
 #[test]
 fn groups_are_judged(rt: HostRuntime) -> Result<(), Fail> {
-    Ok(check_rows(rt.alloc(), SECTIONS, 39, section_holds)?)
+    Ok(check_rows(rt.alloc(), SECTIONS, 53, section_holds)?)
 }

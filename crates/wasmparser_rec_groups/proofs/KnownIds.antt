@@ -31,7 +31,7 @@ pub known_after_refusal : (features : Features) (ids : List ℕ) (old new : Type
     → AreKnown old ids → AreKnown new ids
 known_after_refusal features ids old new group offset e (breaks_a_rule breaks same) known = subst (λ t. AreKnown t ids) (sym same) known
 known_after_refusal features ids old new group offset e (has_no_room kept none same) known = subst (λ t. AreKnown t ids) (sym same) known
-known_after_refusal features ids old new group offset e (is_refused is_new number kind kept interned refused) known =
+known_after_refusal features ids old new group offset e (is_refused is_new number kind kept room interned refused) known =
     still_known old new ids (no_fewer old new _ is_new _ number interned) known
 known_after_refusal features ids old new group offset e (out_of_memory same) known = subst (λ t. AreKnown t ids) (sym same) known
 

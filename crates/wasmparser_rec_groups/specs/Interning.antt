@@ -48,12 +48,13 @@ pub record Keeps (features : Features) (ids : List ℕ) (old new : TypeTables) (
   pub interned : Interns old new (needs_type_canonicalization features) (canonical_members ids group) is_new number
   pub fine : IsFine new number
 
--- Why a group is refused at an offset, and what is left of the list. One that breaks a rule on subtyping, or passes a limit, has been interned by then.
+-- Why a group is refused at an offset, and what is left of the list. One that breaks the rules on open and matched supertypes or on continuations, or passes a limit,
+-- has been interned by then.
 pub data Refuses (features : Features) (ids : List ℕ) (old new : TypeTables) (group : RecGroup Index) (offset : ℕ) : Error → Type 0 where
   breaks_a_rule : ¬ (CanBeKept features ids old group) → new ≡ old → Refuses features ids old new group offset (record { offset = offset; kind = Invalid })
   has_no_room : CanBeKept features ids old group → has_room old (canonical_members ids group) ≡ false → new ≡ old
       → Refuses features ids old new group offset (record { offset = offset; kind = Total })
-  is_refused : (is_new : Bool) (number : ℕ) (kind : ErrorKind) → CanBeKept features ids old group
+  is_refused : (is_new : Bool) (number : ℕ) (kind : ErrorKind) → CanBeKept features ids old group → has_room old (canonical_members ids group) ≡ true
       → Interns old new (needs_type_canonicalization features) (canonical_members ids group) is_new number → IsRefusedGroup new number kind
       → Refuses features ids old new group offset (record { offset = offset; kind = kind })
   out_of_memory : new ≡ old → Refuses features ids old new group offset (record { offset = 0; kind = Memory })

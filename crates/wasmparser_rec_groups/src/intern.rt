@@ -22,7 +22,8 @@ use wasmparser_interning::type_list::TypeList;
 use wasmparser_types::index::{CoreTypeId, RecGroupId};
 use wasmparser_types::sub_type::RecGroup;
 
-/// What gives types their indexes, such as a module: the types of each group that is added follow those of the groups before.
+/// What gives types their indexes, such as those of a module: the types of each group that is added follow those of the groups before. Nothing is said of what
+/// else such a thing holds, so it had better hold these alone.
 pub trait InternRecGroup {
     ghost use Rattle.std.specs.Prelude.{◌≡◌, ◌+◌, ◌≤◌, ◌<◌, ◌^◌, ◌∷◌, ◌++◌, [], suc, ℕ, List, IfErr, IfOk, IsSome, length, slice_get};
     ghost use Rattle.wasm_core_base.specs.Features.{feature_set};
@@ -54,7 +55,8 @@ pub trait InternRecGroup {
     fn reserve_type_ids(&mut self, count: usize) -> Result<(), AllocError>
         ensures ids { ids self.new ≡ ids self.old }
         ensures enabled { enabled self.new ≡ enabled self.old }
-        ensures room { IfOk result (λ _. count ≤ room self.new) };
+        ensures room { IfOk result (λ _. count ≤ room self.new) }
+        ensures refused { IfErr result (λ _. room self.old < count) };
 
     /// Adds the id of the next type, for which there is room.
     fn add_type_id(&mut self, id: CoreTypeId)
@@ -81,7 +83,7 @@ pub trait InternRecGroup {
     /// # Errors
     /// `Invalid` where the group breaks a rule, and `Limit` where one of its types passes that limit. `Total` where the list's types and the group's are more
     /// than 1,048,576, whether or not the group is known. These are at the offset. `Memory` where memory runs out. No id is added then; but the list has
-    /// interned a group that breaks a rule on what its types match, or passes a limit.
+    /// interned a group that breaks the rules on open and matched supertypes or on continuations, or passes a limit.
     fn canonicalize_and_intern_rec_group(
         &mut self,
         types: &mut TypeList,

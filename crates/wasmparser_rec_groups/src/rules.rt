@@ -79,23 +79,32 @@ fn keeps_rules(types: &TypeList, id: CoreTypeId, it: &SubType) -> bool
     continues_func(types, &it.composite_type)
 }
 
-// Whether a known type keeps the rules on supertypes and continuations, and passes no limit.
-fn check_type(types: &TypeList, id: CoreTypeId) -> Result<(), ErrorKind>
+// Whether a known type passes no limit.
+fn check_limits(types: &TypeList, id: CoreTypeId) -> Result<(), ErrorKind>
     requires agree { TablesAgree types.now }
     requires earlier { AreBelowEarlier (slice_get (sub_types types.now)) }
     requires known { id < length types.now.types }
-    ensures kept { IfOk result (λ _. KeepsRules types.now id) }
     ensures within { IfOk result (λ _. PassesNoLimit types.now id) }
     ensures refused { IfErr result (IsRefused types.now id) }
 {
-    let it = &types[id];
-    if let Some(limit) = passed_limit(&it.composite_type) {
+    if let Some(limit) = passed_limit(&types[id].composite_type) {
         return Err(ErrorKind::Limit(limit));
     }
     if !types.is_within_depth(id) {
         return Err(ErrorKind::Limit(Limit::Depth));
     }
-    if !keeps_rules(types, id, it) {
+    Ok(())
+}
+
+// Whether a known type keeps the rules on supertypes and continuations.
+fn check_rules(types: &TypeList, id: CoreTypeId) -> Result<(), ErrorKind>
+    requires agree { TablesAgree types.now }
+    requires earlier { AreBelowEarlier (slice_get (sub_types types.now)) }
+    requires known { id < length types.now.types }
+    ensures kept { IfOk result (λ _. KeepsRules types.now id) }
+    ensures refused { IfErr result (IsRefused types.now id) }
+{
+    if !keeps_rules(types, id, &types[id]) {
         return Err(ErrorKind::Invalid);
     }
     Ok(())
@@ -113,8 +122,12 @@ pub fn check_rec_group(types: &TypeList, group: RecGroupId) -> Result<(), ErrorK
     ensures refused { IfErr result (IsRefusedGroup types.now group) }
 {
     let elements = &types[group];
+    // Subtyping walks from a type with more supertypes than the limit on depth allows, so none may be left where types are matched.
     for index in elements.start.index()..elements.end.index() {
-        check_type(types, CoreTypeId::from_index(index as u32))?;
+        check_limits(types, CoreTypeId::from_index(index as u32))?;
+    }
+    for index in elements.start.index()..elements.end.index() {
+        check_rules(types, CoreTypeId::from_index(index as u32))?;
     }
     Ok(())
 }

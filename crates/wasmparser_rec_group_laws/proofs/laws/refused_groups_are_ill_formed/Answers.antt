@@ -6,5 +6,5 @@ pub returns : goal.returns
 returns c = record {
   before_interning = λ canonical features ids tables group it rules. can_be_kept canonical features ids tables group it.agree it.none it.known it.names rules;
   after_interning = λ canonical features ids old new group is_new number it kept interned counts kind refused.
-      tells canonical features ids old new group is_new number it kept interned counts kind refused;
+      tells canonical features ids old new group is_new number it kept interned counts.own counts.all kind refused;
 }

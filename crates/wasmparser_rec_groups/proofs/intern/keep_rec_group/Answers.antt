@@ -1,9 +1,9 @@
-use Rattle.std.proofs.Common.{sym, subst, length, refl, slice_get}
+use Rattle.std.proofs.Common.{◌∙◌, ap, sym, subst, length, refl, slice_get}
 use Rattle.std.proofs.lemmas.Result.{err_from_is_err_and}
 use Rattle.wasm_core_base.specs.Features.{feature_set}
 use Rattle.wasmparser_types.specs.RecGroups.{members, rec_group}
 use Rattle.wasmparser_chains.specs.Chains.{AreBelowEarlier}
-use Rattle.wasmparser_interning.specs.TypeTables.{AreWithin, sub_types}
+use Rattle.wasmparser_interning.specs.TypeTables.{AreWithin, has_room, sub_types}
 use Rattle.wasmparser_rec_groups.proofs.Keeping.{interns_members, no_intern}
 use Rattle.wasmparser_rec_groups.specs.Interning.{Refuses, breaks_a_rule, is_refused}
 use Rattle.wasmparser_rec_groups.proofs.CanonicalGroups.{still_earlier, within}
@@ -62,4 +62,4 @@ returns-in-Err-clause-refused c =
     let told = c.in_ok-canonical.ensures in
     let interned = interns_members features c.args.ids.now c.args.types.now (rec_group c.args.rec_group) c.intern_canonical_rec_group.new.self _ (rec_group c.in_ok-canonical.canonical) told.canonical
     c.needs_type_canonicalization-needs_canonicalization.ensures _ _ c.in_ok-id.ensures.interned in
-    is_refused _ c.in_ok-id.id c.in-Err.kind told.kept interned c.in-Err.ensures.refused
+    is_refused _ c.in_ok-id.id c.in-Err.kind told.kept (sym (ap (λ g. has_room c.args.types.now (members g)) told.canonical) ∙ c.in_ok-id.ensures.room) interned c.in-Err.ensures.refused

@@ -1,7 +1,7 @@
 use Rattle.std.proofs.Common.{◌<◌, arith, subst, sym}
 use Rattle.wasmparser_rec_groups.specs.Rules.{KeepsRules, PassesNoLimit}
 use Rattle.wasmparser_interning.proofs.Agreement.{range_of}
-use Rattle.wasmparser_rec_groups.proofs.GroupLaws.{all_fine, known_id, one_more}
+use Rattle.wasmparser_rec_groups.proofs.GroupLaws.{all_fine, known_id, one_more, whole}
 use Rattle.wasmparser_rec_groups.proofs.rules.check_rec_group.Goals as goal
 
 pub overflow_cast-index : goal.overflow_cast-index
@@ -9,8 +9,8 @@ overflow_cast-index c =
     let ends = range_of c.args.types.now c.args.group c.index-elements.result.now c.requires.agree c.index-elements.ensures in
     omega (arith, ends.1, c.loop-index-test.true, c.index-index-end.ensures)
 
-pub check_type-requires-clause-known : goal.check_type-requires-clause-known
-check_type-requires-clause-known c =
+pub check_limits-requires-clause-known : goal.check_limits-requires-clause-known
+check_limits-requires-clause-known c =
     let tables = c.args.types.now in
     let before : c.from_index.result < c.index-elements.result.now.end = omega (arith, c.from_index.ensures, c.loop-index-test.true, c.index-index-end.ensures) in
     known_id tables c.args.group c.index-elements.result.now c.from_index.result c.requires.agree c.index-elements.ensures before
@@ -18,10 +18,29 @@ check_type-requires-clause-known c =
 pub loop-index-preserved : goal.loop-index-preserved
 loop-index-preserved c =
     let tables = c.args.types.now in
-    let is = c.from_index.ensures in
-    one_more tables c.index-index.result c.loop-index.index c.loop-index.invariant (subst (KeepsRules tables) is c.in_ok-check_type.ensures.kept) (subst (PassesNoLimit tables) is c.in_ok-check_type.ensures.within)
+    one_more (PassesNoLimit tables) c.index-index.result c.loop-index.index c.loop-index.invariant (subst (PassesNoLimit tables) c.from_index.ensures c.in_ok-check_limits.ensures.within)
+
+pub overflow_cast-index-in-loop-index-2 : goal.overflow_cast-index-in-loop-index-2
+overflow_cast-index-in-loop-index-2 c =
+    let ends = range_of c.args.types.now c.args.group c.index-elements.result.now c.requires.agree c.index-elements.ensures in
+    omega (arith, ends.1, c.loop-index-2-test.true, c.index-index-end-2.ensures)
+
+pub check_rules-requires-clause-known : goal.check_rules-requires-clause-known
+check_rules-requires-clause-known c =
+    let tables = c.args.types.now in
+    let before : c.from_index-in-loop-index-2.result < c.index-elements.result.now.end = omega (arith, c.from_index-in-loop-index-2.ensures, c.loop-index-2-test.true, c.index-index-end-2.ensures) in
+    known_id tables c.args.group c.index-elements.result.now c.from_index-in-loop-index-2.result c.requires.agree c.index-elements.ensures before
+
+pub loop-index-2-preserved : goal.loop-index-2-preserved
+loop-index-2-preserved c =
+    let tables = c.args.types.now in
+    one_more (KeepsRules tables) c.index-index-2.result c.loop-index-2.index c.loop-index-2.invariant (subst (KeepsRules tables) c.from_index-in-loop-index-2.ensures c.in_ok-check_rules.ensures.kept)
 
 pub returns-clause-fine : goal.returns-clause-fine
 returns-clause-fine c =
-    all_fine c.args.types.now c.args.group c.index-index.result c.loop-index.index c.index-elements.result.now c.index-elements.ensures (sym c.index-index.ensures)
-    (omega (arith, c.loop-index-test.false, c.index-index-end.ensures)) c.loop-index.invariant
+    let range = c.index-elements.result.now in
+    let rules = whole (KeepsRules c.args.types.now) range c.index-index-2.result c.loop-index-2.index (sym c.index-index-2.ensures)
+        (omega (arith, c.loop-index-2-test.false, c.index-index-end-2.ensures)) c.loop-index-2.invariant in
+    let limits = whole (PassesNoLimit c.args.types.now) range c.index-index.result c.loop-index.index (sym c.index-index.ensures)
+        (omega (arith, c.loop-index-test.false, c.index-index-end.ensures)) c.loop-index.invariant in
+    all_fine c.args.types.now c.args.group range c.index-elements.ensures rules limits

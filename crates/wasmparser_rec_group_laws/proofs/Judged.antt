@@ -9,7 +9,7 @@ use Rattle.wasm_spec.proofs.Carried.{carried, carried_back, limits_carried_back}
 use Rattle.wasm_spec.proofs.GroupTrees.{length-places_of}
 use Rattle.wasm_spec.proofs.MappedBack.{all_left, all_right}
 use Rattle.wasm_spec.proofs.MappedTypes.{all_map}
-use Rattle.wasm_spec.proofs.Places.{all_by_place, all_get, get_some}
+use Rattle.wasm_spec.proofs.Places.{all_by_place, get_some}
 use Rattle.wasm_spec.proofs.TypeMaps.{group_refs-map}
 use Rattle.wasm_spec.specs.Features.{Features, FunctionReferences, Gc, StackSwitching, has, needs_type_canonicalization}
 use Rattle.wasm_spec.specs.Gates.{is_allowed_composite, is_allowed_group, is_allowed_sub}

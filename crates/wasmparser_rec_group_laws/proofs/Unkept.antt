@@ -1,17 +1,17 @@
 -- A group that keeps all rules can be kept.
-use Rattle.std.proofs.Common.{◌≡◌, ℕ, suc, ◌+◌, ◌-◌, ◌<◌, Bool, true, ◌&&◌, List, [], ◌∷◌, ◌++◌, length, map, Option, Some, inl, inr, refl, sym, ap, ◌∙◌, subst, arith}
+use Rattle.std.proofs.Common.{◌≡◌, ℕ, suc, ◌+◌, ◌-◌, ◌<◌, Bool, List, [], ◌∷◌, ◌++◌, length, map, Some, inl, inr, refl, sym, ap, ◌∙◌, subst, arith}
 use Rattle.std.proofs.lemmas.List.{length-map}
 use Rattle.std.proofs.lemmas.Option.{slice_get-map, slice_get_within}
-use Rattle.std.specs.List.{AllByRecursion, list_all, slice_get}
+use Rattle.std.specs.List.{AllByRecursion, slice_get}
 use Rattle.std.specs.Option.{option_map, unwrap_or}
 use Rattle.wasm_spec.proofs.GroupTrees.{opened-roll}
 use Rattle.wasm_spec.proofs.MappedBack.{all_left}
-use Rattle.wasm_spec.proofs.Places.{all_get, get_either, get_left, get_right, get_some}
+use Rattle.wasm_spec.proofs.Places.{all_by_place, all_get, get_either, get_left, get_right, get_some}
 use Rattle.wasm_spec.proofs.TypeMaps.{group_refs-map}
 use Rattle.wasm_spec.specs.Features.{Features, Gc, has}
 use Rattle.wasm_spec.specs.Groups.{Extends, IsWellFormedAt, KeepsGroupRules}
 use Rattle.wasm_spec.specs.Matching.{CompositeMatches}
-use Rattle.wasm_spec.specs.Subtyping.{SubTypes, abstract_of}
+use Rattle.wasm_spec.specs.Subtyping.{IsOfKind, SubTypes, abstract_of}
 use Rattle.wasm_spec.specs.Syntax as syntax
 use Rattle.wasm_spec.specs.TypeReferences.{composite_map, group_refs, sub_map, subs_map}
 use Rattle.wasm_spec.specs.Trees.{DefType, no_type, opened, reference_of, seen_from, tree_of, type_at, types_after, types_of_group, unrolled}
@@ -26,16 +26,12 @@ use Rattle.wasmparser_rec_group_laws.proofs.OwnTypes.{places_at, section_members
 use Rattle.wasmparser_rec_group_laws.specs.Contexts.{in_section, types_of}
 use Rattle.wasmparser_rec_groups.proofs.CanonicalGroups.{mapped_at, members_mapped, of_members, of_type, same_abstract}
 use Rattle.wasmparser_rec_groups.specs.Interning.{AreKnown, CanBeKept, IsModuleIndex, NamesModuleTypes, canonical_members}
-use Rattle.wasmparser_rec_groups.specs.Kinds.{earlier_or_own, is_like, is_of_one_kind, keep_kinds, keeps_kind}
+use Rattle.wasmparser_rec_groups.specs.Kinds.{HasSupertypesOfKind, HaveSupertypesOfKind, earlier_or_own}
 use Rattle.wasmparser_types.specs.Index.{Index, Module, RecGroup as Place, Id, number_of}
 use Rattle.wasmparser_types.specs.RecGroups.{members}
 use Rattle.wasmparser_types.specs.SubTypes.{sub_type}
 
 -- ---- lists
-
-all_true : {X : Type 0} (test : X → Bool) (xs : List X) → ((place : ℕ) (x : X) → slice_get xs place ≡ Some x → test x ≡ true) → list_all test xs ≡ true
-all_true test [] each = refl
-all_true test (x ∷ xs) each = ap (λ b. b && list_all test xs) (each 0 x refl) ∙ all_true test xs (λ place y at. each (suc place) y at)
 
 -- indexes whose numbers are below a bound are below it
 below_bound : (bound : ℕ) (refs : List Index) → AllByRecursion (λ n. n < bound) (map number_of refs) → AllByRecursion (IsBelow bound) refs
@@ -66,24 +62,6 @@ matches_kind sub_at (ContComposite a) (FuncComposite b) h = absurd h
 matches_kind sub_at (ContComposite a) (StructComposite b) h = absurd h
 matches_kind sub_at (ContComposite a) (ArrayComposite b) h = absurd h
 matches_kind sub_at (ContComposite a) (ContComposite b) h = refl
-
-kind_like : (a b : CompositeType Index) → abstract_of a ≡ abstract_of b → is_of_one_kind a b ≡ true
-kind_like (FuncComposite a) (FuncComposite b) h = refl
-kind_like (FuncComposite a) (StructComposite b) h = absurd cc
-kind_like (FuncComposite a) (ArrayComposite b) h = absurd cc
-kind_like (FuncComposite a) (ContComposite b) h = absurd cc
-kind_like (StructComposite a) (FuncComposite b) h = absurd cc
-kind_like (StructComposite a) (StructComposite b) h = refl
-kind_like (StructComposite a) (ArrayComposite b) h = absurd cc
-kind_like (StructComposite a) (ContComposite b) h = absurd cc
-kind_like (ArrayComposite a) (FuncComposite b) h = absurd cc
-kind_like (ArrayComposite a) (StructComposite b) h = absurd cc
-kind_like (ArrayComposite a) (ArrayComposite b) h = refl
-kind_like (ArrayComposite a) (ContComposite b) h = absurd cc
-kind_like (ContComposite a) (FuncComposite b) h = absurd cc
-kind_like (ContComposite a) (StructComposite b) h = absurd cc
-kind_like (ContComposite a) (ArrayComposite b) h = absurd cc
-kind_like (ContComposite a) (ContComposite b) h = refl
 
 -- ---- a group in the context of a list
 
@@ -165,16 +143,8 @@ module _ (canonical : ℕ → Bool) (features : Features) (ids : List ℕ) (tabl
       let one : supertype ≡ sub_map (type_of_index canonical tables) at.0 = some_same supertype _ (sym is ∙ unrolls) in
       (at.0, at.1, sym (ap (λ (t : SubType DefType). abstract_of t.composite_type) one ∙ same_abstract (type_of_index canonical tables) at.0.composite_type))
 
-  -- an index among a type's supertypes, in the group's canonical form
-  abbrev found_at : Index → Option (SubType Index)
-  found_at index = earlier_or_own tables canonical_group (canonical_index ids index)
-
-  like : (composite : CompositeType Index) (found : Option (SubType Index)) (type : SubType Index) → found ≡ Some type → abstract_of type.composite_type ≡ abstract_of composite
-      → is_like composite found ≡ true
-  like composite found type is kind = ap (is_like composite) is ∙ kind_like type.composite_type composite kind
-
   supertype_like : (place : ℕ) (plain : SubType Index) → place < length (members group) → (index : Index) → IsModuleIndex index → IsBelow (length ids + place) index
-      → Extends unrolled (sub_map (type_at section) (sub_map number_of plain)) (type_at section (number_of index)) → is_like (composite_map (canonical_index ids) plain.composite_type) (found_at index) ≡ true
+      → Extends unrolled (sub_map (type_at section) (sub_map number_of plain)) (type_at section (number_of index)) → IsOfKind (earlier_or_own tables canonical_group) (canonical_index ids index) (abstract_of (composite_map (canonical_index ids) plain.composite_type))
   supertype_like place plain less (Place n) name below extends = absurd name
   supertype_like place plain less (Id n) name below extends = absurd name
   supertype_like place plain less (Module n) name below extends = elim (get_either ids n) [
@@ -185,7 +155,7 @@ module _ (canonical : ℕ → Bool) (features : Features) (ids : List ℕ) (tabl
         let type_is : type_at section n ≡ type_at types id =
         ap (λ o. unwrap_or o no_type) (get_left context (types_of_group context (in_section group)) n within ∙ slice_get-map (type_at types) ids n ∙ ap (option_map (type_at types)) at.1) in
         let it = known_kind id extends.supertype (all_get (λ i. i < length tables.types) ids known n id at.1) (sym (ap unrolled type_is) ∙ extends.is) in
-        like composite (found_at (Module n)) it.0 (ap (earlier_or_own tables canonical_group) is ∙ it.1) (it.2 ∙ kind)
+        record { type = it.0; is = ap (earlier_or_own tables canonical_group) is ∙ it.1; holds = it.2 ∙ kind }
     | inr past ↦
         let q = past.1.0 in
         let n_is : n ≡ length ids + q = past.1.1 in
@@ -194,8 +164,11 @@ module _ (canonical : ℕ → Bool) (features : Features) (ids : List ℕ) (tabl
         let it = own_kind q extends.supertype (omega (arith, below, n_is, less)) (sym (ap (λ m. unrolled (type_at section m)) n_is) ∙ extends.is) in
         let found : slice_get canonical_group q ≡ Some (sub_map (canonical_index ids) it.0) =
         ap (λ ms. slice_get ms q) (members_mapped (canonical_index ids) group) ∙ slice_get-map (sub_map (canonical_index ids)) (members group) q ∙ ap (option_map (sub_map (canonical_index ids))) it.1 in
-        like composite (found_at (Module n)) (sub_map (canonical_index ids) it.0) (ap (earlier_or_own tables canonical_group) is ∙ found)
-        (same_abstract (canonical_index ids) it.0.composite_type ∙ it.2 ∙ kind)
+        record {
+          type = sub_map (canonical_index ids) it.0;
+          is = ap (earlier_or_own tables canonical_group) is ∙ found;
+          holds = same_abstract (canonical_index ids) it.0.composite_type ∙ it.2 ∙ kind;
+        }
   ] where
     composite : CompositeType Index
     composite = composite_map (canonical_index ids) plain.composite_type
@@ -206,24 +179,22 @@ module _ (canonical : ℕ → Bool) (features : Features) (ids : List ℕ) (tabl
         ∙ same_abstract (type_at section) (composite_map number_of plain.composite_type) ∙ same_abstract number_of plain.composite_type
         ∙ sym (same_abstract (canonical_index ids) plain.composite_type)
 
-  kinds_of : (place : ℕ) (plain : SubType Index) → slice_get (members group) place ≡ Some plain → keeps_kind (earlier_or_own tables canonical_group) (sub_map (canonical_index ids) plain) ≡ true
+  kinds_of : (place : ℕ) (plain : SubType Index) → slice_get (members group) place ≡ Some plain → HasSupertypesOfKind (earlier_or_own tables canonical_group) (sub_map (canonical_index ids) plain)
   kinds_of place plain is =
       each plain.supertypes (all_left IsModuleIndex plain.supertypes _ (of_type IsModuleIndex (members group) place plain (of_members IsModuleIndex group names) is)) (earlier_at place plain is).earlier
       (well_at place plain is).extends.each where
         each : (supertypes : List Index) → AllByRecursion IsModuleIndex supertypes → AllByRecursion (IsBelow (length ids + place)) supertypes
             → AllByRecursion (Extends unrolled (sub_map (type_at section) (sub_map number_of plain))) (map (type_at section) (map number_of supertypes))
-            → list_all (λ r. is_like (composite_map (canonical_index ids) plain.composite_type) (earlier_or_own tables canonical_group r)) (map (canonical_index ids) supertypes) ≡ true
-        each [] name below extends = refl
+            → AllByRecursion (λ r. IsOfKind (earlier_or_own tables canonical_group) r (abstract_of (composite_map (canonical_index ids) plain.composite_type))) (map (canonical_index ids) supertypes)
+        each [] name below extends = tt
         each (index ∷ supertypes) name below extends =
-            let rest = list_all (λ r. is_like (composite_map (canonical_index ids) plain.composite_type) (earlier_or_own tables canonical_group r)) (map (canonical_index ids) supertypes) in
-            ap (λ b. b && rest) (supertype_like place plain (slice_get_within (members group) place plain is) index name.0 below.0 extends.0)
-            ∙ each supertypes name.1 below.1 extends.1
+            (supertype_like place plain (slice_get_within (members group) place plain is) index name.0 below.0 extends.0, each supertypes name.1 below.1 extends.1)
 
-  all_kinds : keep_kinds (earlier_or_own tables canonical_group) canonical_group ≡ true
+  all_kinds : HaveSupertypesOfKind (earlier_or_own tables canonical_group) canonical_group
   all_kinds =
-      all_true (keeps_kind (earlier_or_own tables canonical_group)) canonical_group (λ place type is.
+      all_by_place (HasSupertypesOfKind (earlier_or_own tables canonical_group)) canonical_group (λ place type is.
       let plain = mapped_at (sub_map (canonical_index ids)) (members group) place type (ap (λ ms. slice_get ms place) (sym (members_mapped (canonical_index ids) group)) ∙ is) in
-      subst (λ t. keeps_kind (earlier_or_own tables canonical_group) t ≡ true) (sym plain.2) (kinds_of place plain.0 plain.1))
+      subst (HasSupertypesOfKind (earlier_or_own tables canonical_group)) (sym plain.2) (kinds_of place plain.0 plain.1))
 
   pub can_be_kept : CanBeKept features ids tables group
   can_be_kept = record {

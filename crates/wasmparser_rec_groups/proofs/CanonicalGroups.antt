@@ -1,5 +1,5 @@
 -- Groups of a module in canonical form: what they refer to is known, and their types are below earlier ones of their own kind.
-use Rattle.std.proofs.Common.{◌≡◌, ℕ, zero, suc, ◌+◌, ◌-◌, ◌<◌, ◌≤◌, Bool, true, false, ◌&&◌, List, [], ◌∷◌, ◌++◌, length, map, option_map, Option, Some, None, inl, inr, refl, sym, ap, ◌∙◌, subst, arith}
+use Rattle.std.proofs.Common.{◌≡◌, ℕ, zero, suc, ◌+◌, ◌-◌, ◌<◌, ◌≤◌, Bool, true, false, ◌&&◌, List, [], ◌∷◌, ◌++◌, length, map, option_map, Some, None, inl, inr, refl, sym, ap, ◌∙◌, subst, arith}
 use Rattle.std.proofs.lemmas.List.{length-map}
 use Rattle.std.proofs.lemmas.Option.{slice_get-map, slice_get_within}
 use Rattle.std.specs.List.{AllByRecursion, list_all, slice_get}
@@ -8,14 +8,14 @@ use Rattle.wasm_spec.proofs.MappedTypes.{all_map}
 use Rattle.wasm_spec.proofs.Places.{all_get, get_cases, get_either, get_left, get_right}
 use Rattle.wasm_spec.proofs.TypeMaps.{subs_refs-map}
 use Rattle.wasm_spec.specs.Features.{Features, Gc, has}
-use Rattle.wasm_spec.specs.Subtyping.{abstract_of}
+use Rattle.wasm_spec.specs.Subtyping.{IsOfKind, abstract_of}
 use Rattle.wasm_spec.specs.TypeReferences.{composite_map, group_map, group_refs, sub_map, sub_refs, subs_map, subs_refs}
 use Rattle.wasm_spec.specs.Types.{CompositeType, FuncComposite, StructComposite, ArrayComposite, ContComposite, SubType, RecGroup, Single, Group}
 use Rattle.wasmparser_chains.specs.Chains.{AreBelowEarlier, IsBelowEarlier, below_none, below_one}
 use Rattle.wasmparser_group_rules.specs.Canonical.{HasEarlierSupertype, HaveEarlierSupertypes, IsBelow, canonical_index, id_or_place, index_bound}
 use Rattle.wasmparser_interning.specs.TypeTables.{AreWithin, Interns, IsWithin, TypeTables, absolute, sub_types}
 use Rattle.wasmparser_rec_groups.specs.Interning.{AreKnown, CanBeKept, IsModuleIndex, NamesModuleTypes, canonical_members}
-use Rattle.wasmparser_rec_groups.specs.Kinds.{earlier_or_own, is_like, is_of_one_kind, keeps_kind}
+use Rattle.wasmparser_rec_groups.specs.Kinds.{HasSupertypesOfKind, earlier_or_own}
 use Rattle.wasmparser_types.specs.Index.{Index, Module, RecGroup as Place, Id}
 use Rattle.wasmparser_types.specs.RecGroups.{members}
 use Rattle.wasmparser_types.specs.SubTypes.{sub_type}
@@ -105,39 +105,11 @@ test_at test [] i x all e = absurd cc
 test_at test (y ∷ xs) zero x all e = let one : y ≡ x = cc in subst (λ z. test z ≡ true) one (both_true (test y) (list_all test xs) all).0
 test_at test (y ∷ xs) (suc i) x all e = test_at test xs i x (both_true (test y) (list_all test xs) all).1 e
 
--- a type that is like another one is of its kind
-like_kind : (a b : CompositeType Index) → is_of_one_kind a b ≡ true → abstract_of a ≡ abstract_of b
-like_kind (FuncComposite a) (FuncComposite b) h = refl
-like_kind (FuncComposite a) (StructComposite b) h = absurd cc
-like_kind (FuncComposite a) (ArrayComposite b) h = absurd cc
-like_kind (FuncComposite a) (ContComposite b) h = absurd cc
-like_kind (StructComposite a) (FuncComposite b) h = absurd cc
-like_kind (StructComposite a) (StructComposite b) h = refl
-like_kind (StructComposite a) (ArrayComposite b) h = absurd cc
-like_kind (StructComposite a) (ContComposite b) h = absurd cc
-like_kind (ArrayComposite a) (FuncComposite b) h = absurd cc
-like_kind (ArrayComposite a) (StructComposite b) h = absurd cc
-like_kind (ArrayComposite a) (ArrayComposite b) h = refl
-like_kind (ArrayComposite a) (ContComposite b) h = absurd cc
-like_kind (ContComposite a) (FuncComposite b) h = absurd cc
-like_kind (ContComposite a) (StructComposite b) h = absurd cc
-like_kind (ContComposite a) (ArrayComposite b) h = absurd cc
-like_kind (ContComposite a) (ContComposite b) h = refl
-
 pub same_abstract : {R S : Type 0} (f : R → S) (c : CompositeType R) → abstract_of (composite_map f c) ≡ abstract_of c
 same_abstract f (FuncComposite c) = refl
 same_abstract f (StructComposite c) = refl
 same_abstract f (ArrayComposite c) = refl
 same_abstract f (ContComposite c) = refl
-
-pub record IsLike (composite : CompositeType Index) (found : Option (SubType Index)) : Type 0 where
-  pub type : SubType Index
-  pub is : found ≡ Some type
-  pub kind : abstract_of type.composite_type ≡ abstract_of composite
-
-like_type : (composite : CompositeType Index) (found : Option (SubType Index)) → is_like composite found ≡ true → IsLike composite found
-like_type composite (Some type) h = record { type = type; is = refl; kind = like_kind type.composite_type composite h }
-like_type composite None h = absurd cc
 
 module _ (old new : TypeTables) (group : List (SubType Index)) (types : sub_types new ≡ sub_types old ++ subs_map (absolute (length old.types)) group) where
   abbrev start : ℕ
@@ -159,11 +131,10 @@ module _ (old new : TypeTables) (group : List (SubType Index)) (types : sub_type
   still_below n type (below_one t is lt kind) = below_one t is lt (record { type = kind.type; is = old_type t kind.type kind.is; holds = kind.holds })
 
   -- what a type of the group has above it
-  module _ (ids : List ℕ) (place : ℕ) (type : SubType Index) (plain : SubType Index) (is : type ≡ sub_map (canonical_index ids) plain) (kinds : keeps_kind (earlier_or_own old group) type ≡ true)
+  module _ (ids : List ℕ) (place : ℕ) (type : SubType Index) (plain : SubType Index) (is : type ≡ sub_map (canonical_index ids) plain) (kinds : HasSupertypesOfKind (earlier_or_own old group) type)
       (names : AllByRecursion IsModuleIndex (sub_refs plain)) (earlier : HasEarlierSupertype (length ids + place) plain) where
-    like_one : (r : Index) → type.supertypes ≡ r ∷ [] → IsLike type.composite_type (earlier_or_own old group r)
-    like_one r one = like_type type.composite_type (earlier_or_own old group r)
-        (both_true (is_like type.composite_type (earlier_or_own old group r)) true (subst (λ q. list_all (λ t. is_like type.composite_type (earlier_or_own old group t)) q ≡ true) one kinds)).0
+    like_one : (r : Index) → type.supertypes ≡ r ∷ [] → IsOfKind (earlier_or_own old group) r (abstract_of type.composite_type)
+    like_one r one = (subst (AllByRecursion (λ t. IsOfKind (earlier_or_own old group) t (abstract_of type.composite_type))) one kinds).0
 
     own_kind : abstract_of type.composite_type ≡ abstract_of (sub_map (absolute start) type).composite_type
     own_kind = sym (same_abstract (absolute start) type.composite_type)
@@ -175,7 +146,7 @@ module _ (old new : TypeTables) (group : List (SubType Index)) (types : sub_type
           let above : type.supertypes ≡ Id id ∷ [] = ap (λ (t : SubType Index). t.supertypes) is ∙ ap (map (canonical_index ids)) one ∙ ap (λ o. id_or_place o (n - length ids) ∷ []) at in
           let like = like_one (Id id) above in
           let less : id < start = omega (arith, slice_get_within (sub_types old) id like.type like.is, start_is) in
-          below_one id (ap (map (absolute start)) above) (omega (arith, less)) (record { type = like.type; is = old_type id like.type like.is; holds = like.kind ∙ own_kind })
+          below_one id (ap (map (absolute start)) above) (omega (arith, less)) (record { type = like.type; is = old_type id like.type like.is; holds = like.holds ∙ own_kind })
 
       below_own : (n q : ℕ) → plain.supertypes ≡ Module n ∷ [] → slice_get ids n ≡ None → n ≡ length ids + q → n < length ids + place
           → IsBelowEarlier (slice_get (sub_types new)) (start + place) (sub_map (absolute start) type)
@@ -185,7 +156,7 @@ module _ (old new : TypeTables) (group : List (SubType Index)) (types : sub_type
           ap (λ (t : SubType Index). t.supertypes) is ∙ ap (map (canonical_index ids)) one ∙ ap (λ o. id_or_place o (n - length ids) ∷ []) none ∙ ap (λ k. Place k ∷ []) q_is in
           let like = like_one (Place q) above in
           below_one (start + q) (ap (map (absolute start)) above) (omega (arith, past, before))
-          (record { type = sub_map (absolute start) like.type; is = own_type q like.type like.is; holds = same_abstract (absolute start) like.type.composite_type ∙ like.kind ∙ own_kind })
+          (record { type = sub_map (absolute start) like.type; is = own_type q like.type like.is; holds = same_abstract (absolute start) like.type.composite_type ∙ like.holds ∙ own_kind })
 
       go : (supertypes : List Index) → plain.supertypes ≡ supertypes → AllByRecursion IsModuleIndex supertypes → IsBelowEarlier (slice_get (sub_types new)) (start + place) (sub_map (absolute start) type)
       go [] none names =
@@ -207,7 +178,7 @@ module _ (features : Features) (ids : List ℕ) (old new : TypeTables) (group : 
   added_below types place type at =
       let mapped = ap (λ q. slice_get q place) (sym (members_mapped (canonical_index ids) group)) ∙ at in
       let plain = mapped_at (sub_map (canonical_index ids)) (members group) place type mapped in
-      now_below old new canonical types ids place type plain.0 plain.2 (test_at (keeps_kind (earlier_or_own old canonical)) canonical place type kept.kinds at)
+      now_below old new canonical types ids place type plain.0 plain.2 (all_get (HasSupertypesOfKind (earlier_or_own old canonical)) canonical kept.kinds place type at)
       (of_type IsModuleIndex (members group) place plain.0 (of_members IsModuleIndex group names) plain.1)
       (have_at (length ids) (members group) place plain.0 kept.supertypes plain.1)
 

@@ -1,5 +1,5 @@
 -- What is asked of a group before it is kept, step by step.
-use Rattle.std.proofs.Common.{◌≡◌, ℕ, Bool, true, false, List, length, inl, inr, sym, ap, ◌∙◌, subst}
+use Rattle.std.proofs.Common.{◌≡◌, ℕ, Bool, true, List, length, inl, inr, sym, ap, ◌∙◌, subst}
 use Rattle.std.specs.List.{AllByRecursion}
 use Rattle.wasm_spec.specs.Features.{Features, Gc, has, needs_type_canonicalization}
 use Rattle.wasm_spec.specs.Gates.{is_allowed_group}
@@ -9,7 +9,7 @@ use Rattle.wasmparser_error.specs.declared.error.Error.{Error}
 use Rattle.wasmparser_group_rules.specs.Canonical.{HaveEarlierSupertypes, IsBelow, IsNotCanonical, canonical_index, index_bound}
 use Rattle.wasmparser_interning.specs.TypeTables.{Interns, IsNoIntern, TypeTables, has_room}
 use Rattle.wasmparser_rec_groups.specs.Interning.{CanBeKept, Refuses, canonical_members, has_no_room, out_of_memory}
-use Rattle.wasmparser_rec_groups.specs.Kinds.{earlier_or_own, keep_kinds}
+use Rattle.wasmparser_rec_groups.specs.Kinds.{HaveSupertypesOfKind, earlier_or_own}
 use Rattle.wasmparser_types.specs.Index.{Index}
 use Rattle.wasmparser_types.specs.RecGroups.{members}
 
@@ -21,19 +21,18 @@ module _ (features : Features) (ids : List ℕ) (tables : TypeTables) (group : R
 
   -- types: those of the group in canonical form, as the code has them
   pub another_kind : (types : List (SubType Index)) (canonical : RecGroup Index) → types ≡ members canonical → canonical ≡ group_map (canonical_index ids) group
-      → keep_kinds (earlier_or_own tables types) types ≡ false → ¬ (CanBeKept features ids tables group)
-  another_kind types canonical are is fails kept =
-      let yes = subst (λ m. keep_kinds (earlier_or_own tables m) m ≡ true) (sym (are ∙ ap members is)) kept.kinds in absurd cc
+      → ¬ (HaveSupertypesOfKind (earlier_or_own tables types) types) → ¬ (CanBeKept features ids tables group)
+  another_kind types canonical are is fails kept = fails (subst (λ m. HaveSupertypesOfKind (earlier_or_own tables m) m) (sym (are ∙ ap members is)) kept.kinds)
 
   pub can_be_kept : (gc : Bool) (types : List (SubType Index)) (canonical : RecGroup Index) → gc ≡ has features Gc → types ≡ members canonical
       → canonical ≡ group_map (canonical_index ids) group → is_allowed_group features group ≡ true → HaveEarlierSupertypes (length ids) (members group)
       → AllByRecursion (IsBelow (index_bound gc (length ids) (length (members group)))) (group_refs group)
-      → keep_kinds (earlier_or_own tables types) types ≡ true → CanBeKept features ids tables group
+      → HaveSupertypesOfKind (earlier_or_own tables types) types → CanBeKept features ids tables group
   can_be_kept gc types canonical gc_is are is allowed earlier below kinds = record {
     allowed = allowed;
     supertypes = earlier;
     in_range = subst (λ g. AllByRecursion (IsBelow (index_bound g (length ids) (length (members group)))) (group_refs group)) gc_is below;
-    kinds = subst (λ m. keep_kinds (earlier_or_own tables m) m ≡ true) (are ∙ ap members is) kinds;
+    kinds = subst (λ m. HaveSupertypesOfKind (earlier_or_own tables m) m) (are ∙ ap members is) kinds;
   }
 
   -- interning a group that is the one in canonical form

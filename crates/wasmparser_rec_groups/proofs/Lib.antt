@@ -1,5 +1,6 @@
 pub mod CanonicalGroups
 mod GroupLaws
 mod Keeping
+mod KindLaws
 pub mod KnownIds
 mod RuleLaws

@@ -10,7 +10,7 @@ use Rattle.wasmparser_error.specs.declared.error.ErrorKind.{ErrorKind}
 use Rattle.wasmparser_error.specs.declared.error.ErrorKind.TheVariants.{Invalid, Memory, Total}
 use Rattle.wasmparser_group_rules.specs.Canonical.{HaveEarlierSupertypes, IsBelow, canonical_index, index_bound}
 use Rattle.wasmparser_interning.specs.TypeTables.{Interns, TypeTables, group_ids, has_room}
-use Rattle.wasmparser_rec_groups.specs.Kinds.{earlier_or_own, keep_kinds}
+use Rattle.wasmparser_rec_groups.specs.Kinds.{HaveSupertypesOfKind, earlier_or_own}
 use Rattle.wasmparser_rec_groups.specs.Rules.{IsFine, IsRefusedGroup}
 use Rattle.wasmparser_types.specs.Index.{Index, Module, RecGroup as Place, Id}
 use Rattle.wasmparser_types.specs.RecGroups.{members}
@@ -38,7 +38,7 @@ pub record CanBeKept (features : Features) (ids : List ℕ) (tables : TypeTables
   pub allowed : is_allowed_group features group ≡ true
   pub supertypes : HaveEarlierSupertypes (length ids) (members group)
   pub in_range : AllByRecursion (IsBelow (index_bound (has features Gc) (length ids) (length (members group)))) (group_refs group)
-  pub kinds : keep_kinds (earlier_or_own tables (canonical_members ids group)) (canonical_members ids group) ≡ true
+  pub kinds : HaveSupertypesOfKind (earlier_or_own tables (canonical_members ids group)) (canonical_members ids group)
 
 -- A group was interned in canonical form, or was known so, and its types keep all rules.
 pub record Keeps (features : Features) (ids : List ℕ) (old new : TypeTables) (group : RecGroup Index) (number : ℕ) : Type 0 where

@@ -1,9 +1,9 @@
 -- Supertypes of a type's own kind, in a group in canonical form. They are asked for before the group is kept, because subtyping of ids takes all links to
 -- lead to types of the same kind.
-use Rattle.std.specs.Prelude.{Bool, true, false, List, Option, Some, None, slice_get}
-use Rattle.std.specs.List.{list_all}
-use Rattle.wasm_spec.specs.Subtyping.{SubTypes}
-use Rattle.wasm_spec.specs.Types.{CompositeType, FuncComposite, StructComposite, ArrayComposite, ContComposite, SubType}
+use Rattle.std.specs.Prelude.{List, None, slice_get}
+use Rattle.std.specs.List.{AllByRecursion}
+use Rattle.wasm_spec.specs.Subtyping.{IsOfKind, SubTypes, abstract_of}
+use Rattle.wasm_spec.specs.Types.{SubType}
 use Rattle.wasmparser_interning.specs.TypeTables.{TypeTables, sub_types}
 use Rattle.wasmparser_types.specs.Index.{Index, Module, RecGroup, Id}
 
@@ -13,22 +13,9 @@ earlier_or_own tables group (Module n) = None
 earlier_or_own tables group (RecGroup place) = slice_get group place
 earlier_or_own tables group (Id n) = slice_get (sub_types tables) n
 
--- two composite types are both of functions, of structures, of arrays or of continuations
-abbrev pub is_of_one_kind : CompositeType Index → CompositeType Index → Bool
-is_of_one_kind (FuncComposite a) (FuncComposite b) = true
-is_of_one_kind (StructComposite a) (StructComposite b) = true
-is_of_one_kind (ArrayComposite a) (ArrayComposite b) = true
-is_of_one_kind (ContComposite a) (ContComposite b) = true
-is_of_one_kind _ _ = false
-
--- a type is known, and of the kind of a composite type
-abbrev pub is_like : CompositeType Index → Option (SubType Index) → Bool
-is_like composite (Some type) = is_of_one_kind type.composite_type composite
-is_like composite None = false
-
 -- all supertypes of a type are of its kind
-abbrev pub keeps_kind : SubTypes Index → SubType Index → Bool
-keeps_kind sub_at type = list_all (λ supertype. is_like type.composite_type (sub_at supertype)) type.supertypes
+abbrev pub HasSupertypesOfKind : SubTypes Index → SubType Index → Type 0
+HasSupertypesOfKind sub_at type = AllByRecursion (λ supertype. IsOfKind sub_at supertype (abstract_of type.composite_type)) type.supertypes
 
-abbrev pub keep_kinds : SubTypes Index → List (SubType Index) → Bool
-keep_kinds sub_at types = list_all (keeps_kind sub_at) types
+abbrev pub HaveSupertypesOfKind : SubTypes Index → List (SubType Index) → Type 0
+HaveSupertypesOfKind sub_at types = AllByRecursion (HasSupertypesOfKind sub_at) types

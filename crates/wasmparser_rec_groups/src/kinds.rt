@@ -1,12 +1,13 @@
 //! Supertypes of a type's own kind.
 
-ghost use Rattle.std.specs.Prelude.{◌≡◌, map};
+ghost use Rattle.std.specs.Prelude.{◌≡◌, ◌↔◌, IsTrue, map, option_map};
 ghost use Rattle.std.specs.List.{list_all};
 ghost use Rattle.std.specs.Option.{option_copied};
-ghost use Rattle.wasmparser_rec_groups.specs.Kinds as spec;
+ghost use Rattle.wasmparser_rec_groups.specs.KindTests as spec;
+ghost use Rattle.wasmparser_rec_groups.specs.Kinds as kinds;
+ghost use Rattle.wasmparser_rec_groups.specs.Kinds.{HaveSupertypesOfKind};
 ghost use Rattle.wasmparser_types.specs.CompositeTypes.{composite_type};
 ghost use Rattle.wasmparser_types.specs.SubTypes.{sub_type};
-ghost use Rattle.std.specs.Prelude.{option_map};
 
 use wasmparser_interning::type_list::TypeList;
 use wasmparser_types::composite_type::CompositeType;
@@ -31,7 +32,7 @@ fn earlier_or_own<'a>(
     group: &'a [SubType],
     index: PackedIndex,
 ) -> Option<&'a SubType>
-    ensures { option_map sub_type (option_copied result) ≡ spec.earlier_or_own types.now (map sub_type group.now) index }
+    ensures { option_map sub_type (option_copied result) ≡ kinds.earlier_or_own types.now (map sub_type group.now) index }
 {
     match index.unpack() {
         UnpackedIndex::Id(id) => types.get(id),
@@ -42,7 +43,7 @@ fn earlier_or_own<'a>(
 
 // Whether an index in a group in canonical form stands for a type of this kind.
 fn is_like(types: &TypeList, group: &[SubType], index: PackedIndex, it: &CompositeType) -> bool
-    ensures { result ≡ spec.is_like (composite_type it.now) (spec.earlier_or_own types.now (map sub_type group.now) index) }
+    ensures { result ≡ spec.is_like (composite_type it.now) (kinds.earlier_or_own types.now (map sub_type group.now) index) }
 {
     match earlier_or_own(types, group, index) {
         Some(supertype) => is_of_one_kind(&supertype.composite_type, it),
@@ -51,7 +52,7 @@ fn is_like(types: &TypeList, group: &[SubType], index: PackedIndex, it: &Composi
 }
 
 fn keeps_kind(types: &TypeList, group: &[SubType], it: &SubType) -> bool
-    ensures { result ≡ spec.keeps_kind (spec.earlier_or_own types.now (map sub_type group.now)) (sub_type it.now) }
+    ensures { result ≡ spec.keeps_kind (kinds.earlier_or_own types.now (map sub_type group.now)) (sub_type it.now) }
 {
     it.supertype_idxs
         .iter()
@@ -60,7 +61,7 @@ fn keeps_kind(types: &TypeList, group: &[SubType], it: &SubType) -> bool
 
 // Whether all supertypes in a group in canonical form are of their subtypes' kinds.
 pub(crate) fn keep_kinds(types: &TypeList, group: &[SubType]) -> bool
-    ensures { result ≡ spec.keep_kinds (spec.earlier_or_own types.now (map sub_type group.now)) (map sub_type group.now) }
+    ensures { IsTrue result ↔ HaveSupertypesOfKind (kinds.earlier_or_own types.now (map sub_type group.now)) (map sub_type group.now) }
 {
     group.iter().all(|it| keeps_kind(types, group, it))
 }

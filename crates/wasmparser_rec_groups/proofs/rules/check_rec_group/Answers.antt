@@ -40,7 +40,7 @@ pub returns-clause-fine : goal.returns-clause-fine
 returns-clause-fine c =
     let range = c.index-elements.result.now in
     let rules = whole (KeepsRules c.args.types.now) range c.index-index-2.result c.loop-index-2.index (sym c.index-index-2.ensures)
-        (omega (arith, c.loop-index-2-test.false, c.index-index-end-2.ensures)) c.loop-index-2.invariant in
+    (omega (arith, c.loop-index-2-test.false, c.index-index-end-2.ensures)) c.loop-index-2.invariant in
     let limits = whole (PassesNoLimit c.args.types.now) range c.index-index.result c.loop-index.index (sym c.index-index.ensures)
-        (omega (arith, c.loop-index-test.false, c.index-index-end.ensures)) c.loop-index.invariant in
+    (omega (arith, c.loop-index-test.false, c.index-index-end.ensures)) c.loop-index.invariant in
     all_fine c.args.types.now c.args.group range c.index-elements.ensures rules limits

@@ -5,3 +5,5 @@
 mod snapshot_list;
 #[cfg(test)]
 mod type_list;
+#[cfg(test)]
+mod type_section;

@@ -1,8 +1,9 @@
 -- What is generated is accepted.
 use Rattle.std.proofs.Common.{◌≡◌, ℕ, false, List, Err, refl}
 use Rattle.wasm_spec.specs.Features.{Features, CompactImports, has}
-use Rattle.wasmparser.specs.Validation.{IsAccepted, IsValidated}
-use Rattle.wasmparser.specs.Parts.{Error, Memory}
+use Rattle.wasmparser_validator.specs.Validation.{IsAccepted, IsValidated}
+use Rattle.wasmparser_error.specs.declared.error.Error.{Error}
+use Rattle.wasmparser_error.specs.declared.error.ErrorKind.TheVariants.{Memory}
 use Rattle.wasm_smith.specs.Config.{AreFeaturesOf}
 use Rattle.wasm_smith.specs.Generating.{module_at}
 use Rattle.wasm_smith.specs.Parts.{Config}

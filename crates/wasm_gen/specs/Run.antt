@@ -2,7 +2,8 @@
 use Rattle.std.specs.Prelude.{◌≡◌, ◌≢◌, ◌≤◌, ◌⊎◌, ◌^◌, ℕ, List, length, Bool, Option, Result, is_ok, IfErr, IsErrAnd}
 use Rattle.std.specs.Io.KnownBytes.{Appends}
 use Rattle.wasm_spec.specs.Spaces.{Sizes}
-use Rattle.wasmparser.specs.Parts.{Error, Memory}
+use Rattle.wasmparser_error.specs.declared.error.Error.{Error}
+use Rattle.wasmparser_error.specs.declared.error.ErrorKind.TheVariants.{Memory}
 use Rattle.wasm_gen.specs.History.{History}
 use Rattle.wasm_gen.specs.Session.{Checks}
 use Rattle.wasm_gen.specs.Transfer.{ConsumesAll, AppendsFront}

@@ -2,8 +2,10 @@
 use Rattle.std.specs.Prelude.{◌≡◌, ℕ, List, Bool, true, false, not, Result, Ok, Err, IsErrAnd}
 use Rattle.wasm_core.specs.LimitCases.{Locals}
 use Rattle.wasm_spec.specs.Spaces.{Sizes}
-use Rattle.wasmparser.specs.Validation.{IsValidated}
-use Rattle.wasmparser.specs.Parts.{Error, ErrorKind, Operator, Body, Limit, Failed}
+use Rattle.wasmparser_validator.specs.Validation.{IsValidated}
+use Rattle.wasmparser_error.specs.declared.error.Error.{Error}
+use Rattle.wasmparser_error.specs.declared.error.ErrorKind.{ErrorKind}
+use Rattle.wasmparser_error.specs.declared.error.ErrorKind.TheVariants.{Operator, Body, Limit, Failed}
 use Rattle.wasm_gen.specs.History.{History}
 
 -- a refusal of this kind is one of a body

@@ -1,8 +1,8 @@
 -- The line that tells the verdict on a module.
 use Rattle.std.specs.Prelude.{ℕ, List, ◌++◌, codes, decimal, Result, Ok, Err}
 use Rattle.wasm_spec.specs.Spaces.{Sizes}
-use Rattle.wasmparser.specs.Error.{kind_name}
-use Rattle.wasmparser.specs.Parts.{Error}
+use Rattle.wasmparser_error.specs.Error.{kind_name}
+use Rattle.wasmparser_error.specs.declared.error.Error.{Error}
 
 -- a label and the number under it
 abbrev pub counted : List ℕ → ℕ → List ℕ

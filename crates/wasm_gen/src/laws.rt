@@ -7,7 +7,8 @@ ghost use Rattle.wasm_gen.specs.Session.{Checks};
 ghost use Rattle.wasm_smith.specs.Config.{AreFeaturesOf};
 ghost use Rattle.wasm_smith.specs.Parts.{Config};
 ghost use Rattle.wasm_spec.specs.Features.{Features};
-ghost use Rattle.wasmparser.specs.Parts.{Error, Memory};
+ghost use Rattle.wasmparser_error.specs.declared.error.Error.{Error};
+ghost use Rattle.wasmparser_error.specs.declared.error.ErrorKind.TheVariants.{Memory};
 
 /// A new session with the features of the configuration refuses a generated module only when it is out of memory. `c` is a
 /// configuration after `sanitize`.

@@ -9,7 +9,7 @@ use std::alloc::Global;
 use std::marker::Model;
 use wasm_core::features::WasmFeatures;
 use wasm_core::limits::Limit;
-use wasmparser::validator::validate_module;
+use wasmparser_validator::validator::validate_module;
 
 /// Validates modules under one set of features. After a module with a refused body the next one is validated. Any other
 /// refusal ends the validator: from then on each module is refused as `Failed`, and

@@ -2,7 +2,7 @@
 
 ghost use Rattle.std.specs.Prelude.{◌≡◌, ◌≤◌, ◌+◌, ◌++◌, [], length, vec_len, vec_capacity, Err, IfOk};
 ghost use Rattle.wasm_gen.specs.Verdict.{counted, yes_line, verdict_line};
-ghost use Rattle.wasmparser.specs.Parts.{shown};
+ghost use Rattle.wasmparser_validator.specs.Shown.{shown};
 
 use crate::judge::{Error, Types, TypesRef};
 use itoa::Buffer;

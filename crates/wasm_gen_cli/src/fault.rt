@@ -39,3 +39,13 @@ pub fn tell_text<R: Eprint>(rt: &R, text: &str) -> u8
     let _ = eprintln!(rt; "wasm_gen: {text}");
     status_of(&[Outcome::Fault])
 }
+
+/// The same of the words of the command line, by a whole text.
+pub fn tell_of_words<R: Eprint>(rt: &R, text: &str) -> u8
+    ensures { result ≡ 2 }
+{
+    match eprint!(rt; "{text}") {
+        Ok(()) => status_of(&[Outcome::Fault]),
+        Err(_) => tell(rt, RunError::Write),
+    }
+}

@@ -1,20 +1,20 @@
 //! The program `wasm_gen`: makes WebAssembly modules of seeds, and validates modules in files.
 #![tactic(auto)]
 
+ghost use Rattle.std.specs.Prelude.{◌≡◌, ◌⊎◌};
+
 mod check;
 mod fault;
 mod generate;
 #[cfg(test)]
 mod tests;
-mod words;
 
-use clap::ArgMatches;
-use clap::error::ErrorKind;
 use std::process::ExitCode;
 use std::rt::{Env, Files};
 use std::{env, io};
 use wasm_gen::error::RunError;
-use wasm_gen::status::{Outcome, status_of};
+use wasm_gen::status::status_of;
+use wasm_gen_words::asked::{Asked, WordsError, read_words};
 
 fn main(rt: HostRuntime) -> ExitCode {
     ExitCode::from(run(&rt))
@@ -33,38 +33,28 @@ fn run<R: Env + Files + Print + Eprint + AllocGlobal>(rt: &R) -> u8 {
     let Ok(words) = args.collect::<Vec<String>>(alloc) else {
         return fault::tell(rt, RunError::Memory);
     };
-    match words::matches_of(alloc, words.as_slice()) {
-        Ok(matches) => run_command(rt, &matches),
-        Err(error) => tell_words(rt, &error),
+    match read_words(alloc, words.as_slice()) {
+        Ok(asked) => run_command(rt, &asked),
+        Err(WordsError::Wrong(text)) => fault::tell_of_words(rt, text.as_str()),
+        Err(WordsError::Memory) => fault::tell(rt, RunError::Memory),
     }
 }
 
-// Runs the command, and gives the status.
-fn run_command<R: Files + Print + Eprint + AllocGlobal>(rt: &R, matches: &ArgMatches<'_>) -> u8 {
-    if let Some(found) = matches.subcommand_matches("generate") {
-        if let Some(name) = found.get_str("SEED") {
-            return generate::generate_from_file(rt, name);
-        }
+// Does what is asked for, and gives the status.
+fn run_command<R: Files + Print + Eprint + AllocGlobal>(rt: &R, asked: &Asked<'_>) -> u8 {
+    match asked {
+        Asked::Generate(name) => generate::generate_from_file(rt, name),
+        Asked::Check(names) => check::check_files(rt, names.as_slice()),
+        Asked::Help(text) => show(rt, text.as_str()),
     }
-    if let Some(found) = matches.subcommand_matches("check") {
-        if let Some(names) = found.get_strs("FILE") {
-            return check::check_files(rt, names);
-        }
-    }
-    status_of(&[])
 }
 
-// Shows help, or what is wrong with the words, and gives the status.
-fn tell_words<R: Print + Eprint>(rt: &R, error: &clap::Error) -> u8 {
-    if error.kind() == ErrorKind::OutOfMemory {
-        return fault::tell(rt, RunError::Memory);
-    }
-    if error.print(rt).is_err() {
-        return fault::tell(rt, RunError::Write);
-    }
-    if error.exit_code() == 0 {
-        status_of(&[])
-    } else {
-        status_of(&[Outcome::Fault])
+// Shows a text, and gives the status.
+fn show<R: Print + Eprint>(rt: &R, text: &str) -> u8
+    ensures { (result ≡ 0) ⊎ (result ≡ 2) }
+{
+    match print!(rt; "{text}") {
+        Ok(()) => status_of(&[]),
+        Err(_) => fault::tell(rt, RunError::Write),
     }
 }

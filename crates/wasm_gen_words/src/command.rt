@@ -1,4 +1,4 @@
-//! The words of the command line.
+//! The command line that the program takes.
 
 use clap::{Arg, ArgAction, ArgMatches, Command, Error};
 use std::alloc::{AllocError, Global};
@@ -50,14 +50,14 @@ fn program<'a>(alloc: Global) -> Result<Command<'a>, AllocError> {
         .bin_name("wasm_gen")
 }
 
-/// The command line that the program takes.
-pub fn command<'a>(alloc: Global) -> Result<Command<'a>, AllocError> {
+// The whole command line.
+fn command<'a>(alloc: Global) -> Result<Command<'a>, AllocError> {
     let with_generate = add(program(alloc)?, generate(alloc))?;
     add(with_generate, check(alloc))
 }
 
-/// What the words ask for.
-pub fn matches_of<'a>(alloc: Global, words: &'a [String]) -> Result<ArgMatches<'a>, Error> {
+/// What clap finds in the words.
+pub(crate) fn matches_of<'a>(alloc: Global, words: &'a [String]) -> Result<ArgMatches<'a>, Error> {
     let program = command(alloc)?;
     program.try_get_matches_from(words)
 }

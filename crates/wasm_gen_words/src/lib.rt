@@ -1,0 +1,7 @@
+//! The words of the program's command line: what they ask for, as the program does it.
+#![tactic(auto)]
+
+pub mod asked;
+mod command;
+#[cfg(test)]
+mod tests;

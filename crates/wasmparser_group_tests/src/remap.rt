@@ -1,6 +1,6 @@
 //! Indexes that are replaced: in each place of each kind of type, and in no other.
 
-use crate::sub_type::{group_of, is_of};
+use crate::sub_type::{group_of_row, is_of};
 use std::alloc::Global;
 use std::test::Fail;
 use wasm_test_rows::rows::check_rows;
@@ -9,27 +9,27 @@ use wasmparser_types::remap::RemapIndex;
 
 // Groups, and what they are when their type indexes are moved by ten. The index 9 is refused.
 const GROUPS: &str = "
-    single open 3 4 | func | -> => single open 13 14 | func | ->
-    single open place:3 | func | -> => single open place:3 | func | ->
-    single final | func | i32 ref:3 funcref null:4 -> => single final | func | i32 ref:13 funcref null:14 ->
-    single final | func | -> ref:3 i64 null:4 => single final | func | -> ref:13 i64 null:14
-    single final | func | ref:3 null:place:4 -> ref:5 => single final | func | ref:13 null:place:4 -> ref:15
-    single final | struct | ref:3 mut:null:4 => single final | struct | ref:13 mut:null:14
-    single final | struct | i8 mut:i16 mut:f32 => single final | struct | i8 mut:i16 mut:f32
-    single final | array | mut:ref:3 => single final | array | mut:ref:13
-    single final | array | null:4 => single final | array | null:14
-    single final | cont | 3 => single final | cont | 13
+    single open 3 4 : func -> => single open 13 14 : func ->
+    single open own.3 : func -> => single open own.3 : func ->
+    single func i32 3 funcref 4? -> => single func i32 13 funcref 14? ->
+    single func -> 3 i64 4? => single func -> 13 i64 14?
+    single func 3 own.4? -> 5 => single func 13 own.4? -> 15
+    single struct 3 mut:4? => single struct 13 mut:14?
+    single struct i8 mut:i16 mut:f32 => single struct i8 mut:i16 mut:f32
+    single array mut:3 => single array mut:13
+    single array 4? => single array 14?
+    single cont 3 => single cont 13
     group => group
-    group open 3 | cont | 4; final | func | -> ref:5 => group open 13 | cont | 14; final | func | -> ref:15
-    single open 9 | func | -> => refused
-    single open 3 9 | func | -> => refused
-    single final | func | ref:9 -> => refused
-    single final | func | ref:3 null:9 -> => refused
-    single final | func | ref:3 -> ref:9 => refused
-    single final | struct | i8 ref:9 => refused
-    single final | array | null:9 => refused
-    single final | cont | 9 => refused
-    group final | func | ref:3 ->; open 9 | func | -> => refused
+    group open 3 : cont 4, func -> 5 => group open 13 : cont 14, func -> 15
+    single open 9 : func -> => refused
+    single open 3 9 : func -> => refused
+    single func 9 -> => refused
+    single func 3 9? -> => refused
+    single func 3 -> 9 => refused
+    single struct i8 9 => refused
+    single array 9? => refused
+    single cont 9 => refused
+    group func 3 ->, open 9 : func -> => refused
 ";
 
 // Type indexes are moved by ten, but for one.
@@ -62,7 +62,7 @@ impl RemapIndex for Moved {
 
 fn holds(alloc: Global, row: &str) -> Option<bool> {
     let (before, after) = row.split_once("=>")?;
-    let mut group = group_of(alloc, before)?;
+    let mut group = group_of_row(alloc, before)?;
     match group.remap_indices(&Moved { refused: 9 }) {
         Ok(()) => is_of(alloc, &group, after),
         Err(number) => Some(number == 9 && after.trim() == "refused"),

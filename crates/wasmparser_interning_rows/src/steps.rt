@@ -9,9 +9,9 @@ use std::ops::Range;
 use wasm_test_rows::fields::word_and_rest;
 use wasm_test_rows::values::number_of;
 use wasmparser_error::error::{Error, ErrorKind};
-use wasmparser_type_words::types::{func_type_of, id_of, index_of, sub_type_of, sub_types_of};
+use wasmparser_type_words::types::{func_type_of, group_of, id_of, index_of, sub_type_of};
 use wasmparser_types::index::{CoreTypeId, RecGroupId};
-use wasmparser_types::sub_type::{RecGroup, SubType};
+use wasmparser_types::sub_type::SubType;
 
 // The place in the bytes that each call is handed.
 const OFFSET: u64 = 7;
@@ -49,14 +49,6 @@ fn group_answer(answer: Option<Result<(bool, RecGroupId), Error>>) -> Answer {
         Some(Ok((is_new, group))) => Answer::Group(is_new, group),
         Some(Err(error)) => refusal(error),
         None => Answer::Beyond,
-    }
-}
-
-fn group_of(alloc: Global, word: &str, types: &str) -> Option<RecGroup> {
-    match word {
-        "single" => Some(RecGroup::implicit(sub_type_of(alloc, types)?)),
-        "group" | "apart" => Some(RecGroup::explicit(sub_types_of(alloc, types)?)),
-        _ => None,
     }
 }
 

@@ -6,7 +6,7 @@ use wasm_test_rows::fields::word_and_rest;
 use wasmparser_types::composite_type::{ArrayType, CompositeType, ContType, FuncType, StructType};
 use wasmparser_types::index::{CoreTypeId, PackedIndex};
 use wasmparser_types::ref_type::RefType;
-use wasmparser_types::sub_type::SubType;
+use wasmparser_types::sub_type::{RecGroup, SubType};
 use wasmparser_types::val_type::{FieldType, StorageType, ValType};
 use wasmparser_types_tests::val_type::val_type_of as plain_type_of;
 
@@ -116,4 +116,13 @@ pub fn sub_types_of(alloc: Global, field: &str) -> Option<Vec<SubType>> {
         types.push(sub_type_of(alloc, part)?).ok()?;
     }
     Some(types)
+}
+
+/// A group: the word `single` and a sub type, or `group` or `apart` and sub types.
+pub fn group_of(alloc: Global, word: &str, types: &str) -> Option<RecGroup> {
+    match word {
+        "single" => Some(RecGroup::implicit(sub_type_of(alloc, types)?)),
+        "group" | "apart" => Some(RecGroup::explicit(sub_types_of(alloc, types)?)),
+        _ => None,
+    }
 }

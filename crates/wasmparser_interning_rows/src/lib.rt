@@ -2,5 +2,6 @@
 #![tactic(auto)]
 
 pub mod checked_list;
+pub mod new_list;
 pub mod steps;
 mod within;

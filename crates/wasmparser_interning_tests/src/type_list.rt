@@ -5,6 +5,7 @@ use std::test::Fail;
 use wasm_test_rows::fields::three_fields;
 use wasm_test_rows::rows::check_rows;
 use wasmparser_interning_rows::checked_list::CheckedList;
+use wasmparser_interning_rows::new_list::{copy_stays, on_new_list};
 use wasmparser_interning_rows::steps::steps_hold;
 
 // Steps on a new list.
@@ -43,9 +44,12 @@ const LISTS: &str = "
     func -> = #0; group struct own.2, struct = beyond; group struct #1, struct = beyond; single #1 : struct = beyond; groups = 1; types = 1
 ";
 
+fn steps(alloc: Global, list: &mut CheckedList, row: &str) -> Option<bool> {
+    Some(steps_hold(alloc, list, row))
+}
+
 fn list_holds(alloc: Global, row: &str) -> Option<bool> {
-    let mut list = CheckedList::new(alloc);
-    Some(steps_hold(alloc, &mut list, row))
+    on_new_list(alloc, row, steps)
 }
 
 #[test]
@@ -61,13 +65,6 @@ const COPIES: &str = "
     group struct, array i8 = new #0 #1 | apart struct, array i8 = new #2 #3 | index 0 own.1 = #1; index 0 own.2 = invalid; ids 1 = none
 ";
 
-fn copy_stays(alloc: Global, list: &mut CheckedList, after: &str, of_copy: &str) -> bool {
-    match list.commit() {
-        Ok(mut copy) => steps_hold(alloc, list, after) && steps_hold(alloc, &mut copy, of_copy),
-        Err(_) => false,
-    }
-}
-
 fn copies(alloc: Global, list: &mut CheckedList, row: &str) -> Option<bool> {
     let (before, after, of_copy) = three_fields(row)?;
     let is_made = steps_hold(alloc, list, before);
@@ -75,8 +72,7 @@ fn copies(alloc: Global, list: &mut CheckedList, row: &str) -> Option<bool> {
 }
 
 fn copy_holds(alloc: Global, row: &str) -> Option<bool> {
-    let mut list = CheckedList::new(alloc);
-    copies(alloc, &mut list, row)
+    on_new_list(alloc, row, copies)
 }
 
 #[test]

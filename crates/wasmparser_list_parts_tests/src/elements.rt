@@ -7,6 +7,7 @@ use wasm_test_rows::fields::two_fields;
 use wasm_test_rows::rows::check_rows;
 use wasmparser_interning::rec_group_elements::RecGroupElements;
 use wasmparser_interning_rows::checked_list::CheckedList;
+use wasmparser_interning_rows::new_list::on_new_list;
 use wasmparser_interning_rows::steps::steps_hold;
 use wasmparser_type_words::types::id_of;
 use wasmparser_types::index::RecGroupId;
@@ -57,8 +58,7 @@ fn row_is_so(alloc: Global, list: &mut CheckedList, row: &str) -> Option<bool> {
 }
 
 fn holds(alloc: Global, row: &str) -> Option<bool> {
-    let mut list = CheckedList::new(alloc);
-    row_is_so(alloc, &mut list, row)
+    on_new_list(alloc, row, row_is_so)
 }
 
 #[test]

@@ -12,6 +12,7 @@ use wasm_test_rows::values::number_of;
 use wasmparser_interning::type_data::TypeData;
 use wasmparser_interning::type_list::TypeList;
 use wasmparser_interning_rows::checked_list::CheckedList;
+use wasmparser_interning_rows::new_list::on_new_list;
 use wasmparser_interning_rows::steps::steps_hold;
 use wasmparser_type_words::types::id_of;
 use wasmparser_types::composite_type::CompositeType;
@@ -72,8 +73,7 @@ fn has_size(alloc: Global, list: &mut CheckedList, row: &str) -> Option<bool> {
 }
 
 fn holds(alloc: Global, row: &str) -> Option<bool> {
-    let mut list = CheckedList::new(alloc);
-    has_size(alloc, &mut list, row)
+    on_new_list(alloc, row, has_size)
 }
 
 #[test]

@@ -5,7 +5,10 @@ ghost use Rattle.wasmparser_chains.specs.Chains.{IsDepth};
 ghost use Rattle.wasmparser_interning.specs.TypeTables.{sub_types};
 
 use std::alloc::Global;
+use std::test::Fail;
+use wasm_test_rows::rows::check_rows;
 use wasmparser_interning_rows::checked_list::CheckedList;
+use wasmparser_interning_rows::new_list::on_new_list;
 use wasmparser_matching_rows::asked_list::AskedList;
 use wasmparser_types::composite_type::{CompositeType, StructType};
 use wasmparser_types::index::{CoreTypeId, PackedIndex};
@@ -110,17 +113,21 @@ fn set_depth(list: &mut CheckedList, id: CoreTypeId) {
     }
 }
 
-fn is_chain(alloc: Global, count: u32) -> bool {
-    let mut list = CheckedList::new(alloc);
-    let is_made = add_chain(alloc, &mut list, count).is_some();
-    set_depth(&mut list, CoreTypeId::from_index(count / 2));
-    is_made && are_placed(&list, count)
+fn is_chain(alloc: Global, list: &mut CheckedList, row: &str) -> Option<bool> {
+    let count = row.trim().parse().ok()?;
+    add_chain(alloc, list, count)?;
+    set_depth(list, CoreTypeId::from_index(count / 2));
+    Some(are_placed(list, count))
+}
+
+fn holds(alloc: Global, row: &str) -> Option<bool> {
+    on_new_list(alloc, row, is_chain)
 }
 
 // In a chain of 64 types the last has 63 above it, which is the limit; in one of 65 it has 64.
+const LENGTHS: &str = "1\n2\n64\n65\n70";
+
 #[test]
-fn chains_are_walked_by_two_reads(rt: HostRuntime) {
-    for count in [1, 2, 64, 65, 70] {
-        assert!(rt; is_chain(rt.alloc(), count), "{count}");
-    }
+fn chains_are_walked_by_two_reads(rt: HostRuntime) -> Result<(), Fail> {
+    Ok(check_rows(rt.alloc(), LENGTHS, 5, holds)?)
 }

@@ -5,6 +5,7 @@ use std::test::Fail;
 use wasm_test_rows::fields::three_fields;
 use wasm_test_rows::rows::check_rows;
 use wasmparser_interning_rows::checked_list::CheckedList;
+use wasmparser_interning_rows::new_list::on_new_list;
 use wasmparser_interning_rows::steps::steps_hold;
 use wasmparser_matching_rows::asked_list::AskedList;
 use wasmparser_type_words::types::id_of;
@@ -96,8 +97,7 @@ fn row_is_so(alloc: Global, list: &mut CheckedList, row: &str) -> Option<bool> {
 }
 
 fn holds(alloc: Global, row: &str) -> Option<bool> {
-    let mut list = CheckedList::new(alloc);
-    row_is_so(alloc, &mut list, row)
+    on_new_list(alloc, row, row_is_so)
 }
 
 #[test]

@@ -6,6 +6,7 @@ use wasm_test_rows::fields::{has_word, three_fields, two_fields};
 use wasm_test_rows::rows::check_rows;
 use wasmparser_interning::type_list::TypeList;
 use wasmparser_interning_rows::checked_list::CheckedList;
+use wasmparser_interning_rows::new_list::on_new_list;
 use wasmparser_interning_rows::steps::steps_hold;
 use wasmparser_matching_rows::asked_list::AskedList;
 use wasmparser_matching_rows::words::ref_type_of;
@@ -115,8 +116,7 @@ fn row_is_so(alloc: Global, list: &mut CheckedList, row: &str) -> Option<bool> {
 }
 
 fn above_holds(alloc: Global, row: &str) -> Option<bool> {
-    let mut list = CheckedList::new(alloc);
-    row_is_so(alloc, &mut list, row)
+    on_new_list(alloc, row, row_is_so)
 }
 
 // Each pair of 25, of which 14 * 14 = 196 are pairs of abstract types.
@@ -163,8 +163,7 @@ fn top_is(alloc: Global, list: &mut CheckedList, row: &str) -> Option<bool> {
 }
 
 fn top_holds(alloc: Global, row: &str) -> Option<bool> {
-    let mut list = CheckedList::new(alloc);
-    top_is(alloc, &mut list, row)
+    on_new_list(alloc, row, top_is)
 }
 
 #[test]
@@ -233,8 +232,7 @@ fn values_are(alloc: Global, list: &mut CheckedList, row: &str) -> Option<bool> 
 }
 
 fn values_hold(alloc: Global, row: &str) -> Option<bool> {
-    let mut list = CheckedList::new(alloc);
-    values_are(alloc, &mut list, row)
+    on_new_list(alloc, row, values_are)
 }
 
 #[test]

@@ -5,6 +5,7 @@ use std::test::Fail;
 use wasm_test_rows::fields::three_fields;
 use wasm_test_rows::rows::check_rows;
 use wasmparser_interning_rows::checked_list::CheckedList;
+use wasmparser_interning_rows::new_list::on_new_list;
 use wasmparser_interning_rows::steps::{Answer, interned, is_answer, steps_hold};
 
 // What interns some types, what is asked of them then, and the step that interns one group more.
@@ -81,8 +82,7 @@ fn goes_on(alloc: Global, list: &mut CheckedList, row: &str) -> Option<bool> {
 }
 
 fn holds(alloc: Global, row: &str) -> Option<bool> {
-    let mut list = CheckedList::new(alloc);
-    goes_on(alloc, &mut list, row)
+    on_new_list(alloc, row, goes_on)
 }
 
 #[test]

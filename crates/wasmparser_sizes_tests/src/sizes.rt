@@ -7,6 +7,7 @@ use wasm_test_rows::rows::check_rows;
 use wasm_test_rows::values::{bool_of, numbers_of};
 use wasmparser_error::error::ErrorKind;
 use wasmparser_interning_rows::checked_list::CheckedList;
+use wasmparser_interning_rows::new_list::on_new_list;
 use wasmparser_interning_rows::steps::steps_hold;
 use wasmparser_types::composite_type::{CompositeType, StructType};
 use wasmparser_types::index::{CoreTypeId, PackedIndex};
@@ -88,8 +89,7 @@ fn grows(alloc: Global, list: &mut CheckedList, row: &str) -> Option<bool> {
 }
 
 fn holds(alloc: Global, row: &str) -> Option<bool> {
-    let mut list = CheckedList::new(alloc);
-    grows(alloc, &mut list, row)
+    on_new_list(alloc, row, grows)
 }
 
 #[test]

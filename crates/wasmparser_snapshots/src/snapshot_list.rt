@@ -45,6 +45,21 @@ struct Snapshot<T: Drop> {
     height: u32,
 }
 
+// The element at a place, if the snapshots have one there.
+fn snapshot_get<T: Drop>(snapshots: &[Snapshot<T>], index: usize) -> Option<&T>
+    requires { AllByRecursion IsCounted snapshots.now }
+    ensures { option_copied result ≡ slice_get (snapshot_elements snapshots.now) index }
+{
+    let mut left = index;
+    for snapshot in snapshots {
+        if left < snapshot.len {
+            return tree_get(&snapshot.tree, left);
+        }
+        left -= snapshot.len;
+    }
+    None
+}
+
 // Two snapshots as one, without moving an element.
 fn pair<T: Drop>(
     alloc: Global,
@@ -199,18 +214,16 @@ impl<T: Drop> SnapshotList<T> {
         self.len() == 0
     }
 
-    /// The element at a place, if there is one. It takes logarithmic time.
+    /// The element at a place, if there is one. It takes logarithmic time, and what was pushed since the last copy is found at once.
+    #[tactic(auto, using(crate::proofs::Places::before_current, crate::proofs::Places::in_current))]
     pub fn get(&self, index: usize) -> Option<&T>
         ensures { option_copied result ≡ slice_get self.now.items index }
     {
-        let mut left = index;
-        for snapshot in &self.snapshots {
-            if left < snapshot.len {
-                return tree_get(&snapshot.tree, left);
-            }
-            left -= snapshot.len;
+        // Most calls ask for what was pushed since the last snapshot.
+        if index >= self.committed {
+            return self.current.get(index - self.committed);
         }
-        self.current.get(left)
+        snapshot_get(&self.snapshots, index)
     }
 
     /// Appends an element.
@@ -269,12 +282,14 @@ impl<T: Drop> SnapshotList<T> {
         ensures same { self.new.items ≡ self.old.items }
         ensures copy { IfOk result (λ list. list.items ≡ self.old.items) }
     {
+        // A call that was refused may have left snapshots of one height.
+        join(self.alloc, &mut self.snapshots)?;
         if !self.current.is_empty() {
             let len = self.len();
             add_leaf(self.alloc, &mut self.snapshots, &mut self.current)?;
             self.committed = len;
+            join(self.alloc, &mut self.snapshots)?;
         }
-        join(self.alloc, &mut self.snapshots)?;
         Ok(SnapshotList {
             alloc: self.alloc,
             snapshots: share(self.alloc, &self.snapshots)?,

@@ -4,4 +4,5 @@ pub mod IdLaws
 pub mod InternedGroups
 pub mod KeptGroups
 mod KeyTrees
+mod LaterGroups
 pub mod MarkedTrees

@@ -1,7 +1,7 @@
 -- What the ids of a list of types stand for. A list keeps recursive groups, one after the other as a type section has them, and an id stands for a
 -- defined type (Core Specification 3.0, Validation, Conventions, "Defined Types" and "Rolling and Unrolling"). Types of groups that were interned without
 -- canonicalization are none of the standard's: their trees are marked, so that each definition is a type of its own.
-use Rattle.std.specs.Prelude.{◌≡◌, ℕ, suc, ◌<◌, Bool, true, if◌then◌else◌, List, [], ◌∷◌, ◌++◌, length, map, slice_get, None, Some}
+use Rattle.std.specs.Prelude.{◌≡◌, ℕ, suc, ◌<◌, Bool, true, if◌then◌else◌, List, [], ◌∷◌, ◌++◌, length, map, None, Some}
 use Rattle.std.specs.List.{AllByRecursion}
 use Rattle.std.specs.declared.ops.Range.{Range}
 use Rattle.wasm_spec.specs.Syntax.{members}

@@ -1,12 +1,12 @@
 //! Laws of lists of types whose tables agree, for whichever groups count as canonical.
 
-ghost use Rattle.std.specs.Prelude.{◌≡◌, ℕ, Bool, List, length, true};
+ghost use Rattle.std.specs.Prelude.{◌≡◌, ℕ, ◌<◌, Bool, List, [], ◌++◌, length, true};
 ghost use Rattle.wasm_spec.specs.ReferenceMaps.{ReferToTypes, Carries, CarriesBack, CarriesLimitsBack, IsOneToOne, KeepsTypes};
-ghost use Rattle.wasm_spec.specs.Trees.{AreDistinct, section_types, unrolled};
-ghost use Rattle.wasm_spec.specs.Types.{SubType};
+ghost use Rattle.wasm_spec.specs.Trees.{AreDistinct, section_types, type_at, unrolled};
+ghost use Rattle.wasm_spec.specs.Types.{SubType, RecGroup};
 ghost use Rattle.wasmparser_types.specs.Index.{Index};
 ghost use Rattle.wasmparser_interning.specs.TypeTables.{Adds, Interns, TablesAgree, TypeTables, committed, type_by_id};
-ghost use Rattle.wasmparser_interning_laws.specs.IdTypes.{AreFoundByKey, IsFoundByKey, RefersToNoModule, group_after, groups_of, id_types, id_types_after, type_of_index};
+ghost use Rattle.wasmparser_interning_laws.specs.IdTypes.{AreFoundByKey, IsFoundByKey, RefersToNoModule, group_after, groups_of, id_types, id_types_after, id_types_from, type_of_index};
 
 /// Each id stands for a defined type, which unrolls to the kept type with its ids replaced by what they stand for.
 pub fn ids_are_types()
@@ -52,4 +52,11 @@ pub fn interned_groups()
         → IsFoundByKey new number }
     ensures still_found { (old new : TypeTables) (canonical : Bool) (group : List (SubType Index)) (is_new : Bool) (number other : ℕ)
         → Interns old new canonical group is_new number → IsFoundByKey old other → IsFoundByKey new other }
+{}
+
+/// What an id stands for depends on its group and the groups before it alone, and on which of these count as canonical. So a list that has grown changes no type
+/// of a module, under whatever features later groups were interned.
+pub fn later_groups_change_no_type()
+    ensures { (canonical other : ℕ → Bool) (groups later : List (RecGroup ℕ)) (id : ℕ) → ((number : ℕ) → number < length groups → other number ≡ canonical number)
+        → id < length (id_types_from canonical 0 [] groups) → type_at (id_types_from other 0 [] (groups ++ later)) id ≡ type_at (id_types_from canonical 0 [] groups) id }
 {}

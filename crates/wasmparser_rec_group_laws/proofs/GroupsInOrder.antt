@@ -1,4 +1,4 @@
--- The types of a kept group stand, among the types of all ids, where the group's ids are.
+-- The types of a known group stand, among the types of all ids, where the group's ids are.
 use Rattle.std.proofs.Common.{◌≡◌, ℕ, zero, suc, ◌+◌, ◌≤◌, Bool, List, [], ◌∷◌, ◌++◌, length, map, Some, refl, sym, ◌∙◌, subst, arith}
 use Rattle.std.proofs.lemmas.List.{append-nil, append_assoc, length-append, length-map}
 use Rattle.std.specs.List.{slice_get}

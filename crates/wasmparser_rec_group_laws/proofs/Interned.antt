@@ -10,14 +10,14 @@ use Rattle.wasmparser_interning_laws.specs.IdTypes.{AreFoundByKey, RefersToNoMod
 use Rattle.wasmparser_rec_group_laws.proofs.Judged.{keeps_limits, keeps_rules, limit_passed, no_rule_broken}
 use Rattle.wasmparser_rec_group_laws.proofs.KnownTypes.{same_context, still_no_module}
 use Rattle.wasmparser_rec_group_laws.proofs.OwnTypes.{own_types}
-use Rattle.wasmparser_rec_group_laws.specs.Contexts.{IsModuleOf, Tells, breaks_a_rule, in_section, passes_a_limit, types_of}
+use Rattle.wasmparser_rec_group_laws.specs.Contexts.{IsGroupOfModule, JustifiesRefusal, breaks_a_rule, in_section, passes_a_limit, types_of}
 use Rattle.wasmparser_rec_groups.proofs.KnownIds.{group_at}
-use Rattle.wasmparser_rec_groups.specs.Interning.{CanBeKept, canonical_members}
-use Rattle.wasmparser_rec_groups.specs.Rules.{IsFine, IsRefused, IsRefusedGroup, breaks_a_rule as rule, passes_a_limit as limit}
+use Rattle.wasmparser_rec_groups.specs.Interning.{CanBeInterned, canonical_members}
+use Rattle.wasmparser_rec_groups.specs.Rules.{IsRefused, IsRefusedGroup, KeepsRulesAndLimits, breaks_a_rule as rule, passes_a_limit as limit}
 use Rattle.wasmparser_types.specs.Index.{Index}
 
-module _ (canonical : ℕ → Bool) (features : Features) (ids : List ℕ) (old new : TypeTables) (group : RecGroup Index) (is_new : Bool) (number : ℕ) (it : IsModuleOf old new ids group)
-    (kept : CanBeKept features ids old group) (interned : Interns old new (needs_type_canonicalization features) (canonical_members ids group) is_new number)
+module _ (canonical : ℕ → Bool) (features : Features) (ids : List ℕ) (old new : TypeTables) (group : RecGroup Index) (is_new : Bool) (number : ℕ) (it : IsGroupOfModule old new ids group)
+    (internable : CanBeInterned features ids old group) (interned : Interns old new (needs_type_canonicalization features) (canonical_members ids group) is_new number)
     (own : canonical number ≡ true) where
   none : RefersToNoModule new
   none = still_no_module old new ids group (needs_type_canonicalization features) is_new number interned it.names it.none
@@ -26,13 +26,13 @@ module _ (canonical : ℕ → Bool) (features : Features) (ids : List ℕ) (old 
   context = same_context canonical old new it.agree (needs_type_canonicalization features) is_new (canonical_members ids group) number interned ids it.known
 
   stands : IsGroupAt new number (canonical_members ids group)
-  stands = group_at features ids old new group number it.agree it.now it.known it.names kept is_new interned
+  stands = group_at features ids old new group number it.agree it.now it.known it.names internable is_new interned
 
-  pub well_formed : IsFine new number → IsWellFormedGroup features (types_of canonical old ids) (in_section group)
-  well_formed fine =
+  pub well_formed : KeepsRulesAndLimits new number → IsWellFormedGroup features (types_of canonical old ids) (in_section group)
+  well_formed kept =
       subst (λ before. IsWellFormedGroup features before (in_section group)) context (record {
-        rules = keeps_rules canonical features ids old new group number it.now none it.names kept stands own fine;
-        within_limits = keeps_limits canonical features ids old new group number it.now none it.names kept stands own fine;
+        rules = keeps_rules canonical features ids old new group number it.now none it.names internable stands own kept;
+        within_limits = keeps_limits canonical features ids old new group number it.now none it.names internable stands own kept;
       })
 
   pub types : (new_ids : List ℕ) → new_ids ≡ ids ++ group_ids new number → types_of canonical new new_ids ≡ types_after (types_of canonical old ids) (in_section group)
@@ -41,9 +41,9 @@ module _ (canonical : ℕ → Bool) (features : Features) (ids : List ℕ) (old 
       ∙ ap (λ q. types_of canonical new ids ++ q) (own_types canonical new it.now ids group it.names number stands own)
       ∙ ap (λ before. types_after before (in_section group)) context
 
-  pub tells : (needs_type_canonicalization features ≡ true → AreFoundByKey canonical new) → (kind : _) → IsRefusedGroup new number kind → Tells features (types_of canonical old ids) (in_section group) kind
-  tells found kind refused = subst (λ before. Tells features before (in_section group) kind) context (go kind refused.2) where
-    go : (kind : _) → IsRefused new refused.0 kind → Tells features (types_of canonical new ids) (in_section group) kind
+  pub justified : (needs_type_canonicalization features ≡ true → AreFoundByKey canonical new) → (kind : _) → IsRefusedGroup new number kind → JustifiesRefusal features (types_of canonical old ids) (in_section group) kind
+  justified found kind refused = subst (λ before. JustifiesRefusal features before (in_section group) kind) context (go kind refused.2) where
+    go : (kind : _) → IsRefused new refused.0 kind → JustifiesRefusal features (types_of canonical new ids) (in_section group) kind
     go kind (rule breaks) =
-        breaks_a_rule (no_rule_broken canonical features ids old new group number it.now none it.names kept stands own found refused.0 refused.1 breaks)
-    go kind (limit l passes) = passes_a_limit l (limit_passed canonical features ids old new group number it.now none it.names kept stands own refused.0 _ refused.1 passes)
+        breaks_a_rule (no_rule_broken canonical features ids old new group number it.now none it.names internable stands own found refused.0 refused.1 breaks)
+    go kind (limit l passes) = passes_a_limit l (limit_passed canonical features ids old new group number it.now none it.names internable stands own refused.0 _ refused.1 passes)

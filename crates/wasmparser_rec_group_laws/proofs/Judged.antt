@@ -29,8 +29,8 @@ use Rattle.wasmparser_rec_group_laws.proofs.Members.{member_same, own_by_id}
 use Rattle.wasmparser_rec_group_laws.proofs.OwnTypes.{all_weaker, both, places_at, section_members}
 use Rattle.wasmparser_rec_group_laws.specs.Contexts.{PassesGroupLimit, in_section, types_of}
 use Rattle.wasmparser_rec_groups.proofs.CanonicalGroups.{both_true, have_at, mapped_at, members_mapped, of_members, of_type, test_at}
-use Rattle.wasmparser_rec_groups.specs.Interning.{CanBeKept, IsModuleIndex, NamesModuleTypes, canonical_members}
-use Rattle.wasmparser_rec_groups.specs.Rules.{IsFine, IsIn, KeepsRules}
+use Rattle.wasmparser_rec_groups.specs.Interning.{CanBeInterned, IsModuleIndex, NamesModuleTypes, canonical_members}
+use Rattle.wasmparser_rec_groups.specs.Rules.{IsIn, KeepsRules, KeepsRulesAndLimits}
 use Rattle.wasmparser_types.specs.Index.{Index, Module, RecGroup as Place, Id, number_of}
 use Rattle.wasmparser_types.specs.RecGroups.{members}
 
@@ -131,7 +131,7 @@ no_supertypes type features off allowed =
 -- ---- an interned group
 
 module _ (canonical : ℕ → Bool) (features : Features) (ids : List ℕ) (old new : TypeTables) (group : RecGroup Index) (number : ℕ) (now : TablesAgree new) (none : RefersToNoModule new)
-    (names : NamesModuleTypes group) (kept : CanBeKept features ids old group) (at : IsGroupAt new number (canonical_members ids group)) (own : canonical number ≡ true) where
+    (names : NamesModuleTypes group) (internable : CanBeInterned features ids old group) (at : IsGroupAt new number (canonical_members ids group)) (own : canonical number ≡ true) where
   abbrev context : List DefType
   context = types_of canonical new ids
 
@@ -147,12 +147,12 @@ module _ (canonical : ℕ → Bool) (features : Features) (ids : List ℕ) (old 
   count_is : length (canonical_members ids group) ≡ length (members group)
   count_is = ap length (members_mapped (canonical_index ids) group) ∙ length-map (members group) (sub_map (canonical_index ids))
 
-  -- a type as it is kept
-  abbrev as_kept : SubType Index → SubType Index
-  as_kept type = sub_map (absolute at.start) (sub_map (canonical_index ids) type)
+  -- a type as it is interned
+  abbrev as_interned : SubType Index → SubType Index
+  as_interned type = sub_map (absolute at.start) (sub_map (canonical_index ids) type)
 
-  kept_type : (place : ℕ) (type : SubType Index) → slice_get (members group) place ≡ Some type → slice_get (sub_types new) (at.start + place) ≡ Some (as_kept type)
-  kept_type place type is =
+  interned_type : (place : ℕ) (type : SubType Index) → slice_get (members group) place ≡ Some type → slice_get (sub_types new) (at.start + place) ≡ Some (as_interned type)
+  interned_type place type is =
       let less : place < length (canonical_members ids group) = omega (arith, slice_get_within (members group) place type is, count_is) in
       sym (get_drop at.start (sub_types new) place) ∙ sym (get_take (length (canonical_members ids group)) (drop at.start (sub_types new)) place less)
       ∙ ap (λ q. slice_get q place) (at.types ∙ ap (subs_map (absolute at.start)) (members_mapped (canonical_index ids) group))
@@ -164,11 +164,11 @@ module _ (canonical : ℕ → Bool) (features : Features) (ids : List ℕ) (old 
   refs_of place type is =
       let bound = index_bound (has features Gc) (length ids) (length (members group)) in
       let Both : ℕ → Index → Type 0 = λ b r. IsModuleIndex r × IsBelow b r in
-      let all = of_members (Both bound) group (both IsModuleIndex (IsBelow bound) (group_refs group) names kept.in_range) in
+      let all = of_members (Both bound) group (both IsModuleIndex (IsBelow bound) (group_refs group) names internable.in_range) in
       all_weaker (Both bound) (Both (length ids + length (members group))) (below_more bound _ (bound_fits (has features Gc) (length ids) (length (members group)))) (sub_refs type)
       (of_type (Both bound) (members group) place type all is)
 
-  same : (place : ℕ) (type : SubType Index) → slice_get (members group) place ≡ Some type → sub_map stands_for (as_kept type) ≡ sub_map (type_at section) (sub_map number_of type)
+  same : (place : ℕ) (type : SubType Index) → slice_get (members group) place ≡ Some type → sub_map stands_for (as_interned type) ≡ sub_map (type_at section) (sub_map number_of type)
   same place type is = member_same canonical new now ids group names number at own type (refs_of place type is)
 
   is_in : (place : ℕ) → place < length (members group) → IsIn new number (at.start + place)
@@ -189,18 +189,18 @@ module _ (canonical : ℕ → Bool) (features : Features) (ids : List ℕ) (old 
 
   earlier_of : (place : ℕ) (plain : SubType Index) → slice_get (members group) place ≡ Some plain → AllByRecursion (λ n. n < length context + place) (map number_of plain.supertypes)
   earlier_of place plain is =
-      let earlier = (have_at (length ids) (members group) place plain kept.supertypes is).earlier in
+      let earlier = (have_at (length ids) (members group) place plain internable.supertypes is).earlier in
       let name = all_left IsModuleIndex plain.supertypes _ (of_type IsModuleIndex (members group) place plain (of_members IsModuleIndex group names) is) in
       let Both : Index → Type 0 = λ r. IsModuleIndex r × IsBelow (length ids + place) r in
       all_map Both (λ n. n < length context + place) number_of (λ r h. let below = below_number (length ids + place) r h in omega (arith, below, context_count)) plain.supertypes
       (both IsModuleIndex (IsBelow (length ids + place)) plain.supertypes name earlier)
 
-  well_formed_at : IsFine new number → (place : ℕ) (type : SubType ℕ) → slice_get (syntax.members (in_section group)) place ≡ Some type → IsWellFormedAt section (length context + place) type
-  well_formed_at fine place type is =
+  well_formed_at : KeepsRulesAndLimits new number → (place : ℕ) (type : SubType ℕ) → slice_get (syntax.members (in_section group)) place ≡ Some type → IsWellFormedAt section (length context + place) type
+  well_formed_at kept place type is =
       let plain = plain_at place type is in
-      let keeps = fine.rules (at.start + place) (is_in place (slice_get_within (members group) place plain.0 plain.1)) in
-      let kept_as = kept_type place plain.0 plain.1 in
-      let one : keeps.type ≡ as_kept plain.0 = let e = keeps.is in cc in
+      let keeps = kept.rules (at.start + place) (is_in place (slice_get_within (members group) place plain.0 plain.1)) in
+      let interned_as = interned_type place plain.0 plain.1 in
+      let one : keeps.type ≡ as_interned plain.0 = let e = keeps.is in cc in
       let mapped : sub_map stands_for keeps.type ≡ sub_map (type_at section) type =
       ap (sub_map stands_for) one ∙ same place plain.0 plain.1 ∙ ap (sub_map (type_at section)) (sym plain.2) in
       record {
@@ -215,13 +215,13 @@ module _ (canonical : ℕ → Bool) (features : Features) (ids : List ℕ) (old 
       let Both : Index → Type 0 = λ r. IsModuleIndex r × IsBelow bound r in
       subst (λ b. RefersBelow b (in_section group)) (sym (bound_is features context ids group context_count))
       (subst (AllByRecursion (λ n. n < bound)) (sym (group_refs-map number_of group))
-      (all_map Both (λ n. n < bound) number_of (below_number bound) (group_refs group) (both IsModuleIndex (IsBelow bound) (group_refs group) names kept.in_range)))
+      (all_map Both (λ n. n < bound) number_of (below_number bound) (group_refs group) (both IsModuleIndex (IsBelow bound) (group_refs group) names internable.in_range)))
 
-  pub keeps_rules : IsFine new number → KeepsGroupRules features context (in_section group)
-  keeps_rules fine = record {
-    allowed = same_gate number_of features group ∙ kept.allowed;
+  pub keeps_rules : KeepsRulesAndLimits new number → KeepsGroupRules features context (in_section group)
+  keeps_rules kept = record {
+    allowed = same_gate number_of features group ∙ internable.allowed;
     in_range = in_range;
-    each = each_from section (length context) (syntax.members (in_section group)) (well_formed_at fine);
+    each = each_from section (length context) (syntax.members (in_section group)) (well_formed_at kept);
   }
 
   -- a type of the group, by its place
@@ -237,14 +237,14 @@ module _ (canonical : ℕ → Bool) (features : Features) (ids : List ℕ) (old 
       let one : type ≡ record { tree = tree_of context (in_section group); place = place } = cc in
       (less, one ∙ sym (own_by_id canonical new now ids group names number at own place less))
 
-  pub keeps_limits : IsFine new number → IsWithinGroupLimits context (in_section group)
-  keeps_limits fine =
+  pub keeps_limits : KeepsRulesAndLimits new number → IsWithinGroupLimits context (in_section group)
+  keeps_limits kept =
       all_by_place (λ type. (limit : Limit) → ¬ (PassesLimit unrolled type limit)) (types_of_group context (in_section group)) (λ place type is limit passes.
       let here = own_at place type is in
       let plain = get_some (members group) place here.0 in
       let back = limits_carried_back stands_for (type_by_id new) unrolled keeps_types (ids_closed new now none) in
-      fine.limits (at.start + place) (is_in place here.0) limit
-      (back.limits (Id (at.start + place)) limit (as_kept plain.0, kept_type place plain.0 plain.1) (subst (λ t. PassesLimit unrolled t limit) here.1 passes)))
+      kept.limits (at.start + place) (is_in place here.0) limit
+      (back.limits (Id (at.start + place)) limit (as_interned plain.0, interned_type place plain.0 plain.1) (subst (λ t. PassesLimit unrolled t limit) here.1 passes)))
 
   -- ---- refused
 
@@ -272,9 +272,9 @@ module _ (canonical : ℕ → Bool) (features : Features) (ids : List ℕ) (old 
             places_at (tree_of context (in_section group)) 0 (syntax.members (in_section group)) place (omega (arith, less, members_count))
             ∙ ap (λ p. Some (record { tree = tree_of context (in_section group); place = p })) zero_add ∙ ap Some (sym (own_by_id canonical new now ids group names number at own place less))
 
-  empty_kept : (place : ℕ) (plain : SubType Index) → slice_get (members group) place ≡ Some plain → needs_type_canonicalization features ≡ false → (as_kept plain).supertypes ≡ []
-  empty_kept place plain is off =
-      let empty = no_supertypes plain features (gc_off (has features FunctionReferences) (has features Gc) (has features StackSwitching) off) (allowed_sub features group plain place kept.allowed is) in
+  interned_alone : (place : ℕ) (plain : SubType Index) → slice_get (members group) place ≡ Some plain → needs_type_canonicalization features ≡ false → (as_interned plain).supertypes ≡ []
+  interned_alone place plain is off =
+      let empty = no_supertypes plain features (gc_off (has features FunctionReferences) (has features Gc) (has features StackSwitching) off) (allowed_sub features group plain place internable.allowed is) in
       ap (λ q. map (absolute at.start) (map (canonical_index ids) q)) empty
 
   pub no_rule_broken : (needs_type_canonicalization features ≡ true → AreFoundByKey canonical new) → (id : ℕ) → IsIn new number id → ¬ (KeepsRules new id) → ¬ (KeepsGroupRules features context (in_section group))
@@ -285,21 +285,21 @@ module _ (canonical : ℕ → Bool) (features : Features) (ids : List ℕ) (old 
       ap (λ q. slice_get q place.0) (section_members group) ∙ slice_get-map (sub_map number_of) (members group) place.0 ∙ ap (option_map (sub_map number_of)) plain.1 in
       let well = each_at section (length context) (syntax.members (in_section group)) rules.each place.0 (sub_map number_of plain.0) listed in
       let mapped = sym (same place.0 plain.0 plain.1) in
-      let kept_as : slice_get (sub_types new) id ≡ Some (as_kept plain.0) = ap (slice_get (sub_types new)) place.1 ∙ kept_type place.0 plain.0 plain.1 in
-      let types : AreTypes (type_by_id new) (sub_refs (as_kept plain.0)) = ids_closed new now none (Id id) (as_kept plain.0) kept_as in
-      let composite : AreTypes (type_by_id new) (composite_refs (as_kept plain.0).composite_type) = all_right _ (as_kept plain.0).supertypes _ types in
+      let interned_as : slice_get (sub_types new) id ≡ Some (as_interned plain.0) = ap (slice_get (sub_types new)) place.1 ∙ interned_type place.0 plain.0 plain.1 in
+      let types : AreTypes (type_by_id new) (sub_refs (as_interned plain.0)) = ids_closed new now none (Id id) (as_interned plain.0) interned_as in
+      let composite : AreTypes (type_by_id new) (composite_refs (as_interned plain.0).composite_type) = all_right _ (as_interned plain.0).supertypes _ types in
       let limits_back = limits_carried_back stands_for (type_by_id new) unrolled keeps_types (ids_closed new now none) in
       let extends_all = subst (ExtendsSupertypes unrolled) mapped well.extends in
       breaks (record {
-        type = as_kept plain.0;
-        is = kept_as;
+        type = as_interned plain.0;
+        is = interned_as;
         extends = extends_back place.0 plain.0 plain.1 types extends_all (needs_type_canonicalization features) refl;
-        continues = limits_back.continuations (as_kept plain.0).composite_type composite (subst (λ (t : SubType DefType). ContinuesFunc unrolled t.composite_type) mapped well.continues);
+        continues = limits_back.continuations (as_interned plain.0).composite_type composite (subst (λ (t : SubType DefType). ContinuesFunc unrolled t.composite_type) mapped well.continues);
       }) where
-        extends_back : (place : ℕ) (plain : SubType Index) → slice_get (members group) place ≡ Some plain → AreTypes (type_by_id new) (sub_refs (as_kept plain))
-            → ExtendsSupertypes unrolled (sub_map stands_for (as_kept plain)) → (needs : Bool) → needs_type_canonicalization features ≡ needs → ExtendsSupertypes (type_by_id new) (as_kept plain)
+        extends_back : (place : ℕ) (plain : SubType Index) → slice_get (members group) place ≡ Some plain → AreTypes (type_by_id new) (sub_refs (as_interned plain))
+            → ExtendsSupertypes unrolled (sub_map stands_for (as_interned plain)) → (needs : Bool) → needs_type_canonicalization features ≡ needs → ExtendsSupertypes (type_by_id new) (as_interned plain)
         extends_back place plain is types extends true on =
-            (carried_back stands_for (type_by_id new) unrolled keeps_types (ids_closed new now none) (ids_one_to_one new now none canonical (found on))).supertypes (as_kept plain) types extends
-        extends_back place plain is types extends false off = without (as_kept plain) (empty_kept place plain is off) where
+            (carried_back stands_for (type_by_id new) unrolled keeps_types (ids_closed new now none) (ids_one_to_one new now none canonical (found on))).supertypes (as_interned plain) types extends
+        extends_back place plain is types extends false off = without (as_interned plain) (interned_alone place plain is off) where
           without : (type : SubType Index) → type.supertypes ≡ [] → ExtendsSupertypes (type_by_id new) type
           without type empty = record { at_most_one = omega (arith, ap length empty); each = subst (AllByRecursion _) (sym empty) tt }

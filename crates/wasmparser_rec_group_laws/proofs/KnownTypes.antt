@@ -1,4 +1,4 @@
--- Ids stand for what they stood for before more was interned, and no kept type names a type by its index in a module.
+-- Ids stand for what they stood for before more was interned, and no known type names a type by its index in a module.
 use Rattle.std.proofs.Common.{◌+◌, ◌≡◌, ℕ, ◌-◌, ◌<◌, Bool, true, false, List, [], ◌∷◌, ◌++◌, length, map, Option, Some, None, refl, sym, ap, ◌∙◌, subst, arith, nat_lt, ◌≤◌}
 use Rattle.std.proofs.lemmas.Bool.{ltb-false, ltb-true}
 use Rattle.std.proofs.lemmas.Grind.{flat_map-append}
@@ -48,7 +48,7 @@ no_module_left ids start (Module n) h = go (slice_get ids n) where
 no_module_left ids start (Place place) h = absurd h
 no_module_left ids start (Id id) h = absurd h
 
-join : {X : Type 0} (P : X → Type 0) (xs ys : List X) → AllByRecursion P xs → AllByRecursion P ys → AllByRecursion P (xs ++ ys)
+pub join : {X : Type 0} (P : X → Type 0) (xs ys : List X) → AllByRecursion P xs → AllByRecursion P ys → AllByRecursion P (xs ++ ys)
 join P [] ys h k = k
 join P (x ∷ xs) ys h k = (h.0, join P xs ys h.1 k)
 

@@ -1,8 +1,8 @@
 mod GroupsInOrder
+mod Internable
 mod Interned
 mod Judged
 mod KnownTypes
 mod MappedGates
 mod Members
 mod OwnTypes
-mod Unkept

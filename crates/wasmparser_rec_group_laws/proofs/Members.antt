@@ -1,4 +1,4 @@
--- A kept type of a group, with its ids replaced by what they stand for, is the group's type in a type section, with its type indexes replaced likewise.
+-- A known type of a group, with its ids replaced by what they stand for, is the group's type in a type section, with its type indexes replaced likewise.
 use Rattle.std.proofs.Common.{◌≡◌, ℕ, ◌+◌, ◌-◌, ◌<◌, Bool, true, List, ◌++◌, length, Some, inl, inr, sym, ap, ◌∙◌, arith}
 use Rattle.std.proofs.lemmas.List.{append_assoc, length-map}
 use Rattle.std.proofs.lemmas.Option.{slice_get-map, slice_get_within}

@@ -156,10 +156,10 @@ module _ (canonical : ℕ → Bool) (tables : TypeTables) (agree : TablesAgree t
   pub stands : (front : List DefType) × (rest : List DefType) × (length front ≡ at.start) × (types ≡ (front ++ types_of_group context (in_section group)) ++ rest)
   stands =
       let it = stands_at canonical tables agree number (range_after at.start (length (canonical_members ids group))) at.at in
-      let kept = group_of tables (range_after at.start (length (canonical_members ids group))) in
-      let own = places_of (tree_as (canonical number) number (tree_of it.front kept)) 0 (syntax.members kept) in
+      let known = group_of tables (range_after at.start (length (canonical_members ids group))) in
+      let own = places_of (tree_as (canonical number) number (tree_of it.front known)) 0 (syntax.members known) in
       let plain : own ≡ places_of (tree_of it.front (group_after at.start (canonical_members ids group))) 0 (syntax.members (group_after at.start (canonical_members ids group))) =
-      ap (λ c. places_of (tree_as c number (tree_of it.front kept)) 0 (syntax.members kept)) counts ∙ ap (λ g. places_of (tree_of it.front g) 0 (syntax.members g)) group_is in
+      ap (λ c. places_of (tree_as c number (tree_of it.front known)) 0 (syntax.members known)) counts ∙ ap (λ g. places_of (tree_of it.front g) 0 (syntax.members g)) group_is in
       let all_is : types ≡ it.front ++ (own ++ it.rest) = it.all_is ∙ append_assoc it.front own it.rest in
       let tree : tree_of it.front (group_after at.start (canonical_members ids group)) ≡ tree_of context (in_section group) =
       subst (λ q. tree_of it.front (group_after at.start (canonical_members ids group)) ≡ tree_of (map (type_at q) ids) (in_section group)) (sym all_is)

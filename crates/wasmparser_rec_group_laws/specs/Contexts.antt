@@ -28,9 +28,9 @@ pub record CountsAsCanonical (features : Features) (canonical : ℕ → Bool) (t
   pub own : canonical number ≡ true
   pub all : needs_type_canonicalization features ≡ true → AreFoundByKey canonical tables
 
--- The types of a module have these ids in a list, before a group of the module was handed in and after that. The list keeps no type that names another by its
--- index in a module; the group names its types so.
-pub record IsModuleOf (old new : TypeTables) (ids : List ℕ) (group : RecGroup Index) : Type 0 where
+-- A group is one of a module whose types have these ids in a list, as it was before the group was handed in and is after that. The list has no type that names
+-- another by its index in a module; the group names its types so.
+pub record IsGroupOfModule (old new : TypeTables) (ids : List ℕ) (group : RecGroup Index) : Type 0 where
   pub agree : TablesAgree old
   pub now : TablesAgree new
   pub none : RefersToNoModule old
@@ -44,7 +44,7 @@ pub record PassesGroupLimit (before : List DefType) (group : RecGroup ℕ) (l : 
   pub at : slice_get (types_of_group before group) place ≡ Some type
   pub passes : PassesLimit unrolled type l
 
--- what the kind of a refusal tells of a group that comes after these types
-pub data Tells (features : Features) (before : List DefType) (group : RecGroup ℕ) : ErrorKind → Type 0 where
-  breaks_a_rule : ¬ (KeepsGroupRules features before group) → Tells features before group Invalid
-  passes_a_limit : (l : _) → PassesGroupLimit before group (limit l) → Tells features before group (kinds.Limit l)
+-- why a group that comes after these types is refused with this kind
+pub data JustifiesRefusal (features : Features) (before : List DefType) (group : RecGroup ℕ) : ErrorKind → Type 0 where
+  breaks_a_rule : ¬ (KeepsGroupRules features before group) → JustifiesRefusal features before group Invalid
+  passes_a_limit : (l : _) → PassesGroupLimit before group (limit l) → JustifiesRefusal features before group (kinds.Limit l)

@@ -7,36 +7,36 @@ ghost use Rattle.wasm_spec.specs.Trees.{types_after};
 ghost use Rattle.wasm_spec.specs.Types.{RecGroup};
 ghost use Rattle.wasmparser_interning.specs.TypeTables.{Interns, TypeTables};
 ghost use Rattle.wasmparser_interning_laws.specs.IdTypes.{AreFoundByKey, RefersToNoModule};
-ghost use Rattle.wasmparser_rec_group_laws.specs.Contexts.{CountsAsCanonical, IsModuleOf, Tells, in_section, types_of};
-ghost use Rattle.wasmparser_rec_groups.specs.Interning.{Accepts, AreKnown, CanBeKept, canonical_members};
+ghost use Rattle.wasmparser_rec_group_laws.specs.Contexts.{CountsAsCanonical, IsGroupOfModule, JustifiesRefusal, in_section, types_of};
+ghost use Rattle.wasmparser_rec_groups.specs.Interning.{Accepts, AreKnown, CanBeInterned, canonical_members};
 ghost use Rattle.wasmparser_rec_groups.specs.Rules.{IsRefusedGroup};
 ghost use Rattle.wasmparser_types.specs.Index.{Index};
 
 /// A group that is accepted is well-formed, and the ids that are added stand for its types.
 pub fn accepted_groups_are_well_formed()
-    ensures well_formed { (canonical : ℕ → Bool) (features : Features) (ids new_ids : List ℕ) (old new : TypeTables) (group : RecGroup Index) → IsModuleOf old new ids group
+    ensures well_formed { (canonical : ℕ → Bool) (features : Features) (ids new_ids : List ℕ) (old new : TypeTables) (group : RecGroup Index) → IsGroupOfModule old new ids group
         → (accepts : Accepts features ids old new group new_ids) → canonical accepts.number ≡ true
         → IsWellFormedGroup features (types_of canonical old ids) (in_section group) }
-    ensures types { (canonical : ℕ → Bool) (features : Features) (ids new_ids : List ℕ) (old new : TypeTables) (group : RecGroup Index) → IsModuleOf old new ids group
+    ensures types { (canonical : ℕ → Bool) (features : Features) (ids new_ids : List ℕ) (old new : TypeTables) (group : RecGroup Index) → IsGroupOfModule old new ids group
         → (accepts : Accepts features ids old new group new_ids) → canonical accepts.number ≡ true
         → types_of canonical new new_ids ≡ types_after (types_of canonical old ids) (in_section group) }
 {}
 
 /// A group that is refused as `Invalid` breaks a rule, and one that is refused for a limit passes a limit.
 pub fn refused_groups_are_ill_formed()
-    ensures before_interning { (canonical : ℕ → Bool) (features : Features) (ids : List ℕ) (tables : TypeTables) (group : RecGroup Index) → IsModuleOf tables tables ids group
-        → KeepsGroupRules features (types_of canonical tables ids) (in_section group) → CanBeKept features ids tables group }
-    ensures after_interning { (canonical : ℕ → Bool) (features : Features) (ids : List ℕ) (old new : TypeTables) (group : RecGroup Index) (is_new : Bool) (number : ℕ) → IsModuleOf old new ids group
-        → CanBeKept features ids old group → Interns old new (needs_type_canonicalization features) (canonical_members ids group) is_new number
-        → CountsAsCanonical features canonical new number → (kind : _) → IsRefusedGroup new number kind → Tells features (types_of canonical old ids) (in_section group) kind }
+    ensures before_interning { (canonical : ℕ → Bool) (features : Features) (ids : List ℕ) (tables : TypeTables) (group : RecGroup Index) → IsGroupOfModule tables tables ids group
+        → KeepsGroupRules features (types_of canonical tables ids) (in_section group) → CanBeInterned features ids tables group }
+    ensures after_interning { (canonical : ℕ → Bool) (features : Features) (ids : List ℕ) (old new : TypeTables) (group : RecGroup Index) (is_new : Bool) (number : ℕ) → IsGroupOfModule old new ids group
+        → CanBeInterned features ids old group → Interns old new (needs_type_canonicalization features) (canonical_members ids group) is_new number
+        → CountsAsCanonical features canonical new number → (kind : _) → IsRefusedGroup new number kind → JustifiesRefusal features (types_of canonical old ids) (in_section group) kind }
 {}
 
 /// A list whose types name none by its index in a module stays so, ids stand for what they stood for, those of other modules too, and where groups that count as
 /// canonical are found by their keys, they still are.
-pub fn context_is_kept()
-    ensures no_module { (features : Features) (ids : List ℕ) (old new : TypeTables) (group : RecGroup Index) (is_new : Bool) (number : ℕ) → IsModuleOf old new ids group
+pub fn context_stays()
+    ensures no_module { (features : Features) (ids : List ℕ) (old new : TypeTables) (group : RecGroup Index) (is_new : Bool) (number : ℕ) → IsGroupOfModule old new ids group
         → Interns old new (needs_type_canonicalization features) (canonical_members ids group) is_new number → RefersToNoModule new }
-    ensures types { (canonical : ℕ → Bool) (features : Features) (ids others : List ℕ) (old new : TypeTables) (group : RecGroup Index) (is_new : Bool) (number : ℕ) → IsModuleOf old new ids group
+    ensures types { (canonical : ℕ → Bool) (features : Features) (ids others : List ℕ) (old new : TypeTables) (group : RecGroup Index) (is_new : Bool) (number : ℕ) → IsGroupOfModule old new ids group
         → Interns old new (needs_type_canonicalization features) (canonical_members ids group) is_new number → AreKnown old others
         → types_of canonical new others ≡ types_of canonical old others }
     ensures found { (canonical : ℕ → Bool) (features : Features) (ids : List ℕ) (old new : TypeTables) (group : RecGroup Index) (is_new : Bool) (number : ℕ)

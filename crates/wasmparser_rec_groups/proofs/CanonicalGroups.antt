@@ -14,7 +14,7 @@ use Rattle.wasm_spec.specs.Types.{CompositeType, FuncComposite, StructComposite,
 use Rattle.wasmparser_chains.specs.Chains.{AreBelowEarlier, IsBelowEarlier, below_none, below_one}
 use Rattle.wasmparser_group_rules.specs.Canonical.{HasEarlierSupertype, HaveEarlierSupertypes, IsBelow, canonical_index, id_or_place, index_bound}
 use Rattle.wasmparser_interning.specs.TypeTables.{AreWithin, Interns, IsWithin, TypeTables, absolute, sub_types}
-use Rattle.wasmparser_rec_groups.specs.Interning.{AreKnown, CanBeKept, IsModuleIndex, NamesModuleTypes, canonical_members}
+use Rattle.wasmparser_rec_groups.specs.Interning.{AreKnown, CanBeInterned, IsModuleIndex, NamesModuleTypes, canonical_members}
 use Rattle.wasmparser_rec_groups.specs.Kinds.{HasSupertypesOfKind, earlier_or_own}
 use Rattle.wasmparser_types.specs.Index.{Index, Module, RecGroup as Place, Id}
 use Rattle.wasmparser_types.specs.RecGroups.{members}
@@ -64,13 +64,13 @@ bound_fits : (gc : Bool) (before count : ℕ) → index_bound gc before count �
 bound_fits true before count = omega arith
 bound_fits false before count = omega arith
 
-pub within : (features : Features) (ids : List ℕ) (tables : TypeTables) (group : RecGroup Index) → AreKnown tables ids → NamesModuleTypes group → CanBeKept features ids tables group
+pub within : (features : Features) (ids : List ℕ) (tables : TypeTables) (group : RecGroup Index) → AreKnown tables ids → NamesModuleTypes group → CanBeInterned features ids tables group
     → AreWithin (length tables.types) (canonical_members ids group)
-within features ids tables group known names kept =
+within features ids tables group known names internable =
     let before = length tables.types in
     let count = length (members group) in
     let bound = index_bound (has features Gc) (length ids) count in
-    let refs = of_members (λ index. IsModuleIndex index × IsBelow bound index) group (both IsModuleIndex (IsBelow bound) (group_refs group) names kept.in_range) in
+    let refs = of_members (λ index. IsModuleIndex index × IsBelow bound index) group (both IsModuleIndex (IsBelow bound) (group_refs group) names internable.in_range) in
     let all = all_map (λ index. IsModuleIndex index × IsBelow bound index) (IsWithin before count) (canonical_index ids)
     (canonical_within before ids known count bound (bound_fits (has features Gc) (length ids) count)) (subs_refs (members group)) refs in
     let mapped = members_mapped (canonical_index ids) group in
@@ -118,7 +118,7 @@ module _ (old new : TypeTables) (group : List (SubType Index)) (types : sub_type
   start_is : length (sub_types old) ≡ start
   start_is = length-map old.types _
 
-  old_type : (id : ℕ) (type : SubType Index) → slice_get (sub_types old) id ≡ Some type → slice_get (sub_types new) id ≡ Some type
+  pub old_type : (id : ℕ) (type : SubType Index) → slice_get (sub_types old) id ≡ Some type → slice_get (sub_types new) id ≡ Some type
   old_type id type at = ap (λ q. slice_get q id) types ∙ get_left (sub_types old) (subs_map (absolute start) group) id (slice_get_within (sub_types old) id type at) ∙ at
 
   own_type : (place : ℕ) (type : SubType Index) → slice_get group place ≡ Some type → slice_get (sub_types new) (start + place) ≡ Some (sub_map (absolute start) type)
@@ -126,7 +126,7 @@ module _ (old new : TypeTables) (group : List (SubType Index)) (types : sub_type
       ap (λ q. slice_get q (start + place)) types ∙ ap (λ n. slice_get (sub_types old ++ subs_map (absolute start) group) (n + place)) (sym start_is)
       ∙ get_right (sub_types old) (subs_map (absolute start) group) place ∙ slice_get-map (sub_map (absolute start)) group place ∙ ap (option_map (sub_map (absolute start))) at
 
-  still_below : (n : ℕ) (type : SubType Index) → IsBelowEarlier (slice_get (sub_types old)) n type → IsBelowEarlier (slice_get (sub_types new)) n type
+  pub still_below : (n : ℕ) (type : SubType Index) → IsBelowEarlier (slice_get (sub_types old)) n type → IsBelowEarlier (slice_get (sub_types new)) n type
   still_below n type (below_none none) = below_none none
   still_below n type (below_one t is lt kind) = below_one t is lt (record { type = kind.type; is = old_type t kind.type kind.is; holds = kind.holds })
 
@@ -169,7 +169,7 @@ module _ (old new : TypeTables) (group : List (SubType Index)) (types : sub_type
       go (r ∷ s ∷ more) many names = let few = earlier.at_most_one in absurd (omega (arith, few, ap length many))
 
 module _ (features : Features) (ids : List ℕ) (old new : TypeTables) (group : RecGroup Index) (earlier : AreBelowEarlier (slice_get (sub_types old))) (names : NamesModuleTypes group)
-    (kept : CanBeKept features ids old group) where
+    (internable : CanBeInterned features ids old group) where
   abbrev canonical : List (SubType Index)
   canonical = canonical_members ids group
 
@@ -178,9 +178,9 @@ module _ (features : Features) (ids : List ℕ) (old new : TypeTables) (group : 
   added_below types place type at =
       let mapped = ap (λ q. slice_get q place) (sym (members_mapped (canonical_index ids) group)) ∙ at in
       let plain = mapped_at (sub_map (canonical_index ids)) (members group) place type mapped in
-      now_below old new canonical types ids place type plain.0 plain.2 (all_get (HasSupertypesOfKind (earlier_or_own old canonical)) canonical kept.kinds place type at)
+      now_below old new canonical types ids place type plain.0 plain.2 (all_get (HasSupertypesOfKind (earlier_or_own old canonical)) canonical internable.kinds place type at)
       (of_type IsModuleIndex (members group) place plain.0 (of_members IsModuleIndex group names) plain.1)
-      (have_at (length ids) (members group) place plain.0 kept.supertypes plain.1)
+      (have_at (length ids) (members group) place plain.0 internable.supertypes plain.1)
 
   all_below : sub_types new ≡ sub_types old ++ subs_map (absolute (length old.types)) canonical → AreBelowEarlier (slice_get (sub_types new))
   all_below types n type at = elim (get_cases (sub_types old) (subs_map (absolute (length old.types)) canonical) n type (sym (ap (λ q. slice_get q n) types) ∙ at)) [

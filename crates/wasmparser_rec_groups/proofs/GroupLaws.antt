@@ -4,7 +4,7 @@ use Rattle.std.proofs.lemmas.Bool.{ltb-false, ltb-true}
 use Rattle.std.specs.declared.ops.Range.{Range}
 use Rattle.wasmparser_interning.specs.TypeTables.{TablesAgree, TypeTables}
 use Rattle.wasmparser_interning.proofs.Agreement.{group_within}
-use Rattle.wasmparser_rec_groups.specs.Rules.{IsFine, IsIn, KeepsRules, PassesNoLimit}
+use Rattle.wasmparser_rec_groups.specs.Rules.{IsIn, KeepsRules, KeepsRulesAndLimits, PassesNoLimit}
 
 -- the ids from the first number up to the second one have a property
 abbrev pub AllTo : (ℕ → Type 0) → ℕ → ℕ → Type 0
@@ -32,9 +32,9 @@ same_range tables group r s a b = cc
 pub whole : (Holds : ℕ → Type 0) (range : Range ℕ) (start to : ℕ) → range.start ≡ start → range.end ≤ to → AllTo Holds start to → AllTo Holds range.start range.end
 whole Holds range start to first last all id after before = all id (omega (arith, after, first)) (omega (arith, before, last))
 
-pub all_fine : (tables : TypeTables) (group : ℕ) (range : Range ℕ) → slice_get tables.groups group ≡ Some range → AllTo (KeepsRules tables) range.start range.end
-    → AllTo (PassesNoLimit tables) range.start range.end → IsFine tables group
-all_fine tables group range at rules limits = record {
+pub whole_group : (tables : TypeTables) (group : ℕ) (range : Range ℕ) → slice_get tables.groups group ≡ Some range → AllTo (KeepsRules tables) range.start range.end
+    → AllTo (PassesNoLimit tables) range.start range.end → KeepsRulesAndLimits tables group
+whole_group tables group range at rules limits = record {
   rules = λ id is_in. let ends = bounds is_in in rules id ends.0 ends.1;
   limits = λ id is_in. let ends = bounds is_in in limits id ends.0 ends.1;
 } where

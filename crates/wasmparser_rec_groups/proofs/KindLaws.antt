@@ -4,7 +4,7 @@ use Rattle.std.specs.List.{AllByRecursion, list_all}
 use Rattle.wasm_spec.specs.Subtyping.{IsOfKind, SubTypes, abstract_of}
 use Rattle.wasm_spec.specs.Types.{ArrayComposite, CompositeType, ContComposite, FuncComposite, StructComposite, SubType}
 use Rattle.wasmparser_rec_groups.proofs.CanonicalGroups.{both_true}
-use Rattle.wasmparser_rec_groups.specs.KindTests.{is_like, is_of_one_kind, keep_kinds, keeps_kind}
+use Rattle.wasmparser_rec_groups.specs.KindTests.{has_supertypes_of_kind, have_supertypes_of_kind, is_like, is_of_one_kind}
 use Rattle.wasmparser_rec_groups.specs.Kinds.{HasSupertypesOfKind, HaveSupertypesOfKind}
 use Rattle.wasmparser_types.specs.Index.{Index}
 
@@ -63,12 +63,12 @@ like_iff sub_at composite r = (to (sub_at r) refl, λ of. from (sub_at r) of.typ
   from (Some other) type is kind = let one : other ≡ type = cc in rw one (kind_like type.composite_type composite kind)
   from None type is kind = absurd cc
 
-type_iff : (sub_at : SubTypes Index) (type : SubType Index) → (keeps_kind sub_at type ≡ true) ↔ HasSupertypesOfKind sub_at type
+type_iff : (sub_at : SubTypes Index) (type : SubType Index) → (has_supertypes_of_kind sub_at type ≡ true) ↔ HasSupertypesOfKind sub_at type
 type_iff sub_at type = (
   every (λ r. is_like type.composite_type (sub_at r)) (λ r. IsOfKind sub_at r (abstract_of type.composite_type)) (like_iff sub_at type.composite_type) type.supertypes,
   tested (λ r. is_like type.composite_type (sub_at r)) (λ r. IsOfKind sub_at r (abstract_of type.composite_type)) (like_iff sub_at type.composite_type) type.supertypes,
 )
 
-pub kinds_iff : (sub_at : SubTypes Index) (types : List (SubType Index)) → (keep_kinds sub_at types ≡ true) ↔ HaveSupertypesOfKind sub_at types
+pub kinds_iff : (sub_at : SubTypes Index) (types : List (SubType Index)) → (have_supertypes_of_kind sub_at types ≡ true) ↔ HaveSupertypesOfKind sub_at types
 kinds_iff sub_at types =
-    (every (keeps_kind sub_at) (HasSupertypesOfKind sub_at) (type_iff sub_at) types, tested (keeps_kind sub_at) (HasSupertypesOfKind sub_at) (type_iff sub_at) types)
+    (every (has_supertypes_of_kind sub_at) (HasSupertypesOfKind sub_at) (type_iff sub_at) types, tested (has_supertypes_of_kind sub_at) (HasSupertypesOfKind sub_at) (type_iff sub_at) types)

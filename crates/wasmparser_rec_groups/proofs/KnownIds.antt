@@ -13,7 +13,7 @@ use Rattle.wasmparser_interning.proofs.Agreement.{group_within, now_at, range_of
 use Rattle.std.proofs.lemmas.List.FromFn.{length-range_with_len}
 use Rattle.wasmparser_interning.specs.TypeTables.{Interns, IsGroupAt, TablesAgree, TypeTables, group_ids, ids_in, known_group}
 use Rattle.wasmparser_rec_groups.proofs.CanonicalGroups.{members_mapped, within}
-use Rattle.wasmparser_rec_groups.specs.Interning.{AreKnown, CanBeKept, NamesModuleTypes, Refuses, breaks_a_rule, canonical_members, has_no_room, is_refused, out_of_memory}
+use Rattle.wasmparser_rec_groups.specs.Interning.{AreKnown, CanBeInterned, NamesModuleTypes, Refuses, breaks_a_rule, canonical_members, has_no_room, is_refused, out_of_memory}
 use Rattle.wasmparser_types.specs.Index.{Index}
 use Rattle.wasmparser_types.specs.RecGroups.{members}
 
@@ -30,8 +30,8 @@ still_known old new ids more known = all_each (λ id. id < length old.types) (λ
 pub known_after_refusal : (features : Features) (ids : List ℕ) (old new : TypeTables) (group : RecGroup Index) (offset : ℕ) (e : Error) → Refuses features ids old new group offset e
     → AreKnown old ids → AreKnown new ids
 known_after_refusal features ids old new group offset e (breaks_a_rule breaks same) known = subst (λ t. AreKnown t ids) (sym same) known
-known_after_refusal features ids old new group offset e (has_no_room kept none same) known = subst (λ t. AreKnown t ids) (sym same) known
-known_after_refusal features ids old new group offset e (is_refused is_new number kind kept room interned refused) known =
+known_after_refusal features ids old new group offset e (has_no_room internable none same) known = subst (λ t. AreKnown t ids) (sym same) known
+known_after_refusal features ids old new group offset e (is_refused is_new number kind internable room interned refused) known =
     still_known old new ids (no_fewer old new _ is_new _ number interned) known
 known_after_refusal features ids old new group offset e (out_of_memory same) known = subst (λ t. AreKnown t ids) (sym same) known
 
@@ -55,7 +55,7 @@ join P [] ys h k = k
 join P (x ∷ xs) ys h k = (h.0, join P xs ys h.1 k)
 
 module _ (features : Features) (ids : List ℕ) (old new : TypeTables) (group : RecGroup Index) (number : ℕ) (agree : TablesAgree old) (now : TablesAgree new) (known : AreKnown old ids)
-    (names : NamesModuleTypes group) (kept : CanBeKept features ids old group) (is_new : Bool) (interned : Interns old new (needs_type_canonicalization features) (canonical_members ids group) is_new number) where
+    (names : NamesModuleTypes group) (internable : CanBeInterned features ids old group) (is_new : Bool) (interned : Interns old new (needs_type_canonicalization features) (canonical_members ids group) is_new number) where
   pub known_after : (new_ids : List ℕ) → new_ids ≡ ids ++ group_ids new number → AreKnown new new_ids
   known_after new_ids is =
       subst (AreKnown new) (sym is)
@@ -78,7 +78,7 @@ module _ (features : Features) (ids : List ℕ) (old new : TypeTables) (group : 
     found (Some n) is h = let one : n ≡ number = cc in subst (λ m. IsGroupAt new m (canonical_members ids group)) one h
 
     go : (is_new : Bool) → Interns old new (needs_type_canonicalization features) (canonical_members ids group) is_new number → IsGroupAt new number (canonical_members ids group)
-    go true interned = now_at old new (canonical_members ids group) number agree interned.adds (within features ids old group known names kept)
+    go true interned = now_at old new (canonical_members ids group) number agree interned.adds (within features ids old group known names internable)
     go false interned =
         found (known_group new.known (canonical_members ids group)) (ap (λ (t : TypeTables). known_group t.known (canonical_members ids group)) interned.1 ∙ interned.2)
         (now.known (canonical_members ids group))

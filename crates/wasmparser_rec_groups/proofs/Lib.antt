@@ -1,6 +1,6 @@
+mod BeforeInterning
 pub mod CanonicalGroups
 mod GroupLaws
-mod Keeping
 mod KindLaws
 pub mod KnownIds
 mod RuleLaws

@@ -11,7 +11,7 @@ use Rattle.wasmparser_error.specs.declared.error.ErrorKind.TheVariants.{Invalid,
 use Rattle.wasmparser_group_rules.specs.Canonical.{HaveEarlierSupertypes, IsBelow, canonical_index, index_bound}
 use Rattle.wasmparser_interning.specs.TypeTables.{Interns, TypeTables, group_ids, has_room}
 use Rattle.wasmparser_rec_groups.specs.Kinds.{HaveSupertypesOfKind, earlier_or_own}
-use Rattle.wasmparser_rec_groups.specs.Rules.{IsFine, IsRefusedGroup}
+use Rattle.wasmparser_rec_groups.specs.Rules.{IsRefusedGroup, KeepsRulesAndLimits}
 use Rattle.wasmparser_types.specs.Index.{Index, Module, RecGroup as Place, Id}
 use Rattle.wasmparser_types.specs.RecGroups.{members}
 
@@ -33,28 +33,28 @@ AreKnown tables ids = AllByRecursion (λ id. id < length tables.types) ids
 abbrev pub canonical_members : List ℕ → RecGroup Index → List (SubType Index)
 canonical_members ids group = members (group_map (canonical_index ids) group)
 
--- What is asked of a group before it is kept. ids: those of the types before it, by type index.
-pub record CanBeKept (features : Features) (ids : List ℕ) (tables : TypeTables) (group : RecGroup Index) : Type 0 where
+-- What is asked of a group before it is interned. ids: those of the types before it, by type index.
+pub record CanBeInterned (features : Features) (ids : List ℕ) (tables : TypeTables) (group : RecGroup Index) : Type 0 where
   pub allowed : is_allowed_group features group ≡ true
   pub supertypes : HaveEarlierSupertypes (length ids) (members group)
   pub in_range : AllByRecursion (IsBelow (index_bound (has features Gc) (length ids) (length (members group)))) (group_refs group)
   pub kinds : HaveSupertypesOfKind (earlier_or_own tables (canonical_members ids group)) (canonical_members ids group)
 
--- A group was interned in canonical form, or was known so, and its types keep all rules.
-pub record Keeps (features : Features) (ids : List ℕ) (old new : TypeTables) (group : RecGroup Index) (number : ℕ) : Type 0 where
+-- A group was interned in canonical form, or was known so, and its types keep the rules and pass no limit.
+pub record InternsValid (features : Features) (ids : List ℕ) (old new : TypeTables) (group : RecGroup Index) (number : ℕ) : Type 0 where
   pub is_new : Bool
-  pub kept : CanBeKept features ids old group
+  pub internable : CanBeInterned features ids old group
   pub room : has_room old (canonical_members ids group) ≡ true
   pub interned : Interns old new (needs_type_canonicalization features) (canonical_members ids group) is_new number
-  pub fine : IsFine new number
+  pub kept : KeepsRulesAndLimits new number
 
 -- Why a group is refused at an offset, and what is left of the list. One that breaks the rules on open and matched supertypes or on continuations, or passes a limit,
 -- has been interned by then.
 pub data Refuses (features : Features) (ids : List ℕ) (old new : TypeTables) (group : RecGroup Index) (offset : ℕ) : Error → Type 0 where
-  breaks_a_rule : ¬ (CanBeKept features ids old group) → new ≡ old → Refuses features ids old new group offset (record { offset = offset; kind = Invalid })
-  has_no_room : CanBeKept features ids old group → has_room old (canonical_members ids group) ≡ false → new ≡ old
+  breaks_a_rule : ¬ (CanBeInterned features ids old group) → new ≡ old → Refuses features ids old new group offset (record { offset = offset; kind = Invalid })
+  has_no_room : CanBeInterned features ids old group → has_room old (canonical_members ids group) ≡ false → new ≡ old
       → Refuses features ids old new group offset (record { offset = offset; kind = Total })
-  is_refused : (is_new : Bool) (number : ℕ) (kind : ErrorKind) → CanBeKept features ids old group → has_room old (canonical_members ids group) ≡ true
+  is_refused : (is_new : Bool) (number : ℕ) (kind : ErrorKind) → CanBeInterned features ids old group → has_room old (canonical_members ids group) ≡ true
       → Interns old new (needs_type_canonicalization features) (canonical_members ids group) is_new number → IsRefusedGroup new number kind
       → Refuses features ids old new group offset (record { offset = offset; kind = kind })
   out_of_memory : new ≡ old → Refuses features ids old new group offset (record { offset = 0; kind = Memory })
@@ -62,5 +62,5 @@ pub data Refuses (features : Features) (ids : List ℕ) (old new : TypeTables) (
 -- A group was accepted, and the ids of its types follow the others.
 pub record Accepts (features : Features) (ids : List ℕ) (old new : TypeTables) (group : RecGroup Index) (new_ids : List ℕ) : Type 0 where
   pub number : ℕ
-  pub keeps : Keeps features ids old new group number
+  pub valid : InternsValid features ids old new group number
   pub added : new_ids ≡ ids ++ group_ids new number

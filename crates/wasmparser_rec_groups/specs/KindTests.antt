@@ -19,8 +19,8 @@ is_like composite (Some type) = is_of_one_kind type.composite_type composite
 is_like composite None = false
 
 -- all supertypes of a type are of its kind
-abbrev pub keeps_kind : SubTypes Index → SubType Index → Bool
-keeps_kind sub_at type = list_all (λ supertype. is_like type.composite_type (sub_at supertype)) type.supertypes
+abbrev pub has_supertypes_of_kind : SubTypes Index → SubType Index → Bool
+has_supertypes_of_kind sub_at type = list_all (λ supertype. is_like type.composite_type (sub_at supertype)) type.supertypes
 
-abbrev pub keep_kinds : SubTypes Index → List (SubType Index) → Bool
-keep_kinds sub_at types = list_all (keeps_kind sub_at) types
+abbrev pub have_supertypes_of_kind : SubTypes Index → List (SubType Index) → Bool
+have_supertypes_of_kind sub_at types = list_all (has_supertypes_of_kind sub_at) types

@@ -1,4 +1,4 @@
--- Supertypes of a type's own kind, in a group in canonical form. They are asked for before the group is kept, because subtyping of ids takes all links to
+-- Supertypes of a type's own kind, in a group in canonical form. They are asked for before the group is interned, because subtyping of ids takes all links to
 -- lead to types of the same kind.
 use Rattle.std.specs.Prelude.{List, None, slice_get}
 use Rattle.std.specs.List.{AllByRecursion}

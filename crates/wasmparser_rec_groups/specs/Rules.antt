@@ -47,7 +47,7 @@ pub record IsIn (tables : TypeTables) (group id : ℕ) : Type 0 where
   pub before : id < range.end
 
 -- all types of a known group keep the rules, and pass no limit
-pub record IsFine (tables : TypeTables) (group : ℕ) : Type 0 where
+pub record KeepsRulesAndLimits (tables : TypeTables) (group : ℕ) : Type 0 where
   pub rules : (id : ℕ) → IsIn tables group id → KeepsRules tables id
   pub limits : (id : ℕ) → IsIn tables group id → PassesNoLimit tables id
 

@@ -6,12 +6,12 @@ ghost use Rattle.wasmparser_chains.specs.Chains.{AreBelowEarlier};
 ghost use Rattle.wasmparser_error.specs.declared.error.ErrorKind.TheVariants as kinds;
 ghost use Rattle.wasmparser_group_rules.specs.Canonical.{canonical_index};
 ghost use Rattle.wasmparser_interning.specs.TypeTables.{TablesAgree, group_ids, sub_types};
-ghost use Rattle.wasmparser_rec_groups.specs.Interning.{Accepts, AreKnown, CanBeKept, Keeps, NamesModuleTypes, Refuses};
+ghost use Rattle.wasmparser_rec_groups.specs.Interning.{Accepts, AreKnown, CanBeInterned, InternsValid, NamesModuleTypes, Refuses};
 ghost use Rattle.wasmparser_types.specs.RecGroups as spec;
 ghost use Rattle.wasmparser_types.specs.RecGroups.{members};
 ghost use Rattle.wasm_core_base.specs.Features.{feature_set};
 
-use crate::kinds::keep_kinds;
+use crate::kinds::have_supertypes_of_kind;
 use crate::rules::check_rec_group;
 use std::alloc::AllocError;
 use wasm_core_base::features::WasmFeatures;
@@ -107,7 +107,7 @@ pub trait InternRecGroup {
     {
         self.reserve_type_ids(rec_group.types().len())?;
         let features = self.features();
-        let group = keep_rec_group(features, self.type_ids(), types, rec_group, offset)?;
+        let group = intern_rec_group(features, self.type_ids(), types, rec_group, offset)?;
         self.add_group_ids(types, group);
         Ok(())
     }
@@ -123,7 +123,7 @@ fn invalid(offset: u64) -> Error
     }
 }
 
-// A group in canonical form, if it may be kept.
+// A group in canonical form, if it may be interned.
 fn canonical_rec_group(
     features: WasmFeatures,
     ids: &[CoreTypeId],
@@ -136,21 +136,21 @@ fn canonical_rec_group(
     requires indexes { NamesModuleTypes (spec.rec_group rec_group) }
     requires room { length ids.now + length (members (spec.rec_group rec_group)) < 2 ^ 32 }
     ensures canonical { IfOk result (λ c. spec.rec_group c ≡ group_map (canonical_index ids.now) (spec.rec_group rec_group)) }
-    ensures kept { IfOk result (λ _. CanBeKept (feature_set features) ids.now types.now (spec.rec_group rec_group)) }
-    ensures refused { IfErr result (λ e. (¬ (CanBeKept (feature_set features) ids.now types.now (spec.rec_group rec_group))) × (e ≡ record { offset = offset; kind = kinds.Invalid })) }
+    ensures internable { IfOk result (λ _. CanBeInterned (feature_set features) ids.now types.now (spec.rec_group rec_group)) }
+    ensures refused { IfErr result (λ e. (¬ (CanBeInterned (feature_set features) ids.now types.now (spec.rec_group rec_group))) × (e ≡ record { offset = offset; kind = kinds.Invalid })) }
 {
     if !is_allowed_group(features, &rec_group) {
         return Err(invalid(offset));
     }
     canonicalize_rec_group(ids, features.gc(), &mut rec_group, offset)?;
-    if !keep_kinds(types, rec_group.types()) {
+    if !have_supertypes_of_kind(types, rec_group.types()) {
         return Err(invalid(offset));
     }
     Ok(rec_group)
 }
 
-// Interns a group in canonical form, if it may be kept, and checks what is left to be checked.
-fn keep_rec_group(
+// Interns a group in canonical form, if it may be interned, and checks what is left to be checked.
+fn intern_rec_group(
     features: WasmFeatures,
     ids: &[CoreTypeId],
     types: &mut TypeList,
@@ -167,7 +167,7 @@ fn keep_rec_group(
     ensures grows { IsSome types.new.known }
     ensures earlier { AreBelowEarlier (slice_get (sub_types types.new)) }
     ensures known { IfOk result (λ number. number < length types.new.groups) }
-    ensures kept { IfOk result (λ number. Keeps (feature_set features) ids.now types.old types.new (spec.rec_group rec_group) number) }
+    ensures valid { IfOk result (λ number. InternsValid (feature_set features) ids.now types.old types.new (spec.rec_group rec_group) number) }
     ensures refused { IfErr result (λ e. Refuses (feature_set features) ids.now types.old types.new (spec.rec_group rec_group) offset e) }
 {
     let canonical = canonical_rec_group(features, ids, types, rec_group, offset)?;

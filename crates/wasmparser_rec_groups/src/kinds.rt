@@ -51,8 +51,8 @@ fn is_like(types: &TypeList, group: &[SubType], index: PackedIndex, it: &Composi
     }
 }
 
-fn keeps_kind(types: &TypeList, group: &[SubType], it: &SubType) -> bool
-    ensures { result ≡ spec.keeps_kind (kinds.earlier_or_own types.now (map sub_type group.now)) (sub_type it.now) }
+fn has_supertypes_of_kind(types: &TypeList, group: &[SubType], it: &SubType) -> bool
+    ensures { result ≡ spec.has_supertypes_of_kind (kinds.earlier_or_own types.now (map sub_type group.now)) (sub_type it.now) }
 {
     it.supertype_idxs
         .iter()
@@ -60,8 +60,10 @@ fn keeps_kind(types: &TypeList, group: &[SubType], it: &SubType) -> bool
 }
 
 // Whether all supertypes in a group in canonical form are of their subtypes' kinds.
-pub(crate) fn keep_kinds(types: &TypeList, group: &[SubType]) -> bool
+pub(crate) fn have_supertypes_of_kind(types: &TypeList, group: &[SubType]) -> bool
     ensures { IsTrue result ↔ HaveSupertypesOfKind (kinds.earlier_or_own types.now (map sub_type group.now)) (map sub_type group.now) }
 {
-    group.iter().all(|it| keeps_kind(types, group, it))
+    group
+        .iter()
+        .all(|it| has_supertypes_of_kind(types, group, it))
 }

@@ -4,7 +4,7 @@ ghost use Rattle.std.specs.Prelude.{◌≡◌, ◌↔◌, ◌<◌, IfErr, IfOk, 
 ghost use Rattle.wasm_spec.specs.Groups.{ContinuesFunc, ExtendsSupertypes};
 ghost use Rattle.wasmparser_chains.specs.Chains.{AreBelowEarlier};
 ghost use Rattle.wasmparser_interning.specs.TypeTables.{TablesAgree, sub_types, type_by_id};
-ghost use Rattle.wasmparser_rec_groups.specs.Rules.{IdExtends, IsFine, IsOpen, IsRefused, IsRefusedGroup, KeepsRules, PassesNoLimit};
+ghost use Rattle.wasmparser_rec_groups.specs.Rules.{IdExtends, IsOpen, IsRefused, IsRefusedGroup, KeepsRules, KeepsRulesAndLimits, PassesNoLimit};
 ghost use Rattle.wasmparser_types.specs.CompositeTypes.{composite_type};
 ghost use Rattle.wasmparser_types.specs.SubTypes.{sub_type};
 
@@ -118,7 +118,7 @@ pub fn check_rec_group(types: &TypeList, group: RecGroupId) -> Result<(), ErrorK
     requires agree { TablesAgree types.now }
     requires earlier { AreBelowEarlier (slice_get (sub_types types.now)) }
     requires known { group < length types.now.groups }
-    ensures fine { IfOk result (λ _. IsFine types.now group) }
+    ensures kept { IfOk result (λ _. KeepsRulesAndLimits types.now group) }
     ensures refused { IfErr result (IsRefusedGroup types.now group) }
 {
     let elements = &types[group];

@@ -4,9 +4,9 @@ use Rattle.wasmparser_rec_group_laws.proofs.laws.accepted_groups_are_well_formed
 pub returns : goal.returns
 returns c = record {
   well_formed = λ canonical features ids new_ids old new group it accepts own.
-      let keeps = accepts.keeps in
-      well_formed canonical features ids old new group keeps.is_new accepts.number it keeps.kept keeps.interned own keeps.fine;
+      let valid = accepts.valid in
+      well_formed canonical features ids old new group valid.is_new accepts.number it valid.internable valid.interned own valid.kept;
   types = λ canonical features ids new_ids old new group it accepts own.
-      let keeps = accepts.keeps in
-      types canonical features ids old new group keeps.is_new accepts.number it keeps.kept keeps.interned own new_ids accepts.added;
+      let valid = accepts.valid in
+      types canonical features ids old new group valid.is_new accepts.number it valid.internable valid.interned own new_ids accepts.added;
 }

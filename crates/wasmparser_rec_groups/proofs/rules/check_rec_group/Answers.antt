@@ -1,7 +1,7 @@
 use Rattle.std.proofs.Common.{◌<◌, arith, subst, sym}
 use Rattle.wasmparser_rec_groups.specs.Rules.{KeepsRules, PassesNoLimit}
 use Rattle.wasmparser_interning.proofs.Agreement.{range_of}
-use Rattle.wasmparser_rec_groups.proofs.GroupLaws.{all_fine, known_id, one_more, whole}
+use Rattle.wasmparser_rec_groups.proofs.GroupLaws.{whole_group, known_id, one_more, whole}
 use Rattle.wasmparser_rec_groups.proofs.rules.check_rec_group.Goals as goal
 
 pub overflow_cast-index : goal.overflow_cast-index
@@ -36,11 +36,11 @@ loop-index-2-preserved c =
     let tables = c.args.types.now in
     one_more (KeepsRules tables) c.index-index-2.result c.loop-index-2.index c.loop-index-2.invariant (subst (KeepsRules tables) c.from_index-in-loop-index-2.ensures c.in_ok-check_rules.ensures.kept)
 
-pub returns-clause-fine : goal.returns-clause-fine
-returns-clause-fine c =
+pub returns-clause-kept : goal.returns-clause-kept
+returns-clause-kept c =
     let range = c.index-elements.result.now in
     let rules = whole (KeepsRules c.args.types.now) range c.index-index-2.result c.loop-index-2.index (sym c.index-index-2.ensures)
     (omega (arith, c.loop-index-2-test.false, c.index-index-end-2.ensures)) c.loop-index-2.invariant in
     let limits = whole (PassesNoLimit c.args.types.now) range c.index-index.result c.loop-index.index (sym c.index-index.ensures)
     (omega (arith, c.loop-index-test.false, c.index-index-end.ensures)) c.loop-index.invariant in
-    all_fine c.args.types.now c.args.group range c.index-elements.ensures rules limits
+    whole_group c.args.types.now c.args.group range c.index-elements.ensures rules limits

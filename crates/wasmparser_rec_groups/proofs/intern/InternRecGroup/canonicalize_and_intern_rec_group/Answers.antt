@@ -18,22 +18,22 @@ returns-in_err-reserve_type_ids-clause-refused g c =
 pub returns-in_err-group-clause-known : goal.returns-in_err-group-clause-known
 returns-in_err-group-clause-known g c =
     let known = subst (AreKnown c.args.types.now) (sym (c.type_ids.ensures ∙ c.in_ok-reserve_type_ids.ensures.ids)) c.requires.known in
-    subst (AreKnown c.keep_rec_group.new.types) c.type_ids.ensures
-    (known_after_refusal (feature_set c.features-features.result) c.type_ids.result.now c.args.types.now c.keep_rec_group.new.types (rec_group c.args.rec_group) c.args.offset
+    subst (AreKnown c.intern_rec_group.new.types) c.type_ids.ensures
+    (known_after_refusal (feature_set c.features-features.result) c.type_ids.result.now c.args.types.now c.intern_rec_group.new.types (rec_group c.args.rec_group) c.args.offset
     c.in_err-group.field-0.0 c.in_err-group.ensures.refused known)
 
 pub add_group_ids-requires-clause-room : goal.add_group_ids-requires-clause-room
 add_group_ids-requires-clause-room g c =
     let known = subst (AreKnown c.args.types.now) (sym (c.type_ids.ensures ∙ c.in_ok-reserve_type_ids.ensures.ids)) c.requires.known in
     let told = c.in_ok-group.ensures in
-    let count = group_count (feature_set c.features-features.result) c.type_ids.result.now c.args.types.now c.keep_rec_group.new.types (rec_group c.args.rec_group) c.in_ok-group.group
-    c.requires.agree told.agree known c.requires.indexes told.kept.kept told.kept.is_new told.kept.interned in
+    let count = group_count (feature_set c.features-features.result) c.type_ids.result.now c.args.types.now c.intern_rec_group.new.types (rec_group c.args.rec_group) c.in_ok-group.group
+    c.requires.agree told.agree known c.requires.indexes told.valid.internable told.valid.is_new told.valid.interned in
     omega (arith, count, ap length c.types.ensures, length-map c.types.result.now sub_type, c.in_ok-reserve_type_ids.ensures.room)
 
 pub returns-clause-known : goal.returns-clause-known
 returns-clause-known g c =
     let known = subst (AreKnown c.args.types.now) (sym (c.type_ids.ensures ∙ c.in_ok-reserve_type_ids.ensures.ids)) c.requires.known in
     let told = c.in_ok-group.ensures in
-    let ids = c.add_group_ids.ensures.ids ∙ ap (λ q. q ++ group_ids c.keep_rec_group.new.types c.in_ok-group.group) (sym c.type_ids.ensures) in
-    known_after (feature_set c.features-features.result) c.type_ids.result.now c.args.types.now c.keep_rec_group.new.types (rec_group c.args.rec_group) c.in_ok-group.group
-    c.requires.agree told.agree known c.requires.indexes told.kept.kept told.kept.is_new told.kept.interned _ ids
+    let ids = c.add_group_ids.ensures.ids ∙ ap (λ q. q ++ group_ids c.intern_rec_group.new.types c.in_ok-group.group) (sym c.type_ids.ensures) in
+    known_after (feature_set c.features-features.result) c.type_ids.result.now c.args.types.now c.intern_rec_group.new.types (rec_group c.args.rec_group) c.in_ok-group.group
+    c.requires.agree told.agree known c.requires.indexes told.valid.internable told.valid.is_new told.valid.interned _ ids

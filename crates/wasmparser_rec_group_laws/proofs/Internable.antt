@@ -1,4 +1,4 @@
--- A group that keeps all rules can be kept.
+-- A group that keeps all rules can be interned.
 use Rattle.std.proofs.Common.{◌≡◌, ℕ, suc, ◌+◌, ◌-◌, ◌<◌, Bool, List, [], ◌∷◌, ◌++◌, length, map, Some, inl, inr, refl, sym, ap, ◌∙◌, subst, arith}
 use Rattle.std.proofs.lemmas.List.{length-map}
 use Rattle.std.proofs.lemmas.Option.{slice_get-map, slice_get_within}
@@ -25,7 +25,7 @@ use Rattle.wasmparser_rec_group_laws.proofs.MappedGates.{same_gate}
 use Rattle.wasmparser_rec_group_laws.proofs.OwnTypes.{places_at, section_members}
 use Rattle.wasmparser_rec_group_laws.specs.Contexts.{in_section, types_of}
 use Rattle.wasmparser_rec_groups.proofs.CanonicalGroups.{mapped_at, members_mapped, of_members, of_type, same_abstract}
-use Rattle.wasmparser_rec_groups.specs.Interning.{AreKnown, CanBeKept, IsModuleIndex, NamesModuleTypes, canonical_members}
+use Rattle.wasmparser_rec_groups.specs.Interning.{AreKnown, CanBeInterned, IsModuleIndex, NamesModuleTypes, canonical_members}
 use Rattle.wasmparser_rec_groups.specs.Kinds.{HasSupertypesOfKind, HaveSupertypesOfKind, earlier_or_own}
 use Rattle.wasmparser_types.specs.Index.{Index, Module, RecGroup as Place, Id, number_of}
 use Rattle.wasmparser_types.specs.RecGroups.{members}
@@ -196,8 +196,8 @@ module _ (canonical : ℕ → Bool) (features : Features) (ids : List ℕ) (tabl
       let plain = mapped_at (sub_map (canonical_index ids)) (members group) place type (ap (λ ms. slice_get ms place) (sym (members_mapped (canonical_index ids) group)) ∙ is) in
       subst (HasSupertypesOfKind (earlier_or_own tables canonical_group)) (sym plain.2) (kinds_of place plain.0 plain.1))
 
-  pub can_be_kept : CanBeKept features ids tables group
-  can_be_kept = record {
+  pub can_be_interned : CanBeInterned features ids tables group
+  can_be_interned = record {
     allowed = sym (same_gate number_of features group) ∙ rules.allowed;
     supertypes = all_earlier;
     in_range =

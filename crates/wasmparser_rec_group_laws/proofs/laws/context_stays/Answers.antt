@@ -1,7 +1,7 @@
 use Rattle.wasm_spec.specs.Features.{needs_type_canonicalization}
 use Rattle.wasmparser_rec_groups.specs.Interning.{canonical_members}
 use Rattle.wasmparser_rec_group_laws.proofs.KnownTypes.{same_context, still_canonical, still_no_module}
-use Rattle.wasmparser_rec_group_laws.proofs.laws.context_is_kept.Goals as goal
+use Rattle.wasmparser_rec_group_laws.proofs.laws.context_stays.Goals as goal
 
 pub returns : goal.returns
 returns c = record {

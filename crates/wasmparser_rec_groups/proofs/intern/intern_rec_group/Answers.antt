@@ -4,10 +4,10 @@ use Rattle.wasm_core_base.specs.Features.{feature_set}
 use Rattle.wasmparser_types.specs.RecGroups.{members, rec_group}
 use Rattle.wasmparser_chains.specs.Chains.{AreBelowEarlier}
 use Rattle.wasmparser_interning.specs.TypeTables.{AreWithin, has_room, sub_types}
-use Rattle.wasmparser_rec_groups.proofs.Keeping.{interns_members, no_intern}
+use Rattle.wasmparser_rec_groups.proofs.BeforeInterning.{interns_members, no_intern}
 use Rattle.wasmparser_rec_groups.specs.Interning.{Refuses, breaks_a_rule, is_refused}
 use Rattle.wasmparser_rec_groups.proofs.CanonicalGroups.{still_earlier, within}
-use Rattle.wasmparser_rec_groups.proofs.intern.keep_rec_group.Goals as goal
+use Rattle.wasmparser_rec_groups.proofs.intern.intern_rec_group.Goals as goal
 
 pub returns-in_err-canonical-clause-refused : goal.returns-in_err-canonical-clause-refused
 returns-in_err-canonical-clause-refused c =
@@ -20,7 +20,7 @@ pub intern_canonical_rec_group-requires-clause-within : goal.intern_canonical_re
 intern_canonical_rec_group-requires-clause-within c =
     let told = c.in_ok-canonical.ensures in
     subst (λ g. AreWithin (length c.args.types.now.types) (members g)) (sym told.canonical)
-    (within (feature_set c.args.features) c.args.ids.now c.args.types.now (rec_group c.args.rec_group) c.requires.known c.requires.indexes told.kept)
+    (within (feature_set c.args.features) c.args.ids.now c.args.types.now (rec_group c.args.rec_group) c.requires.known c.requires.indexes told.internable)
 
 pub returns-in_err-id-clause-earlier : goal.returns-in_err-id-clause-earlier
 returns-in_err-id-clause-earlier c = subst (λ t. AreBelowEarlier (slice_get (sub_types t))) (sym c.in_err-id.ensures.refused) c.requires.earlier
@@ -30,7 +30,7 @@ returns-in_err-id-clause-refused c =
     let told = c.in_ok-canonical.ensures in
     let p = err_from_is_err_and c.from_residual-in_err-id.result c.from_residual-in_err-id.ensures.1 in
     rw (p.1, p.2) (no_intern (feature_set c.args.features) c.args.ids.now c.args.types.now (rec_group c.args.rec_group) c.intern_canonical_rec_group.new.self c.args.offset
-    (rec_group c.in_ok-canonical.canonical) told.canonical told.kept c.in_err-id.ensures.refused c.in_err-id.field-0.0 c.in_err-id.ensures.refusal)
+    (rec_group c.in_ok-canonical.canonical) told.canonical told.internable c.in_err-id.ensures.refused c.in_err-id.field-0.0 c.in_err-id.ensures.refusal)
 
 pub check_rec_group-requires-clause-earlier : goal.check_rec_group-requires-clause-earlier
 check_rec_group-requires-clause-earlier c =
@@ -38,7 +38,7 @@ check_rec_group-requires-clause-earlier c =
     let told = c.in_ok-canonical.ensures in
     let interned = interns_members features c.args.ids.now c.args.types.now (rec_group c.args.rec_group) c.intern_canonical_rec_group.new.self _ (rec_group c.in_ok-canonical.canonical) told.canonical
     c.needs_type_canonicalization-needs_canonicalization.ensures _ _ c.in_ok-id.ensures.interned in
-    still_earlier features c.args.ids.now c.args.types.now c.intern_canonical_rec_group.new.self (rec_group c.args.rec_group) c.requires.earlier c.requires.indexes told.kept _ _ _ interned
+    still_earlier features c.args.ids.now c.args.types.now c.intern_canonical_rec_group.new.self (rec_group c.args.rec_group) c.requires.earlier c.requires.indexes told.internable _ _ _ interned
 
 pub returns-in-Ok-clause-earlier : goal.returns-in-Ok-clause-earlier
 returns-in-Ok-clause-earlier c =
@@ -46,7 +46,7 @@ returns-in-Ok-clause-earlier c =
     let told = c.in_ok-canonical.ensures in
     let interned = interns_members features c.args.ids.now c.args.types.now (rec_group c.args.rec_group) c.intern_canonical_rec_group.new.self _ (rec_group c.in_ok-canonical.canonical) told.canonical
     c.needs_type_canonicalization-needs_canonicalization.ensures _ _ c.in_ok-id.ensures.interned in
-    still_earlier features c.args.ids.now c.args.types.now c.intern_canonical_rec_group.new.self (rec_group c.args.rec_group) c.requires.earlier c.requires.indexes told.kept _ _ _ interned
+    still_earlier features c.args.ids.now c.args.types.now c.intern_canonical_rec_group.new.self (rec_group c.args.rec_group) c.requires.earlier c.requires.indexes told.internable _ _ _ interned
 
 pub returns-in-Err-clause-earlier : goal.returns-in-Err-clause-earlier
 returns-in-Err-clause-earlier c =
@@ -54,7 +54,7 @@ returns-in-Err-clause-earlier c =
     let told = c.in_ok-canonical.ensures in
     let interned = interns_members features c.args.ids.now c.args.types.now (rec_group c.args.rec_group) c.intern_canonical_rec_group.new.self _ (rec_group c.in_ok-canonical.canonical) told.canonical
     c.needs_type_canonicalization-needs_canonicalization.ensures _ _ c.in_ok-id.ensures.interned in
-    still_earlier features c.args.ids.now c.args.types.now c.intern_canonical_rec_group.new.self (rec_group c.args.rec_group) c.requires.earlier c.requires.indexes told.kept _ _ _ interned
+    still_earlier features c.args.ids.now c.args.types.now c.intern_canonical_rec_group.new.self (rec_group c.args.rec_group) c.requires.earlier c.requires.indexes told.internable _ _ _ interned
 
 pub returns-in-Err-clause-refused : goal.returns-in-Err-clause-refused
 returns-in-Err-clause-refused c =
@@ -62,4 +62,4 @@ returns-in-Err-clause-refused c =
     let told = c.in_ok-canonical.ensures in
     let interned = interns_members features c.args.ids.now c.args.types.now (rec_group c.args.rec_group) c.intern_canonical_rec_group.new.self _ (rec_group c.in_ok-canonical.canonical) told.canonical
     c.needs_type_canonicalization-needs_canonicalization.ensures _ _ c.in_ok-id.ensures.interned in
-    is_refused _ c.in_ok-id.id c.in-Err.kind told.kept (sym (ap (λ g. has_room c.args.types.now (members g)) told.canonical) ∙ c.in_ok-id.ensures.room) interned c.in-Err.ensures.refused
+    is_refused _ c.in_ok-id.id c.in-Err.kind told.internable (sym (ap (λ g. has_room c.args.types.now (members g)) told.canonical) ∙ c.in_ok-id.ensures.room) interned c.in-Err.ensures.refused

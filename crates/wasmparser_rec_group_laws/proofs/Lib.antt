@@ -6,3 +6,4 @@ mod KnownTypes
 mod MappedGates
 mod Members
 mod OwnTypes
+mod SingleTypes

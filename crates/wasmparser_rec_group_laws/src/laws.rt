@@ -1,16 +1,19 @@
 //! Laws of recursive groups that are added to a list of types. A module's types have ids, which stand for defined types; the group is judged after these.
 
-ghost use Rattle.std.specs.Prelude.{◌≡◌, ℕ, Bool, List, true};
+ghost use Rattle.std.specs.Prelude.{◌≡◌, ℕ, Bool, List, [], ◌∷◌, None, length, slice_get, true};
+ghost use Rattle.std.specs.List.{AllByRecursion};
 ghost use Rattle.wasm_spec.specs.Features.{Features, needs_type_canonicalization};
 ghost use Rattle.wasm_spec.specs.Groups.{IsWellFormedGroup, KeepsGroupRules};
 ghost use Rattle.wasm_spec.specs.Trees.{types_after};
-ghost use Rattle.wasm_spec.specs.Types.{RecGroup};
-ghost use Rattle.wasmparser_interning.specs.TypeTables.{Interns, TypeTables};
+ghost use Rattle.wasm_spec.specs.TypeReferences.{sub_refs};
+ghost use Rattle.wasm_spec.specs.Types.{FuncType, RecGroup, SubType};
+ghost use Rattle.wasmparser_chains.specs.Chains.{AreBelowEarlier, IsBelowEarlier};
+ghost use Rattle.wasmparser_interning.specs.TypeTables.{Interns, TypeTables, final_func, sub_types};
 ghost use Rattle.wasmparser_interning_laws.specs.IdTypes.{AreFoundByKey, RefersToNoModule};
 ghost use Rattle.wasmparser_rec_group_laws.specs.Contexts.{CountsAsCanonical, IsGroupOfModule, JustifiesRefusal, in_section, types_of};
 ghost use Rattle.wasmparser_rec_groups.specs.Interning.{Accepts, AreKnown, CanBeInterned, canonical_members};
 ghost use Rattle.wasmparser_rec_groups.specs.Rules.{IsRefusedGroup};
-ghost use Rattle.wasmparser_types.specs.Index.{Index};
+ghost use Rattle.wasmparser_types.specs.Index.{Index, module_index};
 
 /// A group that is accepted is well-formed, and the ids that are added stand for its types.
 pub fn accepted_groups_are_well_formed()
@@ -42,4 +45,15 @@ pub fn context_stays()
     ensures found { (canonical : ℕ → Bool) (features : Features) (ids : List ℕ) (old new : TypeTables) (group : RecGroup Index) (is_new : Bool) (number : ℕ)
         → Interns old new (needs_type_canonicalization features) (canonical_members ids group) is_new number
         → (canonical number ≡ true → needs_type_canonicalization features ≡ true) → AreFoundByKey canonical old → AreFoundByKey canonical new }
+{}
+
+/// A type that is interned by itself, as by `TypeList::intern_sub_type`, leaves each type of a list below earlier ones of its own kind where it declares no supertype
+/// or a known one of its kind, as a final function type does, and brings in no index in a module where it names none.
+pub fn single_types_are_interned()
+    ensures earlier { (old new : TypeTables) (type : SubType Index) (is_new : Bool) (number : ℕ) → AreBelowEarlier (slice_get (sub_types old))
+        → IsBelowEarlier (slice_get (sub_types old)) (length old.types) type → Interns old new true (type ∷ []) is_new number → AreBelowEarlier (slice_get (sub_types new)) }
+    ensures function { (old new : TypeTables) (type : FuncType Index) (is_new : Bool) (number : ℕ) → AreBelowEarlier (slice_get (sub_types old))
+        → Interns old new true (final_func type ∷ []) is_new number → AreBelowEarlier (slice_get (sub_types new)) }
+    ensures no_module { (old new : TypeTables) (type : SubType Index) (is_new : Bool) (number : ℕ) → RefersToNoModule old
+        → AllByRecursion (λ index. module_index index ≡ None) (sub_refs type) → Interns old new true (type ∷ []) is_new number → RefersToNoModule new }
 {}

@@ -16,7 +16,7 @@ use wasmparser_types::sub_type::RecGroup;
 const OFFSET: u64 = 7;
 
 // Features, and groups that are added one after the other under these, each with the ids that its types get or the kind of its refusal. The default features
-// with others and without some. `module` begins another module, and `types` tells how many types the list has.
+// with others and without some. `module` begins another module, under the features that it names, and `types` tells how many types the list has.
 const SECTIONS: &str = "
     // equal groups have the same ids, and a member is no lone type
     | single func -> = #0; single func i32 -> = #1; single func -> = #0; types = 2
@@ -30,6 +30,12 @@ const SECTIONS: &str = "
     // without canonicalisation each group has types of its own; then no type names another
     -gc -function_references | single func -> = #0; single func -> = #1; single func i32 -> i32 = #2; types = 3
     -gc -function_references | single func funcref -> = #0; single func 0? -> = invalid; single cont 0 = invalid; types = 1
+
+    // modules under different features share the groups of one list, each by its own gates; without canonicalisation no group is found, nor found later
+    | single func -> = #0; module -gc = ; single func -> = #0; single func 0 -> = #1; module = ; single func 1 -> = invalid; single func -> = #0; single func 0 -> = #1; types = 2
+    | single func -> = #0; module -gc -function_references = ; single func -> = #1; single func -> = #2; module = ; single func -> = #0; types = 3
+    -gc -function_references | single func -> = #0; module = ; single func -> = #1; single func -> = #1; types = 2
+    | single struct = #0; single func -> = #1; module -gc_types = ; single struct = invalid; single func -> = #1; types = 2
 
     // one of three features is enough for canonicalisation
     -gc | single func -> = #0; single func -> = #0; types = 1
@@ -153,18 +159,13 @@ fn adds(section: &mut CheckedSection, group: RecGroup, expected: &str) -> bool {
     }
 }
 
-fn step_holds(
-    alloc: Global,
-    section: &mut CheckedSection,
-    features: WasmFeatures,
-    step: &str,
-) -> Option<bool> {
+fn step_holds(alloc: Global, section: &mut CheckedSection, step: &str) -> Option<bool> {
     let (call, expected) = step.split_once('=')?;
     let (word, types) = word_and_rest(call);
     match word {
         "types" => Some(number_of(expected.trim()) == Some(section.list_len() as u64)),
         "module" => {
-            section.next_module(alloc, features);
+            section.next_module(alloc, features_of(types)?);
             Some(true)
         }
         _ => Some(adds(section, group_of(alloc, word, types)?, expected.trim())),
@@ -173,10 +174,9 @@ fn step_holds(
 
 fn section_holds(alloc: Global, row: &str) -> Option<bool> {
     let (features, steps) = two_fields(row)?;
-    let features = features_of(features)?;
-    let mut section = CheckedSection::new(alloc, features);
+    let mut section = CheckedSection::new(alloc, features_of(features)?);
     for step in steps.split_terminator(';') {
-        if !step_holds(alloc, &mut section, features, step)? {
+        if !step_holds(alloc, &mut section, step)? {
             return Some(false);
         }
     }
@@ -185,5 +185,5 @@ fn section_holds(alloc: Global, row: &str) -> Option<bool> {
 
 #[test]
 fn groups_are_judged(rt: HostRuntime) -> Result<(), Fail> {
-    Ok(check_rows(rt.alloc(), SECTIONS, 53, section_holds)?)
+    Ok(check_rows(rt.alloc(), SECTIONS, 57, section_holds)?)
 }

@@ -1,8 +1,8 @@
 //! A reader of the front of some bytes.
 
-ghost use Rattle.std.specs.Prelude.{◌≡◌, ℕ, ◌+◌, ◌<◌, ◌≤◌, ◌^◌, ◌↔◌, length, IsTrue};
+ghost use Rattle.std.specs.Prelude.{◌≡◌, ℕ, ◌+◌, ◌<◌, ◌≤◌, ◌^◌, ◌↔◌, length, IsTrue, slice_get};
 ghost use Rattle.wasm_core_base.specs.Features.{feature_set};
-ghost use Rattle.wasm_spec.specs.Bytes.{IsOneByte, IsU32, IsU64, IsS32, IsS33, IsS64, IsF32, IsF64, IsBytesOf, IsName};
+ghost use Rattle.wasm_spec.specs.Bytes.{AreBytes, IsOneByte, IsU32, IsU64, IsS32, IsS33, IsS64, IsF32, IsF64, IsBytesOf, IsName};
 ghost use Rattle.wasm_spec.specs.Features.{default_features};
 ghost use Rattle.wasm_core_read.specs.Input.{end};
 ghost use Rattle.wasm_core_read.specs.Laws.{Reads};
@@ -19,7 +19,7 @@ use wasm_core_base::features::WasmFeatures;
 ///
 /// Contracts see a reader as the bytes that are left, the place of the first of them in the input, and
 /// the features under which operators are read.
-#[derive(Drop)]
+#[derive(Clone, Debug, Drop)]
 pub struct BinaryReader<'a> {
     rest: &'a [u8],
     position: u64,
@@ -82,11 +82,26 @@ impl<'a> BinaryReader<'a> {
         self.rest.len()
     }
 
+    /// The bytes that are left, which stay unread.
+    pub fn remaining_buffer(&self) -> &'a [u8]
+        ensures bytes { result.now ≡ self.now.rest }
+        ensures are { AreBytes self.now.rest }
+    {
+        self.rest
+    }
+
     /// Whether no bytes are left.
     pub fn eof(&self) -> bool
         ensures { IsTrue result ↔ (length self.now.rest ≡ 0) }
     {
         self.rest.is_empty()
+    }
+
+    /// The next byte, which stays unread.
+    pub fn peek(&self) -> Option<u8>
+        ensures { result ≡ slice_get self.now.rest 0 }
+    {
+        self.rest.first().copied()
     }
 
     /// Reads one byte.

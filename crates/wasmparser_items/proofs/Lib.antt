@@ -1,0 +1,3 @@
+mod ItemSteps
+mod PackedItemLaws
+mod PackedSteps

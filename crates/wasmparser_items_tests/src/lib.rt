@@ -1,0 +1,5 @@
+//! Tests of items of sections that are read from bytes, through the public calls of `wasmparser_items`.
+#![tactic(auto)]
+
+#[cfg(test)]
+mod items;

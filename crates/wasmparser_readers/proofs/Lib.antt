@@ -1,0 +1,7 @@
+mod CodeLaws
+mod HeapLaws
+mod ItemLaws
+pub mod MappedReading
+pub mod ModuleLaws
+pub mod PackedLaws
+mod ValLaws

@@ -1,0 +1,5 @@
+pub mod Answers
+pub mod ModuleIndexes
+pub mod PackedReading
+pub mod Sections
+pub mod Written

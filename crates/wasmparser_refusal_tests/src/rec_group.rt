@@ -1,0 +1,44 @@
+//! A recursive group that is read: where memory runs out, it reads afterwards.
+
+use std::alloc::Global;
+use wasm_core_read::binary_reader::BinaryReader;
+use wasmparser_error::error::{Error, ErrorKind};
+use wasmparser_readers::from_reader::FromReader;
+use wasmparser_types::sub_type::RecGroup;
+
+// A group of a function type below another one, a structure and an array.
+const GROUP: [u8; 27] = [
+    0x4e, 0x04, 0x50, 0x00, 0x60, 0x02, 0x7f, 0x63, 0x01, 0x01, 0x7e, 0x4f, 0x01, 0x00, 0x60, 0x00,
+    0x00, 0x5f, 0x02, 0x78, 0x00, 0x64, 0x03, 0x01, 0x5e, 0x7f, 0x01,
+];
+
+fn read(alloc: Global) -> Result<RecGroup, Error> {
+    RecGroup::from_reader(alloc, &mut BinaryReader::new(&GROUP, 0))
+}
+
+fn reads(alloc: Global) -> bool {
+    match read(alloc) {
+        Ok(group) => group.types().len() == 4,
+        Err(_) => false,
+    }
+}
+
+// Whether memory ran out, which has no place.
+fn runs_out(alloc: Global) -> bool {
+    match read(alloc) {
+        Ok(_) => false,
+        Err(error) => error.kind == ErrorKind::Memory && error.offset == 0,
+    }
+}
+
+#[test]
+fn a_group_reads_after_memory_ran_out(rt: HostRuntime) {
+    let alloc = rt.alloc();
+    assert!(rt; reads(alloc) || reads(alloc), "at the second time at least");
+}
+
+#[test]
+fn memory_that_ran_out_has_no_place(rt: HostRuntime) {
+    let alloc = rt.alloc();
+    assert!(rt; runs_out(alloc) || reads(alloc), "or nothing was refused");
+}

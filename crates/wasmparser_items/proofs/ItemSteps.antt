@@ -1,7 +1,7 @@
 -- Forms that their first byte announces: what reads where there is no byte, and after one.
 use Rattle.std.proofs.Common.{◌≡◌, ◌≢◌, ◌≤◌, ◌<◌, ℕ, List, [], ◌∷◌, Some, None, refl, ap, ◌∙◌}
 use Rattle.std.proofs.lemmas.Bool.{ne_eqb, le-ltb, lt-ltb}
-use Rattle.wasm_core_read.specs.Reading.{◌>>=◌, ReadingOf, byte_at, unsigned_at, announced_at}
+use Rattle.wasm_core_read.specs.Reading.{ReadingOf, byte_at, unsigned_at, announced_at}
 use Rattle.wasm_core_read.specs.TypeReading.{limits_at, limits_with, tag_type_at, external_kind_at}
 use Rattle.wasm_core_read.proofs.Forms.{some_is}
 use Rattle.wasm_spec.specs.Types.{FuncKind, TableKind, MemoryKind, GlobalKind, TagKind}

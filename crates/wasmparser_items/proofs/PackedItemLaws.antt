@@ -1,14 +1,14 @@
 -- What reads packed is what the grammar reads, with its indexes packed; and what that says of an item.
-use Rattle.std.proofs.Common.{◌≡◌, ◌≤◌, ℕ, Bool, List, Option, Some, None, refl, sym, ap, ◌∙◌}
+use Rattle.std.proofs.Common.{◌≡◌, ◌≤◌, ℕ, List, Option, Some, None, refl, ap}
 use Rattle.std.specs.List.{AllByRecursion, Any}
-use Rattle.wasm_core_read.specs.Reading.{◌>>=◌, seen_at, pair_at, unsigned_at}
-use Rattle.wasm_core_read.specs.TypeReading.{table_type_from, table_type_at, table_limits_at, limits_at, global_type_at, val_type_at, mutability_at, tag_type_at, external_type_at, ref_type_from}
+use Rattle.wasm_core_read.specs.Reading.{◌>>=◌, unsigned_at}
+use Rattle.wasm_core_read.specs.TypeReading.{table_type_from, table_type_at, table_limits_at, limits_at, global_type_at, mutability_at, tag_type_at, external_type_at, ref_type_from}
 use Rattle.wasm_spec.specs.TypeReferences.{ref_map, val_map, table_map, global_map, external_map, table_refs, global_refs}
-use Rattle.wasm_spec.specs.Types.{Limits, RefType, ValType, TableType, GlobalType, ExternalType, FuncExternal, TableExternal, MemoryExternal, GlobalExternal, TagExternal}
+use Rattle.wasm_spec.specs.Types.{RefType, ValType, TableType, GlobalType, ExternalType, FuncExternal, TableExternal, MemoryExternal, GlobalExternal, TagExternal}
 use Rattle.wasmparser_types.specs.Index.{Index, packable, number_of}
 use Rattle.wasmparser_readers.specs.Answers.{HasLargeIndex}
 use Rattle.wasmparser_readers.specs.ModuleIndexes.{IsModuleIndex}
-use Rattle.wasmparser_readers.specs.PackedReading.{packed_index, packed_ref_from, packed_val_at}
+use Rattle.wasmparser_readers.specs.PackedReading.{packed_index, packed_ref_from}
 use Rattle.wasmparser_readers.proofs.MappedReading.{Mapped, MappedFrom, given, both, by_code, by_none, by_first, by_view, by_pair}
 use Rattle.wasmparser_readers.proofs.ModuleLaws.{item_unread, item_read, item_large, ref_back, ref_large_in, val_back, val_large_in}
 use Rattle.wasmparser_readers.proofs.PackedLaws.{ref_from, val_is}

@@ -16,7 +16,7 @@ use wasm_core_read::binary_reader::BinaryReader;
 use wasm_core_read::malformed::Malformed;
 use wasmparser_error::error::{Error, ErrorKind};
 use wasmparser_readers::from_reader::{FromReader, Item};
-use wasmparser_readers::val_type::{has_packed_index, read_mutability, read_val_type};
+use wasmparser_readers::val_type::{read_mutability, read_val_type, val_is_of_module};
 use wasmparser_types::val_type::ValType;
 
 /// The type of a global.
@@ -28,7 +28,7 @@ pub struct GlobalType {
     pub mutable: bool,
 }
 
-// Reads a global's type, in which an index that is too large to be packed is no place in the module.
+// Reads a global's type, in which a type index that is too large to be packed is a place in a recursive group.
 #[tactic(auto, unfolding(crate::specs::PackedItems::packed_global_at))]
 pub(crate) fn read_packed_global(reader: &mut BinaryReader<'_>) -> Result<GlobalType, Malformed>
     ensures { Answers global_type reader.old reader.new result (packed_global_at reader.old.rest) }
@@ -58,7 +58,7 @@ impl<'a> FromReader<'a> for GlobalType {
     fn from_reader(_alloc: Global, reader: &mut BinaryReader<'a>) -> Result<GlobalType, Error> {
         let offset = reader.original_position();
         let global_type = read_packed_global(reader)?;
-        if !has_packed_index(&global_type.content_type) {
+        if !val_is_of_module(&global_type.content_type) {
             return Err(Error {
                 offset,
                 kind: ErrorKind::Invalid,

@@ -36,8 +36,8 @@ const IS_64: u8 = 4;
 
 const HAS_PAGE_SIZE: u8 = 8;
 
-// Flags from here on announce nothing.
-const NO_FLAGS: u8 = 16;
+// Flags end here.
+const FLAGS_END: u8 = 16;
 
 fn has_bit(flags: u8, bit: u8) -> bool
     requires { 0 < bit }
@@ -90,7 +90,7 @@ pub fn read_limits(reader: &mut BinaryReader<'_>) -> Result<MemoryType, Malforme
 {
     let offset = reader.original_position();
     let flags = reader.read_u8()?;
-    if flags >= NO_FLAGS {
+    if flags >= FLAGS_END {
         return Err(Malformed { offset });
     }
     read_limits_with(flags, reader)

@@ -17,7 +17,7 @@ use wasm_core_read::binary_reader::BinaryReader;
 use wasm_core_read::malformed::Malformed;
 use wasmparser_error::error::{Error, ErrorKind};
 use wasmparser_readers::from_reader::{FromReader, Item};
-use wasmparser_readers::val_type::{is_packed, read_ref_type_from};
+use wasmparser_readers::val_type::{read_ref_type_from, ref_is_of_module};
 use wasmparser_types::ref_type::RefType;
 
 /// The type of a table.
@@ -63,7 +63,7 @@ pub(crate) fn read_table_type_from(
     })
 }
 
-// Reads a table's type, in which an index that is too large to be packed is no place in the module.
+// Reads a table's type, in which a type index that is too large to be packed is a place in a recursive group.
 #[tactic(auto, using(crate::proofs::PackedSteps::table_steps))]
 pub(crate) fn read_packed_table(reader: &mut BinaryReader<'_>) -> Result<TableType, Malformed>
     ensures { Answers table_type reader.old reader.new result (packed_table_at reader.old.rest) }
@@ -89,7 +89,7 @@ impl<'a> FromReader<'a> for TableType {
     fn from_reader(_alloc: Global, reader: &mut BinaryReader<'a>) -> Result<TableType, Error> {
         let offset = reader.original_position();
         let table_type = read_packed_table(reader)?;
-        if !is_packed(&table_type.element_type) {
+        if !ref_is_of_module(&table_type.element_type) {
             return Err(Error {
                 offset,
                 kind: ErrorKind::Invalid,

@@ -20,7 +20,7 @@ use wasm_core_read::binary_reader::BinaryReader;
 use wasm_core_read::malformed::Malformed;
 use wasmparser_error::error::{Error, ErrorKind};
 use wasmparser_readers::from_reader::{FromReader, Item};
-use wasmparser_readers::val_type::{has_packed_index, is_packed};
+use wasmparser_readers::val_type::{ref_is_of_module, val_is_of_module};
 
 /// What is imported.
 #[derive(Clone, Copy, Debug, PartialEq, Eq, Hash)]
@@ -53,7 +53,7 @@ fn read_packed_from(code: u8, reader: &mut BinaryReader<'_>) -> Result<TypeRef, 
     }
 }
 
-// Reads what is imported; an index that is too large to be packed is no place in the module.
+// Reads what is imported, in which a type index that is too large to be packed is a place in a recursive group.
 #[tactic(auto, using(crate::proofs::PackedSteps::external_steps))]
 fn read_packed(reader: &mut BinaryReader<'_>) -> Result<TypeRef, Malformed>
     ensures { Answers type_ref reader.old reader.new result (packed_external_at reader.old.rest) }
@@ -62,13 +62,13 @@ fn read_packed(reader: &mut BinaryReader<'_>) -> Result<TypeRef, Malformed>
     read_packed_from(code, reader)
 }
 
-// Whether all type indexes were packed that had to be.
-fn has_packed_indexes(external: &TypeRef) -> bool
+// Whether the type indexes that are packed are places in the module.
+fn external_is_of_module(external: &TypeRef) -> bool
     ensures { IsTrue result ↔ AllByRecursion IsModuleIndex (packed_refs (type_ref external.now)) }
 {
     match external {
-        TypeRef::Table(it) => is_packed(&it.element_type),
-        TypeRef::Global(it) => has_packed_index(&it.content_type),
+        TypeRef::Table(it) => ref_is_of_module(&it.element_type),
+        TypeRef::Global(it) => val_is_of_module(&it.content_type),
         _ => true,
     }
 }
@@ -90,7 +90,7 @@ impl<'a> FromReader<'a> for TypeRef {
     fn from_reader(_alloc: Global, reader: &mut BinaryReader<'a>) -> Result<TypeRef, Error> {
         let offset = reader.original_position();
         let external = read_packed(reader)?;
-        if !has_packed_indexes(&external) {
+        if !external_is_of_module(&external) {
             return Err(Error {
                 offset,
                 kind: ErrorKind::Invalid,

@@ -4,4 +4,5 @@ mod ItemLaws
 pub mod MappedReading
 pub mod ModuleLaws
 pub mod PackedLaws
+pub mod SectionLaws
 mod ValLaws

@@ -1,6 +1,6 @@
 -- Sections of items: how many there are, and reading them one by one.
 use Rattle.std.specs.Iterator.{Count, at_most}
-use Rattle.std.specs.Prelude.{◌≡◌, ℕ, suc, ◌+◌, ◌-◌, length, List, [], Option, Some, None, Result, Ok, Err}
+use Rattle.std.specs.Prelude.{◌≡◌, ◌<◌, ◌⊎◌, ℕ, suc, ◌+◌, ◌-◌, length, List, [], Option, Some, None, Result, Ok, Err}
 use Rattle.wasm_core_read.specs.Input.{Input, GoesOn, IsWithin, end}
 use Rattle.wasm_core_read.specs.Reading.{◌>>=◌, ReadingOf, unsigned_at, filled}
 use Rattle.wasm_core_read.specs.TypeReading.{items_at}
@@ -24,8 +24,8 @@ limited_of i =
     unsigned_at 32 i.rest >>= λ n. Some (record { start = i.position; left = record { count = n.0; input = record i { rest = n.1; position = end i - length n.1 } } })
 
 -- the items that are left, where they fill the input
-unfoldable pub items_left : {A : Type 0} → (Features → ReadingOf A) → Left → Option (List A)
-items_left form_at left = filled (items_at (form_at left.input.features) left.count left.input.rest)
+unfoldable pub left_items : {A : Type 0} → (Features → ReadingOf A) → Left → Option (List A)
+left_items form_at left = filled (items_at (form_at left.input.features) left.count left.input.rest)
 
 -- nothing is left
 pub record IsEmpty (left : Left) : Type 0 where
@@ -39,11 +39,15 @@ pub record IsNext {A : Type 0} (form_at : Features → ReadingOf A) (old new : L
   pub place : offset ≡ old.input.position
   pub goes_on : GoesOn old.input new.input
 
+-- the next item doesn't read, or bytes are left after the last one
+abbrev pub IsUnread : {A : Type 0} → (Features → ReadingOf A) → Left → Type 0
+IsUnread form_at left = ((0 < left.count) × (form_at left.input.features left.input.rest ≡ None)) ⊎ ((left.count ≡ 0) × (0 < length left.input.rest))
+
 -- a refusal to read the next item
 abbrev pub IsNextRefusal : {A : Type 0} → (A → List ℕ) → (Features → ReadingOf A) → Left → Error → Type 0
 IsNextRefusal indexes form_at old e =
-    IsItemRefusal e.kind e.offset ((items_left form_at old ≡ None) × IsWithin old.input e.offset)
-    (HasLargeIndex indexes (form_at old.input.features old.input.rest) × IsWithin old.input e.offset)
+    IsItemRefusal e.kind e.offset (IsUnread form_at old × IsWithin old.input e.offset)
+    ((0 < old.count) × HasLargeIndex indexes (form_at old.input.features old.input.rest) × IsWithin old.input e.offset)
 
 -- What a call returned that reads the next item: the item and its place, or none where nothing is left.
 abbrev pub ReadsNextItem : {X A : Type 0} → (X → A) → (X → Type 0) → (A → List ℕ) → (Features → ReadingOf A) → Left → Left → Result (Option (ℕ × X)) Error → Type 0
@@ -63,6 +67,6 @@ GivesNext form IsOfModule indexes form_at old new None = IsEmpty old × (new ≡
 GivesNext form IsOfModule indexes form_at old new (Some (Ok x)) = IsNext form_at old new old.input.position (form x) × IsOfModule x
 GivesNext form IsOfModule indexes form_at old new (Some (Err e)) = IsNextRefusal indexes form_at old e × IsEmpty new
 
--- no more results come than this: one for each item, and an error where bytes are left
+-- no more results come than this
 abbrev pub at_most_left : Left → Count
 at_most_left left = at_most (left.count + length left.input.rest)

@@ -9,7 +9,7 @@ use std::alloc::Global;
 use wasm_core_read::binary_reader::BinaryReader;
 use wasmparser_error::error::Error;
 
-/// What bytes may read as: the part of `FromReader` for contracts alone, which knows of no input.
+/// What bytes may read as: the part of `FromReader` for contracts alone, which has no lifetime.
 pub trait Item {
     // An item of the specification.
     ghost Form: { Type 0 };
@@ -29,11 +29,11 @@ pub trait Item {
 
 /// What a reader can read.
 pub trait FromReader<'a>: Item + Sized {
-    /// Reads a value. Lists take memory, everything else borrows the input.
+    /// Reads a value. Lists of a type take memory; names borrow the input.
     ///
     /// # Errors
-    /// `Malformed` where no value reads, and `Invalid` where one reads that names a type index from 2^20 on, which is
-    /// too large to be packed.
+    /// `Malformed` where no value reads, `Invalid` where one reads with a type index from 2^20 on that the value would
+    /// have to pack, and `Memory`.
     fn from_reader(alloc: Global, reader: &mut BinaryReader<'a>) -> Result<Self, Error>
         ensures { ReadsItem Self.form Self.IsOfModule Self.indexes reader.old reader.new result (Self.form_at reader.old.features reader.old.rest) };
 }

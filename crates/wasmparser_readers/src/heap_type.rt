@@ -96,8 +96,12 @@ pub(crate) fn read_written(reader: &mut BinaryReader<'_>) -> Result<WrittenHeapT
     Ok(WrittenHeapType::Index(read_heap_index(reader)?))
 }
 
+/// Reads a heap type, whose index isn't packed.
+///
+/// # Errors
+/// Where none reads.
 #[tactic(auto, unfolding(crate::specs::PackedReading::module_heap_at))]
-fn read_heap_type(reader: &mut BinaryReader<'_>) -> Result<HeapType, Malformed>
+pub fn read_heap_type(reader: &mut BinaryReader<'_>) -> Result<HeapType, Malformed>
     ensures { Answers heap_type reader.old reader.new result (module_heap_at reader.old.rest) }
 {
     match read_written(reader)? {

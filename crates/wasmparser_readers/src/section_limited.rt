@@ -1,6 +1,6 @@
 //! Sections of items of one kind.
 
-ghost use Rattle.std.specs.Prelude.{◌≡◌};
+ghost use Rattle.std.specs.Prelude.{◌≡◌, ◌≤◌};
 ghost use Rattle.wasm_core_read.specs.Input.{end};
 ghost use Rattle.wasm_core_read.specs.Reading.{AnswersAll};
 ghost use Rattle.wasmparser_readers.specs.Sections.{ReadsNextItem, IsEmpty, limited_of};
@@ -32,11 +32,13 @@ impl<'a, T> Model for SectionLimited<'a, T> {
     ghost Value = { Limited };
 
     ghost view = { λ s. record { start = s.start; left = record { count = s.count; input = s.reader } } };
+
+    ghost invariant = { λ s. s.start ≤ s.reader.position };
 }
 
 impl<'a, T> SectionLimited<'a, T> {
     /// The section whose content a reader has before it. The number of its items stands first (Core Specification 3.0,
-    /// Binary Format, "Vectors").
+    /// Binary Format, "Lists").
     ///
     /// # Errors
     /// Where no number reads. The items are read later.
@@ -65,6 +67,7 @@ impl<'a, T> SectionLimited<'a, T> {
     pub fn range(&self) -> Range<u64>
         ensures start { result.start ≡ self.now.start }
         ensures end { result.end ≡ end self.now.left.input }
+        ensures ordered { result.start ≤ result.end }
     {
         self.start..self.reader.original_position() + self.reader.bytes_remaining() as u64
     }
@@ -118,7 +121,7 @@ impl<'a, T: FromReader<'a>> SectionLimitedIntoIterWithOffsets<'a, T> {
     ghost use Rattle.std.specs.Prelude.{◌<◌, ◌+◌, OnErr, length};
 
     // Reads the next item, and tells its place.
-    #[tactic(auto, using(crate::proofs::ItemLaws::item_steps))]
+    #[tactic(auto, using(crate::proofs::ItemLaws::no_bytes))]
     fn read_next(&mut self) -> Result<Option<(u64, T)>, Error>
         ensures reads { ReadsNextItem T.form T.IsOfModule T.indexes T.form_at self.old self.new result }
         ensures left { OnErr result (0 < self.old.count + length self.old.input.rest) }

@@ -62,7 +62,8 @@ pub(crate) fn read_val_type_from(
     }
 }
 
-/// Reads a value type, in which an index that is too large to be packed is no place in the module.
+/// Reads a value type. A type index that is too large to be packed reads as a place in a recursive group, which no bytes give: ask
+/// `val_is_of_module` before the type is used.
 ///
 /// # Errors
 /// Where none reads.
@@ -74,7 +75,8 @@ pub fn read_val_type(reader: &mut BinaryReader<'_>) -> Result<ValType, Malformed
     read_val_type_from(code, reader)
 }
 
-/// Reads a reference type after its first byte; an index that is too large to be packed is no place in the module.
+/// Reads a reference type after its first byte. A type index that is too large to be packed reads as a place in a recursive group,
+/// which no bytes give: ask `ref_is_of_module` before the type is used.
 ///
 /// # Errors
 /// Where none reads.
@@ -171,8 +173,8 @@ impl Part for FieldType {
     }
 }
 
-/// Whether the type index of a reference was packed, where it has one.
-pub fn is_packed(reference: &RefType) -> bool
+/// Whether a reference names the defined type that it refers to, if any, by its place in the module.
+pub fn ref_is_of_module(reference: &RefType) -> bool
     ensures { IsTrue result ↔ AllByRecursion IsModuleIndex (ref_refs reference.now) }
 {
     match reference.type_index() {
@@ -182,11 +184,11 @@ pub fn is_packed(reference: &RefType) -> bool
 }
 
 /// The same of a value type.
-pub fn has_packed_index(type_of_value: &ValType) -> bool
+pub fn val_is_of_module(type_of_value: &ValType) -> bool
     ensures { IsTrue result ↔ AllByRecursion IsModuleIndex (val_refs (val_type type_of_value.now)) }
 {
     match type_of_value {
-        ValType::Ref(it) => is_packed(it),
+        ValType::Ref(it) => ref_is_of_module(it),
         _ => true,
     }
 }
@@ -208,7 +210,7 @@ impl<'a> FromReader<'a> for RefType {
     fn from_reader(_alloc: Global, reader: &mut BinaryReader<'a>) -> Result<RefType, Error> {
         let offset = reader.original_position();
         let reference = read_ref_type(reader)?;
-        if !is_packed(&reference) {
+        if !ref_is_of_module(&reference) {
             return Err(Error {
                 offset,
                 kind: ErrorKind::Invalid,
@@ -235,7 +237,7 @@ impl<'a> FromReader<'a> for ValType {
     fn from_reader(_alloc: Global, reader: &mut BinaryReader<'a>) -> Result<ValType, Error> {
         let offset = reader.original_position();
         let val_type = read_val_type(reader)?;
-        if !has_packed_index(&val_type) {
+        if !val_is_of_module(&val_type) {
             return Err(Error {
                 offset,
                 kind: ErrorKind::Invalid,

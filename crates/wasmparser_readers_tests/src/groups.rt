@@ -42,6 +42,11 @@ const GROUPS: &str = "
     50 01 ff ff ff ff 0f 60 00 00 | invalid
     50 01 80 80 80 80 10 60 00 00 | malformed
     5d 80 80 c0 00 | invalid
+    60 00 01 64 80 80 c0 00 | invalid
+    60 02 7f 64 80 80 c0 00 00 | invalid
+    5f 01 63 80 80 c0 00 00 | invalid
+    50 02 00 80 80 40 60 00 00 | invalid
+    4e 02 5f 00 5e 63 80 80 c0 00 00 | invalid
     5f 02 63 80 80 c0 00 00 7f 02 | malformed
     4e 02 5e 63 80 80 c0 00 00 5f 00 | invalid
     4e 02 5e 63 80 80 c0 00 00 | malformed
@@ -56,6 +61,9 @@ const GROUPS: &str = "
     5d 00 | single cont 0
     5d ff 00 | single cont 127
     5d 7f | malformed
+    5d 70 | malformed
+    5e 7f 80 00 | malformed
+    50 01 7f 60 00 00 | single open 127 : func ->
     5c 00 | malformed
     61 00 00 | malformed
 
@@ -75,7 +83,7 @@ const GROUPS: &str = "
     | malformed
 ";
 
-const COUNT_OF_GROUPS: usize = 51;
+const COUNT_OF_GROUPS: usize = 59;
 
 // A group in words.
 fn group_of(alloc: Global, words: &str) -> Option<RecGroup> {

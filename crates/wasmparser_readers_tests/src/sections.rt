@@ -1,4 +1,4 @@
-//! Sections of indexes, item by item.
+//! Sections of indexes and of reference types, item by item.
 
 use std::alloc::Global;
 use std::test::Fail;
@@ -8,6 +8,7 @@ use wasm_test_rows::rows::check_rows;
 use wasm_test_rows::values::{bytes_of, number_of};
 use wasmparser_error::error::Error;
 use wasmparser_readers::section_limited::SectionLimited;
+use wasmparser_types::ref_type::RefType;
 
 // Where the content begins in the input.
 const START: u64 = 10;
@@ -86,6 +87,64 @@ fn holds(alloc: Global, row: &str) -> Option<bool> {
         return Some(false);
     }
     Some(has_items(alloc, &bytes, words)? && has_indexes(alloc, &bytes, words)?)
+}
+
+// A content of reference types, and how its items end: each `ok`, or the refusal with its place.
+const REFERENCES: &str = "
+    00 |
+    02 70 6f | ok ok
+    01 63 05 | ok
+    01 70 70 | ok malformed@12
+    02 70 63 80 80 c0 00 | ok invalid@12
+    00 63 80 80 c0 00 | malformed@11
+    03 70 7f 70 | ok malformed@13
+";
+
+const COUNT_OF_REFERENCES: usize = 7;
+
+fn is_end(item: Result<RefType, Error>, words: &str) -> Option<bool> {
+    match item {
+        Ok(_) => Some(words == "ok"),
+        Err(error) => {
+            let (kind, place) = words.split_once('@')?;
+            Some(error.kind.name() == kind && error.offset == number_of(place)?)
+        }
+    }
+}
+
+fn has_references(alloc: Global, bytes: &[u8], words: &str) -> Option<bool> {
+    let mut expected = words.split_whitespace();
+    let section = SectionLimited::<'_, RefType>::new(BinaryReader::new(bytes, START)).ok()?;
+    for item in section.into_iter(alloc) {
+        if !is_end(item, expected.next()?)? {
+            return Some(false);
+        }
+    }
+    Some(expected.next().is_none())
+}
+
+fn references_hold(alloc: Global, row: &str) -> Option<bool> {
+    let (field, words) = two_fields(row)?;
+    has_references(alloc, &bytes_of(alloc, field)?, words)
+}
+
+#[test]
+fn references_read(rt: HostRuntime) -> Result<(), Fail> {
+    check_rows(rt.alloc(), REFERENCES, COUNT_OF_REFERENCES, references_hold)?;
+    Ok(())
+}
+
+fn count_of(bytes: &[u8]) -> Option<u32> {
+    Some(section_of(bytes)?.count())
+}
+
+#[test]
+fn counts_are_stated(rt: HostRuntime) {
+    assert!(rt;
+        count_of(&[0x83, 0, 1]) == Some(3),
+        "of which two are missing"
+    );
+    assert!(rt; count_of(&[0x80]) == None, "none");
 }
 
 #[test]

@@ -7,7 +7,6 @@ use wasm_test_rows::fields::three_fields;
 use wasm_test_rows::rows::check_rows;
 use wasm_test_rows::shown::debugs;
 use wasm_test_rows::values::bytes_of;
-use wasmparser_error::error::Error;
 use wasmparser_readers::from_reader::FromReader;
 use wasmparser_types::heap_type::HeapType;
 use wasmparser_types::ref_type::RefType;
@@ -33,10 +32,26 @@ const TYPES: &str = "
     heap | 05 | Concrete(Module(5))
     heap | 80 80 c0 00 | Concrete(Module(1048576))
     heap | ff ff ff ff 0f | Concrete(Module(4294967295))
+    heap | 3f | Concrete(Module(63))
+    heap | c0 00 | Concrete(Module(64))
+    heap | 85 80 80 80 00 | Concrete(Module(5))
+    heap | 40 | malformed
+    heap | 67 | malformed
+    heap | 76 | malformed
+    heap | f0 7f | malformed
+    heap | 80 80 80 80 70 | malformed
+    heap | ff ff ff ff 7f | malformed
+    heap | ff ff ff ff 1f | malformed
+    heap | 85 80 80 80 80 00 | malformed
     heap | 80 80 80 80 10 | malformed
     heap | | malformed
     ref | 70 | Abstract(Func)?
     ref | 63 70 | Abstract(Func)?
+    ref | 64 6b | Abstract(Struct)
+    ref | 64 71 | Abstract(None)
+    ref | 63 68 | Abstract(Cont)?
+    ref | 67 | malformed
+    ref | 76 | malformed
     ref | 64 70 | Abstract(Func)
     ref | 63 05 | Concrete(Module(5))?
     ref | 64 ff ff 3f | Concrete(Module(1048575))
@@ -46,15 +61,13 @@ const TYPES: &str = "
     val | 7f | I32
     val | 7b | V128
     val | 64 80 80 c0 00 | invalid
+    val | 63 80 80 c0 00 | invalid
     val | 78 | malformed
+    val | 77 | malformed
     val | 64 7f | malformed
 ";
 
-const COUNT_OF_TYPES: usize = 33;
-
-fn is_refusal(error: Error, words: &str) -> bool {
-    error.kind.name() == words
-}
+const COUNT_OF_TYPES: usize = 51;
 
 fn is_reference(alloc: Global, reference: &RefType, words: &str) -> bool {
     let name = words.strip_suffix('?').unwrap_or(words);
@@ -63,23 +76,26 @@ fn is_reference(alloc: Global, reference: &RefType, words: &str) -> bool {
 }
 
 fn is_heap(alloc: Global, bytes: &[u8], words: &str) -> bool {
-    match HeapType::from_reader(alloc, &mut BinaryReader::new(bytes, 0)) {
-        Ok(it) => debugs(alloc, &it, words),
-        Err(error) => is_refusal(error, words),
+    let mut reader = BinaryReader::new(bytes, 0);
+    match HeapType::from_reader(alloc, &mut reader) {
+        Ok(it) => reader.eof() && debugs(alloc, &it, words),
+        Err(error) => error.kind.name() == words,
     }
 }
 
 fn is_ref(alloc: Global, bytes: &[u8], words: &str) -> bool {
-    match RefType::from_reader(alloc, &mut BinaryReader::new(bytes, 0)) {
-        Ok(it) => is_reference(alloc, &it, words),
-        Err(error) => is_refusal(error, words),
+    let mut reader = BinaryReader::new(bytes, 0);
+    match RefType::from_reader(alloc, &mut reader) {
+        Ok(it) => reader.eof() && is_reference(alloc, &it, words),
+        Err(error) => error.kind.name() == words,
     }
 }
 
 fn is_val(alloc: Global, bytes: &[u8], words: &str) -> bool {
-    match ValType::from_reader(alloc, &mut BinaryReader::new(bytes, 0)) {
-        Ok(it) => debugs(alloc, &it, words),
-        Err(error) => is_refusal(error, words),
+    let mut reader = BinaryReader::new(bytes, 0);
+    match ValType::from_reader(alloc, &mut reader) {
+        Ok(it) => reader.eof() && debugs(alloc, &it, words),
+        Err(error) => error.kind.name() == words,
     }
 }
 

@@ -2,4 +2,6 @@
 #![tactic(auto)]
 
 #[cfg(test)]
+mod const_operators;
+#[cfg(test)]
 mod items;

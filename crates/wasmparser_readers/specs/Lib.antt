@@ -1,5 +1,6 @@
 pub mod Answers
 pub mod ModuleIndexes
 pub mod PackedReading
+pub mod Passing
 pub mod Sections
 pub mod Written

@@ -1,7 +1,7 @@
 //! Items of sections, each of which reads itself.
 
 ghost use Rattle.std.specs.Prelude.{⊤, ℕ, List, []};
-ghost use Rattle.wasm_core_read.specs.Reading.{ReadingOf, unsigned_at};
+ghost use Rattle.wasm_core_read.specs.Reading.{ReadingOf, name_at, unsigned_at};
 ghost use Rattle.wasm_spec.specs.Features.{Features};
 ghost use Rattle.wasmparser_readers.specs.Answers.{ReadsItem};
 
@@ -54,5 +54,24 @@ impl Item for u32 {
 impl<'a> FromReader<'a> for u32 {
     fn from_reader(_alloc: Global, reader: &mut BinaryReader<'a>) -> Result<u32, Error> {
         Ok(reader.read_var_u32()?)
+    }
+}
+
+// A name.
+impl<'a> Item for &'a str {
+    ghost Form = { List ℕ };
+
+    ghost form = { λ name. name.now };
+
+    ghost form_at = { λ _. name_at };
+
+    ghost indexes = { λ _. [] };
+
+    ghost IsOfModule = { λ _. ⊤ };
+}
+
+impl<'a> FromReader<'a> for &'a str {
+    fn from_reader(_alloc: Global, reader: &mut BinaryReader<'a>) -> Result<&'a str, Error> {
+        Ok(reader.read_string()?)
     }
 }

@@ -5,6 +5,7 @@ mod composite_type;
 pub mod from_reader;
 pub mod heap_type;
 mod part;
+pub mod passing;
 pub mod rec_group;
 pub mod section_limited;
 mod sub_type;

@@ -1,1 +1,2 @@
+pub mod ExpressionLaws
 mod OperatorLaws

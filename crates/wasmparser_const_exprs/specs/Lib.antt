@@ -1,1 +1,2 @@
+pub mod ConstExprs
 pub mod ConstOperators

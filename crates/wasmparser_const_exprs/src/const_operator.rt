@@ -1,6 +1,6 @@
 //! Operators of constant expressions (Core Specification 3.0, Binary Format, "Instructions").
 
-ghost use Rattle.std.specs.Prelude.{◌≡◌, IfOk, []};
+ghost use Rattle.std.specs.Prelude.{◌≡◌, ◌<◌, IfOk, []};
 ghost use Rattle.wasm_core_read.specs.ConstantReading.{aggregate_from, vector_from, operator_from, operator_at};
 ghost use Rattle.wasm_core_read.specs.Reading.{Answers, bytes_at};
 ghost use Rattle.wasm_core_read.specs.TypeReading.{heap_type_at};
@@ -222,9 +222,10 @@ fn read_operator_from(code: u8, reader: &mut BinaryReader<'_>) -> Result<ConstOp
 
 // Reads an operator.
 #[tactic(auto, using(crate::proofs::OperatorLaws::operator_codes))]
-fn read_operator(reader: &mut BinaryReader<'_>) -> Result<ConstOperator, Malformed>
+pub(crate) fn read_operator(reader: &mut BinaryReader<'_>) -> Result<ConstOperator, Malformed>
     ensures read { Answers const_operator reader.old reader.new result (operator_at reader.old.rest) }
     ensures in_module { IfOk result NamesModuleType }
+    ensures further { IfOk result (λ _. reader.old.position < reader.new.position) }
 {
     let code = reader.read_u8()?;
     read_operator_from(code, reader)

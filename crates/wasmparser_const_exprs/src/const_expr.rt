@@ -1,0 +1,170 @@
+//! Constant expressions (Core Specification 3.0, Binary Format, "Expressions").
+
+ghost use Rattle.std.specs.Prelude.{◌≡◌, ⊤, []};
+ghost use Rattle.wasm_core_read.specs.ConstantReading.{expression_at};
+ghost use Rattle.wasm_core_read.specs.Reading.{Answers};
+ghost use Rattle.wasm_spec.specs.Constants.{ConstantExpression};
+ghost use Rattle.wasmparser_const_exprs.specs.ConstExprs.{IsExpression, ReadsStep, PassesStep, expression_of};
+
+use crate::const_operator::{ConstOperator, read_operator};
+use std::alloc::Global;
+use std::iter::Iterator;
+use std::marker::Model;
+use wasm_core_read::binary_reader::BinaryReader;
+use wasm_core_read::malformed::Malformed;
+use wasmparser_error::error::Error;
+use wasmparser_readers::from_reader::{FromReader, Item};
+use wasmparser_readers::passing::{Pass, fork, passed_part};
+
+// What an expression ends with.
+const END: u8 = 0x0b;
+
+// Reads the next operator of an expression, or none at its end.
+#[tactic(auto, using(crate::proofs::ExpressionLaws::expression_steps))]
+fn read_next(reader: &mut BinaryReader<'_>) -> Result<Option<ConstOperator>, Malformed>
+    ensures { ReadsStep reader.old reader.new result }
+{
+    let bytes = reader.remaining_buffer();
+    match bytes.first().copied() {
+        Some(END) => {
+            reader.read_u8()?;
+            Ok(None)
+        }
+        Some(_) => Ok(Some(read_operator(reader)?)),
+        None => Err(Malformed {
+            offset: reader.original_position(),
+        }),
+    }
+}
+
+// Passes over the next operator of an expression, or over its end, and tells whether that was the end.
+#[tactic(auto, using(crate::proofs::ExpressionLaws::passed_one))]
+fn passes_end(reader: &mut BinaryReader<'_>) -> Result<bool, Malformed>
+    ensures { PassesStep reader.old reader.new result }
+{
+    match read_next(reader) {
+        Ok(Some(_)) => Ok(false),
+        Ok(None) => Ok(true),
+        Err(malformed) => Err(malformed),
+    }
+}
+
+/// A constant expression: the part of an input that reads as one. Contracts see it as a reader of these bytes, the end
+/// among them.
+#[derive(Clone, Debug, Drop)]
+pub struct ConstExpr<'a> {
+    reader: BinaryReader<'a>,
+}
+
+impl<'a> Model for ConstExpr<'a> {
+    ghost use Rattle.wasm_core_read.specs.Input.{Input};
+    ghost use Rattle.wasmparser_const_exprs.specs.ConstExprs.{IsExpression};
+
+    ghost Value = { Input };
+
+    ghost view = { λ c. c.reader };
+
+    ghost invariant = { λ c. IsExpression c.reader.rest };
+}
+
+impl<'a> ConstExpr<'a> {
+    /// A reader of the expression's bytes, the end among them.
+    pub fn get_binary_reader(&self) -> BinaryReader<'a>
+        ensures bytes { result ≡ self.now }
+        ensures are { IsExpression self.now.rest }
+    {
+        fork(&self.reader)
+    }
+
+    /// The operators one by one, the end aside.
+    pub fn operators(&self) -> ConstOperators<'a>
+        ensures { result ≡ expression_of self.now.rest }
+    {
+        ConstOperators {
+            reader: fork(&self.reader),
+        }
+    }
+}
+
+/// An expression that is passed over.
+pub struct Expression;
+
+impl Pass for Expression {
+    ghost Passed = { ConstantExpression };
+
+    ghost passed_at = { expression_at };
+
+    #[tactic(auto, using(crate::proofs::ExpressionLaws::pass_steps))]
+    fn pass(reader: &mut BinaryReader<'_>) -> Result<(), Malformed> {
+        while !passes_end(reader)? {}
+        Ok(())
+    }
+}
+
+/// Reads an expression. Its operators can then be read one by one, again.
+///
+/// # Errors
+/// Where none reads.
+#[tactic(auto, using(crate::proofs::ExpressionLaws::expression_again))]
+pub fn read_const_expr<'a>(reader: &mut BinaryReader<'a>) -> Result<ConstExpr<'a>, Malformed>
+    ensures { Answers (λ c. expression_of c.rest) reader.old reader.new result (expression_at reader.old.rest) }
+{
+    let start = fork(reader);
+    Expression::pass(reader)?;
+    Ok(ConstExpr {
+        reader: passed_part(start, reader.bytes_remaining()),
+    })
+}
+
+impl<'a> Item for ConstExpr<'a> {
+    ghost Form = { ConstantExpression };
+
+    ghost form = { λ c. expression_of c.rest };
+
+    ghost form_at = { λ _. expression_at };
+
+    ghost indexes = { λ _. [] };
+
+    ghost IsOfModule = { λ _. ⊤ };
+}
+
+impl<'a> FromReader<'a> for ConstExpr<'a> {
+    fn from_reader(_alloc: Global, reader: &mut BinaryReader<'a>) -> Result<ConstExpr<'a>, Error> {
+        Ok(read_const_expr(reader)?)
+    }
+}
+
+/// The operators of an expression that are still to come. Contracts see it as these.
+#[derive(Debug, Drop)]
+pub struct ConstOperators<'a> {
+    reader: BinaryReader<'a>,
+}
+
+impl<'a> Model for ConstOperators<'a> {
+    ghost use Rattle.wasm_spec.specs.Constants.{ConstantExpression};
+    ghost use Rattle.wasmparser_const_exprs.specs.ConstExprs.{AreOperators, expression_of};
+
+    ghost Value = { ConstantExpression };
+
+    ghost view = { λ s. expression_of s.reader.rest };
+
+    ghost invariant = { λ s. AreOperators s.reader.rest };
+}
+
+impl<'a> Iterator for ConstOperators<'a> {
+    ghost use Rattle.wasmparser_const_exprs.specs.ConstExprs.{GivesOperator, at_most_these};
+
+    type Item = ConstOperator;
+
+    ghost next_gives = { λ old next new. GivesOperator old new next };
+
+    ghost remaining = { at_most_these };
+
+    #[tactic(auto, using(crate::proofs::ExpressionLaws::operator_steps))]
+    fn next(&mut self) -> Option<ConstOperator> {
+        match read_next(&mut self.reader) {
+            Ok(next) => next,
+            Err(_) => None,
+        }
+    }
+}

@@ -1,3 +1,3 @@
-mod ItemSteps
-mod PackedItemLaws
+pub mod ItemSteps
+pub mod PackedItemLaws
 mod PackedSteps

@@ -17,21 +17,21 @@ use Rattle.wasmparser_items.specs.PackedItems.{packed_table_from, packed_table_a
 
 -- ---- tables
 
-same : {A : Type 0} (a_at : List ℕ → Option (A × List ℕ)) → Mapped (λ x. x) a_at a_at
+pub same : {A : Type 0} (a_at : List ℕ → Option (A × List ℕ)) → Mapped (λ x. x) a_at a_at
 same {A = A} a_at = λ bytes. by_read (a_at bytes)
   where
     by_read : (read : Option (A × List ℕ)) → read ≡ (read >>= λ x. given x.0 x.1)
     by_read None = refl
     by_read (Some x) = refl
 
-table_from : MappedFrom (table_map packed_index) table_type_from packed_table_from
+pub table_from : MappedFrom (table_map packed_index) table_type_from packed_table_from
 table_from = λ code. by_view (both (ref_map packed_index) (λ limits. limits)) _ _ (table_map packed_index) _ _ (by_pair (ref_map packed_index) (λ limits. limits) (ref_type_from code) (packed_ref_from code) _ _ (ref_from code) (same table_limits_at)) (λ x. refl)
 
-table_is : Mapped (table_map packed_index) table_type_at packed_table_at
+pub table_is : Mapped (table_map packed_index) table_type_at packed_table_at
 unfolding table_type_at packed_table_at
 table_is = by_first _ _ _ table_from
 
-table_back : (x : TableType ℕ) → AllByRecursion IsModuleIndex (table_refs (table_map packed_index x)) → table_map number_of (table_map packed_index x) ≡ x
+pub table_back : (x : TableType ℕ) → AllByRecursion IsModuleIndex (table_refs (table_map packed_index x)) → table_map number_of (table_map packed_index x) ≡ x
 table_back x h = ap (λ (r : RefType ℕ). record { element_type = r; limits = x.limits }) (ref_back x.element_type h)
 
 pub table_unread : (bytes : List ℕ) → packed_table_at bytes ≡ None → table_type_at bytes ≡ None
@@ -47,11 +47,11 @@ pub ruleset table_items = (table_unread, table_read, table_large)
 
 -- ---- globals
 
-global_is : Mapped (global_map packed_index) global_type_at packed_global_at
+pub global_is : Mapped (global_map packed_index) global_type_at packed_global_at
 unfolding global_type_at packed_global_at
 global_is = by_view (both (val_map packed_index) (λ mutable. mutable)) _ _ (global_map packed_index) _ _ (by_pair _ _ _ _ _ _ val_is (same mutability_at)) (λ x. refl)
 
-global_back : (x : GlobalType ℕ) → AllByRecursion IsModuleIndex (global_refs (global_map packed_index x)) → global_map number_of (global_map packed_index x) ≡ x
+pub global_back : (x : GlobalType ℕ) → AllByRecursion IsModuleIndex (global_refs (global_map packed_index x)) → global_map number_of (global_map packed_index x) ≡ x
 global_back x h = ap (λ (t : ValType ℕ). record { value_type = t; mutable = x.mutable }) (val_back x.value_type h)
 
 pub global_unread : (bytes : List ℕ) → packed_global_at bytes ≡ None → global_type_at bytes ≡ None

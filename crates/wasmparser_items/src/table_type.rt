@@ -47,7 +47,7 @@ fn read_table_limits(reader: &mut BinaryReader<'_>) -> Result<MemoryType, Malfor
 }
 
 // Reads a table's type after its first byte.
-pub(crate) fn read_table_type_from(
+pub fn read_table_type_from(
     code: u8,
     reader: &mut BinaryReader<'_>,
 ) -> Result<TableType, Malformed>
@@ -65,7 +65,7 @@ pub(crate) fn read_table_type_from(
 
 // Reads a table's type, in which a type index that is too large to be packed is a place in a recursive group.
 #[tactic(auto, using(crate::proofs::PackedSteps::table_steps))]
-pub(crate) fn read_packed_table(reader: &mut BinaryReader<'_>) -> Result<TableType, Malformed>
+pub fn read_packed_table(reader: &mut BinaryReader<'_>) -> Result<TableType, Malformed>
     ensures { Answers table_type reader.old reader.new result (packed_table_at reader.old.rest) }
 {
     let code = reader.read_u8()?;

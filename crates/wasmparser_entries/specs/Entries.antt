@@ -1,0 +1,107 @@
+-- Tables, globals and segments of the code as those of the specification, with their type indexes packed.
+use Rattle.std.specs.Prelude.{◌≡◌, ⊤, ℕ, List, [], Option, Some, None}
+use Rattle.std.specs.List.{AllByRecursion}
+use Rattle.wasm_spec.specs.Constants.{ConstantExpression}
+use Rattle.wasm_spec.specs.Syntax as syntax
+use Rattle.wasm_spec.specs.TypeReferences.{ref_map, table_map, global_map, ref_refs, table_refs, global_refs}
+use Rattle.wasm_spec.specs.Types as spec
+use Rattle.wasmparser_types.specs.Index.{Index, number_of}
+use Rattle.wasmparser_const_exprs.specs.ConstExprs.{expression_of}
+use Rattle.wasmparser_items.specs.ItemTypes.{table_type, global_type}
+use Rattle.wasmparser_entries.specs.Lists.{functions_of, expressions_of}
+use Rattle.wasmparser_entries.specs.declared.table.Table.{Table}
+use Rattle.wasmparser_entries.specs.declared.table.TableInit.{TableInit}
+use Rattle.wasmparser_entries.specs.declared.table.TableInit.TheVariants as inits
+use Rattle.wasmparser_entries.specs.declared.global.Global.{Global}
+use Rattle.wasmparser_entries.specs.declared.element.Element.{Element}
+use Rattle.wasmparser_entries.specs.declared.element.ElementKind.{ElementKind}
+use Rattle.wasmparser_entries.specs.declared.element.ElementKind.TheVariants as kinds
+use Rattle.wasmparser_entries.specs.declared.element.ElementItems.{ElementItems}
+use Rattle.wasmparser_entries.specs.declared.element.ElementItems.TheVariants as items
+use Rattle.wasmparser_entries.specs.declared.data.Data.{Data}
+use Rattle.wasmparser_entries.specs.declared.data.DataKind.{DataKind}
+use Rattle.wasmparser_entries.specs.declared.data.DataKind.TheVariants as data_kinds
+
+-- ---- tables
+
+abbrev pub initialiser : TableInit → Option ConstantExpression
+initialiser inits.RefNull = None
+initialiser (inits.Expr expression) = Some (expression_of expression.rest)
+
+-- the type of a table, and its initialiser
+abbrev pub PackedTable : Type 0
+PackedTable = spec.TableType Index × Option ConstantExpression
+
+abbrev pub packed_table : Table → PackedTable
+packed_table table = (table_type table.ty, initialiser table.init)
+
+abbrev pub table_of : PackedTable → syntax.Table
+table_of table = record { type = table_map number_of table.0; initialiser = table.1 }
+
+abbrev pub refs_of_table : syntax.Table → List ℕ
+refs_of_table table = table_refs table.type
+
+-- ---- globals
+
+-- the type of a global, and its initialiser
+abbrev pub PackedGlobal : Type 0
+PackedGlobal = spec.GlobalType Index × ConstantExpression
+
+abbrev pub packed_global : Global → PackedGlobal
+packed_global global = (global_type global.ty, expression_of global.init_expr.rest)
+
+abbrev pub global_of : PackedGlobal → syntax.Global
+global_of global = record { type = global_map number_of global.0; initialiser = global.1 }
+
+abbrev pub refs_of_global : syntax.Global → List ℕ
+refs_of_global global = global_refs global.type
+
+-- ---- element segments
+
+-- the items of an element segment, with the type index of their type packed
+pub data PackedItems : Type 0 where
+  Functions : List ℕ → PackedItems
+  Expressions : spec.RefType Index → List ConstantExpression → PackedItems
+
+pub record PackedElement : Type 0 where
+  pub mode : syntax.ElementMode
+  pub items : PackedItems
+
+abbrev pub element_mode : ElementKind → syntax.ElementMode
+element_mode kinds.Passive = syntax.PassiveElement
+element_mode (kinds.Active table offset) = syntax.ActiveElement table (expression_of offset.rest)
+element_mode kinds.Declared = syntax.DeclaredElement
+
+abbrev pub packed_items : ElementItems → PackedItems
+packed_items (items.Functions section) = Functions (functions_of section.left)
+packed_items (items.Expressions type section) = Expressions type (expressions_of section.left)
+
+abbrev pub packed_element : Element → PackedElement
+packed_element element = record { mode = element_mode element.kind; items = packed_items element.items }
+
+abbrev pub items_of : PackedItems → syntax.ElementItems
+items_of (Functions functions) = syntax.FunctionItems functions
+items_of (Expressions type expressions) = syntax.ExpressionItems (ref_map number_of type) expressions
+
+abbrev pub element_of : PackedElement → syntax.ElementSegment
+element_of element = record { mode = element.mode; items = items_of element.items }
+
+abbrev pub refs_of_items : syntax.ElementItems → List ℕ
+refs_of_items (syntax.FunctionItems functions) = []
+refs_of_items (syntax.ExpressionItems type expressions) = ref_refs type
+
+abbrev pub refs_of_element : syntax.ElementSegment → List ℕ
+refs_of_element element = refs_of_items element.items
+
+abbrev pub packed_refs_of_items : PackedItems → List Index
+packed_refs_of_items (Functions functions) = []
+packed_refs_of_items (Expressions type expressions) = ref_refs type
+
+-- ---- data segments
+
+abbrev pub data_mode : DataKind → syntax.DataMode
+data_mode data_kinds.Passive = syntax.PassiveData
+data_mode (data_kinds.Active memory offset) = syntax.ActiveData memory (expression_of offset.rest)
+
+abbrev pub data_segment : Data → syntax.DataSegment
+data_segment segment = record { mode = data_mode segment.kind; contents = segment.data.now }

@@ -1,0 +1,115 @@
+//! Data segments (Core Specification 3.0, Binary Format, "Data Section").
+
+ghost use Rattle.std.specs.Prelude.{◌≡◌, ⊤, []};
+ghost use Rattle.wasm_core_read.specs.PartReading.{body_at, data_from, data_at};
+ghost use Rattle.wasm_core_read.specs.Reading.{Answers};
+ghost use Rattle.wasm_spec.specs.Syntax as spec;
+ghost use Rattle.wasmparser_const_exprs.specs.ConstExprs.{expression_of};
+ghost use Rattle.wasmparser_entries.specs.Entries.{data_segment};
+
+use std::alloc::Global;
+use wasm_core_read::binary_reader::BinaryReader;
+use wasm_core_read::malformed::Malformed;
+use wasmparser_const_exprs::const_expr::{ConstExpr, read_const_expr};
+use wasmparser_error::error::Error;
+use wasmparser_readers::from_reader::{FromReader, Item};
+
+/// When a data segment is used.
+#[derive(Debug, Drop)]
+pub enum DataKind<'a> {
+    /// By instructions.
+    Passive,
+    /// As the module is instantiated.
+    Active {
+        /// The index of the memory, where it is written: else it is memory 0.
+        memory_index: Option<u32>,
+        /// What gives the place in the memory.
+        offset_expr: ConstExpr<'a>,
+    },
+}
+
+/// A data segment.
+#[derive(Debug, Drop)]
+pub struct Data<'a> {
+    /// When it is used.
+    pub kind: DataKind<'a>,
+    /// Its bytes.
+    pub data: &'a [u8],
+}
+
+fn active<'a>(
+    memory_index: Option<u32>,
+    offset_expr: ConstExpr<'a>,
+    data: &'a [u8],
+) -> Data<'a>
+    ensures { data_segment result ≡ record { mode = spec.ActiveData memory_index (expression_of offset_expr.entry.rest); contents = data.now } }
+{
+    Data {
+        kind: DataKind::Active {
+            memory_index,
+            offset_expr,
+        },
+        data,
+    }
+}
+
+// Reads the number of some bytes, and these.
+#[tactic(auto, unfolding(wasm_core_read::specs::PartReading::body_at))]
+fn read_contents<'a>(reader: &mut BinaryReader<'a>) -> Result<&'a [u8], Malformed>
+    ensures { Answers (λ bytes. bytes.now) reader.old reader.new result (body_at reader.old.rest) }
+{
+    let size = reader.read_var_u32()?;
+    reader.read_bytes(size as usize)
+}
+
+// Reads a segment after the number of its form.
+fn read_data_from<'a>(number: u32, reader: &mut BinaryReader<'a>) -> Result<Data<'a>, Malformed>
+    ensures { Answers data_segment reader.old reader.new result (data_from number reader.old.rest) }
+{
+    match number {
+        0 => {
+            let offset_expr = read_const_expr(reader)?;
+            let data = read_contents(reader)?;
+            Ok(active(None, offset_expr, data))
+        }
+        1 => Ok(Data {
+            kind: DataKind::Passive,
+            data: read_contents(reader)?,
+        }),
+        2 => {
+            let memory_index = reader.read_var_u32()?;
+            let offset_expr = read_const_expr(reader)?;
+            let data = read_contents(reader)?;
+            Ok(active(Some(memory_index), offset_expr, data))
+        }
+        _ => Err(Malformed {
+            offset: reader.original_position(),
+        }),
+    }
+}
+
+#[tactic(auto, unfolding(wasm_core_read::specs::PartReading::data_at))]
+fn read_data<'a>(reader: &mut BinaryReader<'a>) -> Result<Data<'a>, Malformed>
+    ensures { Answers data_segment reader.old reader.new result (data_at reader.old.rest) }
+{
+    let number = reader.read_var_u32()?;
+    read_data_from(number, reader)
+}
+
+impl<'a> Item for Data<'a> {
+    ghost Form = { spec.DataSegment };
+
+    ghost form = { data_segment };
+
+    ghost form_at = { λ _. data_at };
+
+    ghost indexes = { λ _. [] };
+
+    ghost IsOfModule = { λ _. ⊤ };
+}
+
+impl<'a> FromReader<'a> for Data<'a> {
+    fn from_reader(_alloc: Global, reader: &mut BinaryReader<'a>) -> Result<Data<'a>, Error> {
+        Ok(read_data(reader)?)
+    }
+}

@@ -1,0 +1,118 @@
+//! Tables with their initialisers (Core Specification 3.0, Binary Format, "Table Section").
+
+ghost use Rattle.std.specs.List.{AllByRecursion};
+ghost use Rattle.wasm_core_read.specs.PartReading.{table_at};
+ghost use Rattle.wasm_core_read.specs.Reading.{Answers};
+ghost use Rattle.wasm_spec.specs.Syntax as spec;
+ghost use Rattle.wasm_spec.specs.TypeReferences.{table_refs};
+ghost use Rattle.wasmparser_entries.specs.Entries.{packed_table, refs_of_table, table_of};
+ghost use Rattle.wasmparser_entries.specs.PackedEntries.{initialised_from, initialised_at, packed_entry_from, packed_entry_at};
+ghost use Rattle.wasmparser_items.specs.ItemTypes.{table_type};
+ghost use Rattle.wasmparser_readers.specs.ModuleIndexes.{IsModuleIndex};
+
+use std::alloc::Global;
+use wasm_core_read::binary_reader::BinaryReader;
+use wasm_core_read::malformed::Malformed;
+use wasmparser_const_exprs::const_expr::{ConstExpr, read_const_expr};
+use wasmparser_error::error::{Error, ErrorKind};
+use wasmparser_items::table_type::{TableType, read_packed_table, read_table_type_from};
+use wasmparser_readers::from_reader::{FromReader, Item};
+use wasmparser_readers::val_type::ref_is_of_module;
+
+// What a table with an initialiser begins with.
+const INITIALISED: u8 = 0x40;
+
+/// What the elements of a table begin as.
+#[derive(Debug, Drop)]
+pub enum TableInit<'a> {
+    /// Null: no initialiser is written.
+    RefNull,
+    /// What this gives.
+    Expr(ConstExpr<'a>),
+}
+
+/// A table.
+#[derive(Debug, Drop)]
+pub struct Table<'a> {
+    /// Its type.
+    pub ty: TableType,
+    /// What its elements begin as.
+    pub init: TableInit<'a>,
+}
+
+// Reads a table with an initialiser after the byte that says so, and the byte that is 0.
+fn read_initialised_from<'a>(
+    code: u8,
+    reader: &mut BinaryReader<'a>,
+) -> Result<Table<'a>, Malformed>
+    ensures { Answers packed_table reader.old reader.new result (initialised_from code reader.old.rest) }
+{
+    if code != 0 {
+        return Err(Malformed {
+            offset: reader.original_position(),
+        });
+    }
+    let ty = read_packed_table(reader)?;
+    let expression = read_const_expr(reader)?;
+    Ok(Table {
+        ty,
+        init: TableInit::Expr(expression),
+    })
+}
+
+#[tactic(auto, using(crate::proofs::EntrySteps::initialised_steps))]
+fn read_initialised<'a>(reader: &mut BinaryReader<'a>) -> Result<Table<'a>, Malformed>
+    ensures { Answers packed_table reader.old reader.new result (initialised_at reader.old.rest) }
+{
+    let code = reader.read_u8()?;
+    read_initialised_from(code, reader)
+}
+
+// Reads a table after its first byte.
+fn read_table_from<'a>(code: u8, reader: &mut BinaryReader<'a>) -> Result<Table<'a>, Malformed>
+    ensures { Answers packed_table reader.old reader.new result (packed_entry_from code reader.old.rest) }
+{
+    match code {
+        INITIALISED => read_initialised(reader),
+        _ => Ok(Table {
+            ty: read_table_type_from(code, reader)?,
+            init: TableInit::RefNull,
+        }),
+    }
+}
+
+// Reads a table, in whose type an index that is too large to be packed is a place in a recursive group.
+#[tactic(auto, using(crate::proofs::EntrySteps::table_steps))]
+fn read_packed<'a>(reader: &mut BinaryReader<'a>) -> Result<Table<'a>, Malformed>
+    ensures { Answers packed_table reader.old reader.new result (packed_entry_at reader.old.rest) }
+{
+    let code = reader.read_u8()?;
+    read_table_from(code, reader)
+}
+
+impl<'a> Item for Table<'a> {
+    ghost Form = { spec.Table };
+
+    ghost form = { λ table. table_of (packed_table table) };
+
+    ghost form_at = { λ _. table_at };
+
+    ghost indexes = { refs_of_table };
+
+    ghost IsOfModule = { λ table. AllByRecursion IsModuleIndex (table_refs (table_type table.ty)) };
+}
+
+impl<'a> FromReader<'a> for Table<'a> {
+    #[tactic(auto, using(crate::proofs::PackedEntryLaws::table_items))]
+    fn from_reader(_alloc: Global, reader: &mut BinaryReader<'a>) -> Result<Table<'a>, Error> {
+        let offset = reader.original_position();
+        let table = read_packed(reader)?;
+        if !ref_is_of_module(&table.ty.element_type) {
+            return Err(Error {
+                offset,
+                kind: ErrorKind::Invalid,
+            });
+        }
+        Ok(table)
+    }
+}

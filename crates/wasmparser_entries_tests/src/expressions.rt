@@ -60,7 +60,7 @@ fn has_bytes(expression: &ConstExpr<'_>, bytes: &[u8], left: u64) -> bool {
     let len = reader.bytes_remaining();
     reader.original_position() == START
         && reader.features() == WasmFeatures::GC
-        && len as u64 + left == bytes.len() as u64
+        && len as u64 == (bytes.len() as u64).wrapping_sub(left)
         && bytes.starts_with(reader.remaining_buffer())
 }
 

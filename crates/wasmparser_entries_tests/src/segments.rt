@@ -77,12 +77,12 @@ fn is_used(alloc: Global, kind: &ElementKind<'_>, words: &str, offset: &str) -> 
     }
 }
 
-fn has_functions(alloc: Global, functions: SectionLimited<'_, u32>, words: &str) -> Option<bool> {
+fn has_functions(alloc: Global, functions: &SectionLimited<'_, u32>, words: &str) -> Option<bool> {
     let mut expected = words.split('/');
     if expected.next()?.trim() != "functions" {
         return Some(false);
     }
-    for function in functions.into_iter_with_offsets(alloc) {
+    for function in functions.clone().ok()?.into_iter_with_offsets(alloc) {
         let (place, index) = function.ok()?;
         let (what, offset) = expected.next()?.trim().split_once('@')?;
         if number_of(what) != Some(u64::from(index)) || number_of(offset) != Some(place) {
@@ -92,7 +92,7 @@ fn has_functions(alloc: Global, functions: SectionLimited<'_, u32>, words: &str)
     Some(expected.next().is_none())
 }
 
-fn is_type(ty: RefType, words: &str) -> bool {
+fn is_type(ty: &RefType, words: &str) -> bool {
     match words {
         "funcref" => ty.is_func_ref() && ty.is_nullable(),
         "externref" => ty.is_extern_ref() && ty.is_nullable(),
@@ -103,15 +103,15 @@ fn is_type(ty: RefType, words: &str) -> bool {
 
 fn has_expressions<'a>(
     alloc: Global,
-    ty: RefType,
-    expressions: SectionLimited<'a, ConstExpr<'a>>,
+    ty: &RefType,
+    expressions: &SectionLimited<'a, ConstExpr<'a>>,
     words: &str,
 ) -> Option<bool> {
     let mut expected = words.split('/');
     if !is_type(ty, expected.next()?.trim()) {
         return Some(false);
     }
-    for expression in expressions.into_iter_with_offsets(alloc) {
+    for expression in expressions.clone().ok()?.into_iter_with_offsets(alloc) {
         let (place, expression) = expression.ok()?;
         let (operators, offset) = expected.next()?.trim().split_once('@')?;
         if !has_operators(alloc, &expression, operators) || number_of(offset) != Some(place) {
@@ -119,6 +119,15 @@ fn has_expressions<'a>(
         }
     }
     Some(expected.next().is_none())
+}
+
+fn has_items(alloc: Global, items: &ElementItems<'_>, words: &str) -> Option<bool> {
+    match items {
+        ElementItems::Functions(functions) => has_functions(alloc, functions, words),
+        ElementItems::Expressions(ty, expressions) => {
+            has_expressions(alloc, ty, expressions, words)
+        }
+    }
 }
 
 fn element_holds(alloc: Global, row: &str) -> Option<bool> {
@@ -129,15 +138,11 @@ fn element_holds(alloc: Global, row: &str) -> Option<bool> {
         Ok(element) => element,
         Err(error) => return Some(error.kind.name() == words),
     };
-    if !reader.eof() || !is_used(alloc, &element.kind, words, offset) {
-        return Some(false);
-    }
-    match element.items {
-        ElementItems::Functions(functions) => has_functions(alloc, functions, items),
-        ElementItems::Expressions(ty, expressions) => {
-            has_expressions(alloc, ty, expressions, items)
-        }
-    }
+    Some(
+        reader.eof()
+            && is_used(alloc, &element.kind, words, offset)
+            && has_items(alloc, &element.items, items)?,
+    )
 }
 
 #[test]

@@ -1,0 +1,8 @@
+//! A module as its payloads: a part of `wasmparser`.
+#![tactic(auto)]
+
+pub mod custom_section;
+pub mod function_body;
+pub mod parser;
+pub mod payload;
+pub mod payloads;

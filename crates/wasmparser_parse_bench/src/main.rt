@@ -53,7 +53,9 @@ fn count_in_file<R: Files + AllocGlobal>(rt: &R, name: &str, times: u32) -> Opti
 fn count_in_module(alloc: Global, bytes: &[u8]) -> Option<u64> {
     let mut count: u64 = 0;
     for payload in Parser::new(0).parse_all(bytes) {
-        count = count.wrapping_add(count_items(alloc, payload.ok()?)?).wrapping_add(1);
+        count = count
+            .wrapping_add(count_items(alloc, payload.ok()?)?)
+            .wrapping_add(1);
     }
     Some(count)
 }

@@ -67,7 +67,7 @@ pub ruleset global_items = (global_unread, global_read, global_large)
 
 -- ---- what is imported
 
-external_is : Mapped packed_external external_type_at packed_external_at
+pub external_is : Mapped packed_external external_type_at packed_external_at
 unfolding external_type_at packed_external_at
 external_is = by_first _ _ _
     (by_code _ 0x00 _ _ _ _ (by_view (λ n. n) _ _ packed_external _ _ (same (unsigned_at 32)) (λ x. refl))
@@ -76,14 +76,14 @@ external_is = by_first _ _ _
     (by_code _ 0x03 _ _ _ _ (by_view (global_map packed_index) _ _ packed_external _ _ global_is (λ x. refl))
     (by_code _ 0x04 _ _ _ _ (by_view (λ n. n) _ _ packed_external _ _ (same tag_type_at) (λ x. refl)) (by_none packed_external))))))
 
-external_back : (x : ExternalType ℕ) → AllByRecursion IsModuleIndex (packed_refs (packed_external x)) → external_map number_of (packed_external x) ≡ x
+pub external_back : (x : ExternalType ℕ) → AllByRecursion IsModuleIndex (packed_refs (packed_external x)) → external_map number_of (packed_external x) ≡ x
 external_back (FuncExternal function) h = refl
 external_back (TableExternal type) h = ap TableExternal (table_back type h)
 external_back (MemoryExternal type) h = refl
 external_back (GlobalExternal type) h = ap GlobalExternal (global_back type h)
 external_back (TagExternal function) h = refl
 
-external_large_in : (x : ExternalType ℕ) → ¬ (AllByRecursion IsModuleIndex (packed_refs (packed_external x))) → Any (λ n. packable ≤ n) (packed_refs x)
+pub external_large_in : (x : ExternalType ℕ) → ¬ (AllByRecursion IsModuleIndex (packed_refs (packed_external x))) → Any (λ n. packable ≤ n) (packed_refs x)
 external_large_in (FuncExternal function) h = absurd (h tt)
 external_large_in (TableExternal type) h = ref_large_in type.element_type h
 external_large_in (MemoryExternal type) h = absurd (h tt)

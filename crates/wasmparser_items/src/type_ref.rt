@@ -53,17 +53,21 @@ fn read_packed_from(code: u8, reader: &mut BinaryReader<'_>) -> Result<TypeRef, 
     }
 }
 
-// Reads what is imported, in which a type index that is too large to be packed is a place in a recursive group.
+/// Reads what is imported. A type index that is too large to be packed reads as a place in a recursive group, which no bytes give: ask
+/// `external_is_of_module` before it is used.
+///
+/// # Errors
+/// Where nothing reads.
 #[tactic(auto, using(crate::proofs::PackedSteps::external_steps))]
-fn read_packed(reader: &mut BinaryReader<'_>) -> Result<TypeRef, Malformed>
+pub fn read_external(reader: &mut BinaryReader<'_>) -> Result<TypeRef, Malformed>
     ensures { Answers type_ref reader.old reader.new result (packed_external_at reader.old.rest) }
 {
     let code = reader.read_u8()?;
     read_packed_from(code, reader)
 }
 
-// Whether the type indexes that are packed are places in the module.
-fn external_is_of_module(external: &TypeRef) -> bool
+/// Whether the type indexes that are packed are places in the module.
+pub fn external_is_of_module(external: &TypeRef) -> bool
     ensures { IsTrue result ↔ AllByRecursion IsModuleIndex (packed_refs (type_ref external.now)) }
 {
     match external {
@@ -89,7 +93,7 @@ impl<'a> FromReader<'a> for TypeRef {
     #[tactic(auto, using(crate::proofs::PackedItemLaws::external_items))]
     fn from_reader(_alloc: Global, reader: &mut BinaryReader<'a>) -> Result<TypeRef, Error> {
         let offset = reader.original_position();
-        let external = read_packed(reader)?;
+        let external = read_external(reader)?;
         if !external_is_of_module(&external) {
             return Err(Error {
                 offset,

@@ -1,1 +1,3 @@
+mod CheckLaws
+mod GroupLaws
 mod ItemLaws

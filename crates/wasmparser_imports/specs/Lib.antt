@@ -1,1 +1,2 @@
+pub mod ImportGroups
 pub mod ImportItems

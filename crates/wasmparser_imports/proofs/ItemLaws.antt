@@ -92,7 +92,8 @@ checked_item bytes name mid v rest b e f told = rw e (by_read (external_type_at 
         let is : packed_external t.0 ≡ v = ap (λ (q : ExternalType Index × List ℕ). q.0) p in
         let law = external_packable t.0 in
         let same : are_packable (packed_refs t.0) ≡ b =
-            is_answer _ b (λ yes. told.1 (subst (λ (w : ExternalType Index). AllByRecursion IsModuleIndex (packed_refs w)) is (law.1 yes)),
-            λ yes. law.0 (subst (λ (w : ExternalType Index). AllByRecursion IsModuleIndex (packed_refs w)) (sym is) (told.0 yes))) in
+        is_answer _ b (
+          λ yes. told.1 (subst (λ (w : ExternalType Index). AllByRecursion IsModuleIndex (packed_refs w)) is (law.1 yes)),
+          λ yes. law.0 (subst (λ (w : ExternalType Index). AllByRecursion IsModuleIndex (packed_refs w)) (sym is) (told.0 yes)),
+        ) in
         ap (λ (c : Bool). given c t.1) same ∙ ap (λ (q : ExternalType Index × List ℕ). given b q.1) p
-

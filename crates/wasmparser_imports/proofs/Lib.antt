@@ -1,3 +1,4 @@
 mod CheckLaws
+mod EntryLaws
 mod GroupLaws
 mod ItemLaws

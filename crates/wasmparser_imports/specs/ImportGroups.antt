@@ -1,6 +1,6 @@
 -- Groups of imports that share the name of a module, whose items are passed over and read later.
 use Rattle.std.specs.List.{AllByRecursion}
-use Rattle.std.specs.Prelude.{◌≡◌, ◌<◌, ℕ, List, [], length, Option, Some, None, Result, Ok, Err}
+use Rattle.std.specs.Prelude.{◌≡◌, ◌<◌, List, [], length, Option, Some, None, Result, Ok, Err}
 use Rattle.wasm_core_read.specs.declared.malformed.Malformed.{Malformed}
 use Rattle.wasm_core_read.specs.Input.{Input, GoesOn, IsWithin}
 use Rattle.wasm_core_read.specs.PartReading.{import_item_at}

@@ -1,2 +1,3 @@
+pub mod ImportEntries
 pub mod ImportGroups
 pub mod ImportItems

@@ -3,3 +3,4 @@
 
 mod group;
 pub mod import_item;
+pub mod imports;

@@ -7,6 +7,7 @@ use wasmparser_entries::data::Data;
 use wasmparser_entries::element::Element;
 use wasmparser_entries::global::Global;
 use wasmparser_entries::table::Table;
+use wasmparser_imports::imports::Imports;
 use wasmparser_items::export::Export;
 use wasmparser_items::memory_type::MemoryType;
 use wasmparser_items::tag_type::TagType;
@@ -27,7 +28,7 @@ pub enum Payload<'a> {
     /// A type section.
     TypeSection(SectionLimited<'a, RecGroup>),
     /// An import section.
-    ImportSection(SectionLimited<'a, Export<'a>>),
+    ImportSection(SectionLimited<'a, Imports<'a>>),
     /// A function section: the index of each function's type.
     FunctionSection(SectionLimited<'a, u32>),
     /// A table section.

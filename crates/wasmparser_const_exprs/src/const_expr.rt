@@ -1,9 +1,11 @@
 //! Constant expressions (Core Specification 3.0, Binary Format, "Expressions").
 
-ghost use Rattle.std.specs.Prelude.{◌≡◌, ⊤, []};
+ghost use Rattle.std.specs.Prelude.{◌≡◌, ⊤, IfOk, [], length};
 ghost use Rattle.wasm_core_read.specs.ConstantReading.{expression_at};
 ghost use Rattle.wasm_core_read.specs.Reading.{Answers};
 ghost use Rattle.wasm_spec.specs.Constants.{ConstantExpression};
+ghost use Rattle.wasmparser_readers.specs.Answers.{ReadsItem};
+ghost use Rattle.wasmparser_readers.specs.Passing.{passed};
 ghost use Rattle.wasmparser_const_exprs.specs.ConstExprs.{IsExpression, ReadsStep, PassesStep, expression_of};
 
 use crate::const_operator::{ConstOperator, read_operator};
@@ -107,7 +109,8 @@ impl Pass for Expression {
 /// Where none reads.
 #[tactic(auto, using(crate::proofs::ExpressionLaws::expression_again))]
 pub fn read_const_expr<'a>(reader: &mut BinaryReader<'a>) -> Result<ConstExpr<'a>, Malformed>
-    ensures { Answers (λ c. expression_of c.rest) reader.old reader.new result (expression_at reader.old.rest) }
+    ensures reads { Answers (λ c. expression_of c.rest) reader.old reader.new result (expression_at reader.old.rest) }
+    ensures part { IfOk result (λ c. c ≡ passed reader.old (length reader.new.rest)) }
 {
     let start = fork(reader);
     Expression::pass(reader)?;
@@ -126,10 +129,15 @@ impl<'a> Item for ConstExpr<'a> {
     ghost indexes = { λ _. [] };
 
     ghost IsOfModule = { λ _. ⊤ };
+
+    ghost TakesMemory = { ⊥ };
 }
 
 impl<'a> FromReader<'a> for ConstExpr<'a> {
-    fn from_reader(_alloc: Global, reader: &mut BinaryReader<'a>) -> Result<ConstExpr<'a>, Error> {
+    fn from_reader(_alloc: Global, reader: &mut BinaryReader<'a>) -> Result<ConstExpr<'a>, Error>
+        ensures reads { ReadsItem (λ c. expression_of c.rest) (λ _. ⊤) ⊥ (λ _. []) reader.old reader.new result (expression_at reader.old.rest) }
+        ensures part { IfOk result (λ c. c ≡ passed reader.old (length reader.new.rest)) }
+    {
         Ok(read_const_expr(reader)?)
     }
 }

@@ -241,6 +241,8 @@ impl Item for ConstOperator {
     ghost indexes = { λ _. [] };
 
     ghost IsOfModule = { NamesModuleType };
+
+    ghost TakesMemory = { ⊥ };
 }
 
 impl<'a> FromReader<'a> for ConstOperator {

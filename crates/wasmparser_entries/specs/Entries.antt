@@ -1,6 +1,6 @@
 -- Tables, globals and segments of the code as those of the specification, with their type indexes packed.
-use Rattle.std.specs.Prelude.{◌≡◌, ⊤, ℕ, List, [], Option, Some, None}
-use Rattle.std.specs.List.{AllByRecursion}
+use Rattle.std.specs.Prelude.{⊤, ℕ, List, [], Option, Some, None}
+use Rattle.wasm_core_read.specs.Input.{Input}
 use Rattle.wasm_spec.specs.Constants.{ConstantExpression}
 use Rattle.wasm_spec.specs.Syntax as syntax
 use Rattle.wasm_spec.specs.TypeReferences.{ref_map, table_map, global_map, ref_refs, table_refs, global_refs}
@@ -8,7 +8,8 @@ use Rattle.wasm_spec.specs.Types as spec
 use Rattle.wasmparser_types.specs.Index.{Index, number_of}
 use Rattle.wasmparser_const_exprs.specs.ConstExprs.{expression_of}
 use Rattle.wasmparser_items.specs.ItemTypes.{table_type, global_type}
-use Rattle.wasmparser_entries.specs.Lists.{functions_of, expressions_of}
+use Rattle.wasmparser_readers.specs.Passing.{IsPart, IsLastPart}
+use Rattle.wasmparser_entries.specs.Lists.{AreFunctions, AreExpressions, functions_of, expressions_of}
 use Rattle.wasmparser_entries.specs.declared.table.Table.{Table}
 use Rattle.wasmparser_entries.specs.declared.table.TableInit.{TableInit}
 use Rattle.wasmparser_entries.specs.declared.table.TableInit.TheVariants as inits
@@ -27,6 +28,11 @@ use Rattle.wasmparser_entries.specs.declared.data.DataKind.TheVariants as data_k
 abbrev pub initialiser : TableInit → Option ConstantExpression
 initialiser inits.RefNull = None
 initialiser (inits.Expr expression) = Some (expression_of expression.rest)
+
+-- an initialiser is what a reader passed last
+abbrev pub InitialiserIsLast : Input → Input → TableInit → Type 0
+InitialiserIsLast old new inits.RefNull = ⊤
+InitialiserIsLast old new (inits.Expr expression) = IsLastPart old new expression
 
 -- the type of a table, and its initialiser
 abbrev pub PackedTable : Type 0
@@ -76,6 +82,21 @@ abbrev pub packed_items : ElementItems → PackedItems
 packed_items (items.Functions section) = Functions (functions_of section.left)
 packed_items (items.Expressions type section) = Expressions type (expressions_of section.left)
 
+-- the items of a segment are what a reader passed last, and all of them read
+abbrev pub ItemsAreLast : Input → Input → ElementItems → Type 0
+ItemsAreLast old new (items.Functions section) = AreFunctions old new section
+ItemsAreLast old new (items.Expressions type section) = AreExpressions old new section
+
+-- an offset is among what a reader passed
+abbrev pub OffsetIsPart : Input → Input → ElementKind → Type 0
+OffsetIsPart old new kinds.Passive = ⊤
+OffsetIsPart old new (kinds.Active table offset) = IsPart old new offset
+OffsetIsPart old new kinds.Declared = ⊤
+
+-- the parts of a segment
+abbrev pub HasItsParts : Input → Input → Element → Type 0
+HasItsParts old new element = OffsetIsPart old new element.kind × ItemsAreLast old new element.items
+
 abbrev pub packed_element : Element → PackedElement
 packed_element element = record { mode = element_mode element.kind; items = packed_items element.items }
 
@@ -102,6 +123,11 @@ packed_refs_of_items (Expressions type expressions) = ref_refs type
 abbrev pub data_mode : DataKind → syntax.DataMode
 data_mode data_kinds.Passive = syntax.PassiveData
 data_mode (data_kinds.Active memory offset) = syntax.ActiveData memory (expression_of offset.rest)
+
+-- an offset is among what a reader passed
+abbrev pub DataOffsetIsPart : Input → Input → DataKind → Type 0
+DataOffsetIsPart old new data_kinds.Passive = ⊤
+DataOffsetIsPart old new (data_kinds.Active memory offset) = IsPart old new offset
 
 abbrev pub data_segment : Data → syntax.DataSegment
 data_segment segment = record { mode = data_mode segment.kind; contents = segment.data.now }

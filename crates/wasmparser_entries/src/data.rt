@@ -1,11 +1,13 @@
 //! Data segments (Core Specification 3.0, Binary Format, "Data Section").
 
-ghost use Rattle.std.specs.Prelude.{◌≡◌, ⊤, []};
+ghost use Rattle.std.specs.Prelude.{◌≡◌, ⊤, IfOk, []};
 ghost use Rattle.wasm_core_read.specs.PartReading.{body_at, data_from, data_at};
 ghost use Rattle.wasm_core_read.specs.Reading.{Answers};
 ghost use Rattle.wasm_spec.specs.Syntax as spec;
 ghost use Rattle.wasmparser_const_exprs.specs.ConstExprs.{expression_of};
-ghost use Rattle.wasmparser_entries.specs.Entries.{data_segment};
+ghost use Rattle.wasmparser_entries.specs.Entries.{DataOffsetIsPart, data_segment};
+ghost use Rattle.wasmparser_entries.specs.declared.data.DataKind.TheVariants as kinds;
+ghost use Rattle.wasmparser_readers.specs.Answers.{ReadsItem};
 
 use std::alloc::Global;
 use wasm_core_read::binary_reader::BinaryReader;
@@ -42,7 +44,8 @@ fn active<'a>(
     offset_expr: ConstExpr<'a>,
     data: &'a [u8],
 ) -> Data<'a>
-    ensures { data_segment result ≡ record { mode = spec.ActiveData memory_index (expression_of offset_expr.entry.rest); contents = data.now } }
+    ensures is { data_segment result ≡ record { mode = spec.ActiveData memory_index (expression_of offset_expr.entry.rest); contents = data.now } }
+    ensures has { result.kind ≡ kinds.Active memory_index offset_expr.entry }
 {
     Data {
         kind: DataKind::Active {
@@ -64,7 +67,8 @@ fn read_contents<'a>(reader: &mut BinaryReader<'a>) -> Result<&'a [u8], Malforme
 
 // Reads a segment after the number of its form.
 fn read_data_from<'a>(number: u32, reader: &mut BinaryReader<'a>) -> Result<Data<'a>, Malformed>
-    ensures { Answers data_segment reader.old reader.new result (data_from number reader.old.rest) }
+    ensures reads { Answers data_segment reader.old reader.new result (data_from number reader.old.rest) }
+    ensures part { IfOk result (λ segment. DataOffsetIsPart reader.old reader.new segment.kind) }
 {
     match number {
         0 => {
@@ -90,7 +94,8 @@ fn read_data_from<'a>(number: u32, reader: &mut BinaryReader<'a>) -> Result<Data
 
 #[tactic(auto, unfolding(wasm_core_read::specs::PartReading::data_at))]
 fn read_data<'a>(reader: &mut BinaryReader<'a>) -> Result<Data<'a>, Malformed>
-    ensures { Answers data_segment reader.old reader.new result (data_at reader.old.rest) }
+    ensures reads { Answers data_segment reader.old reader.new result (data_at reader.old.rest) }
+    ensures part { IfOk result (λ segment. DataOffsetIsPart reader.old reader.new segment.kind) }
 {
     let number = reader.read_var_u32()?;
     read_data_from(number, reader)
@@ -106,10 +111,15 @@ impl<'a> Item for Data<'a> {
     ghost indexes = { λ _. [] };
 
     ghost IsOfModule = { λ _. ⊤ };
+
+    ghost TakesMemory = { ⊥ };
 }
 
 impl<'a> FromReader<'a> for Data<'a> {
-    fn from_reader(_alloc: Global, reader: &mut BinaryReader<'a>) -> Result<Data<'a>, Error> {
+    fn from_reader(_alloc: Global, reader: &mut BinaryReader<'a>) -> Result<Data<'a>, Error>
+        ensures reads { ReadsItem data_segment (λ _. ⊤) ⊥ (λ _. []) reader.old reader.new result (data_at reader.old.rest) }
+        ensures part { IfOk result (λ segment. DataOffsetIsPart reader.old reader.new segment.kind) }
+    {
         Ok(read_data(reader)?)
     }
 }

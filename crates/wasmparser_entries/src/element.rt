@@ -1,6 +1,6 @@
 //! Element segments (Core Specification 3.0, Binary Format, "Element Section").
 
-ghost use Rattle.std.specs.Prelude.{◌≡◌, ◌↔◌, IsTrue};
+ghost use Rattle.std.specs.Prelude.{◌≡◌, ◌↔◌, IfOk, IsTrue};
 ghost use Rattle.std.specs.List.{AllByRecursion};
 ghost use Rattle.wasm_core_read.specs.ConstantReading.{expression_at};
 ghost use Rattle.wasm_core_read.specs.PartReading.{element_at, functions_at, kind_and_items_at};
@@ -8,9 +8,11 @@ ghost use Rattle.wasm_core_read.specs.Reading.{Answers};
 ghost use Rattle.wasm_core_read.specs.TypeReading.{list_at};
 ghost use Rattle.wasm_spec.specs.Syntax as spec;
 ghost use Rattle.wasmparser_const_exprs.specs.ConstExprs.{expression_of};
-ghost use Rattle.wasmparser_entries.specs.Entries.{element_of, packed_element, packed_items, packed_refs_of_items, refs_of_element};
-ghost use Rattle.wasmparser_entries.specs.Lists.{expressions_of, functions_of};
+ghost use Rattle.wasmparser_entries.specs.Entries.{HasItsParts, ItemsAreLast, element_of, packed_element, packed_items, packed_refs_of_items, refs_of_element};
+ghost use Rattle.wasmparser_entries.specs.declared.element.ElementKind.TheVariants as kinds;
+ghost use Rattle.wasmparser_entries.specs.Lists.{AreExpressions, AreFunctions, expressions_of, functions_of};
 ghost use Rattle.wasmparser_entries.specs.PackedEntries.{marked_from, packed_element_from, packed_element_at, packed_expressions_from, typed_at};
+ghost use Rattle.wasmparser_readers.specs.Answers.{ReadsItem};
 ghost use Rattle.wasmparser_readers.specs.ModuleIndexes.{IsModuleIndex};
 
 use std::alloc::Global;
@@ -61,7 +63,8 @@ pub struct Element<'a> {
 // Passes over function indexes, which are read later.
 #[tactic(auto, using(crate::proofs::ListLaws::function_lists))]
 fn read_functions<'a>(reader: &mut BinaryReader<'a>) -> Result<SectionLimited<'a, u32>, Malformed>
-    ensures { Answers (λ s. functions_of s.left) reader.old reader.new result (functions_at reader.old.rest) }
+    ensures reads { Answers (λ s. functions_of s.left) reader.old reader.new result (functions_at reader.old.rest) }
+    ensures part { IfOk result (λ s. AreFunctions reader.old reader.new s) }
 {
     let start = fork(reader);
     pass_list::<u32>(reader)?;
@@ -73,7 +76,8 @@ fn read_functions<'a>(reader: &mut BinaryReader<'a>) -> Result<SectionLimited<'a
 fn read_expressions<'a>(
     reader: &mut BinaryReader<'a>,
 ) -> Result<SectionLimited<'a, ConstExpr<'a>>, Malformed>
-    ensures { Answers (λ s. expressions_of s.left) reader.old reader.new result (list_at expression_at reader.old.rest) }
+    ensures reads { Answers (λ s. expressions_of s.left) reader.old reader.new result (list_at expression_at reader.old.rest) }
+    ensures part { IfOk result (λ s. AreExpressions reader.old reader.new s) }
 {
     let start = fork(reader);
     pass_list::<Expression>(reader)?;
@@ -85,7 +89,8 @@ fn read_marked_from<'a>(
     kind: u8,
     reader: &mut BinaryReader<'a>,
 ) -> Result<SectionLimited<'a, u32>, Malformed>
-    ensures { Answers (λ s. functions_of s.left) reader.old reader.new result (marked_from kind reader.old.rest) }
+    ensures reads { Answers (λ s. functions_of s.left) reader.old reader.new result (marked_from kind reader.old.rest) }
+    ensures part { IfOk result (λ s. AreFunctions reader.old reader.new s) }
 {
     if kind != 0 {
         return Err(Malformed {
@@ -98,7 +103,8 @@ fn read_marked_from<'a>(
 // Reads the kind of function indexes, which is 0, and these.
 #[tactic(auto, using(crate::proofs::EntrySteps::marked_steps))]
 fn read_marked<'a>(reader: &mut BinaryReader<'a>) -> Result<SectionLimited<'a, u32>, Malformed>
-    ensures { Answers (λ s. functions_of s.left) reader.old reader.new result (kind_and_items_at reader.old.rest) }
+    ensures reads { Answers (λ s. functions_of s.left) reader.old reader.new result (kind_and_items_at reader.old.rest) }
+    ensures part { IfOk result (λ s. AreFunctions reader.old reader.new s) }
 {
     let kind = reader.read_u8()?;
     read_marked_from(kind, reader)
@@ -109,7 +115,8 @@ fn active<'a>(
     offset_expr: ConstExpr<'a>,
     items: ElementItems<'a>,
 ) -> Element<'a>
-    ensures { packed_element result ≡ record { mode = spec.ActiveElement table_index (expression_of offset_expr.entry.rest); items = packed_items items.entry } }
+    ensures is { packed_element result ≡ record { mode = spec.ActiveElement table_index (expression_of offset_expr.entry.rest); items = packed_items items.entry } }
+    ensures has { (result.kind ≡ kinds.Active table_index offset_expr.entry) × (result.items ≡ items.entry) }
 {
     Element {
         kind: ElementKind::Active {
@@ -123,7 +130,8 @@ fn active<'a>(
 // Reads the type of some expressions, and passes over these.
 #[tactic(auto, unfolding(crate::specs::PackedEntries::typed_at))]
 fn read_typed<'a>(reader: &mut BinaryReader<'a>) -> Result<ElementItems<'a>, Malformed>
-    ensures { Answers packed_items reader.old reader.new result (typed_at reader.old.rest) }
+    ensures reads { Answers packed_items reader.old reader.new result (typed_at reader.old.rest) }
+    ensures part { IfOk result (λ items. ItemsAreLast reader.old reader.new items) }
 {
     let ty = read_ref_type(reader)?;
     let expressions = read_expressions(reader)?;
@@ -135,7 +143,8 @@ fn read_expressions_from<'a>(
     number: u32,
     reader: &mut BinaryReader<'a>,
 ) -> Result<Element<'a>, Malformed>
-    ensures { Answers packed_element reader.old reader.new result (packed_expressions_from number reader.old.rest) }
+    ensures reads { Answers packed_element reader.old reader.new result (packed_expressions_from number reader.old.rest) }
+    ensures parts { IfOk result (λ element. HasItsParts reader.old reader.new element) }
 {
     match number {
         4 => {
@@ -169,7 +178,8 @@ fn read_element_from<'a>(
     number: u32,
     reader: &mut BinaryReader<'a>,
 ) -> Result<Element<'a>, Malformed>
-    ensures { Answers packed_element reader.old reader.new result (packed_element_from number reader.old.rest) }
+    ensures reads { Answers packed_element reader.old reader.new result (packed_element_from number reader.old.rest) }
+    ensures parts { IfOk result (λ element. HasItsParts reader.old reader.new element) }
 {
     match number {
         0 => {
@@ -198,7 +208,8 @@ fn read_element_from<'a>(
 // Reads a segment, in which a type index that is too large to be packed is a place in a recursive group.
 #[tactic(auto, unfolding(crate::specs::PackedEntries::packed_element_at))]
 fn read_packed<'a>(reader: &mut BinaryReader<'a>) -> Result<Element<'a>, Malformed>
-    ensures { Answers packed_element reader.old reader.new result (packed_element_at reader.old.rest) }
+    ensures reads { Answers packed_element reader.old reader.new result (packed_element_at reader.old.rest) }
+    ensures parts { IfOk result (λ element. HasItsParts reader.old reader.new element) }
 {
     let number = reader.read_var_u32()?;
     read_element_from(number, reader)
@@ -224,11 +235,16 @@ impl<'a> Item for Element<'a> {
     ghost indexes = { refs_of_element };
 
     ghost IsOfModule = { λ element. AllByRecursion IsModuleIndex (packed_refs_of_items (packed_items element.items)) };
+
+    ghost TakesMemory = { ⊥ };
 }
 
 impl<'a> FromReader<'a> for Element<'a> {
     #[tactic(auto, using(crate::proofs::PackedEntryLaws::element_items))]
-    fn from_reader(_alloc: Global, reader: &mut BinaryReader<'a>) -> Result<Element<'a>, Error> {
+    fn from_reader(_alloc: Global, reader: &mut BinaryReader<'a>) -> Result<Element<'a>, Error>
+        ensures reads { ReadsItem (λ element. element_of (packed_element element)) (λ element. AllByRecursion IsModuleIndex (packed_refs_of_items (packed_items element.items))) ⊥ refs_of_element reader.old reader.new result (element_at reader.old.rest) }
+        ensures parts { IfOk result (λ element. HasItsParts reader.old reader.new element) }
+    {
         let offset = reader.original_position();
         let element = read_packed(reader)?;
         if !items_are_of_module(&element.items) {

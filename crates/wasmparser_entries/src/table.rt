@@ -1,13 +1,15 @@
 //! Tables with their initialisers (Core Specification 3.0, Binary Format, "Table Section").
 
+ghost use Rattle.std.specs.Prelude.{IfOk};
 ghost use Rattle.std.specs.List.{AllByRecursion};
 ghost use Rattle.wasm_core_read.specs.PartReading.{table_at};
 ghost use Rattle.wasm_core_read.specs.Reading.{Answers};
 ghost use Rattle.wasm_spec.specs.Syntax as spec;
 ghost use Rattle.wasm_spec.specs.TypeReferences.{table_refs};
-ghost use Rattle.wasmparser_entries.specs.Entries.{packed_table, refs_of_table, table_of};
+ghost use Rattle.wasmparser_entries.specs.Entries.{InitialiserIsLast, packed_table, refs_of_table, table_of};
 ghost use Rattle.wasmparser_entries.specs.PackedEntries.{initialised_from, initialised_at, packed_entry_from, packed_entry_at};
 ghost use Rattle.wasmparser_items.specs.ItemTypes.{table_type};
+ghost use Rattle.wasmparser_readers.specs.Answers.{ReadsItem};
 ghost use Rattle.wasmparser_readers.specs.ModuleIndexes.{IsModuleIndex};
 
 use std::alloc::Global;
@@ -45,7 +47,8 @@ fn read_initialised_from<'a>(
     code: u8,
     reader: &mut BinaryReader<'a>,
 ) -> Result<Table<'a>, Malformed>
-    ensures { Answers packed_table reader.old reader.new result (initialised_from code reader.old.rest) }
+    ensures reads { Answers packed_table reader.old reader.new result (initialised_from code reader.old.rest) }
+    ensures part { IfOk result (λ table. InitialiserIsLast reader.old reader.new table.init) }
 {
     if code != 0 {
         return Err(Malformed {
@@ -62,7 +65,8 @@ fn read_initialised_from<'a>(
 
 #[tactic(auto, using(crate::proofs::EntrySteps::initialised_steps))]
 fn read_initialised<'a>(reader: &mut BinaryReader<'a>) -> Result<Table<'a>, Malformed>
-    ensures { Answers packed_table reader.old reader.new result (initialised_at reader.old.rest) }
+    ensures reads { Answers packed_table reader.old reader.new result (initialised_at reader.old.rest) }
+    ensures part { IfOk result (λ table. InitialiserIsLast reader.old reader.new table.init) }
 {
     let code = reader.read_u8()?;
     read_initialised_from(code, reader)
@@ -70,7 +74,8 @@ fn read_initialised<'a>(reader: &mut BinaryReader<'a>) -> Result<Table<'a>, Malf
 
 // Reads a table after its first byte.
 fn read_table_from<'a>(code: u8, reader: &mut BinaryReader<'a>) -> Result<Table<'a>, Malformed>
-    ensures { Answers packed_table reader.old reader.new result (packed_entry_from code reader.old.rest) }
+    ensures reads { Answers packed_table reader.old reader.new result (packed_entry_from code reader.old.rest) }
+    ensures part { IfOk result (λ table. InitialiserIsLast reader.old reader.new table.init) }
 {
     match code {
         INITIALISED => read_initialised(reader),
@@ -84,7 +89,8 @@ fn read_table_from<'a>(code: u8, reader: &mut BinaryReader<'a>) -> Result<Table<
 // Reads a table, in whose type an index that is too large to be packed is a place in a recursive group.
 #[tactic(auto, using(crate::proofs::EntrySteps::table_steps))]
 fn read_packed<'a>(reader: &mut BinaryReader<'a>) -> Result<Table<'a>, Malformed>
-    ensures { Answers packed_table reader.old reader.new result (packed_entry_at reader.old.rest) }
+    ensures reads { Answers packed_table reader.old reader.new result (packed_entry_at reader.old.rest) }
+    ensures part { IfOk result (λ table. InitialiserIsLast reader.old reader.new table.init) }
 {
     let code = reader.read_u8()?;
     read_table_from(code, reader)
@@ -100,11 +106,16 @@ impl<'a> Item for Table<'a> {
     ghost indexes = { refs_of_table };
 
     ghost IsOfModule = { λ table. AllByRecursion IsModuleIndex (table_refs (table_type table.ty)) };
+
+    ghost TakesMemory = { ⊥ };
 }
 
 impl<'a> FromReader<'a> for Table<'a> {
     #[tactic(auto, using(crate::proofs::PackedEntryLaws::table_items))]
-    fn from_reader(_alloc: Global, reader: &mut BinaryReader<'a>) -> Result<Table<'a>, Error> {
+    fn from_reader(_alloc: Global, reader: &mut BinaryReader<'a>) -> Result<Table<'a>, Error>
+        ensures reads { ReadsItem (λ table. table_of (packed_table table)) (λ table. AllByRecursion IsModuleIndex (table_refs (table_type table.ty))) ⊥ refs_of_table reader.old reader.new result (table_at reader.old.rest) }
+        ensures part { IfOk result (λ table. InitialiserIsLast reader.old reader.new table.init) }
+    {
         let offset = reader.original_position();
         let table = read_packed(reader)?;
         if !ref_is_of_module(&table.ty.element_type) {

@@ -46,6 +46,8 @@ impl<'a> Item for ImportItemCompact<'a> {
     ghost indexes = { λ item. packed_refs item.type };
 
     ghost IsOfModule = { λ item. AllByRecursion IsModuleIndex (packed_refs (type_ref item.ty)) };
+
+    ghost TakesMemory = { ⊥ };
 }
 
 impl<'a> FromReader<'a> for ImportItemCompact<'a> {

@@ -162,13 +162,15 @@ impl<'a> Item for Imports<'a> {
     ghost indexes = { entry_refs };
 
     ghost IsOfModule = { IsEntryOfModule };
+
+    ghost TakesMemory = { ⊥ };
 }
 
 impl<'a> FromReader<'a> for Imports<'a> {
     /// Reads an entry, whose groups of imports are passed over: the reader of a group stands at the group's list, in the same input and
     /// under the same features. Of a group that is read no type index is too large to be packed.
     fn from_reader(_alloc: Global, reader: &mut BinaryReader<'a>) -> Result<Imports<'a>, Error>
-        ensures reads { ReadsItem import_entry IsEntryOfModule entry_refs reader.old reader.new result (import_at (has reader.old.features CompactImports) reader.old.rest) }
+        ensures reads { ReadsItem import_entry IsEntryOfModule ⊥ entry_refs reader.old reader.new result (import_at (has reader.old.features CompactImports) reader.old.rest) }
         ensures placed { IsPlacedIfRead reader.old reader.new result }
     {
         let offset = reader.original_position();

@@ -74,6 +74,8 @@ impl<'a> Item for Export<'a> {
     ghost indexes = { λ _. [] };
 
     ghost IsOfModule = { λ _. ⊤ };
+
+    ghost TakesMemory = { ⊥ };
 }
 
 impl<'a> FromReader<'a> for Export<'a> {

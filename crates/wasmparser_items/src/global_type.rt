@@ -51,6 +51,8 @@ impl Item for GlobalType {
     ghost indexes = { global_refs };
 
     ghost IsOfModule = { λ type. AllByRecursion IsModuleIndex (global_refs (global_type type)) };
+
+    ghost TakesMemory = { ⊥ };
 }
 
 impl<'a> FromReader<'a> for GlobalType {

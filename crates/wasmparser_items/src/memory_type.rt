@@ -106,6 +106,8 @@ impl Item for MemoryType {
     ghost indexes = { λ _. [] };
 
     ghost IsOfModule = { λ _. ⊤ };
+
+    ghost TakesMemory = { ⊥ };
 }
 
 impl<'a> FromReader<'a> for MemoryType {

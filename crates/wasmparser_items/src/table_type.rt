@@ -82,6 +82,8 @@ impl Item for TableType {
     ghost indexes = { table_refs };
 
     ghost IsOfModule = { λ type. AllByRecursion IsModuleIndex (table_refs (table_type type)) };
+
+    ghost TakesMemory = { ⊥ };
 }
 
 impl<'a> FromReader<'a> for TableType {

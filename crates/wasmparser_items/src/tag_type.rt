@@ -55,6 +55,8 @@ impl Item for TagType {
     ghost indexes = { λ _. [] };
 
     ghost IsOfModule = { λ _. ⊤ };
+
+    ghost TakesMemory = { ⊥ };
 }
 
 impl<'a> FromReader<'a> for TagType {

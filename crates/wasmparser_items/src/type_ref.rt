@@ -87,6 +87,8 @@ impl Item for TypeRef {
     ghost indexes = { packed_refs };
 
     ghost IsOfModule = { λ type. AllByRecursion IsModuleIndex (packed_refs (type_ref type)) };
+
+    ghost TakesMemory = { ⊥ };
 }
 
 impl<'a> FromReader<'a> for TypeRef {

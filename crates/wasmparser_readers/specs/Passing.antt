@@ -1,6 +1,6 @@
 -- Passing over what is read later.
-use Rattle.std.specs.Prelude.{◌≡◌, ◌-◌, ℕ, List, length, take, Option, Some, None, Result, Ok, Err}
-use Rattle.wasm_core_read.specs.Input.{Input, GoesOn, IsWithin}
+use Rattle.std.specs.Prelude.{◌≡◌, ◌≤◌, ◌-◌, ℕ, List, length, take, Option, Some, None, Result, Ok, Err}
+use Rattle.wasm_core_read.specs.Input.{Input, GoesOn, IsWithin, end}
 use Rattle.wasm_core_read.specs.declared.malformed.Malformed.{Malformed}
 
 -- what is left after what is read
@@ -21,3 +21,13 @@ passed i left = record i { rest = take (length i.rest - left) i.rest }
 abbrev pub read_or : {A : Type 0} → A → Option (A × List ℕ) → A
 read_or default None = default
 read_or default (Some read) = read.0
+
+-- a part of an input that a reader has passed: it has the reader's features, and lies between where the reader was and where it is
+pub record IsPart (old new part : Input) : Type 0 where
+  pub from : old.position ≤ part.position
+  pub to : end part ≤ new.position
+  pub same_features : part.features ≡ old.features
+
+-- the part that it passed last
+abbrev pub IsLastPart : Input → Input → Input → Type 0
+IsLastPart old new part = IsPart old new part × (end part ≡ new.position)

@@ -44,28 +44,28 @@ abbrev pub IsUnread : {A : Type 0} → (Features → ReadingOf A) → Left → T
 IsUnread form_at left = ((0 < left.count) × (form_at left.input.features left.input.rest ≡ None)) ⊎ ((left.count ≡ 0) × (0 < length left.input.rest))
 
 -- a refusal to read the next item
-abbrev pub IsNextRefusal : {A : Type 0} → (A → List ℕ) → (Features → ReadingOf A) → Left → Error → Type 0
-IsNextRefusal indexes form_at old e =
-    IsItemRefusal e.kind e.offset (IsUnread form_at old × IsWithin old.input e.offset)
-    ((0 < old.count) × HasLargeIndex indexes (form_at old.input.features old.input.rest) × IsWithin old.input e.offset)
+abbrev pub IsNextRefusal : {A : Type 0} → Type 0 → (A → List ℕ) → (Features → ReadingOf A) → Left → Error → Type 0
+IsNextRefusal TakesMemory indexes form_at old e =
+    IsItemRefusal e.kind e.offset TakesMemory (IsUnread form_at old × IsWithin old.input e.offset)
+    ((0 < old.count) × HasLargeIndex indexes (form_at old.input.features old.input.rest) × (e.offset ≡ old.input.position))
 
 -- What a call returned that reads the next item: the item and its place, or none where nothing is left.
-abbrev pub ReadsNextItem : {X A : Type 0} → (X → A) → (X → Type 0) → (A → List ℕ) → (Features → ReadingOf A) → Left → Left → Result (Option (ℕ × X)) Error → Type 0
-ReadsNextItem form IsOfModule indexes form_at old new (Ok None) = IsEmpty old × (new ≡ old)
-ReadsNextItem form IsOfModule indexes form_at old new (Ok (Some x)) = IsNext form_at old new x.0 (form x.1) × IsOfModule x.1
-ReadsNextItem form IsOfModule indexes form_at old new (Err e) = IsNextRefusal indexes form_at old e
+abbrev pub ReadsNextItem : {X A : Type 0} → (X → A) → (X → Type 0) → Type 0 → (A → List ℕ) → (Features → ReadingOf A) → Left → Left → Result (Option (ℕ × X)) Error → Type 0
+ReadsNextItem form IsOfModule TakesMemory indexes form_at old new (Ok None) = IsEmpty old × (new ≡ old)
+ReadsNextItem form IsOfModule TakesMemory indexes form_at old new (Ok (Some x)) = IsNext form_at old new x.0 (form x.1) × IsOfModule x.1
+ReadsNextItem form IsOfModule TakesMemory indexes form_at old new (Err e) = IsNextRefusal TakesMemory indexes form_at old e
 
 -- The same of an iterator. After a refusal nothing is left.
-abbrev pub ReadsNext : {X A : Type 0} → (X → A) → (X → Type 0) → (A → List ℕ) → (Features → ReadingOf A) → Left → Left → Option (Result (ℕ × X) Error) → Type 0
-ReadsNext form IsOfModule indexes form_at old new None = IsEmpty old × (new ≡ old)
-ReadsNext form IsOfModule indexes form_at old new (Some (Ok x)) = IsNext form_at old new x.0 (form x.1) × IsOfModule x.1
-ReadsNext form IsOfModule indexes form_at old new (Some (Err e)) = IsNextRefusal indexes form_at old e × IsEmpty new
+abbrev pub ReadsNext : {X A : Type 0} → (X → A) → (X → Type 0) → Type 0 → (A → List ℕ) → (Features → ReadingOf A) → Left → Left → Option (Result (ℕ × X) Error) → Type 0
+ReadsNext form IsOfModule TakesMemory indexes form_at old new None = IsEmpty old × (new ≡ old)
+ReadsNext form IsOfModule TakesMemory indexes form_at old new (Some (Ok x)) = IsNext form_at old new x.0 (form x.1) × IsOfModule x.1
+ReadsNext form IsOfModule TakesMemory indexes form_at old new (Some (Err e)) = IsNextRefusal TakesMemory indexes form_at old e × IsEmpty new
 
 -- The same of an iterator that doesn't tell places.
-abbrev pub GivesNext : {X A : Type 0} → (X → A) → (X → Type 0) → (A → List ℕ) → (Features → ReadingOf A) → Left → Left → Option (Result X Error) → Type 0
-GivesNext form IsOfModule indexes form_at old new None = IsEmpty old × (new ≡ old)
-GivesNext form IsOfModule indexes form_at old new (Some (Ok x)) = IsNext form_at old new old.input.position (form x) × IsOfModule x
-GivesNext form IsOfModule indexes form_at old new (Some (Err e)) = IsNextRefusal indexes form_at old e × IsEmpty new
+abbrev pub GivesNext : {X A : Type 0} → (X → A) → (X → Type 0) → Type 0 → (A → List ℕ) → (Features → ReadingOf A) → Left → Left → Option (Result X Error) → Type 0
+GivesNext form IsOfModule TakesMemory indexes form_at old new None = IsEmpty old × (new ≡ old)
+GivesNext form IsOfModule TakesMemory indexes form_at old new (Some (Ok x)) = IsNext form_at old new old.input.position (form x) × IsOfModule x
+GivesNext form IsOfModule TakesMemory indexes form_at old new (Some (Err e)) = IsNextRefusal TakesMemory indexes form_at old e × IsEmpty new
 
 -- no more results come than this
 abbrev pub at_most_left : Left → Count

@@ -25,6 +25,9 @@ pub trait Item {
 
     // Each type that a value names is named by its place in the module.
     ghost IsOfModule: { Self → Type 0 };
+
+    // Whether reading a value takes memory: true, or false.
+    ghost TakesMemory: { Type 0 };
 }
 
 /// What a reader can read.
@@ -32,10 +35,10 @@ pub trait FromReader<'a>: Item + Sized {
     /// Reads a value. Lists of a type take memory; names borrow the input.
     ///
     /// # Errors
-    /// `Malformed` where no value reads, `Invalid` where one reads with a type index from 2^20 on that the value would
-    /// have to pack, and `Memory`.
+    /// `Malformed` where no value reads; `Invalid`, at its place, where one reads with a type index from 2^20 on that the
+    /// value would have to pack; and `Memory` where memory runs out for a value that takes some.
     fn from_reader(alloc: Global, reader: &mut BinaryReader<'a>) -> Result<Self, Error>
-        ensures { ReadsItem Self.form Self.IsOfModule Self.indexes reader.old reader.new result (Self.form_at reader.old.features reader.old.rest) };
+        ensures { ReadsItem Self.form Self.IsOfModule Self.TakesMemory Self.indexes reader.old reader.new result (Self.form_at reader.old.features reader.old.rest) };
 }
 
 // An index.
@@ -49,6 +52,8 @@ impl Item for u32 {
     ghost indexes = { λ _. [] };
 
     ghost IsOfModule = { λ _. ⊤ };
+
+    ghost TakesMemory = { ⊥ };
 }
 
 impl<'a> FromReader<'a> for u32 {
@@ -68,6 +73,8 @@ impl<'a> Item for &'a str {
     ghost indexes = { λ _. [] };
 
     ghost IsOfModule = { λ _. ⊤ };
+
+    ghost TakesMemory = { ⊥ };
 }
 
 impl<'a> FromReader<'a> for &'a str {

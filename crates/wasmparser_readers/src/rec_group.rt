@@ -81,6 +81,8 @@ impl Item for RecGroup {
     ghost indexes = { group_refs };
 
     ghost IsOfModule = { λ group. AllByRecursion IsModuleIndex (group_refs (rec_group group)) };
+
+    ghost TakesMemory = { ⊤ };
 }
 
 impl<'a> FromReader<'a> for RecGroup {

@@ -123,7 +123,7 @@ impl<'a, T: FromReader<'a>> SectionLimitedIntoIterWithOffsets<'a, T> {
     // Reads the next item, and tells its place.
     #[tactic(auto, using(crate::proofs::ItemLaws::no_bytes))]
     fn read_next(&mut self) -> Result<Option<(u64, T)>, Error>
-        ensures reads { ReadsNextItem T.form T.IsOfModule T.indexes T.form_at self.old self.new result }
+        ensures reads { ReadsNextItem T.form T.IsOfModule T.TakesMemory T.indexes T.form_at self.old self.new result }
         ensures left { OnErr result (0 < self.old.count + length self.old.input.rest) }
     {
         let offset = self.reader.original_position();
@@ -155,7 +155,7 @@ impl<'a, T: FromReader<'a>> Iterator for SectionLimitedIntoIterWithOffsets<'a, T
 
     type Item = Result<(u64, T), Error>;
 
-    ghost next_gives = { λ old next new. ReadsNext T.form T.IsOfModule T.indexes T.form_at old new next };
+    ghost next_gives = { λ old next new. ReadsNext T.form T.IsOfModule T.TakesMemory T.indexes T.form_at old new next };
 
     ghost remaining = { at_most_left };
 
@@ -184,7 +184,7 @@ impl<'a, T: FromReader<'a>> Iterator for SectionLimitedIntoIter<'a, T> {
 
     type Item = Result<T, Error>;
 
-    ghost next_gives = { λ old next new. GivesNext T.form T.IsOfModule T.indexes T.form_at old new next };
+    ghost next_gives = { λ old next new. GivesNext T.form T.IsOfModule T.TakesMemory T.indexes T.form_at old new next };
 
     ghost remaining = { at_most_left };
 

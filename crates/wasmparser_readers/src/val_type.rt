@@ -203,6 +203,8 @@ impl Item for RefType {
     ghost indexes = { ref_refs };
 
     ghost IsOfModule = { λ type. AllByRecursion IsModuleIndex (ref_refs type) };
+
+    ghost TakesMemory = { ⊥ };
 }
 
 impl<'a> FromReader<'a> for RefType {
@@ -230,6 +232,8 @@ impl Item for ValType {
     ghost indexes = { val_refs };
 
     ghost IsOfModule = { λ type. AllByRecursion IsModuleIndex (val_refs (val_type type)) };
+
+    ghost TakesMemory = { ⊥ };
 }
 
 impl<'a> FromReader<'a> for ValType {

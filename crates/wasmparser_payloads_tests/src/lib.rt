@@ -1,0 +1,7 @@
+//! Tests of modules as payloads, through the public calls of `wasmparser_payloads`.
+#![tactic(auto)]
+
+#[cfg(test)]
+mod payloads;
+#[cfg(test)]
+mod shown;

@@ -1,2 +1,4 @@
+pub mod ContentLaws
+pub mod ModuleLaws
 pub mod PieceLaws
 pub mod Progress

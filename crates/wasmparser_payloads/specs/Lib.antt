@@ -1,2 +1,3 @@
-pub mod Pieces
+pub mod Modules
 pub mod Parsing
+pub mod Pieces

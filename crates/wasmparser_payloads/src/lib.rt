@@ -3,6 +3,7 @@
 
 pub mod custom_section;
 pub mod function_body;
+pub mod laws;
 pub mod parser;
 pub mod payload;
 pub mod payloads;

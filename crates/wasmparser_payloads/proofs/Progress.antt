@@ -31,7 +31,7 @@ bound Done s = omega arith
 
 -- ---- bodies
 
-body_shorter : (bytes : List ℕ) (x : List ℕ × List ℕ) → body_at bytes ≡ Some x → length x.1 < length bytes
+pub body_shorter : (bytes : List ℕ) (x : List ℕ × List ℕ) → body_at bytes ≡ Some x → length x.1 < length bytes
 unfolding body_at
 body_shorter bytes x e =
     let n = bind_some (unsigned_at 32 bytes) (λ n. bytes_at n.0 n.1) x e in
@@ -49,7 +49,7 @@ body_takes s others = by_read (body_at s.bodies.input.rest) refl
 
 -- ---- sections
 
-frame_smaller : (i : Input) (f : Frame) → frame_of i ≡ Some f → length f.content.rest + length f.after.rest < length i.rest
+pub frame_smaller : (i : Input) (f : Frame) → frame_of i ≡ Some f → length f.content.rest + length f.after.rest < length i.rest
 unfolding frame_of frame_at byte_at
 frame_smaller i f e =
     let x = bind_some (frame_at i.rest) (λ x. Some (framed i x)) f e in

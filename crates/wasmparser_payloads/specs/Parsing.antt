@@ -96,3 +96,13 @@ BeginsSection id content old new (Err e) = (piece_of id content ≡ None) × IsW
 abbrev pub GoesPast : ℕ → Remains → Remains → Bool → Type 0
 GoesPast id old new true = (is_after old.last (place_of_id id) ≡ true) × (new ≡ record old { last = last_place old.last (place_of_id id) })
 GoesPast id old new false = is_after old.last (place_of_id id) ≡ false
+
+-- ---- places
+
+abbrev pub IsBetween : ℕ → ℕ → Input → Type 0
+IsBetween first last i = (first ≤ i.position) × (end i ≤ last)
+
+-- all that is left lies between two places of the input
+pub record LieBetween (first last : ℕ) (s : Remains) : Type 0 where
+  pub bodies : IsBetween first last s.bodies.input
+  pub others : IsBetween first last s.input

@@ -60,7 +60,7 @@ impl<'a> CustomSectionReader<'a> {
         self.data
     }
 
-    /// The place of the first byte after the name in the input.
+    /// The place in the input of the first byte after the name.
     pub fn data_offset(&self) -> u64
         ensures { result ≡ self.now.contents_start }
     {

@@ -45,7 +45,21 @@ impl Parser {
         self.features = features;
     }
 
-    /// The payloads of the module that these bytes are. Nothing is read yet.
+    /// The place of the module in the input.
+    pub fn offset(&self) -> u64
+        ensures { result ≡ self.now.offset }
+    {
+        self.offset
+    }
+
+    /// The features under which the module is read.
+    pub fn features(&self) -> WasmFeatures
+        ensures { feature_set result ≡ self.now.features }
+    {
+        self.features
+    }
+
+    /// The payloads of a module's bytes, which end below 2^64 of the input. Nothing is read yet.
     pub fn parse_all<'a>(self, bytes: &'a [u8]) -> Payloads<'a>
         requires { self.offset + length bytes.now < 2 ^ 64 }
         ensures { result ≡ whole_module self bytes.now }

@@ -14,8 +14,8 @@ use wasmparser_items::tag_type::TagType;
 use wasmparser_readers::section_limited::SectionLimited;
 use wasmparser_types::sub_type::RecGroup;
 
-/// A piece of a module: its header, what stands first in a section, the body of a function, or its end. Items of
-/// sections and bodies are still unread. A range is the place of a section's content in the input.
+/// A piece of a module: its header, what stands first in a section, the body of a function, or the module's end. Items
+/// of sections and bodies are still unread.
 #[derive(Debug, Drop)]
 pub enum Payload<'a> {
     /// The header.
@@ -45,7 +45,7 @@ pub enum Payload<'a> {
     StartSection {
         /// The index of the start function.
         func: u32,
-        /// Its place.
+        /// The place of the section's content in the input.
         range: Range<u64>,
     },
     /// An element section.
@@ -54,16 +54,17 @@ pub enum Payload<'a> {
     DataCountSection {
         /// The number of data segments.
         count: u32,
-        /// Its place.
+        /// The place of the section's content in the input.
         range: Range<u64>,
     },
     /// A code section, of which the bodies follow, each as a payload of its own.
     CodeSectionStart {
         /// The number of bodies.
         count: u32,
-        /// The place of the number and the bodies. The bodies may not fill it.
+        /// The place of the section's content, which the number of bodies begins. Whether the bodies fill it isn't checked
+        /// yet.
         unchecked_range: Range<u64>,
-        /// The number of bytes after the number of bodies.
+        /// How many bytes of the content follow that number.
         size: u64,
     },
     /// The body of a function.
@@ -72,13 +73,13 @@ pub enum Payload<'a> {
     DataSection(SectionLimited<'a, Data<'a>>),
     /// A custom section.
     CustomSection(CustomSectionReader<'a>),
-    /// A section of an id that the format doesn't have.
+    /// A section whose id the format doesn't have.
     UnknownSection {
         /// The id.
         id: u8,
         /// The content.
         contents: &'a [u8],
-        /// Its place.
+        /// The place of the section's content in the input.
         range: Range<u64>,
     },
     /// The end of the module, and its place.

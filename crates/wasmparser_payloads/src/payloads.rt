@@ -34,7 +34,8 @@ pub(crate) enum Stage {
     Done,
 }
 
-/// The payloads of a module that are still to come. After the end, or after an error, there are none.
+/// The payloads of a module that are still to come. After the end, or after an error, there are none. That
+/// there are as many bodies as functions, and data segments as the data count says, is left to the validator.
 #[derive(Debug, Drop)]
 pub struct Payloads<'a> {
     stage: Stage,

@@ -4,4 +4,6 @@
 #[cfg(test)]
 mod payloads;
 #[cfg(test)]
+mod readme;
+#[cfg(test)]
 mod shown;

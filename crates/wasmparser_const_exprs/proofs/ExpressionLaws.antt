@@ -151,8 +151,9 @@ first_of old new v (inr is) less e = by_read (expression_at new) refl
         let whole : expression_at old ≡ Some (v ∷ x.0, x.1) = e ∙ ap (λ read. with_first v read) f in
         let same = some_is (expression_of old, []) (v ∷ x.0, x.1) (sym is ∙ whole) in
         let value : expression_of new ≡ x.0 = ap (λ read. read_or [] read) f in
-        let ended : x.1 ≡ [] = sym (ap (λ (y : ConstantExpression × List ℕ). y.1) same) in
-        (ap (λ (y : ConstantExpression × List ℕ). y.0) same ∙ ap (λ (l : ConstantExpression). v ∷ l) (sym value),
-        inr (f ∙ ap (λ (l : List ℕ). Some (x.0, l)) ended ∙ ap (λ (l : ConstantExpression). Some (l, [])) (sym value)))
+        let ended : x.1 ≡ [] = sym (ap (λ (y : ConstantExpression × List ℕ). y.1) same) in (
+          ap (λ (y : ConstantExpression × List ℕ). y.0) same ∙ ap (λ (l : ConstantExpression). v ∷ l) (sym value),
+          inr (f ∙ ap (λ (l : List ℕ). Some (x.0, l)) ended ∙ ap (λ (l : ConstantExpression). Some (l, [])) (sym value)),
+        )
 
 pub ruleset operator_steps = (nothing_of, none_are_left, none_of, none_remain, end_is_last, first_of)

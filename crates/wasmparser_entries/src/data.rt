@@ -39,11 +39,7 @@ pub struct Data<'a> {
     pub data: &'a [u8],
 }
 
-fn active<'a>(
-    memory_index: Option<u32>,
-    offset_expr: ConstExpr<'a>,
-    data: &'a [u8],
-) -> Data<'a>
+fn active<'a>(memory_index: Option<u32>, offset_expr: ConstExpr<'a>, data: &'a [u8]) -> Data<'a>
     ensures is { data_segment result ≡ record { mode = spec.ActiveData memory_index (expression_of offset_expr.entry.rest); contents = data.now } }
     ensures has { result.kind ≡ kinds.Active memory_index offset_expr.entry }
 {

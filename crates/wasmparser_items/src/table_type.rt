@@ -47,10 +47,7 @@ fn read_table_limits(reader: &mut BinaryReader<'_>) -> Result<MemoryType, Malfor
 }
 
 // Reads a table's type after its first byte.
-pub fn read_table_type_from(
-    code: u8,
-    reader: &mut BinaryReader<'_>,
-) -> Result<TableType, Malformed>
+pub fn read_table_type_from(code: u8, reader: &mut BinaryReader<'_>) -> Result<TableType, Malformed>
     ensures { Answers table_type reader.old reader.new result (packed_table_from code reader.old.rest) }
 {
     let element_type = read_ref_type_from(code, reader)?;

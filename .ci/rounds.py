@@ -224,10 +224,13 @@ def over(kept, call, *given):
 
 
 def try_alone(crate, path, kept):
-    """Tries one edit as `rt must-fail` does: over a copy of what is kept, and where it is not refused so, from nothing."""
-    flags = ["--jobs", "1"]
-    well, text = over(kept, rt.must_fail, crate, path, flags)
-    return (well, text) if well else rt.must_fail(crate, path, flags)
+    """Tries one edit as `rt must-fail` does: over a copy of what is kept, and where it is not refused so, from nothing. Returns whether it is refused, and
+    what was seen."""
+    flags, are_refusals = ["--jobs", "1"], (rt.REFUSED, rt.AT_LIMIT)
+    verdict, text = over(kept, rt.must_fail, crate, path, flags)
+    if verdict not in are_refusals:
+        verdict, text = rt.must_fail(crate, path, flags)
+    return verdict in are_refusals, text
 
 
 class Trial:
@@ -256,10 +259,10 @@ class Trial:
         self.say(f"proved ({self.seconds()}); {len(edits)} wrong bodies")
         alone = [it for it in edits if not it.function] + self.run_rounds([it for it in edits if it.function], functions)
         with concurrent.futures.ThreadPoolExecutor(self.jobs) as pool:
-            for edit, (well, text) in zip(alone, pool.map(lambda it: try_alone(self.crate, it.path, self.kept), alone)):
+            for edit, (is_refused, text) in zip(alone, pool.map(lambda it: try_alone(self.crate, it.path, self.kept), alone)):
                 self.say(text)
-                self.refused.update({edit.name: text} if well else {})
-                self.let_through += [] if well else [edit.name]
+                self.refused.update({edit.name: text} if is_refused else {})
+                self.let_through += [] if is_refused else [edit.name]
         self.say(f"{len(self.refused)} of {len(edits)} refused, {len(alone)} of them tried alone ({self.seconds()})")
         return self
 

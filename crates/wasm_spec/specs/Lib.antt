@@ -24,4 +24,3 @@ pub mod TypeExamples
 pub mod TypeGrammar
 pub mod TypeReferences
 pub mod Types
-pub mod Validity

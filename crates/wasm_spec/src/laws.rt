@@ -1,17 +1,15 @@
 //! Laws of the definitions, and worked examples.
 
-ghost use Rattle.std.specs.Prelude.{◌≡◌, ◌≤◌, ◌++◌, ◌||◌, ℕ, Bool, List, [], ◌∷◌, length, true, false, is_some, map, nat_lt};
+ghost use Rattle.std.specs.Prelude.{◌≡◌, ◌≤◌, ◌++◌, ℕ, Bool, List, [], ◌∷◌, length, true, false, map};
 ghost use Rattle.wasm_spec.specs.Bodies.{Context, Run, AreLocals, IsBodyOf, IsFunctionBody};
 ghost use Rattle.wasm_spec.specs.Bytes.{IsByte, AreBytes, IsItems, IsUnsigned};
-ghost use Rattle.wasm_spec.specs.Features.{Features, Flag, FunctionReferences, Gc, MultiValue, StackSwitching, bit_of, has, default_features, is_default, needs_type_canonicalization};
+ghost use Rattle.wasm_spec.specs.Features.{Flag, FunctionReferences, Gc, StackSwitching, bit_of, has, default_features, is_default, needs_type_canonicalization};
 ghost use Rattle.wasm_spec.specs.Grammar.{AreOrdered, IsModule, header};
-ghost use Rattle.wasm_spec.specs.Limits.{Types, Groups, Functions, Params, Results, BodySize, Name};
 ghost use Rattle.wasm_spec.specs.Operators.{End};
 ghost use Rattle.wasm_spec.specs.Spaces.{sizes_of, together};
-ghost use Rattle.wasm_spec.specs.Syntax.{Section, Custom, TypeSection, FunctionSection, CodeSection, types_in};
+ghost use Rattle.wasm_spec.specs.Syntax.{Section, Custom, TypeSection, FunctionSection, CodeSection};
 ghost use Rattle.wasm_spec.specs.TypeGrammar.{IsValType, IsFuncType};
-ghost use Rattle.wasm_spec.specs.Types.{Abstract, Func, Extern, Any, None, NoExtern, NoFunc, Eq, Struct, Array, I31, Exn, NoExn, Cont, NoCont, I32, I64, F32, F64, V128, Ref, FuncType, FuncComposite, StructComposite, SubType, RecGroup, Single};
-ghost use Rattle.wasm_spec.specs.Validity.{is_passed, func_type_at, BeginsInvalid, BeginsPast, StatesPast, KeepRules, IsValid};
+ghost use Rattle.wasm_spec.specs.Types.{Abstract, Func, Extern, Any, None, NoExtern, NoFunc, Eq, Struct, Array, I31, Exn, NoExn, Cont, NoCont, I32, I64, F32, F64, V128, Ref, FuncType, FuncComposite, SubType, RecGroup, Single};
 
 /// The default set has exactly the flags that are on by default, no two flags are one bit, and exactly three
 /// canonicalise types.
@@ -93,72 +91,6 @@ pub fn small_numbers()
     ensures another { ¬ (IsUnsigned 32 (0x84 ∷ 0x80 ∷ 0x80 ∷ 0x80 ∷ 0x00 ∷ []) 5) }
     ensures too_long { (n : ℕ) → ¬ (IsUnsigned 32 (0x84 ∷ 0x80 ∷ 0x80 ∷ 0x80 ∷ 0x80 ∷ 0x00 ∷ []) n) }
     ensures unused_bits { (n : ℕ) → ¬ (IsUnsigned 32 (0x84 ∷ 0x80 ∷ 0x80 ∷ 0x80 ∷ 0x10 ∷ []) n) }
-{}
-
-/// A name of 100,000 bytes is the longest, wherever it stands, and nothing else is limited in custom sections.
-pub fn long_names()
-    ensures names { (before after : List Section) (name contents : List ℕ)
-        → is_passed Name (before ++ (Custom name contents ∷ after)) ≡ (nat_lt 100000 (length name) || is_passed Name (before ++ after)) }
-    ensures valid { (features : Features) (a b contents : List ℕ) → length a ≡ 100000 → length b ≡ 100000
-        → IsValid features (Custom a contents ∷ Custom b contents ∷ []) }
-    ensures invalid { (features : Features) (a contents : List ℕ) → length a ≡ 100001
-        → ¬ (IsValid features (Custom a contents ∷ [])) }
-{}
-
-/// The greatest numbers of types and functions, and of what they have.
-pub fn limits()
-    ensures types { (groups : List (RecGroup ℕ))
-        → is_passed Types (TypeSection groups ∷ []) ≡ nat_lt 1000000 (length (types_in (TypeSection groups))) }
-    ensures groups { (groups : List (RecGroup ℕ)) → is_passed Groups (TypeSection groups ∷ []) ≡ nat_lt 1000000 (length groups) }
-    ensures functions { (indexes : List ℕ) → is_passed Functions (FunctionSection indexes ∷ []) ≡ nat_lt 1000000 (length indexes) }
-    ensures params { (is_final : Bool) (supertypes : List ℕ) (type : FuncType ℕ)
-        → is_passed Params (TypeSection (Single (record { is_final = is_final; supertypes = supertypes; composite_type = FuncComposite type }) ∷ []) ∷ [])
-        ≡ nat_lt 1000 (length type.params) }
-    ensures results { (is_final : Bool) (supertypes : List ℕ) (type : FuncType ℕ)
-        → is_passed Results (TypeSection (Single (record { is_final = is_final; supertypes = supertypes; composite_type = FuncComposite type }) ∷ []) ∷ [])
-        ≡ nat_lt 1000 (length type.results) }
-    ensures body_size { (body : List ℕ) → is_passed BodySize (CodeSection (body ∷ []) ∷ []) ≡ nat_lt 7654321 (length body) }
-{}
-
-/// What a function section names are function types that stand before it.
-pub fn rules()
-    ensures kept { (features : Features) → KeepRules features []
-        (TypeSection (Single (record { is_final = true; supertypes = []; composite_type = FuncComposite (record { params = []; results = [] }) }) ∷ [])
-        ∷ FunctionSection (0 ∷ []) ∷ []) }
-    ensures early { (features : Features) (index : ℕ) (groups : List (RecGroup ℕ))
-        → ¬ (KeepRules features [] (FunctionSection (index ∷ []) ∷ TypeSection groups ∷ [])) }
-    ensures past_the_end { (types : List (SubType ℕ)) (index : ℕ) → length types ≤ index → is_some (func_type_at types index) ≡ false }
-    ensures structure { is_some (func_type_at (record { is_final = true; supertypes = []; composite_type = StructComposite [] } ∷ []) 0) ≡ false }
-{}
-
-/// Several results, and types that aren't final, are features.
-pub fn gates()
-    ensures results { KeepRules (bit_of MultiValue) []
-        (TypeSection (Single (record { is_final = true; supertypes = []; composite_type = FuncComposite (record { params = []; results = I32 ∷ I32 ∷ [] }) }) ∷ []) ∷ []) }
-    ensures without_multi_value { ¬ (KeepRules 0 []
-        (TypeSection (Single (record { is_final = true; supertypes = []; composite_type = FuncComposite (record { params = []; results = I32 ∷ I32 ∷ [] }) }) ∷ []) ∷ [])) }
-    ensures not_final { KeepRules (bit_of Gc) []
-        (TypeSection (Single (record { is_final = false; supertypes = []; composite_type = FuncComposite (record { params = []; results = [] }) }) ∷ []) ∷ []) }
-    ensures without_gc { ¬ (KeepRules 0 []
-        (TypeSection (Single (record { is_final = false; supertypes = []; composite_type = FuncComposite (record { params = []; results = [] }) }) ∷ []) ∷ [])) }
-{}
-
-/// A module with a function is valid where the body is one of its type, and the index that of a function type.
-pub fn one_function()
-    ensures valid { (features : Features) → IsValid features
-        (TypeSection (Single (record { is_final = true; supertypes = []; composite_type = FuncComposite (record { params = []; results = [] }) }) ∷ [])
-        ∷ FunctionSection (0 ∷ []) ∷ CodeSection ((0x00 ∷ 0x00 ∷ 0x0b ∷ []) ∷ []) ∷ []) }
-    ensures no_type { (features : Features) (index : ℕ) (body : List ℕ)
-        → ¬ (IsValid features (FunctionSection (index ∷ []) ∷ CodeSection (body ∷ []) ∷ [])) }
-    ensures no_body { (features : Features) (groups : List (RecGroup ℕ)) (index : ℕ)
-        → ¬ (IsValid features (TypeSection groups ∷ FunctionSection (index ∷ []) ∷ CodeSection ([] ∷ []) ∷ [])) }
-{}
-
-/// What the front of a module decides, whatever follows: 1,000,001 functions are stated, and a function stands before any type.
-pub fn fronts()
-    ensures twice { (rest : List ℕ) → ¬ (StatesPast Groups (TypeSection [] ∷ []) rest) }
-    ensures past { (features : Features) (rest : List ℕ) → BeginsPast features Functions (header ++ (0x03 ∷ 0x03 ∷ 0xc1 ∷ 0x84 ∷ 0x3d ∷ rest)) }
-    ensures invalid { (features : Features) (rest : List ℕ) → BeginsInvalid features (header ++ (0x03 ∷ 0x02 ∷ 0x01 ∷ 0x00 ∷ rest)) }
 {}
 
 /// Small bodies: a body may end at once where it has no results, and with any results after `unreachable`.

@@ -1,0 +1,122 @@
+-- What is known after some entries of a module. Core Specification 3.0, Validation, "Conventions" (contexts) and "Modules". Types of items are
+-- kept as they are written, over type indexes; what an index stands for is in the context too.
+use Rattle.std.specs.Prelude.{ℕ, suc, ◌+◌, List, [], ◌∷◌, ◌++◌, length, Option, Some, None, map, slice_get}
+use Rattle.wasm_spec.specs.Syntax.{imported_by}
+use Rattle.wasm_spec.specs.Trees.{DefType, types_after}
+use Rattle.wasm_spec.specs.Types.{MemoryType, TableType, GlobalType, ExternalType, FuncExternal, TableExternal, MemoryExternal, GlobalExternal, TagExternal, ExternalKind, FuncKind, TableKind, MemoryKind, GlobalKind, TagKind, FuncType}
+use Rattle.wasm_validity.specs.DefinedTypes.{func_type_at}
+use Rattle.wasm_validity.specs.Entries.{Entry, OfCustom, OfType, OfImport, OfFunction, OfTable, OfMemory, OfTags, OfTag, OfGlobal, OfExport, OfStart, OfElement, OfDataCount, OfBody, OfData}
+
+-- The index spaces, in which imported items stand first, and what else limits count: the entries of type and import sections, exports by their
+-- names, segments, and the size of the types of all imports and exports.
+pub record Context : Type 0 where
+  pub types : List DefType
+  pub groups : ℕ
+  pub imports : ℕ
+  -- the type index of each function, of the imported ones and of the module's own
+  pub imported_functions : List ℕ
+  pub own_functions : List ℕ
+  pub tables : List (TableType ℕ)
+  pub memories : List MemoryType
+  -- the type index of each tag
+  pub tags : List ℕ
+  pub imported_globals : List (GlobalType ℕ)
+  pub own_globals : List (GlobalType ℕ)
+  pub exports : List (List ℕ)
+  pub elements : ℕ
+  pub segments : ℕ
+  pub type_size : ℕ
+
+abbrev pub at_first : Context
+at_first = record {
+  types = [];
+  groups = 0;
+  imports = 0;
+  imported_functions = [];
+  own_functions = [];
+  tables = [];
+  memories = [];
+  tags = [];
+  imported_globals = [];
+  own_globals = [];
+  exports = [];
+  elements = 0;
+  segments = 0;
+  type_size = 1;
+}
+
+-- the index spaces of functions and globals
+abbrev pub functions_in : Context → List ℕ
+functions_in cx = cx.imported_functions ++ cx.own_functions
+
+abbrev pub globals_in : Context → List (GlobalType ℕ)
+globals_in cx = cx.imported_globals ++ cx.own_globals
+
+-- ---- sizes of types
+
+-- how large a function type counts, which isn't there where the index names none
+abbrev pub size_of_func : Option (FuncType DefType) → ℕ
+size_of_func None = 0
+size_of_func (Some type) = 2 + (length type.params + length type.results)
+
+-- how large the type of an item counts
+abbrev pub size_of : Context → ExternalType ℕ → ℕ
+size_of cx (FuncExternal function) = size_of_func (func_type_at cx.types function)
+size_of cx (TableExternal type) = 1
+size_of cx (MemoryExternal type) = 1
+size_of cx (GlobalExternal type) = 1
+size_of cx (TagExternal function) = size_of_func (func_type_at cx.types function)
+
+-- ---- what is exported
+
+-- the item of a kind with an index, if there is one
+abbrev pub item_at : Context → ExternalKind → ℕ → Option (ExternalType ℕ)
+item_at cx FuncKind index = slice_get (map (λ x. FuncExternal x) (functions_in cx)) index
+item_at cx TableKind index = slice_get (map (λ x. TableExternal x) cx.tables) index
+item_at cx MemoryKind index = slice_get (map (λ x. MemoryExternal x) cx.memories) index
+item_at cx GlobalKind index = slice_get (map (λ x. GlobalExternal x) (globals_in cx)) index
+item_at cx TagKind index = slice_get (map (λ x. TagExternal x) cx.tags) index
+
+abbrev pub size_of_export : Context → Option (ExternalType ℕ) → ℕ
+size_of_export cx None = 0
+size_of_export cx (Some type) = size_of cx type
+
+-- ---- one entry more
+
+-- an imported item
+abbrev pub with_item : Context → ExternalType ℕ → Context
+with_item cx (FuncExternal function) = record cx { imported_functions = cx.imported_functions ++ function ∷ [] }
+with_item cx (TableExternal type) = record cx { tables = cx.tables ++ type ∷ [] }
+with_item cx (MemoryExternal type) = record cx { memories = cx.memories ++ type ∷ [] }
+with_item cx (GlobalExternal type) = record cx { imported_globals = cx.imported_globals ++ type ∷ [] }
+with_item cx (TagExternal function) = record cx { tags = cx.tags ++ function ∷ [] }
+
+-- its type counts too
+abbrev pub after_item : Context → ExternalType ℕ → Context
+after_item cx type = record (with_item cx type) { type_size = cx.type_size + size_of cx type }
+
+abbrev pub after_items : Context → List (ExternalType ℕ) → Context
+after_items cx [] = cx
+after_items cx (type ∷ types) = after_items (after_item cx type) types
+
+-- What is known after an entry that keeps its rule.
+abbrev pub after : Context → Entry → Context
+after cx (OfCustom name) = cx
+after cx (OfType group) = record cx { types = types_after cx.types group; groups = suc cx.groups }
+after cx (OfImport entry) = after_items (record cx { imports = suc cx.imports }) (imported_by entry)
+after cx (OfFunction index) = record cx { own_functions = cx.own_functions ++ index ∷ [] }
+after cx (OfTable table) = record cx { tables = cx.tables ++ table.type ∷ [] }
+after cx (OfMemory type) = record cx { memories = cx.memories ++ type ∷ [] }
+after cx OfTags = cx
+after cx (OfTag index) = record cx { tags = cx.tags ++ index ∷ [] }
+after cx (OfGlobal global) = record cx { own_globals = cx.own_globals ++ global.type ∷ [] }
+after cx (OfExport export) = record cx { exports = cx.exports ++ export.name ∷ []; type_size = cx.type_size + size_of_export cx (item_at cx export.kind export.index) }
+after cx (OfStart function) = cx
+after cx (OfElement segment) = record cx { elements = suc cx.elements }
+after cx (OfDataCount count) = cx
+after cx (OfBody body) = cx
+after cx (OfData segment) = record cx { segments = suc cx.segments }
+
+abbrev pub after_all : Context → List Entry → Context
+after_all cx [] = cx
+after_all cx (entry ∷ entries) = after_all (after cx entry) entries

@@ -1,0 +1,10 @@
+pub mod ConstantExamples
+pub mod ConstantTyping
+pub mod Context
+pub mod DefinedTypes
+pub mod Entries
+pub mod Examples
+pub mod Fronts
+pub mod Rules
+pub mod TypeRules
+pub mod Validity

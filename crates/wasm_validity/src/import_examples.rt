@@ -1,0 +1,54 @@
+//! Worked examples of modules with imports, and of such as aren't valid.
+
+ghost use Rattle.std.specs.Prelude.{◌≡◌, ◌++◌, ℕ, List, [], ◌∷◌, length, true};
+ghost use Rattle.wasm_spec.specs.Examples.{at_least};
+ghost use Rattle.wasm_spec.specs.Features.{Features};
+ghost use Rattle.wasm_spec.specs.Grammar.{header};
+ghost use Rattle.wasm_spec.specs.Limits.{total_of_types};
+ghost use Rattle.wasm_spec.specs.Syntax.{TypeSection, ImportSection, FunctionSection, StartSection, CodeSection, CompactItems, CompactNames, Import};
+ghost use Rattle.wasm_spec.specs.TypeExamples.{empty_function, final_type, gives, takes};
+ghost use Rattle.wasm_spec.specs.Types.{I32, Concrete, FuncComposite, FuncExternal, MemoryExternal, MemoryType, RecGroup, Ref, Single, TableExternal, GlobalExternal};
+ghost use Rattle.wasm_validity.specs.Context.{at_first};
+ghost use Rattle.wasm_validity.specs.Entries.{OfImport};
+ghost use Rattle.wasm_validity.specs.Examples.{IsBroken, IsKept, between, constant, reference, table_of};
+ghost use Rattle.wasm_validity.specs.Validity.{BeginsInvalid, IsValid};
+
+use wasm_spec::grammar_examples::imports_and_exports;
+
+/// A module may start with a function that it imports. That one has no body: the bodies are those of the module's own functions.
+pub fn imported_functions()
+    ensures starts { (features : Features) (origin name : List ℕ) → length origin ≡ 3 → length name ≡ 3 → IsValid features
+        (TypeSection (Single (final_type empty_function) ∷ []) ∷ ImportSection (Import origin name (FuncExternal 0) ∷ []) ∷ StartSection 0 ∷ []) }
+    ensures own_after_it { (features : Features) → IsValid features
+        (TypeSection (Single (final_type empty_function) ∷ Single (final_type (FuncComposite (gives (I32 ∷ [])))) ∷ []) ∷ ImportSection (Import [] [] (FuncExternal 1) ∷ [])
+        ∷ FunctionSection (0 ∷ []) ∷ CodeSection ((0x00 ∷ 0x0b ∷ []) ∷ []) ∷ []) }
+    ensures starts_with_a_parameter { (features : Features) (origin name : List ℕ) → ¬ (IsValid features
+        (TypeSection (Single (final_type (FuncComposite (takes (I32 ∷ [])))) ∷ []) ∷ ImportSection (Import origin name (FuncExternal 0) ∷ []) ∷ StartSection 0 ∷ [])) }
+    ensures no_type { (features : Features) (origin name : List ℕ) (index : ℕ) → ¬ (IsValid features (ImportSection (Import origin name (FuncExternal index) ∷ []) ∷ [])) }
+    ensures later_type { (features : Features) (origin name : List ℕ) (groups : List (RecGroup ℕ)) → ¬ (IsValid features
+        (ImportSection (Import origin name (FuncExternal 0) ∷ []) ∷ TypeSection groups ∷ [])) }
+{}
+
+/// Groups of imports, which read with a feature alone (`grammar_examples` of the specification), are valid where each import in them is. Of an empty
+/// one nothing is asked but the length of its module's name, and that the index of a type is one for which there is room.
+pub fn groups()
+    ensures items { (features : Features) → IsValid features
+        (ImportSection (CompactItems (0x6d ∷ []) (record { name = 0x61 ∷ []; type = MemoryExternal (at_least 1) } ∷ []) ∷ []) ∷ []) }
+    ensures second_item { (features : Features) (name : List ℕ) (type : MemoryType) → ¬ (IsValid features
+        (ImportSection (CompactItems [] (record { name = []; type = GlobalExternal (constant I32) } ∷ record { name = name; type = MemoryExternal (between 2 1) } ∷ []) ∷ []) ∷ [])) }
+    ensures second_name { (features : Features) (name : List ℕ) (type : MemoryType) → length name ≡ 100001 → ¬ (IsValid features
+        (ImportSection (CompactNames [] (MemoryExternal type) ([] ∷ name ∷ []) ∷ []) ∷ [])) }
+    ensures empty { (features : Features) → IsValid features (ImportSection (CompactNames [] (MemoryExternal (between 2 1)) [] ∷ CompactItems [] [] ∷ []) ∷ []) }
+    ensures module_of_none { (features : Features) (origin : List ℕ) → length origin ≡ 100001 → ¬ (IsValid features (ImportSection (CompactItems origin [] ∷ []) ∷ [])) }
+    ensures greatest_index { IsKept at_first (OfImport (CompactNames [] (TableExternal (table_of (reference true (Concrete 1048575)) (at_least 1))) [])) }
+    ensures larger_index { IsBroken at_first (OfImport (CompactNames [] (TableExternal (table_of (reference true (Concrete total_of_types)) (at_least 1))) [])) }
+    ensures larger_in_a_global { IsBroken at_first (OfImport (CompactNames [] (GlobalExternal (constant (Ref true (Concrete total_of_types)))) [])) }
+{}
+
+/// A section with an import of a type that isn't there breaks a rule, whatever follows.
+pub fn fronts()
+    ensures no_type { (features : Features) (rest : List ℕ) → BeginsInvalid features
+        (header ++ (0x02 ∷ 0x07 ∷ 0x01 ∷ 0x01 ∷ 0x6d ∷ 0x01 ∷ 0x66 ∷ 0x00 ∷ 0x05 ∷ rest)) }
+{
+    imports_and_exports();
+}

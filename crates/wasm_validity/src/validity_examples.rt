@@ -1,0 +1,72 @@
+//! Worked examples of valid modules, and of what the front of bytes decides.
+
+ghost use Rattle.std.specs.Prelude.{◌≡◌, ◌++◌, ℕ, List, [], ◌∷◌, length, replicate};
+ghost use Rattle.std.specs.List.{flat_map};
+ghost use Rattle.wasm_spec.specs.Features.{Features, Gc, MultiValue, bit_of};
+ghost use Rattle.wasm_spec.specs.Grammar.{header};
+ghost use Rattle.wasm_spec.specs.Limits.{Memories, Params};
+ghost use Rattle.wasm_spec.specs.Syntax.{Section, Custom, TypeSection, ImportSection, FunctionSection, TableSection, GlobalSection, ExportSection, ElementSection, CodeSection, DataCountSection, DataSection, ImportEntry, Table, Global, Export, ElementSegment, DataSegment};
+ghost use Rattle.wasm_spec.specs.TypeExamples.{empty_function, empty_structure, final_type, gives, open_type};
+ghost use Rattle.wasm_spec.specs.Types.{I32, FuncComposite, RecGroup, Single};
+ghost use Rattle.wasm_validity.specs.Context.{at_first};
+ghost use Rattle.wasm_validity.specs.Entries.{entries_of};
+ghost use Rattle.wasm_validity.specs.Rules.{KeepRules};
+ghost use Rattle.wasm_validity.specs.Validity.{BeginsInvalid, BeginsPast, IsValid};
+
+/// A name of 100,000 bytes is the longest, wherever it stands, and nothing else is limited in custom sections.
+pub fn long_names()
+    ensures valid { (features : Features) (a b contents : List ℕ) → length a ≡ 100000 → length b ≡ 100000
+        → IsValid features (Custom a contents ∷ Custom b contents ∷ []) }
+    ensures invalid { (features : Features) (before after : List Section) (a contents : List ℕ) → length a ≡ 100001
+        → ¬ (IsValid features (before ++ (Custom a contents ∷ after))) }
+{}
+
+/// A module with a function is valid where the body is one of its type, and the index that of a function type.
+pub fn one_function()
+    ensures valid { (features : Features) → IsValid features
+        (TypeSection (Single (final_type empty_function) ∷ []) ∷ FunctionSection (0 ∷ []) ∷ CodeSection ((0x00 ∷ 0x00 ∷ 0x0b ∷ []) ∷ []) ∷ []) }
+    ensures no_type { (features : Features) (index : ℕ) (body : List ℕ)
+        → ¬ (IsValid features (FunctionSection (index ∷ []) ∷ CodeSection (body ∷ []) ∷ [])) }
+    ensures other_type { (features : Features) (body : List ℕ)
+        → ¬ (IsValid features (TypeSection (Single (final_type empty_structure) ∷ []) ∷ FunctionSection (0 ∷ []) ∷ CodeSection (body ∷ []) ∷ [])) }
+    ensures no_body { (features : Features) (groups : List (RecGroup ℕ)) (index : ℕ)
+        → ¬ (IsValid features (TypeSection groups ∷ FunctionSection (index ∷ []) ∷ CodeSection ([] ∷ []) ∷ [])) }
+{}
+
+/// What a function section names are function types that stand before it.
+pub fn rules()
+    ensures kept { (features : Features) → KeepRules features at_first (entries_of
+        (TypeSection (Single (final_type empty_function) ∷ []) ∷ FunctionSection (0 ∷ 0 ∷ []) ∷ [])) }
+    ensures early { (features : Features) (index : ℕ) (groups : List (RecGroup ℕ))
+        → ¬ (KeepRules features at_first (entries_of (FunctionSection (index ∷ []) ∷ TypeSection groups ∷ []))) }
+{}
+
+/// Several results, and types that aren't final, are features.
+pub fn gates()
+    ensures results { KeepRules (bit_of MultiValue) at_first (entries_of (TypeSection (Single (final_type (FuncComposite (gives (I32 ∷ I32 ∷ [])))) ∷ []) ∷ [])) }
+    ensures without_multi_value { ¬ (KeepRules 0 at_first (entries_of (TypeSection (Single (final_type (FuncComposite (gives (I32 ∷ I32 ∷ [])))) ∷ []) ∷ []))) }
+    ensures not_final { KeepRules (bit_of Gc) at_first (entries_of (TypeSection (Single (open_type empty_function) ∷ []) ∷ [])) }
+    ensures without_gc { ¬ (KeepRules 0 at_first (entries_of (TypeSection (Single (open_type empty_function) ∷ []) ∷ []))) }
+{}
+
+/// Entries whose rules aren't said whole are in no valid module. A section without entries says nothing, whatever its kind.
+pub fn unsupported()
+    ensures table { (features : Features) (table : Table) → ¬ (IsValid features (TableSection (table ∷ []) ∷ [])) }
+    ensures global { (features : Features) (global : Global) → ¬ (IsValid features (GlobalSection (global ∷ []) ∷ [])) }
+    ensures export { (features : Features) (export : Export) → ¬ (IsValid features (ExportSection (export ∷ []) ∷ [])) }
+    ensures element { (features : Features) (segment : ElementSegment) → ¬ (IsValid features (ElementSection (segment ∷ []) ∷ [])) }
+    ensures data { (features : Features) (segment : DataSegment) → ¬ (IsValid features (DataSection (segment ∷ []) ∷ [])) }
+    ensures data_count { (features : Features) (count : ℕ) → ¬ (IsValid features (DataCountSection count ∷ [])) }
+    ensures empty { (features : Features) → IsValid features (TableSection [] ∷ ExportSection [] ∷ []) }
+{}
+
+/// What the front of a module decides, whatever follows: of 101 memories the last is one too many, so is the last of 1,001 parameters, and a
+/// function stands before any type, in a whole section and in one of which nothing else need read.
+pub fn fronts()
+    ensures past { (features : Features) (rest : List ℕ) → BeginsPast features Memories
+        (header ++ (0x05 ∷ 0xcb ∷ 0x01 ∷ 0x65 ∷ (flat_map (λ n. 0x00 ∷ n ∷ []) (replicate 101 0x00) ++ rest))) }
+    ensures past_by_type { (features : Features) (rest : List ℕ) → BeginsPast features Params
+        (header ++ (0x01 ∷ 0xee ∷ 0x07 ∷ 0x01 ∷ 0x60 ∷ 0xe9 ∷ 0x07 ∷ (replicate 1001 0x7f ++ (0x00 ∷ rest)))) }
+    ensures invalid { (features : Features) (rest : List ℕ) → BeginsInvalid features (header ++ (0x03 ∷ 0x02 ∷ 0x01 ∷ 0x00 ∷ rest)) }
+    ensures invalid_item { (features : Features) (rest : List ℕ) → BeginsInvalid features (header ++ (0x03 ∷ 0x03 ∷ 0x02 ∷ 0x00 ∷ 0xff ∷ rest)) }
+{}

@@ -1,0 +1,3 @@
+pub mod InTurn
+pub mod Named
+pub mod Spaces

@@ -1,9 +1,13 @@
-//! The validator of WebAssembly modules and what it stands on, in one place. The parts are `wasmparser_error`,
-//! `wasmparser_parser` and `wasmparser_validator`.
+//! The parser and the validator of WebAssembly modules, in one place. The parts are the crates whose names begin with
+//! this one's.
 #![tactic(auto)]
 
+pub use wasmparser_const_exprs::{const_expr, const_operator};
+pub use wasmparser_entries::{data, element, global, table};
 pub use wasmparser_error::error;
-pub use wasmparser_parser::{
-    code_section, core_type_reader, core_types, custom, function_section, raw_section, type_section,
-};
-pub use wasmparser_validator::{body, gates, types, validator, validator_id};
+pub use wasmparser_imports::{import_item, imports};
+pub use wasmparser_items::{export, global_type, memory_type, table_type, tag_type, type_ref};
+pub use wasmparser_payloads::{custom_section, function_body, parser, payload, payloads};
+pub use wasmparser_readers::{from_reader, section_limited};
+pub use wasmparser_types::{composite_type, heap_type, index, ref_type, sub_type, val_type};
+pub use wasmparser_validator::{body, types, validator, validator_id};

@@ -1,5 +1,6 @@
 -- What is read of an entry, part after part.
-use Rattle.std.proofs.Common.{◌≡◌, ℕ, suc, ◌≤◌, Bool, true, false, List, [], ◌∷◌, Option, Some, None, refl, sym, ap, subst, ◌∙◌, inl, inr, length, Result, Ok, Err, arith}
+use Rattle.std.proofs.Common.{◌≡◌, ℕ, suc, ◌≤◌, ◌<◌, Bool, true, false, List, [], ◌∷◌, Option, Some, None, refl, sym, ap, subst, ◌∙◌, inl, inr, length, Result, Ok, Err, arith}
+use Rattle.std.proofs.lemmas.Bool.{cases_lt, lt-ltb, le-ltb}
 use Rattle.std.proofs.lemmas.Bool.Decides.{eqb_tells}
 use Rattle.std.specs.List.{AllByRecursion}
 use Rattle.wasm_core_read.specs.PartReading.{import_item_at, single_at, imported_at, import_at}
@@ -9,11 +10,12 @@ use Rattle.wasm_core_read.specs.Reading.{◌>>=◌, seen_at, pair_at, name_at, b
 use Rattle.wasm_core_read.specs.TypeReading.{list_at, external_type_at}
 use Rattle.wasm_core_read.proofs.Forms.{some_is}
 use Rattle.wasm_spec.specs.Syntax.{ImportItem, ImportEntry, Import, CompactItems, CompactNames}
-use Rattle.wasm_spec.specs.Types.{ExternalType}
-use Rattle.wasm_spec.specs.TypeReferences.{external_map}
-use Rattle.wasmparser_types.specs.Index.{Index, number_of}
+use Rattle.wasm_spec.specs.Types.{HeapType, Abstract, Concrete, ValType, I32, I64, F32, F64, V128, Ref, ExternalType, FuncExternal, TableExternal, MemoryExternal, GlobalExternal, TagExternal}
+use Rattle.wasm_spec.specs.TypeReferences.{heap_map, heap_refs, val_map, val_refs, external_map}
+use Rattle.wasmparser_types.specs.Index.{Index, number_of, packable}
 use Rattle.wasmparser_readers.specs.Answers.{HasLargeIndex}
 use Rattle.wasmparser_readers.specs.ModuleIndexes.{IsModuleIndex}
+use Rattle.wasmparser_readers.specs.PackedReading.{packed_index}
 use Rattle.wasmparser_readers.specs.Passing.{rest_of}
 use Rattle.wasmparser_readers.proofs.MappedReading.{given}
 use Rattle.wasmparser_items.specs.ItemTypes.{packed_refs}
@@ -102,7 +104,40 @@ pub names_read : (origin bytes : List ℕ) (v : ExternalType Index) (mid : List 
     → AllByRecursion IsModuleIndex (packed_refs v) → seen_at (λ x. CompactNames origin x.0 x.1) (pair_at external_type_at (list_at name_at)) bytes ≡ Some (CompactNames origin (external_map number_of v) names, rest)
 names_read origin bytes v mid names rest e f all = rw (external_read bytes v mid e all, f) refl
 
-pub ruleset names_steps = (type_rest, type_unread, names_unread, names_large, names_read)
+-- the indexes of a type that is named by places in the module
+small_index : (n : ℕ) → AllByRecursion IsModuleIndex (packed_index n ∷ []) → AllByRecursion (λ m. m < packable) (number_of (packed_index n) ∷ [])
+small_index n all =
+    elim (cases_lt n packable) [
+      | inl lt ↦ rw (lt-ltb n packable lt) (lt, tt)
+      | inr le ↦ absurd (rw (le-ltb n packable le) at all).0
+    ]
+
+small_in_heap : (heap : HeapType ℕ) → AllByRecursion IsModuleIndex (heap_refs (heap_map packed_index heap)) → AllByRecursion (λ m. m < packable) (heap_refs (heap_map number_of (heap_map packed_index heap)))
+small_in_heap (Abstract heap) all = tt
+small_in_heap (Concrete n) all = small_index n all
+
+small_in_value : (type : ValType ℕ) → AllByRecursion IsModuleIndex (val_refs (val_map packed_index type)) → AllByRecursion (λ m. m < packable) (val_refs (val_map number_of (val_map packed_index type)))
+small_in_value I32 all = tt
+small_in_value I64 all = tt
+small_in_value F32 all = tt
+small_in_value F64 all = tt
+small_in_value V128 all = tt
+small_in_value (Ref nullable heap) all = small_in_heap heap all
+
+small_in_item : (type : ExternalType ℕ) → AllByRecursion IsModuleIndex (packed_refs (packed_external type)) → AllByRecursion (λ m. m < packable) (packed_refs (external_map number_of (packed_external type)))
+small_in_item (FuncExternal function) all = tt
+small_in_item (TableExternal type) all = small_in_heap type.element_type.heap_type all
+small_in_item (MemoryExternal type) all = tt
+small_in_item (GlobalExternal type) all = small_in_value type.value_type all
+small_in_item (TagExternal function) all = tt
+
+pub names_small : (bytes : List ℕ) (v : ExternalType Index) (mid : List ℕ) → packed_external_at bytes ≡ Some (v, mid) → AllByRecursion IsModuleIndex (packed_refs v) → AllByRecursion (λ n. n < packable) (packed_refs (external_map number_of v))
+names_small bytes v mid e all =
+    let t = type_is bytes v mid e in
+    subst (λ (w : ExternalType Index). AllByRecursion (λ n. n < packable) (packed_refs (external_map number_of w))) (sym t.2)
+    (small_in_item t.0 (subst (λ (w : ExternalType Index). AllByRecursion IsModuleIndex (packed_refs w)) t.2 all))
+
+pub ruleset names_steps = (type_rest, type_unread, names_unread, names_large, names_read, names_small)
 
 -- ---- what stands after the module's name
 

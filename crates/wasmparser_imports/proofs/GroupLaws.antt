@@ -21,7 +21,7 @@ use Rattle.wasmparser_readers.specs.Passing.{rest_of, passed}
 use Rattle.wasmparser_readers.specs.Sections.{Limited, limited_of, left_items}
 use Rattle.wasmparser_readers.proofs.PassingLaws.{reads_again}
 use Rattle.wasmparser_readers.proofs.SectionLaws.{section_begins}
-use Rattle.wasmparser_imports.specs.ImportGroups.{all_of, items_of}
+use Rattle.wasmparser_imports.specs.ImportGroups.{all_of, items_of, AreRead}
 use Rattle.wasmparser_imports.specs.ImportItems.{are_packable, items_refs}
 
 reads_import_item : ReadsExactly IsImportItem import_item_at
@@ -38,6 +38,14 @@ group_is {A = A} IsA a_at exact old rest group are e f =
     let r = reads_again (IsList IsA) (list_at a_at) (reads_list IsA a_at exact) [] old.rest rest are e in
     let begins : left_items (λ features. a_at) group.left ≡ filled (list_at a_at (passed old (length rest)).rest) = section_begins (λ features. a_at) (passed old (length rest)) group f in
     r.0 ∙ ap (λ (xs : List A). Some (xs, rest)) (sym (ap all_of (begins ∙ ap filled r.1)))
+
+group_reads : {A : Type 0} (IsA : List ℕ → A → Type 0) (a_at : ReadingOf A) → ReadsExactly IsA a_at → (old : Input) (rest : List ℕ) (group : Limited) → AreBytes old.rest → rest_of (list_at a_at old.rest) ≡ Some rest
+    → limited_of (passed old (length rest)) ≡ Some group → AreRead a_at group
+group_reads {A = A} IsA a_at exact old rest group are e f =
+    let r = reads_again (IsList IsA) (list_at a_at) (reads_list IsA a_at exact) [] old.rest rest are e in
+    let begins : left_items (λ features. a_at) group.left ≡ filled (list_at a_at (passed old (length rest)).rest) = section_begins (λ features. a_at) (passed old (length rest)) group f in
+    let read = begins ∙ ap filled r.1 in
+    read ∙ ap (λ (xs : List A). Some xs) (sym (ap all_of read))
 
 not_counted : {A : Type 0} (a_at : ReadingOf A) (i : Input) → limited_of i ≡ None → list_at a_at i.rest ≡ None
 unfolding limited_of list_at
@@ -62,6 +70,9 @@ group_opens IsA a_at exact old rest are e f =
 pub names_passed : (old : Input) (rest : List ℕ) (group : Limited) → AreBytes old.rest → rest_of (list_at name_at old.rest) ≡ Some rest → limited_of (passed old (length rest)) ≡ Some group
     → list_at name_at old.rest ≡ Some (items_of name_at group, rest)
 names_passed old rest group are e f = group_is IsName name_at reads_name old rest group are e f
+
+pub names_read : (old : Input) (rest : List ℕ) (group : Limited) → AreBytes old.rest → rest_of (list_at name_at old.rest) ≡ Some rest → limited_of (passed old (length rest)) ≡ Some group → AreRead name_at group
+names_read old rest group are e f = group_reads IsName name_at reads_name old rest group are e f
 
 pub names_open : (old : Input) (rest : List ℕ) → AreBytes old.rest → rest_of (list_at name_at old.rest) ≡ Some rest → ¬ (limited_of (passed old (length rest)) ≡ None)
 names_open old rest are e = group_opens IsName name_at reads_name old rest are e
@@ -100,6 +111,10 @@ items_passed old rest group b are e told f =
     let is = group_is IsImportItem import_item_at reads_import_item old rest group are (checked_rest (list_at import_item_at old.rest) b rest e) f in
     (is, packable_all (items_refs (items_of import_item_at group)) (checked_flag (list_at import_item_at old.rest) (items_of import_item_at group) b rest is e ∙ told))
 
+pub items_read : (old : Input) (rest : List ℕ) (group : Limited) (b : Bool) → AreBytes old.rest → seen_at (λ items. are_packable (items_refs items)) (list_at import_item_at) old.rest ≡ Some (b, rest) → limited_of (passed old (length rest)) ≡ Some group
+    → AreRead import_item_at group
+items_read old rest group b are e f = group_reads IsImportItem import_item_at reads_import_item old rest group are (checked_rest (list_at import_item_at old.rest) b rest e) f
+
 pub items_open : (old : Input) (rest : List ℕ) (b : Bool) → AreBytes old.rest → seen_at (λ items. are_packable (items_refs items)) (list_at import_item_at) old.rest ≡ Some (b, rest) → ¬ (limited_of (passed old (length rest)) ≡ None)
 items_open old rest b are e = group_opens IsImportItem import_item_at reads_import_item old rest are (checked_rest (list_at import_item_at old.rest) b rest e)
 
@@ -117,6 +132,6 @@ items_unread bytes e = by_read (list_at import_item_at bytes) e
     by_read None h = refl
     by_read (Some read) h = absurd cc
 
-pub ruleset name_groups = (names_passed, names_open)
+pub ruleset name_groups = (names_passed, names_read, names_open)
 
-pub ruleset item_groups = (items_passed, items_open, items_large, items_unread)
+pub ruleset item_groups = (items_passed, items_read, items_open, items_large, items_unread)

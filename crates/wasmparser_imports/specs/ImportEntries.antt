@@ -16,7 +16,7 @@ use Rattle.wasmparser_readers.specs.Sections.{limited_of}
 use Rattle.wasmparser_items.specs.ItemTypes.{type_ref, packed_refs}
 use Rattle.wasmparser_imports.specs.declared.imports.Imports.{Imports}
 use Rattle.wasmparser_imports.specs.declared.imports.Imports.TheVariants as entries
-use Rattle.wasmparser_imports.specs.ImportGroups.{items_of}
+use Rattle.wasmparser_imports.specs.ImportGroups.{items_of, AreRead}
 use Rattle.wasmparser_imports.specs.ImportItems.{items_refs}
 
 -- the entry that a value is, with the items that a group's reader has before it
@@ -31,11 +31,12 @@ entry_refs (spec.Import origin name type) = packed_refs type
 entry_refs (spec.CompactItems origin items) = items_refs items
 entry_refs (spec.CompactNames origin type names) = packed_refs type
 
--- each type is named by its place in the module; of a group's items, which are read later, each index can be packed
+-- Each type is named by its place in the module. A group's items, which are read later, do read, and each index in a group can be packed.
 abbrev pub IsEntryOfModule : Imports → Type 0
 IsEntryOfModule (entries.Single start import) = AllByRecursion IsModuleIndex (packed_refs (type_ref import.ty))
-IsEntryOfModule (entries.Compact1 origin items) = AllByRecursion (λ n. n < packable) (items_refs (items_of import_item_at items))
-IsEntryOfModule (entries.Compact2 origin type names) = AllByRecursion IsModuleIndex (packed_refs (type_ref type))
+IsEntryOfModule (entries.Compact1 origin items) = AreRead import_item_at items × AllByRecursion (λ n. n < packable) (items_refs (items_of import_item_at items))
+IsEntryOfModule (entries.Compact2 origin type names) =
+    AreRead name_at names × AllByRecursion IsModuleIndex (packed_refs (type_ref type)) × AllByRecursion (λ n. n < packable) (packed_refs (external_map number_of (type_ref type)))
 
 -- the group of items is what was passed over since here
 abbrev pub IsItemsSince : Input → Input → Imports → Type 0

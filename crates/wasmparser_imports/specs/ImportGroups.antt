@@ -20,9 +20,14 @@ all_of (Some xs) = xs
 abbrev pub items_of : {A : Type 0} → ReadingOf A → Limited → List A
 items_of item_at group = all_of (left_items (λ features. item_at) group.left)
 
--- the group is the list that was passed over
+-- they read, one after the other
+abbrev pub AreRead : {A : Type 0} → ReadingOf A → Limited → Type 0
+AreRead item_at group = left_items (λ features. item_at) group.left ≡ Some (items_of item_at group)
+
+-- the group is the list that was passed over, which reads again
 abbrev pub IsPassed : {A : Type 0} → ReadingOf A → Input → Input → Limited → Type 0
-IsPassed item_at old new group = (limited_of (passed old (length new.rest)) ≡ Some group) × (list_at item_at old.rest ≡ Some (items_of item_at group, new.rest))
+IsPassed item_at old new group =
+    (limited_of (passed old (length new.rest)) ≡ Some group) × (list_at item_at old.rest ≡ Some (items_of item_at group, new.rest)) × AreRead item_at group
 
 -- What a call returned that passes over a list of names.
 abbrev pub PassesNames : Input → Input → Result Limited Malformed → Type 0

@@ -75,6 +75,7 @@ fn skip_code(code: u8, reader: &mut BinaryReader<'_>) -> Result<bool, Malformed>
 
 // Reads an import that begins at `start`, after the module's name.
 #[tactic(auto, using(wasmparser_items::proofs::PackedItemLaws::external_items, crate::proofs::EntryLaws::single_steps))]
+#[inline(always)]
 fn read_single<'a>(
     start: u64,
     origin: &'a str,
@@ -168,7 +169,7 @@ impl<'a> Item for Imports<'a> {
 
 impl<'a> FromReader<'a> for Imports<'a> {
     /// Reads an entry, whose groups of imports are passed over: the reader of a group stands at the group's list, in the same input and
-    /// under the same features. Of a group that is read no type index is too large to be packed.
+    /// under the same features. The items of a group that is read do read, and no type index in it is too large to be packed.
     fn from_reader(_alloc: Global, reader: &mut BinaryReader<'a>) -> Result<Imports<'a>, Error>
         ensures reads { ReadsItem import_entry IsEntryOfModule ⊥ entry_refs reader.old reader.new result (import_at (has reader.old.features CompactImports) reader.old.rest) }
         ensures placed { IsPlacedIfRead reader.old reader.new result }

@@ -38,6 +38,7 @@ pub enum TypeRef {
 }
 
 // Reads what is imported after its first byte.
+#[inline(always)]
 fn read_packed_from(code: u8, reader: &mut BinaryReader<'_>) -> Result<TypeRef, Malformed>
     ensures { Answers type_ref reader.old reader.new result (packed_external_from code reader.old.rest) }
 {
@@ -59,6 +60,7 @@ fn read_packed_from(code: u8, reader: &mut BinaryReader<'_>) -> Result<TypeRef, 
 /// # Errors
 /// Where nothing reads.
 #[tactic(auto, using(crate::proofs::PackedSteps::external_steps))]
+#[inline(always)]
 pub fn read_external(reader: &mut BinaryReader<'_>) -> Result<TypeRef, Malformed>
     ensures { Answers type_ref reader.old reader.new result (packed_external_at reader.old.rest) }
 {

@@ -1,21 +1,23 @@
-//! A driver for `bench/parse.sh`: goes over the payloads of a module, and over the items of each section.
+//! A driver for `bench/parse.sh` and `bench/real_modules.sh`: goes over the payloads of a module, and over the items of
+//! each section.
 #![tactic(auto)]
 
 mod items;
+mod lines;
 
 use crate::items::count_items;
+use crate::lines::print_payload;
 use std::alloc::Global;
 use std::process::ExitCode;
 use std::rt::{Env, Files};
 use std::{env, fs};
-use wasm_gen::transfer::{MAX_INPUT, MAX_TURNS, read_whole};
 use wasmparser_payloads::parser::Parser;
 
 fn main(rt: HostRuntime) -> ExitCode {
     match run(&rt) {
         Some(()) => ExitCode::SUCCESS,
         None => {
-            let _ = eprintln!(rt; "usage: wasmparser_parse_bench FILE TIMES");
+            let _ = eprintln!(rt; "usage: wasmparser_parse_bench FILE TIMES|show");
             ExitCode::FAILURE
         }
     }
@@ -28,11 +30,15 @@ fn run<R: Env + Files + Print + AllocGlobal>(rt: &R) -> Option<()> {
     print_count(rt, words.as_slice())
 }
 
-// Reads the file that the words name, goes over its items as often as they say, and prints how many there are.
+// Reads the file that the words name, and shows its payloads, or goes over its items as often as they say and prints how
+// many there are.
 fn print_count<R: Files + Print + AllocGlobal>(rt: &R, words: &[String]) -> Option<()> {
     let [_, name, times] = words else {
         return None;
     };
+    if times.as_str() == "show" {
+        return show_file(rt, name.as_str());
+    }
     let times = times.as_str().parse::<u32>().ok()?;
     let count = count_in_file(rt, name.as_str(), times)?;
     println!(rt; "{} items", count).ok()
@@ -40,13 +46,21 @@ fn print_count<R: Files + Print + AllocGlobal>(rt: &R, words: &[String]) -> Opti
 
 fn count_in_file<R: Files + AllocGlobal>(rt: &R, name: &str, times: u32) -> Option<u64> {
     let alloc = rt.alloc();
-    let mut file = fs::open(rt, name).ok()?;
-    let bytes = read_whole(alloc, &mut file, MAX_INPUT, MAX_TURNS).ok()?;
+    let bytes = fs::read(rt, name).ok()?;
     let mut count: u64 = 0;
     for _ in 0..times {
         count = count_in_module(alloc, &bytes)?;
     }
     Some(count)
+}
+
+// Prints a line for each payload.
+fn show_file<R: Files + Print + AllocGlobal>(rt: &R, name: &str) -> Option<()> {
+    let bytes = fs::read(rt, name).ok()?;
+    for payload in Parser::new(0).parse_all(&bytes) {
+        print_payload(rt, &payload.ok()?)?;
+    }
+    Some(())
 }
 
 // The number of items of all sections, and of payloads.

@@ -4,6 +4,4 @@
 #[cfg(test)]
 mod payloads;
 #[cfg(test)]
-mod readme;
-#[cfg(test)]
 mod shown;

@@ -2,6 +2,8 @@
 #![tactic(auto)]
 
 #[cfg(test)]
+mod module_state;
+#[cfg(test)]
 mod rec_group;
 #[cfg(test)]
 mod snapshot_list;

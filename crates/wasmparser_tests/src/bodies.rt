@@ -2,16 +2,16 @@
 
 use std::alloc::Global;
 use std::test::Fail;
+use wasm_core::binary_reader::BinaryReader;
 use wasm_core::features::{Flags, WasmFeatures};
 use wasm_test_rows::fields::four_fields;
 use wasm_test_rows::rows::check_rows;
 use wasm_test_rows::values::bytes_of;
 use wasmparser::body::validate_body;
-use wasmparser::code_section::FunctionBody;
-use wasmparser::core_types::{FuncType, ValType};
 use wasmparser::error::{Error, ErrorKind};
+use wasmparser::function_body::FunctionBody;
 
-// How many parameters and results of i32 a function has, the features, a body, and the kind of its refusal, or `valid`. `all SIMD` are all features
+// How many parameters and results a function has, the features, a body, and the kind of its refusal, or `valid`. `all SIMD` are all features
 // but that one.
 const BODIES: &str = "
     // A function that has to leave nothing, and one that has to leave a number.
@@ -58,14 +58,6 @@ const BODIES: &str = "
     50001 0 | default | 00 0b | Limit(Locals)
 ";
 
-// The function type with so many parameters and results of i32.
-fn func_type_of(alloc: Global, counts: &str) -> Option<FuncType> {
-    let (params, results) = counts.split_once(' ')?;
-    let results = results.parse().ok()?;
-    let params = vec![in alloc; ValType::I32; params.parse().ok()?].ok()?;
-    Some(FuncType::new(params, vec![in alloc; ValType::I32; results].ok()?))
-}
-
 fn features_of(field: &str) -> Option<WasmFeatures> {
     match field {
         "default" => Some(WasmFeatures::default()),
@@ -91,8 +83,9 @@ fn holds(alloc: Global, row: &str) -> Option<bool> {
     let (counts, features, bytes, expected) = four_fields(row)?;
     let features = features_of(features)?;
     let bytes = bytes_of(alloc, bytes)?;
-    let ty = func_type_of(alloc, counts)?;
-    let answer = validate_body(&ty, &FunctionBody::new(&bytes, 0), features);
+    let (params, results) = counts.split_once(' ')?;
+    let body = FunctionBody::new(BinaryReader::new(&bytes, 0));
+    let answer = validate_body(params.parse().ok()?, results == "0", &body, features);
     Some(is_answer(alloc, answer, expected))
 }
 
@@ -103,8 +96,7 @@ fn bodies_have_their_answers(rt: HostRuntime) -> Result<(), Fail> {
 
 #[test]
 fn refusal_stands_in_the_body(rt: HostRuntime) {
-    let ty = FuncType::new(Vec::new(rt.alloc()), Vec::new(rt.alloc()));
-    let body = FunctionBody::new(b"\0\0\xfe", 100);
-    let refusal = validate_body(&ty, &body, WasmFeatures::default());
+    let body = FunctionBody::new(BinaryReader::new(b"\0\0\xfe", 100));
+    let refusal = validate_body(0, true, &body, WasmFeatures::default());
     assert!(rt; refusal.is_err_and(|it| it.offset == 102 && it.kind == ErrorKind::Operator));
 }

@@ -6,4 +6,4 @@ mod bodies;
 #[cfg(test)]
 mod errors;
 #[cfg(test)]
-mod types;
+mod readme;

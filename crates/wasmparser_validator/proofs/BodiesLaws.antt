@@ -1,26 +1,60 @@
 -- The bodies of a module one after the other, as a loop validates them.
-use Rattle.std.proofs.Common.{◌≡◌, ℕ, zero, suc, ◌<◌, ◌+◌, List, [], ◌∷◌, get_or, length, refl, subst, arith, inl, inr}
-use Rattle.std.specs.List.{AllByRecursion}
-use Rattle.std.proofs.lemmas.Option.{slice_get_read, slice_get-get_or}
+use Rattle.std.proofs.Common.{◌≡◌, ℕ, ◌<◌, ◌+◌, Bool, true, eqb, List, get_or, map, length, Option, Some, None, is_some, option_map, refl, sym, ap, subst, ◌∙◌, arith, inl, inr}
+use Rattle.std.specs.Borrow.{Bor}
+use Rattle.std.specs.Option.{IsSome, option_and_then, option_copied}
+use Rattle.std.specs.Prelude.{Result}
 use Rattle.std.proofs.lemmas.Bool.{cases_lt}
-use Rattle.wasm_spec.specs.Types.{FuncType}
-use Rattle.wasmparser_parser.specs.Sections.{Part}
-use Rattle.wasmparser_validator.specs.Bodies.{HasBodyAt}
+use Rattle.std.proofs.lemmas.List.{length-map}
+use Rattle.std.proofs.lemmas.Option.{slice_get_read, slice_get-get_or}
+use Rattle.wasm_core_read.specs.Input.{Input}
+use Rattle.wasm_spec.specs.Features.{Features}
+use Rattle.wasm_spec.specs.Trees.{DefType}
+use Rattle.wasm_spec.specs.TypeReferences.{func_map, val_map}
+use Rattle.wasm_validity.specs.Context.{Context}
+use Rattle.wasm_validity.specs.DefinedTypes.{func_type_at}
+use Rattle.wasmparser_error.specs.declared.error.Error.{Error}
+use Rattle.wasmparser_module_state.specs.State.{own_func_type}
+use Rattle.wasmparser_types.specs.CompositeTypes.{func_type}
+use Rattle.wasmparser_types.specs.Index.{Index}
+use Rattle.wasmparser_types.specs.ValTypes.{val_type}
+use Rattle.wasmparser_types.specs.declared.composite_type.FuncType.{FuncType}
+use Rattle.wasmparser_types.specs.declared.val_type.ValType.{ValType}
+use Rattle.wasmparser_validator.specs.Bodies.{AreNamed, ValidatedAt}
+use Rattle.wasmparser_validator.specs.BodyValidation.{JudgesBody}
 
-all_at : {A : Type 0} (P : A → Type 0) (xs : List A) (i : ℕ) (d : A) → AllByRecursion P xs → i < length xs → P (get_or xs i d)
-all_at P [] i d all lt = absurd (omega (arith, lt))
-all_at P (x ∷ xs) zero d all lt = all.0
-all_at P (x ∷ xs) (suc i) d all lt = all_at P xs i d all.1 (omega (arith, lt))
+-- what the type index of a function of the module's own names
+named_by : (cx : Context) (place : ℕ) → place < length cx.own_functions → own_func_type cx place ≡ func_type_at cx.types (get_or cx.own_functions place 0)
+named_by cx place lt = ap (option_and_then (func_type_at cx.types)) (slice_get-get_or cx.own_functions place 0 lt)
 
-pub has_body_at : (types : List (FuncType ℕ)) (functions : List ℕ) (bodies : List Part) (place : ℕ) (type : FuncType ℕ) (body : Part) → AllByRecursion (λ index. index < length types) functions
-    → length functions ≡ length bodies → place < length functions → type ≡ get_or types (get_or functions place 0) type → body ≡ get_or bodies place body
-    → HasBodyAt types functions bodies place type body
-has_body_at types functions bodies place type body named paired lt t b = record {
-  index = get_or functions place 0;
-  indexed = slice_get-get_or functions place 0 lt;
-  named = slice_get_read types (length types) (get_or functions place 0) type refl (all_at (λ index. index < length types) functions place 0 named lt) t;
-  has = slice_get_read bodies (length bodies) place body refl (omega (arith, lt, paired)) b;
-}
+pub has_type : (cx : Context) (stands_for : Index → DefType) (bodies : List Input) (place : ℕ) (found : Option (Bor FuncType)) → AreNamed cx → length cx.own_functions ≡ length bodies → place < length bodies
+    → own_func_type cx place ≡ option_map (func_map stands_for) (option_map func_type (option_copied found)) → IsSome found
+has_type cx stands_for bodies place (Some f) named paired lt kept = refl
+has_type cx stands_for bodies place None named paired lt kept =
+    let inside : place < length cx.own_functions = omega (arith, lt, paired) in
+    let some : is_some (func_type_at cx.types (get_or cx.own_functions place 0)) ≡ true = named place (get_or cx.own_functions place 0) (slice_get-get_or cx.own_functions place 0 inside) in
+    let none = ap is_some (sym (named_by cx place inside) ∙ kept) in
+    let f = sym some ∙ none in absurd cc
+
+-- the body of a function is validated for the type that the function has
+pub validated_at : (features : Features) (cx : Context) (stands_for : Index → DefType) (bodies : List Input) (place : ℕ) (type : FuncType) (params results : List ValType) (gives : Bool) (body : Input) (answer : Result (Unit {0}) Error)
+    → length cx.own_functions ≡ length bodies → place < length bodies → own_func_type cx place ≡ Some (func_map stands_for (func_type type))
+    → map val_type params ≡ (func_type type).params → map val_type results ≡ (func_type type).results → gives ≡ eqb (length results) 0
+    → body ≡ get_or bodies place body → JudgesBody features (length params) gives body answer → ValidatedAt features cx bodies answer place
+validated_at features cx stands_for bodies place type params results gives body answer paired lt kept p r g b judged =
+    let inside : place < length cx.own_functions = omega (arith, lt, paired) in (
+      func_map stands_for (func_type type),
+      body,
+      record {
+        index = get_or cx.own_functions place 0;
+        indexed = slice_get-get_or cx.own_functions place 0 inside;
+        named = sym (named_by cx place inside) ∙ kept;
+        has = slice_get_read bodies (length bodies) place body refl lt b;
+      },
+      judged (func_map stands_for (func_type type)) (record {
+        takes = length-map (func_type type).params (val_map stands_for) ∙ ap length (sym p) ∙ length-map params val_type;
+        gives = ap (λ n. eqb n 0) (length-map (func_type type).results (val_map stands_for) ∙ ap length (sym r) ∙ length-map results val_type) ∙ sym g;
+      }),
+    )
 
 -- one place more
 pub one_more : (P : ℕ → Type 0) (i : ℕ) → ((place : ℕ) → place < i → P place) → P i → (place : ℕ) → place < i + 1 → P place

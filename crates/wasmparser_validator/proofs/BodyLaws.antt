@@ -1,4 +1,4 @@
--- Validation a body byte by byte, as loops do.
+-- Validating a body byte by byte, as loops do.
 use Rattle.std.proofs.Common.{◌≡◌, ◌≢◌, ℕ, suc, ◌+◌, ◌-◌, ◌<◌, ◌≤◌, Bool, true, false, eqb, leb, List, [], ◌∷◌, length, Some, None, Result, Ok, Err, subst, refl, sym, ap, ◌∙◌, arith, inl, inr}
 use Rattle.std.proofs.lemmas.Bool.{le-leb, lt-leb}
 use Rattle.std.proofs.lemmas.Bool.Decides.{eqb_tells}
@@ -9,12 +9,11 @@ use Rattle.wasm_spec.specs.Bodies.{Run}
 use Rattle.wasm_spec.specs.Features.{Features}
 use Rattle.wasm_spec.specs.Gates.{is_allowed}
 use Rattle.wasm_spec.specs.Types.{ValType}
-use Rattle.wasmparser_parser.specs.SupportedReading.{supported_type_at}
 use Rattle.wasmparser_error.specs.declared.error.Error.{Error}
 use Rattle.wasm_core_base.specs.declared.limits.Limit.TheVariants as core
 use Rattle.wasmparser_error.specs.declared.error.ErrorKind.{ErrorKind}
 use Rattle.wasmparser_error.specs.declared.error.ErrorKind.TheVariants as kinds
-use Rattle.wasmparser_validator.specs.BodyReading.{NamesFault, ValidatesBody, BodyOutcome, Broken, ManyLocals, OtherOperator, end_outcome, validate_code, run_at, with_run, validate_runs, validate_body}
+use Rattle.wasmparser_validator.specs.BodyReading.{local_type_at, NamesFault, ValidatesBody, BodyOutcome, Broken, ManyLocals, OtherOperator, end_outcome, validate_code, run_at, with_run, validate_runs, validate_body}
 
 pub neq-eqb : (a b : ℕ) → a ≢ b → eqb a b ≡ false
 neq-eqb a b ne = elim (eqb_tells a b) [ inl (t, e) ↦ absurd (ne e) | inr (t, n) ↦ t ]
@@ -64,11 +63,11 @@ pub no_count : (bytes : List ℕ) → unsigned_at 32 bytes ≡ None → run_at b
 unfolding run_at
 no_count bytes e = rw e refl
 
-pub no_type : (bytes : List ℕ) (n : ℕ) (mid : List ℕ) → unsigned_at 32 bytes ≡ Some (n, mid) → supported_type_at mid ≡ None → run_at bytes ≡ None
+pub no_type : (bytes : List ℕ) (n : ℕ) (mid : List ℕ) → unsigned_at 32 bytes ≡ Some (n, mid) → local_type_at mid ≡ None → run_at bytes ≡ None
 unfolding run_at
 no_type bytes n mid e h = rw (e, h) refl
 
-pub a_run : (bytes : List ℕ) (n : ℕ) (mid : List ℕ) (type : ValType ℕ) (rest : List ℕ) → unsigned_at 32 bytes ≡ Some (n, mid) → supported_type_at mid ≡ Some (type, rest)
+pub a_run : (bytes : List ℕ) (n : ℕ) (mid : List ℕ) (type : ValType ℕ) (rest : List ℕ) → unsigned_at 32 bytes ≡ Some (n, mid) → local_type_at mid ≡ Some (type, rest)
     → run_at bytes ≡ Some (record { count = n; type = type }, rest)
 unfolding run_at
 a_run bytes n mid type rest e h = rw (e, h) refl

@@ -1,10 +1,10 @@
 -- From validating a body byte by byte to the rules on bodies.
-use Rattle.std.proofs.Common.{◌≡◌, ◌≢◌, ◌⊎◌, inl, inr, ℕ, zero, suc, ◌+◌, ◌<◌, ◌≤◌, Bool, true, false, cond, eqb, eq-eqb, leb, map, List, [], ◌∷◌, ◌++◌, length, reverse, Option, Some, None, Result, Ok, Err, refl, sym, ap, subst, ◌∙◌, append_assoc, arith}
+use Rattle.std.proofs.Common.{◌≡◌, ◌≢◌, ◌⊎◌, inl, inr, ℕ, zero, suc, ◌+◌, ◌<◌, ◌≤◌, Bool, true, false, cond, eqb, eq-eqb, leb, List, [], ◌∷◌, ◌++◌, length, reverse, Option, Some, None, Result, Ok, Err, refl, sym, ap, subst, ◌∙◌, append_assoc, arith}
 use Rattle.std.specs.List.{AllByRecursion}
 use Rattle.std.specs.Prelude.{sum_by}
 use Rattle.std.proofs.lemmas.Bool.{le-leb, eqb-true}
 use Rattle.std.proofs.lemmas.Bool.Decides.{eqb_tells, leb_tells}
-use Rattle.std.proofs.lemmas.List.{append-nil, nil_from_length, length-reverse, length-map}
+use Rattle.std.proofs.lemmas.List.{append-nil, nil_from_length, length-reverse}
 use Rattle.std.proofs.lemmas.List.Sums.{sum_by-cons}
 use Rattle.wasm_core_read.specs.Reading.{◌>>=◌, unsigned_at}
 use Rattle.wasm_core_read.proofs.ReadingLaws.{bind_some, some_is, joined, rest_bytes, unsigned_found, unsigned_again}
@@ -14,6 +14,7 @@ use Rattle.wasm_spec.specs.Bytes.{AreBytes, IsU32, IsItems, IsList}
 use Rattle.wasm_spec.specs.Features.{Features}
 use Rattle.wasm_spec.specs.Gates.{is_allowed}
 use Rattle.wasm_spec.specs.Limits.{Locals, IsPassedBy}
+use Rattle.wasm_spec.specs.Trees.{DefType}
 use Rattle.wasm_spec.specs.Types.{ValType, FuncType}
 use Rattle.wasm_core_read.specs.Input.{Input}
 use Rattle.wasm_core_base.specs.declared.limits.Limit.TheVariants as core
@@ -21,22 +22,21 @@ use Rattle.wasm_core_base.specs.declared.limits.Limit.{Limit}
 use Rattle.wasmparser_error.specs.declared.error.Error.{Error}
 use Rattle.wasmparser_error.specs.declared.error.ErrorKind.{ErrorKind}
 use Rattle.wasmparser_error.specs.declared.error.ErrorKind.TheVariants as kinds
-use Rattle.wasmparser_validator.specs.BodyValidation.{IsBodyValidated}
-use Rattle.wasmparser_parser.specs.SupportedReading.{supported_type_at}
-use Rattle.wasmparser_validator.proofs.SupportedLaws.{reads_local_type}
-use Rattle.wasmparser_validator.specs.BodyReading.{BodyOutcome, Fine, Broken, ManyLocals, OtherOperator, end_outcome, validate_code, run_at, with_run, with_count, validate_runs, validate_body, NamesFault, ValidatesBody}
+use Rattle.wasmparser_validator.specs.BodyValidation.{IsBodyValidated, JudgesBody}
+use Rattle.wasmparser_validator.proofs.LocalTypeLaws.{reads_local_type}
+use Rattle.wasmparser_validator.specs.BodyReading.{local_type_at, BodyOutcome, Fine, Broken, ManyLocals, OtherOperator, end_outcome, validate_code, run_at, with_run, with_count, validate_runs, validate_body, NamesFault, ValidatesBody}
 
 -- ---- runs
 
 run_found : (bytes : List ℕ) (run : Run) (rest : List ℕ) → AreBytes bytes → run_at bytes ≡ Some (run, rest) → (encoding : List ℕ) × (bytes ≡ encoding ++ rest) × IsRun encoding run
 unfolding run_at
 run_found bytes run rest are e =
-    let n = bind_some (unsigned_at 32 bytes) (λ n. supported_type_at n.1 >>= λ t. Some (record { count = n.0; type = t.0 }, t.1)) (run, rest) e in
-    let t = bind_some (supported_type_at n.0.1) (λ t. Some (record { count = n.0.0; type = t.0 }, t.1)) (run, rest) n.2 in
+    let n = bind_some (unsigned_at 32 bytes) (λ n. local_type_at n.1 >>= λ t. Some (record { count = n.0; type = t.0 }, t.1)) (run, rest) e in
+    let t = bind_some (local_type_at n.0.1) (λ t. Some (record { count = n.0.0; type = t.0 }, t.1)) (run, rest) n.2 in
     let count = unsigned_found 32 bytes n.0.0 n.0.1 are n.1 in
     let type = reads_local_type.found n.0.1 t.0.0 t.0.1 (rest_bytes bytes count.0 n.0.1 are count.1) t.1 in
     subst (λ (x : Run × List ℕ). (encoding : List ℕ) × (bytes ≡ encoding ++ x.1) × IsRun encoding x.0) (some_is (record { count = n.0.0; type = t.0.0 }, t.0.1) (run, rest) t.2)
-    (count.0 ++ type.0, joined bytes count.0 n.0.1 type.0 t.0.1 count.1 type.1, (count.0, type.0, refl, count.2, type.2))
+    (count.0 ++ type.0, joined bytes count.0 n.0.1 type.0 t.0.1 count.1 type.1, (count.0, type.0, refl {a = count.0 ++ type.0}, count.2, type.2))
 
 run_again : (bytes : List ℕ) (run : Run) (rest : List ℕ) → IsRun bytes run → run_at (bytes ++ rest) ≡ Some (run, rest)
 unfolding run_at
@@ -50,22 +50,22 @@ headed : (b c : ℕ) (bs cs : List ℕ) → b ≡ c → bs ≡ cs → b ∷ bs �
 headed b c bs cs p q = ap (λ (x : ℕ). x ∷ bs) p ∙ ap (λ (l : List ℕ). c ∷ l) q
 
 -- whether the operands give the results is what the test says
-record Gives (cx : Context ℕ) (results : List (ValType ℕ)) (s : State ℕ) (gives : Bool) : Type 0 where
+record Gives {R : Type 0} (cx : Context R) (results : List (ValType R)) (s : State R) (gives : Bool) : Type 0 where
   to : gives ≡ true → IsExactly cx results s
   back : IsExactly cx results s → gives ≡ true
 
 -- an open list supplies all
-open_takes : (cx : Context ℕ) (types : List (ValType ℕ)) (assigned : List ℕ)
+open_takes : {R : Type 0} (cx : Context R) (types : List (ValType R)) (assigned : List ℕ)
     → all_taken cx types (record { known = []; is_open = true; assigned = assigned }) ≡ Some (record { known = []; is_open = true; assigned = assigned })
 open_takes cx [] assigned = refl
 open_takes cx (t ∷ ts) assigned = open_takes cx ts assigned
 
 -- a closed one without operands none
-closed_takes : (cx : Context ℕ) (types : List (ValType ℕ)) → is_used_up (all_taken cx types (at_start ℕ)) ≡ true → types ≡ []
+closed_takes : {R : Type 0} (cx : Context R) (types : List (ValType R)) → is_used_up (all_taken cx types (at_start R)) ≡ true → types ≡ []
 closed_takes cx [] e = refl
 closed_takes cx (t ∷ ts) e = absurd cc
 
-opened : (cx : Context ℕ) (results : List (ValType ℕ)) (s : State ℕ) → Gives cx results (nothing_known s) true
+opened : {R : Type 0} (cx : Context R) (results : List (ValType R)) (s : State R) → Gives cx results (nothing_known s) true
 opened cx results s = record { to = λ e. ap is_used_up (open_takes cx (reverse results) s.assigned); back = λ e. refl }
 
 ends_fine : (gives : Bool) (rest : List ℕ) → end_outcome gives rest ≡ Fine → (rest ≡ []) × (gives ≡ true)
@@ -82,9 +82,9 @@ ends_in : (gives : Bool) (rest : List ℕ) → (end_outcome gives rest ≡ Fine)
 ends_in true rest = elim (eqb_tells (length rest) 0) [ inl (t, none) ↦ inl (rw t refl) | inr (t, some) ↦ inr (rw t refl) ]
 ends_in false rest = elim (eqb_tells (length rest) 0) [ inl (t, none) ↦ inr (rw t refl) | inr (t, some) ↦ inr (rw t refl) ]
 
-code_found : (cx : Context ℕ) (results : List (ValType ℕ)) (labels : List (List (ValType ℕ))) (s : State ℕ) (gives : Bool) (bytes : List ℕ) → Gives cx results s gives
+code_found : {R : Type 0} (cx : Context R) (results : List (ValType R)) (labels : List (List (ValType R))) (s : State R) (gives : Bool) (bytes : List ℕ) → Gives cx results s gives
     → validate_code gives bytes ≡ Fine
-    → (code : Code) × (last : State ℕ) × Judged cx labels s code last × IsExactly cx results last × IsOperators cx.features bytes (flat code (End ∷ []))
+    → (code : Code) × (last : State R) × Judged cx labels s code last × IsExactly cx results last × IsOperators cx.features bytes (flat code (End ∷ []))
 unfolding validate_code
 code_found cx results labels s gives [] g e = absurd cc
 code_found cx results labels s gives (b ∷ bs) g e =
@@ -100,32 +100,32 @@ code_found cx results labels s gives (b ∷ bs) g e =
       ]
     ]
 
-next_is : (a b : State ℕ) → Some a ≡ Some b → a ≡ b
+next_is : {R : Type 0} (a b : State R) → Some a ≡ Some b → a ≡ b
 next_is a b e = cc
 
-code_again : (cx : Context ℕ) (results : List (ValType ℕ)) (labels : List (List (ValType ℕ))) (s : State ℕ) (gives : Bool) (code : Code) (last : State ℕ) (bytes : List ℕ)
+nothing_next : {R : Type 0} (m : State R) → ¬ (◌≡◌ {A = Option (State R)} None (Some m))
+nothing_next m e = absurd cc
+
+code_again : {R : Type 0} (cx : Context R) (results : List (ValType R)) (labels : List (List (ValType R))) (s : State R) (gives : Bool) (code : Code) (last : State R) (bytes : List ℕ)
     → Gives cx results s gives → Judged cx labels s code last → IsExactly cx results last → IsOperators cx.features bytes (flat code (End ∷ [])) → validate_code gives bytes ≡ Fine
 unfolding validate_code
 code_again cx results labels s gives done last bytes g j x h =
     let t : gives ≡ true = g.back (subst (IsExactly cx results) j x) in
     let all : bytes ≡ 11 ∷ [] = h.2 ∙ ap (λ (l : List ℕ). l ++ h.1) h.3 ∙ ap (λ (l : List ℕ). 11 ∷ l) h.4 in
     ap (validate_code gives) all ∙ (rw t refl)
-code_again cx results labels s gives (simple Unreachable rest) last bytes g j x h =
+code_again {R = R} cx results labels s gives (simple Unreachable rest) last bytes g j x h =
     let all : bytes ≡ 0 ∷ h.1 = h.2 ∙ ap (λ (l : List ℕ). l ++ h.1) h.3 in
     let m : nothing_known s ≡ j.0 = next_is (nothing_known s) j.0 j.1 in
     ap (validate_code gives) all
-    ∙ code_again cx results labels (nothing_known s) true rest last h.1 (opened cx results s) (subst (λ (q : State ℕ). Judged cx labels q rest last) (sym m) j.2) x h.4
+    ∙ code_again cx results labels (nothing_known s) true rest last h.1 (opened cx results s) (subst (λ (q : State R). Judged cx labels q rest last) (sym m) j.2) x h.4
 code_again cx results labels s gives (simple End rest) last bytes g j x h = absurd (nothing_next j.0 j.1)
-  where
-    nothing_next : (m : State ℕ) → ¬ (◌≡◌ {A = Option (State ℕ)} None (Some m))
-    nothing_next m e = absurd cc
 
 -- so many times `unreachable`
 many : ℕ → Code
 many zero = done
 many (suc n) = simple Unreachable (many n)
 
-many_judged : (cx : Context ℕ) (labels : List (List (ValType ℕ))) (s : State ℕ) (n : ℕ) → Judged cx labels s (many (suc n)) (nothing_known s)
+many_judged : {R : Type 0} (cx : Context R) (labels : List (List (ValType R))) (s : State R) (n : ℕ) → Judged cx labels s (many (suc n)) (nothing_known s)
 unfolding many
 many_judged cx labels s zero = (nothing_known s, refl, refl)
 many_judged cx labels s (suc n) = (nothing_known s, refl, many_judged cx labels (nothing_known s) n)
@@ -153,13 +153,13 @@ other_found features gives (b ∷ bs) e =
       ]
     ]
 
-other_typed : (cx : Context ℕ) (type : FuncType ℕ) (runs : List Run) (n : ℕ) → IsBodyOf cx type runs (flat (many n) [] ++ (Unreachable ∷ End ∷ []))
-other_typed cx type runs n = record {
+other_typed : {R : Type 0} (cx : Context R) (type : FuncType R) (runs : List Run) (n : ℕ) → IsBodyOf cx type runs (flat (many n) [] ++ (Unreachable ∷ End ∷ []))
+other_typed {R = R} cx type runs n = record {
   code = many (suc n);
-  last = nothing_known (at_start ℕ);
+  last = nothing_known (at_start R);
   is_flat = many_flat n;
-  judged = many_judged cx (type.results ∷ []) (at_start ℕ) n;
-  ends = (opened cx type.results (at_start ℕ)).to refl;
+  judged = many_judged cx (type.results ∷ []) (at_start R) n;
+  ends = (opened cx type.results (at_start R)).to refl;
 }
 
 no_code : (features : Features) (other : ℕ) → other ≢ 11 → other ≢ 0 → (operator : Operator) (bytes : List ℕ) → ¬ (IsOperator features (other ∷ bytes) operator)
@@ -176,7 +176,7 @@ nil_right (x ∷ xs) ys e = absurd cc
 tails : (a b : Operator) (xs ys : List Operator) → a ∷ xs ≡ b ∷ ys → (a ≡ b) × (xs ≡ ys)
 tails a b xs ys e = (cc, cc)
 
-other_again : (cx : Context ℕ) (labels : List (List (ValType ℕ))) (s last : State ℕ) (gives : Bool) (operators ending : List Operator) (code : Code) (front : List ℕ) (other : ℕ) (rest : List ℕ)
+other_again : {R : Type 0} (cx : Context R) (labels : List (List (ValType R))) (s last : State R) (gives : Bool) (operators ending : List Operator) (code : Code) (front : List ℕ) (other : ℕ) (rest : List ℕ)
     → other ≢ 11 → other ≢ 0 → ending ≢ [] → operators ++ ending ≡ flat code (End ∷ []) → Judged cx labels s code last → IsOperators cx.features front operators
     → validate_code gives (front ++ (other ∷ rest)) ≡ OtherOperator
 unfolding validate_code
@@ -193,9 +193,6 @@ other_again cx labels s last gives (operator ∷ operators) ending (simple Unrea
     ap (λ (l : List ℕ). validate_code gives (l ++ (other ∷ rest))) all
     ∙ other_again cx labels j.0 last true operators ending code h.1 other rest no-e no-u some both.1 j.2 h.4
 other_again cx labels s last gives (operator ∷ operators) ending (simple End code) front other rest no-e no-u some f j h = absurd (nothing_next j.0 j.1)
-  where
-    nothing_next : (m : State ℕ) → ¬ (◌≡◌ {A = Option (State ℕ)} None (Some m))
-    nothing_next m e = absurd cc
 
 few_locals : (gives : Bool) (bytes : List ℕ) → validate_code gives bytes ≢ ManyLocals
 unfolding validate_code
@@ -355,17 +352,17 @@ counted features gives params bytes outcome ne e = go (unsigned_at 32 bytes) ref
       ],
     )
 
-body_found : (cx : Context ℕ) (gives : Bool) (type : FuncType ℕ) (bytes : List ℕ) → AreBytes bytes → Gives cx type.results (at_start ℕ) gives
+body_found : {R : Type 0} (cx : Context R) (gives : Bool) (type : FuncType R) (bytes : List ℕ) → AreBytes bytes → Gives cx type.results (at_start R) gives
     → validate_body cx.features gives (length type.params) bytes ≡ Fine → IsFunctionBody cx type bytes
 unfolding total
-body_found cx gives type bytes are g e =
+body_found {R = R} cx gives type bytes are g e =
     let n = counted cx.features gives (length type.params) bytes Fine (λ x. cc) e in
     let count = unsigned_found 32 bytes n.0 n.1 are n.2 in
     elim n.3 [
       | inr past ↦ let f = past.1 in absurd cc
       | inl fits ↦
           let r = runs_found cx.features gives n.0 (length type.params) n.1 Fine (rest_bytes bytes count.0 n.1 are count.1) fits.0 (λ x. cc) (λ x. cc) fits.1 in
-          let c = code_found cx type.results (type.results ∷ []) (at_start ℕ) gives r.0.rest g r.4 in
+          let c = code_found cx type.results (type.results ∷ []) (at_start R) gives r.0.rest g r.4 in
           record {
             runs = r.0.runs;
             operators = flat c.0 (End ∷ []);
@@ -383,7 +380,7 @@ body_found cx gives type bytes are g e =
     ]
 
 -- the locals at the front are read
-locals_read : (features : Features) (gives : Bool) (type : FuncType ℕ) (bytes locals after : List ℕ) (runs : List Run) → bytes ≡ locals ++ after → IsList IsRun locals runs
+locals_read : {R : Type 0} (features : Features) (gives : Bool) (type : FuncType R) (bytes locals after : List ℕ) (runs : List Run) → bytes ≡ locals ++ after → IsList IsRun locals runs
     → Allowed features runs → local_count type runs ≤ 50000 → validate_body features gives (length type.params) bytes ≡ validate_code gives after
 unfolding validate_body total
 locals_read features gives type bytes locals after runs e h allowed within =
@@ -392,20 +389,20 @@ locals_read features gives type bytes locals after runs e h allowed within =
     ap (validate_body features gives (length type.params)) split
     ∙ (rw (unsigned_again 32 h.0 (length runs) (h.1 ++ after) h.3, t) (runs_again features gives (length type.params) h.1 after runs h.4 allowed within))
 
-within_limit : (type : FuncType ℕ) (runs : List Run) → ¬ (IsPassedBy Locals (local_count type runs)) → local_count type runs ≤ 50000
+within_limit : {R : Type 0} (type : FuncType R) (runs : List Run) → ¬ (IsPassedBy Locals (local_count type runs)) → local_count type runs ≤ 50000
 within_limit type runs not = elim (leb_tells (local_count type runs) 50000) [ inl (t, fits) ↦ fits | inr (t, past) ↦ absurd (not past) ]
 
-body_again : (cx : Context ℕ) (gives : Bool) (type : FuncType ℕ) (bytes : List ℕ) → Gives cx type.results (at_start ℕ) gives
+body_again : {R : Type 0} (cx : Context R) (gives : Bool) (type : FuncType R) (bytes : List ℕ) → Gives cx type.results (at_start R) gives
     → IsFunctionBody cx type bytes → validate_body cx.features gives (length type.params) bytes ≡ Fine
-body_again cx gives type bytes g b =
+body_again {R = R} cx gives type bytes g b =
     let t = b.typed in
     locals_read cx.features gives type bytes b.locals_encoding b.code_encoding b.runs b.begins b.locals.declared b.locals.allowed (within_limit type b.runs b.locals.within)
-    ∙ code_again cx type.results (type.results ∷ []) (at_start ℕ) gives t.code t.last b.code_encoding g t.judged t.ends (subst (IsOperators cx.features b.code_encoding) t.is_flat b.spelled)
+    ∙ code_again cx type.results (type.results ∷ []) (at_start R) gives t.code t.last b.code_encoding g t.judged t.ends (subst (IsOperators cx.features b.code_encoding) t.is_flat b.spelled)
 
-operator_found : (cx : Context ℕ) (gives : Bool) (type : FuncType ℕ) (bytes : List ℕ) → AreBytes bytes
+operator_found : {R : Type 0} (cx : Context R) (gives : Bool) (type : FuncType R) (bytes : List ℕ) → AreBytes bytes
     → validate_body cx.features gives (length type.params) bytes ≡ OtherOperator → HasOtherOperator cx type bytes
 unfolding total
-operator_found cx gives type bytes are e =
+operator_found {R = R} cx gives type bytes are e =
     let n = counted cx.features gives (length type.params) bytes OtherOperator (λ x. cc) e in
     let count = unsigned_found 32 bytes n.0 n.1 are n.2 in
     elim n.3 [
@@ -435,21 +432,21 @@ operator_found cx gives type bytes are e =
           }
     ]
 
-operator_again : (cx : Context ℕ) (gives : Bool) (type : FuncType ℕ) (bytes : List ℕ) → HasOtherOperator cx type bytes
+operator_again : {R : Type 0} (cx : Context R) (gives : Bool) (type : FuncType R) (bytes : List ℕ) → HasOtherOperator cx type bytes
     → validate_body cx.features gives (length type.params) bytes ≡ OtherOperator
-operator_again cx gives type bytes o =
+operator_again {R = R} cx gives type bytes o =
     let b = o.is_code.0 in
     let is_other = subst (λ (l : List ℕ). (features : Features) (operator : Operator) (encoding : List ℕ) → ¬ (IsOperator features (l ++ encoding) operator)) o.is_code.1 o.is_other in
     let code = other_code cx.features b (is_other cx.features) in
     let t = o.typed in
     let begins = o.begins ∙ ap (λ (l : List ℕ). o.locals_encoding ++ (o.code_encoding ++ (l ++ o.rest))) o.is_code.1 in
     locals_read cx.features gives type bytes o.locals_encoding (o.code_encoding ++ (b ∷ o.rest)) o.runs begins o.locals.declared o.locals.allowed (within_limit type o.runs o.locals.within)
-    ∙ other_again cx (type.results ∷ []) (at_start ℕ) t.last gives o.operators o.ending t.code o.code_encoding b o.rest code.0 code.1 o.goes_on t.is_flat t.judged o.spelled
+    ∙ other_again cx (type.results ∷ []) (at_start R) t.last gives o.operators o.ending t.code o.code_encoding b o.rest code.0 code.1 o.goes_on t.is_flat t.judged o.spelled
 
-locals_found : (cx : Context ℕ) (gives : Bool) (type : FuncType ℕ) (bytes : List ℕ) → AreBytes bytes
+locals_found : {R : Type 0} (cx : Context R) (gives : Bool) (type : FuncType R) (bytes : List ℕ) → AreBytes bytes
     → validate_body cx.features gives (length type.params) bytes ≡ ManyLocals → HasManyLocals cx type bytes
 unfolding total
-locals_found cx gives type bytes are e =
+locals_found {R = R} cx gives type bytes are e =
     let n = counted cx.features gives (length type.params) bytes ManyLocals (λ x. cc) e in
     let count = unsigned_found 32 bytes n.0 n.1 are n.2 in
     elim n.3 [
@@ -483,7 +480,7 @@ locals_found cx gives type bytes are e =
           }
     ]
 
-locals_again : (cx : Context ℕ) (gives : Bool) (type : FuncType ℕ) (bytes : List ℕ) → HasManyLocals cx type bytes
+locals_again : {R : Type 0} (cx : Context R) (gives : Bool) (type : FuncType R) (bytes : List ℕ) → HasManyLocals cx type bytes
     → validate_body cx.features gives (length type.params) bytes ≡ ManyLocals
 unfolding validate_body total
 locals_again cx gives type bytes m =
@@ -495,13 +492,13 @@ locals_again cx gives type bytes m =
 
 -- ---- the whole promise
 
-starts : (cx : Context ℕ) (results : List (ValType ℕ)) (gives : Bool) → (gives ≡ true → results ≡ []) → (results ≡ [] → gives ≡ true) → Gives cx results (at_start ℕ) gives
-starts cx results gives to back = record {
-  to = λ e. subst (λ (l : List (ValType ℕ)). IsExactly cx l (at_start ℕ)) (sym (to e)) refl;
+starts : {R : Type 0} (cx : Context R) (results : List (ValType R)) (gives : Bool) → (gives ≡ true → results ≡ []) → (results ≡ [] → gives ≡ true) → Gives cx results (at_start R) gives
+starts {R = R} cx results gives to back = record {
+  to = λ e. subst (λ (l : List (ValType R)). IsExactly cx l (at_start R)) (sym (to e)) refl;
   back = λ x. back (nil_from_reverse results (closed_takes cx (reverse results) x));
 }
   where
-    nil_from_reverse : (xs : List (ValType ℕ)) → reverse xs ≡ [] → xs ≡ []
+    nil_from_reverse : (xs : List (ValType R)) → reverse xs ≡ [] → xs ≡ []
     nil_from_reverse xs e = nil_from_length xs (omega (arith, length-reverse xs, ap length e))
 
 -- a refusal has one of three kinds
@@ -551,11 +548,18 @@ not_fine kind outcome n e = elim (body_kind kind outcome n) [
   ]
 ]
 
-pub validated_body : (cx : Context ℕ) (gives : Bool) (type : FuncType ℕ) (bytes : List ℕ) (old : Input) (answer : Result (Unit {0}) Error) → AreBytes bytes → old.rest ≡ bytes
-    → (gives ≡ true → type.results ≡ []) → (type.results ≡ [] → gives ≡ true) → ValidatesBody old answer (validate_body cx.features gives (length type.params) bytes)
-    → IsBodyValidated cx type bytes old.position answer
-validated_body cx gives type bytes old (Ok x) are all to back j = record {
-  right = body_found cx gives type bytes are (starts cx type.results gives to back) j;
+-- a body in a context, whichever value types are below which
+abbrev in_context : Features → (ValType DefType → ValType DefType → Bool) → Context DefType
+in_context features is_below = record { features = features; is_below = is_below }
+
+nothing_below : ValType DefType → ValType DefType → Bool
+nothing_below a b = false
+
+validated_body : (features : Features) (gives : Bool) (type : FuncType DefType) (bytes : List ℕ) (old : Input) (answer : Result (Unit {0}) Error) → AreBytes bytes → old.rest ≡ bytes
+    → (gives ≡ true → type.results ≡ []) → (type.results ≡ [] → gives ≡ true) → ValidatesBody old answer (validate_body features gives (length type.params) bytes)
+    → IsBodyValidated features type bytes old.position answer
+validated_body features gives type bytes old (Ok x) are all to back j = record {
+  right = λ is_below. body_found (in_context features is_below) gives type bytes are (starts (in_context features is_below) type.results gives to back) j;
   complete = λ b. refl;
   operator = tt;
   limit = tt;
@@ -564,31 +568,31 @@ validated_body cx gives type bytes old (Ok x) are all to back j = record {
   from = tt;
   to = tt;
 }
-validated_body cx gives type bytes old (Err e) are all to back j =
-    let g = starts cx type.results gives to back in
+validated_body features gives type bytes old (Err e) are all to back j =
+    let g : (is_below : ValType DefType → ValType DefType → Bool) → Gives (in_context features is_below) type.results (at_start DefType) gives =
+    λ is_below. starts (in_context features is_below) type.results gives to back in
+    let at : (kind : ErrorKind) → e.kind ≡ kind → NamesFault kind (validate_body features gives (length type.params) bytes) =
+    λ kind k. subst (λ kind. NamesFault kind (validate_body features gives (length type.params) bytes)) k j.0 in
     record {
       right = tt;
-      complete = λ b. absurd (not_fine e.kind _ j.0 (body_again cx gives type bytes g b));
-      operator = λ k. operator_found cx gives type bytes are (subst (λ kind. NamesFault kind (validate_body cx.features gives (length type.params) bytes)) k j.0);
-      limit = λ k. locals_found cx gives type bytes are (subst (λ kind. NamesFault kind (validate_body cx.features gives (length type.params) bytes)) k j.0);
-      broken = λ k. let b = subst (λ kind. NamesFault kind (validate_body cx.features gives (length type.params) bytes)) k j.0 in
-          ((λ fine. let f = sym (body_again cx gives type bytes g fine) ∙ b in absurd cc), (λ locals. let f = sym (locals_again cx gives type bytes locals) ∙ b in absurd cc), (λ other. let f = sym (operator_again cx gives type bytes other) ∙ b in absurd cc));
+      complete = λ b. absurd (not_fine e.kind _ j.0 (body_again (in_context features nothing_below) gives type bytes (g nothing_below) (b nothing_below)));
+      operator = λ k is_below. operator_found (in_context features is_below) gives type bytes are (at kinds.Operator k);
+      limit = λ k is_below. locals_found (in_context features is_below) gives type bytes are (at (kinds.Limit core.Locals) k);
+      broken = λ k is_below. let b = at kinds.Body k in let cx = in_context features is_below in
+          ((λ fine. let f = sym (body_again cx gives type bytes (g is_below) fine) ∙ b in absurd cc), (λ locals. let f = sym (locals_again cx gives type bytes locals) ∙ b in absurd cc), (λ other. let f = sym (operator_again cx gives type bytes other) ∙ b in absurd cc));
       others = body_kind e.kind _ j.0;
       from = j.1.from;
       to = omega (arith, j.1.to, ap length all);
     }
 
--- the same from the slices of a type's parameters and results, seen by view
-pub validated_slices : {V : Type 0} (view : V → ValType ℕ) (cx : Context ℕ) (type : FuncType ℕ) (params results : List V) (gives : Bool) (bytes : List ℕ) (position : ℕ) (old : Input)
-    (answer : Result (Unit {0}) Error) → map view params ≡ type.params → map view results ≡ type.results → gives ≡ eqb (length results) 0
-    → old ≡ record { rest = bytes; position = position; features = cx.features } → AreBytes bytes
-    → ValidatesBody old answer (validate_body cx.features gives (length params) old.rest) → IsBodyValidated cx type bytes position answer
-validated_slices view cx type params results gives bytes position old answer p r g o are j =
-    let rest-is : old.rest ≡ bytes = ap (λ (i : Input). i.rest) o in
-    let place-is : old.position ≡ position = ap (λ (i : Input). i.position) o in
-    let many : length params ≡ length type.params = sym (length-map params view) ∙ ap length p in
-    let to : gives ≡ true → type.results ≡ [] = λ t. sym r ∙ ap (map view) (nil_from_length results (eqb-true _ _ (sym g ∙ t))) in
-    let back : type.results ≡ [] → gives ≡ true = λ e. g ∙ eq-eqb _ _ (sym (length-map results view) ∙ ap length (r ∙ e)) in
-    subst (λ place. IsBodyValidated cx type bytes place answer) place-is
-    (validated_body cx gives type bytes old answer are rest-is to back
-    (subst (λ n. ValidatesBody old answer (validate_body cx.features gives n bytes)) many (subst (λ l. ValidatesBody old answer (validate_body cx.features gives (length params) l)) rest-is j)))
+-- the same whichever function type of a shape it is
+pub judged_body : (features : Features) (params : ℕ) (gives : Bool) (body old : Input) (answer : Result (Unit {0}) Error) → AreBytes body.rest
+    → old ≡ body → ValidatesBody old answer (validate_body features gives params old.rest) → JudgesBody features params gives body answer
+judged_body features params gives body old answer are o j = λ type shape.
+    let rest-is : old.rest ≡ body.rest = ap (λ (i : Input). i.rest) o in
+    let place-is : old.position ≡ body.position = ap (λ (i : Input). i.position) o in
+    let to : gives ≡ true → type.results ≡ [] = λ t. nil_from_length type.results (eqb-true _ _ (shape.gives ∙ t)) in
+    let back : type.results ≡ [] → gives ≡ true = λ e. sym shape.gives ∙ eq-eqb _ _ (ap length e) in
+    subst (λ place. IsBodyValidated features type body.rest place answer) place-is
+    (validated_body features gives type body.rest old answer are rest-is to back
+    (subst (λ n. ValidatesBody old answer (validate_body features gives n body.rest)) (sym shape.takes) (subst (λ l. ValidatesBody old answer (validate_body features gives params l)) rest-is j)))

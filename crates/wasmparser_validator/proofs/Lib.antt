@@ -1,11 +1,7 @@
-pub mod BodiesLaws
-pub mod BodyValidationLaws
 pub mod BodyLaws
-pub mod CompleteLaws
-pub mod FaultLaws
-pub mod ValidationLaws
-pub mod RefusalLaws
-pub mod SectionLaws
-pub mod SectionsLaws
-pub mod SupportedLaws
+pub mod BodyValidationLaws
+pub mod Counts
+pub mod LocalTypeLaws
+pub mod LocalsLimit
 pub mod VerdictLaws
+pub mod BodiesLaws

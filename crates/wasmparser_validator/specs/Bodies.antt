@@ -1,25 +1,31 @@
--- Validation the bodies of a module: a means of proof.
-use Rattle.std.specs.Prelude.{◌≡◌, ◌<◌, ℕ, List, length, Some, Result, Ok, Err}
-use Rattle.std.specs.List.{slice_get}
+-- Validation of the bodies of a module: a means of proof.
+use Rattle.std.specs.Prelude.{◌≡◌, ◌<◌, ℕ, List, length, Some, is_some, true, Result, Ok, Err, slice_get}
+use Rattle.wasm_core_read.specs.Input.{Input}
 use Rattle.wasm_spec.specs.Features.{Features}
+use Rattle.wasm_spec.specs.Trees.{DefType}
 use Rattle.wasm_spec.specs.Types.{FuncType}
-use Rattle.wasmparser_parser.specs.Sections.{Part}
+use Rattle.wasm_validity.specs.Context.{Context}
+use Rattle.wasm_validity.specs.DefinedTypes.{func_type_at}
 use Rattle.wasmparser_error.specs.declared.error.Error.{Error}
-use Rattle.wasmparser_validator.specs.BodyValidation.{IsBodyValidatedUnder}
+use Rattle.wasmparser_validator.specs.BodyValidation.{IsBodyValidated}
 
--- the function at a place has this type and this body
-pub record HasBodyAt (types : List (FuncType ℕ)) (functions : List ℕ) (bodies : List Part) (place : ℕ) (type : FuncType ℕ) (body : Part) : Type 0 where
+-- each function of the module's own has a function type
+abbrev pub AreNamed : Context → Type 0
+AreNamed cx = (place index : ℕ) → slice_get cx.own_functions place ≡ Some index → is_some (func_type_at cx.types index) ≡ true
+
+-- the function of the module's own at a place has this type and this body
+pub record HasBodyAt (cx : Context) (bodies : List Input) (place : ℕ) (type : FuncType DefType) (body : Input) : Type 0 where
   pub index : ℕ
-  pub indexed : slice_get functions place ≡ Some index
-  pub named : slice_get types index ≡ Some type
+  pub indexed : slice_get cx.own_functions place ≡ Some index
+  pub named : func_type_at cx.types index ≡ Some type
   pub has : slice_get bodies place ≡ Some body
 
 -- the body of the function at a place is validated so
-abbrev pub ValidatedAt : Features → List (FuncType ℕ) → List ℕ → List Part → Result (Unit {0}) Error → ℕ → Type 0
-ValidatedAt features types functions bodies answer place = (type : FuncType ℕ) × (body : Part) × HasBodyAt types functions bodies place type body
-    × IsBodyValidatedUnder features type body.bytes body.position answer
+abbrev pub ValidatedAt : Features → Context → List Input → Result (Unit {0}) Error → ℕ → Type 0
+ValidatedAt features cx bodies answer place =
+    (type : FuncType DefType) × (body : Input) × HasBodyAt cx bodies place type body × IsBodyValidated features type body.rest body.position answer
 
 -- What a call returned that validates bodies: each is fine, or one is refused.
-abbrev pub ValidatesBodies : Features → List (FuncType ℕ) → List ℕ → List Part → Result (Unit {0}) Error → Type 0
-ValidatesBodies features types functions bodies (Ok x) = (place : ℕ) → place < length functions → ValidatedAt features types functions bodies (Ok x) place
-ValidatesBodies features types functions bodies (Err e) = (place : ℕ) × (place < length functions) × ValidatedAt features types functions bodies (Err e) place
+abbrev pub ValidatesBodies : Features → Context → List Input → Result (Unit {0}) Error → Type 0
+ValidatesBodies features cx bodies (Ok x) = (place : ℕ) → place < length cx.own_functions → ValidatedAt features cx bodies (Ok x) place
+ValidatesBodies features cx bodies (Err e) = (place : ℕ) × (place < length cx.own_functions) × ValidatedAt features cx bodies (Err e) place

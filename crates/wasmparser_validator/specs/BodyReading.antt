@@ -1,13 +1,15 @@
--- Validation a body from its bytes: a means of proof, which laws tie to the rules.
+-- Validating a body from its bytes: a means of proof, which laws tie to the rules.
 use Rattle.std.specs.Prelude.{◌≡◌, ◌≤◌, ◌+◌, ◌&&◌, ℕ, zero, suc, Bool, true, List, [], ◌∷◌, length, Option, Some, None, Result, Ok, Err, nat_le, ◌==◌, if◌then◌else◌}
 use Rattle.wasm_core_read.specs.Input.{Input, GoesOn, IsWithin}
-use Rattle.wasm_core_read.specs.Reading.{◌>>=◌, unsigned_at}
+use Rattle.wasm_core_read.specs.Reading.{◌>>=◌, ReadingOf, unsigned_at, tested_at}
+use Rattle.wasm_core_read.specs.TypeReading.{val_type_at}
 use Rattle.wasm_core_base.specs.declared.limits.Limit.TheVariants as core
 use Rattle.wasm_spec.specs.Bodies.{Run}
 use Rattle.wasm_spec.specs.Features.{Features}
 use Rattle.wasm_spec.specs.Gates.{is_allowed}
 use Rattle.wasm_spec.specs.Limits.{Locals, most}
-use Rattle.wasmparser_parser.specs.SupportedReading.{supported_type_at}
+use Rattle.wasm_spec.specs.Supported.{is_supported_type}
+use Rattle.wasm_spec.specs.Types.{ValType}
 use Rattle.wasmparser_error.specs.declared.error.Error.{Error}
 use Rattle.wasmparser_error.specs.declared.error.ErrorKind.{ErrorKind}
 use Rattle.wasmparser_error.specs.declared.error.ErrorKind.TheVariants as kinds
@@ -18,8 +20,12 @@ pub data BodyOutcome : Type 0 where
   ManyLocals : BodyOutcome
   OtherOperator : BodyOutcome
 
+-- the type of a run of locals, where it is supported
+unfoldable pub local_type_at : ReadingOf (ValType ℕ)
+local_type_at = tested_at is_supported_type val_type_at
+
 unfoldable pub run_at : List ℕ → Option (Run × List ℕ)
-run_at bytes = unsigned_at 32 bytes >>= λ n. supported_type_at n.1 >>= λ t. Some (record { count = n.0; type = t.0 }, t.1)
+run_at bytes = unsigned_at 32 bytes >>= λ n. local_type_at n.1 >>= λ t. Some (record { count = n.0; type = t.0 }, t.1)
 
 -- after the end of a body nothing follows, and the results are given
 abbrev pub end_outcome : Bool → List ℕ → BodyOutcome

@@ -1,6 +1,5 @@
 pub mod Bodies
-pub mod BodyValidation
 pub mod BodyReading
-pub mod Validation
-pub mod Sections
+pub mod BodyValidation
 pub mod Shown
+pub mod Validation

@@ -1,7 +1,9 @@
 -- What is shown of a module.
 use Rattle.std.specs.Borrow.{Bor}
-use Rattle.std.specs.Prelude.{ℕ, List, []}
+use Rattle.std.specs.Prelude.{ℕ, ◌+◌, ◌≤◌, List, [], length}
+use Rattle.wasm_spec.specs.Limits.{Functions, Globals, Memories, Tables, Tags, most}
 use Rattle.wasm_spec.specs.Spaces.{Sizes}
+use Rattle.wasm_validity.specs.Context.{Context}
 use Rattle.wasmparser_validator.specs.declared.types.CoreExports.{CoreExports}
 use Rattle.wasmparser_validator.specs.declared.types.EntityType.{EntityType}
 use Rattle.wasmparser_validator.specs.declared.types.TypesRef.{TypesRef}
@@ -13,3 +15,11 @@ shown types = types.types.now
 -- the exports that are still to come: none, since a section with exports isn't supported
 abbrev pub exports_left : CoreExports → List (Bor (List ℕ) × EntityType)
 exports_left exports = []
+
+-- no index space has more items than its limit lets through
+pub record AreFew (cx : Context) : Type 0 where
+  pub functions : length cx.imported_functions + length cx.own_functions ≤ most Functions
+  pub tables : length cx.tables ≤ most Tables
+  pub memories : length cx.memories ≤ most Memories
+  pub globals : length cx.imported_globals + length cx.own_globals ≤ most Globals
+  pub tags : length cx.tags ≤ most Tags

@@ -1,38 +1,36 @@
-//! Validation function bodies.
+//! Validation of function bodies.
 
 ghost use Rattle.std.specs.Prelude.{◌≡◌, ◌≤◌, ◌==◌, length};
 ghost use Rattle.wasm_core_base.specs.Features.{feature_set};
 ghost use Rattle.wasm_core_base.specs.declared.limits.Limit.TheVariants.{Locals};
 ghost use Rattle.wasmparser_error.specs.declared.error.ErrorKind.TheVariants as kinds;
-ghost use Rattle.wasmparser_validator.specs.BodyValidation.{IsBodyValidatedUnder};
+ghost use Rattle.wasmparser_validator.specs.BodyValidation.{JudgesBody};
 ghost use Rattle.wasmparser_validator.specs.BodyReading.{ValidatesBody, ValidatesRun, end_outcome, validate_code, validate_runs, validate_body};
 
-use crate::gates::is_allowed;
+use crate::local_type::read_local_type;
 use wasm_core_base::features::WasmFeatures;
 use wasm_core_base::limits::{Limit, MAX_WASM_FUNCTION_LOCALS};
 use wasm_core_read::binary_reader::BinaryReader;
 use wasmparser_error::error::{Error, ErrorKind};
-use wasmparser_parser::code_section::FunctionBody;
-use wasmparser_parser::core_type_reader::read_val_type;
-use wasmparser_parser::core_types::FuncType;
+use wasmparser_group_rules::gates::is_allowed;
+use wasmparser_payloads::function_body::FunctionBody;
 
-/// Validates a body of a function of this type.
+/// Validates a body of a function with so many parameters, which has no results where it `gives_nothing`: supported operators ask nothing
+/// else of its type.
+///
+/// # Errors
+/// `Limit` where there are too many locals, `Operator` where a code is no supported operator's, and `Body` where the body is broken otherwise,
+/// each at a place of the body or its end.
 pub fn validate_body(
-    func_type: &FuncType,
+    params: usize,
+    gives_nothing: bool,
     body: &FunctionBody<'_>,
     features: WasmFeatures,
 ) -> Result<(), Error>
-    ensures { IsBodyValidatedUnder (feature_set features) func_type.now body.now.bytes body.now.position result }
+    ensures { JudgesBody (feature_set features) params gives_nothing body.now result }
 {
     let mut reader = body.get_binary_reader();
-    reader.set_features(features);
-    let params = func_type.params().len() as u64;
-    validate_locals_and_code(
-        &mut reader,
-        params,
-        func_type.results().is_empty(),
-        features,
-    )
+    validate_locals_and_code(&mut reader, params as u64, gives_nothing, features)
 }
 
 const UNREACHABLE: u8 = 0x00;
@@ -104,10 +102,10 @@ fn validate_run(
     let Ok(count) = reader.read_var_u32() else {
         return Err(broken(offset));
     };
-    let Ok(ty) = read_val_type(reader) else {
+    let Ok(ty) = read_local_type(reader) else {
         return Err(broken(offset));
     };
-    if !is_allowed(features, ty) {
+    if !is_allowed(features, &ty) {
         return Err(broken(offset));
     }
     let locals = locals + u64::from(count);

@@ -2,9 +2,7 @@
 #![tactic(auto)]
 
 pub mod body;
-mod func_types;
-pub mod gates;
-mod module_state;
+mod local_type;
 pub mod types;
 pub mod validator;
 pub mod validator_id;

@@ -1,12 +1,15 @@
 //! What a validator shows of a valid module.
 
-// Supported modules have types and functions alone: a module's other spaces are empty, and it has no exports.
+// Supported modules have no element segments and no exports.
 
 ghost use Rattle.std.specs.Prelude.{◌≡◌, length, IsSomeAnd};
 ghost use Rattle.std.specs.Iterator.{YieldsFirst, item_count};
-ghost use Rattle.wasmparser_validator.specs.Shown.{shown, exports_left};
+ghost use Rattle.wasm_validity_laws.specs.SpaceSizes.{sizes_in};
+ghost use Rattle.wasmparser_module_state.specs.State.{context};
+ghost use Rattle.wasmparser_validator.specs.Shown.{AreFew, shown, exports_left};
 
 use std::marker::Model;
+use wasmparser_module_state::module_state::ModuleState;
 
 /// The index spaces of a valid module. Contracts see it as the sizes of these spaces.
 #[derive(Debug, Drop)]
@@ -38,19 +41,18 @@ impl Model for Types {
 }
 
 impl Types {
-    ghost use Rattle.wasm_spec.specs.Spaces.{no_items};
-
-    /// The index spaces of a module with so many types and functions, and nothing else.
-    pub(crate) fn new(types: u32, functions: u32) -> Types
-        ensures { result ≡ record no_items { types = types; functions = functions } }
+    /// The index spaces of a module of which this is known at its end.
+    pub(crate) fn new(state: &ModuleState) -> Types
+        requires { AreFew (context state.now) }
+        ensures { result ≡ sizes_in (context state.now) }
     {
         Types {
-            types,
-            functions,
-            tables: 0,
-            memories: 0,
-            globals: 0,
-            tags: 0,
+            types: state.type_count() as u32,
+            functions: state.function_count() as u32,
+            tables: state.table_count() as u32,
+            memories: state.memory_count() as u32,
+            globals: state.global_count() as u32,
+            tags: state.tag_count() as u32,
             elements: 0,
         }
     }

@@ -1,11 +1,11 @@
-//! Names of validates.
+//! Names of validators.
 
 ghost use Rattle.std.specs.Prelude.{◌≡◌};
 
 use std::marker::Model;
 
 /// The name of a validator, which tells what it made from what others made. The caller hands it in, and sees to
-/// it that no two validates have the same.
+/// it that no two validators have the same.
 #[derive(Clone, Copy, Debug, PartialEq, Eq, PartialOrd, Ord, Hash)]
 pub struct ValidatorId(usize);
 

@@ -1,0 +1,11 @@
+pub mod BeginLaws
+pub mod ContentEntries
+pub mod EndLaws
+pub mod FrontItems
+pub mod FrontParts
+pub mod FrontStates
+pub mod ItemLaws
+pub mod ModuleFronts
+pub mod PieceKinds
+pub mod Steps
+pub mod UnreadLaws

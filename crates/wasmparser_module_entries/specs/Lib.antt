@@ -1,0 +1,2 @@
+pub mod EntryReading
+pub mod PieceEntries

@@ -1,0 +1,9 @@
+mod EntryLaws
+mod FuncTypes
+mod FunctionSpace
+mod GroupLaws
+mod ImportLaws
+mod ItemTypes
+mod Sizes
+mod TypeCounts
+mod TypeLaws

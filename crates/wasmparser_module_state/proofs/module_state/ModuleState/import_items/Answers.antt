@@ -1,0 +1,39 @@
+use Rattle.std.proofs.Common.{[], ◌∷◌, refl, subst, ◌∙◌}
+use Rattle.std.proofs.lemmas.Result.{err_from_is_err_and}
+use Rattle.wasmparser_imports.specs.ImportItems.{import_item}
+use Rattle.wasmparser_module_state.specs.Items.{AcceptsItems, NamesItems, named_measures}
+use Rattle.wasmparser_module_state.specs.State.{context, item}
+use Rattle.wasmparser_module_state.proofs.GroupLaws.{begins, ended, goes_on, never_refused, refused, small_items, stays}
+use Rattle.wasmparser_module_state.proofs.module_state.ModuleState.import_items.Goals as goal
+
+pub items-init : goal.items-init
+items-init c = rw c.into_iter-items.ensures (begins _ _ _ _ _ _ _ _ c.requires.read (small_items _ c.requires.small), refl)
+
+pub items-preserved : goal.items-preserved
+items-preserved c =
+    let n = rw c.in-Ok.is at c.in-Some.ensures.steps in
+    let now = context c.items.self in
+    let type = item c.in-Ok.item.ty in
+    let accepts =
+    subst (λ f. AcceptsItems f now (type ∷ []) (named_measures now (c.in-Ok.item.name.now ∷ []) (type ∷ [])) (context c.import_named.new.self)) c.items.invariant.1
+    c.in_ok-import_named-in-Ok.ensures.added in
+    (goes_on _ _ _ _ _ _ _ _ _ _ _ _ (import_item c.in-Ok.item) c.items.invariant.0 n.0 accepts, c.in_ok-import_named-in-Ok.ensures.features ∙ c.items.invariant.1)
+
+pub returns-in_err-import_named-in-Ok-clause-added : goal.returns-in_err-import_named-in-Ok-clause-added
+returns-in_err-import_named-in-Ok-clause-added c =
+    let n = rw c.in-Ok.is at c.in-Some.ensures.steps in
+    let now = context c.items.self in
+    let type = item c.in-Ok.item.ty in
+    let h = c.in_err-import_named-in-Ok.ensures.added in
+    let names =
+    subst (λ f. NamesItems f now (type ∷ []) (named_measures now (c.in-Ok.item.name.now ∷ []) (type ∷ [])) c.in_err-import_named-in-Ok.field-0.0.kind) c.items.invariant.1 h.0 in
+    let p = err_from_is_err_and c.from_residual.result c.from_residual.ensures.1 in
+    rw (p.1, p.2) (refused _ _ _ _ _ _ _ _ _ _ _ (import_item c.in-Ok.item) _ c.items.invariant.0 n.0 names, h.1, stays _ _ _ _ _ _ _ _ _ _ c.items.invariant.0 h.2)
+
+pub returns-in-Err-clause-added : goal.returns-in-Err-clause-added
+returns-in-Err-clause-added c =
+    let n = rw c.in-Err.is at c.in-Some.ensures.steps in
+    absurd (never_refused _ _ _ _ _ _ _ _ _ _ c.items.invariant.0 n.0)
+
+pub returns-clause-added : goal.returns-clause-added
+returns-clause-added c = ended _ _ _ _ _ _ _ _ _ c.items.invariant.0 c.in_default.ensures.steps.0

@@ -1,0 +1,12 @@
+use Rattle.std.proofs.Common.{◌≡◌}
+use Rattle.wasm_core_read.specs.PartReading.{import_item_at}
+use Rattle.wasmparser_imports.specs.ImportGroups.{items_of}
+use Rattle.wasmparser_items.specs.ItemTypes.{packed_refs}
+use Rattle.wasmparser_module_state.proofs.GroupLaws.{Standing}
+use Rattle.wasmparser_module_state.specs.State.{context, features_of}
+use Rattle.wasmparser_module_state.proofs.module_state.ModuleState.import_items.Given as goal
+
+abbrev pub invariant-items : goal.invariant-items
+invariant-items l =
+    Standing (features_of l.fn.self) import_item_at (λ item. packed_refs item.type) (λ item. item.name) (λ item. item.type) (items_of import_item_at l.fn.group) (context l.fn.self) (context l.self) l.items
+    × (features_of l.self ≡ features_of l.fn.self)

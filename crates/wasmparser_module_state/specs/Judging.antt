@@ -1,0 +1,117 @@
+-- Judging entries as they are read.
+use Rattle.std.specs.Prelude.{◌≡◌, ◌⊎◌, ⊤, ℕ, ◌<◌, ◌≤◌, List, [], ◌∷◌, length, Some, None, Result, Ok, Err}
+use Rattle.std.proofs.Common.{inl, inr}
+use Rattle.std.specs.List.{AllByRecursion}
+use Rattle.std.proofs.Math.Nat.{not-le_of_lt}
+use Rattle.wasm_core_base.specs.Limits as core
+use Rattle.wasm_core_read.specs.Input.{Input, IsWithin}
+use Rattle.wasm_core_read.specs.Reading.{ReadingOf, seen_at}
+use Rattle.wasm_core_read.specs.TypeReading.{items_at}
+use Rattle.wasm_spec.specs.Features.{Features}
+use Rattle.wasm_spec.specs.Limits.{Types, most, total_of_types}
+use Rattle.wasm_spec.specs.Syntax.{CompactItems, CompactNames}
+use Rattle.wasm_validity.specs.Context.{Context, after, after_all}
+use Rattle.wasm_validity.specs.Entries.{Entry, OfType, OfImport}
+use Rattle.wasm_validity.specs.Rules.{Keeps, KeepRules, measures, Passes, PassesByTypes, IsWithin as IsWithinLimits, KeepLimits, PassLimit}
+use Rattle.wasmparser_error.specs.declared.error.Error.{Error}
+use Rattle.wasmparser_error.specs.declared.error.ErrorKind.{ErrorKind}
+use Rattle.wasmparser_error.specs.declared.error.ErrorKind.TheVariants as kinds
+use Rattle.wasmparser_module_entries.specs.EntryReading.{EntryReading}
+use Rattle.wasmparser_readers.specs.Sections.{Left, left_items}
+use Rattle.wasmparser_types.specs.Index.{packable}
+
+-- what a refusal of an entry names
+abbrev pub NamesEntry : Features → Context → Entry → ErrorKind → Type 0
+NamesEntry features cx entry kinds.Invalid = ¬ (Keeps features cx entry)
+NamesEntry features cx entry (kinds.Limit l) = Passes (core.limit l) (measures cx entry) ⊎ PassesByTypes (core.limit l) cx entry
+NamesEntry features cx entry kinds.Memory = ⊤
+NamesEntry features cx entry _ = ⊥
+
+-- where a refusal is: at a place, or nowhere where memory ran out
+abbrev pub IsAt : ℕ → ErrorKind → ℕ → Type 0
+IsAt place kinds.Memory offset = offset ≡ 0
+IsAt place _ offset = offset ≡ place
+
+-- an entry was accepted, and is known now
+pub record Accepts (features : Features) (old : Context) (entry : Entry) (new : Context) : Type 0 where
+  pub rule : Keeps features old entry
+  pub limits : IsWithinLimits old entry
+  pub known : new ≡ after old entry
+
+-- all is as before, but for items that were imported
+abbrev pub HasItemsMore : Context → Context → Type 0
+HasItemsMore old new = new ≡ record old {
+  imported_functions = new.imported_functions;
+  tables = new.tables;
+  memories = new.memories;
+  tags = new.tags;
+  imported_globals = new.imported_globals;
+  type_size = new.type_size;
+}
+
+-- After a refusal all is as before, but the types where the entry is a recursive group, and imported items where it is a group of imports: those
+-- before the one that was refused may stand.
+abbrev pub IsLeft : Context → Entry → Context → Type 0
+IsLeft old (OfType group) new = new ≡ record old { types = new.types; groups = new.groups }
+IsLeft old (OfImport (CompactItems origin items)) new = HasItemsMore old new
+IsLeft old (OfImport (CompactNames origin type names)) new = HasItemsMore old new
+IsLeft old _ new = new ≡ old
+
+-- What a call returned that judges an entry and adds it.
+abbrev pub Adds : Features → Context → Entry → ℕ → Result (Unit {0}) Error → Context → Type 0
+Adds features old entry place (Ok x) new = Accepts features old entry new
+Adds features old entry place (Err e) new = NamesEntry features old entry e.kind × IsAt place e.kind e.offset × IsLeft old entry new
+
+-- one of these type indexes can't be packed
+abbrev pub HasLarge : List ℕ → Type 0
+HasLarge [] = ⊥
+HasLarge (index ∷ indexes) = (packable ≤ index) ⊎ HasLarge indexes
+
+-- none is past the total of types where all are below it
+pub has_none : (indexes : List ℕ) → AllByRecursion (λ index. index < total_of_types) indexes → HasLarge indexes → ⊥
+has_none [] small large = large
+has_none (index ∷ indexes) small (inl large) = not-le_of_lt small.0 large
+has_none (index ∷ indexes) small (inr large) = has_none indexes small.1 large
+
+-- The entry of an item is made of what contracts see of it, and so reads as the item does. An item with a type index that can't be packed breaks
+-- its rule in any context within the limit on types.
+pub record IsMadeOf {X A : Type 0} (form : X → A) (indexes : A → List ℕ) (form_at : Features → ReadingOf A) (entry : X → Entry) (entry_at : EntryReading) : Type 0 where
+  pub made : A → Entry
+  pub is : (x : X) → entry x ≡ made (form x)
+  pub reads : (features : Features) (bytes : List ℕ) → entry_at features bytes ≡ seen_at made (form_at features) bytes
+  pub breaks : (features : Features) (cx : Context) (a : A) → length cx.types ≤ most Types → HasLarge (indexes a) → ¬ (Keeps features cx (made a))
+
+-- What is left of a section reads as entries that keep the rules and limits, and what is known after them.
+pub record Fills (features : Features) (entry_at : EntryReading) (old : Context) (left : Left) (new : Context) : Type 0 where
+  pub entries : List Entry
+  pub reads : left_items entry_at left ≡ Some entries
+  pub rules : KeepRules features old entries
+  pub limits : KeepLimits old entries
+  pub known : new ≡ after_all old entries
+
+-- entries at the front of what is left of a section, of which something holds
+pub record Fronts (entry_at : EntryReading) (left : Left) (Holds : List Entry → Type 0) : Type 0 where
+  pub front : List Entry
+  pub number : ℕ
+  pub rest : List ℕ
+  pub among : number ≤ left.count
+  pub reads : items_at (entry_at left.input.features) number left.input.rest ≡ Some (front, rest)
+  pub holds : Holds front
+
+-- what a refusal of a section's entries names
+abbrev pub NamesEntries : Features → EntryReading → Context → Left → ErrorKind → Type 0
+NamesEntries features entry_at old left kinds.Malformed = left_items entry_at left ≡ None
+NamesEntries features entry_at old left kinds.Invalid = Fronts entry_at left (λ entries. ¬ (KeepRules features old entries))
+NamesEntries features entry_at old left (kinds.Limit l) = Fronts entry_at left (λ entries. PassLimit (core.limit l) old entries)
+NamesEntries features entry_at old left kinds.Memory = ⊤
+NamesEntries features entry_at old left _ = ⊥
+
+-- where it is: within what was left, or nowhere where memory ran out
+abbrev pub IsIn : Input → ErrorKind → ℕ → Type 0
+IsIn input kinds.Memory offset = offset ≡ 0
+IsIn input _ offset = IsWithin input offset
+
+-- What a call returned that judges the entries of a section one by one and adds them.
+abbrev pub AddsEntries : Features → EntryReading → Context → Left → Result (Unit {0}) Error → Context → Type 0
+AddsEntries features entry_at old left (Ok x) new = Fills features entry_at old left new
+AddsEntries features entry_at old left (Err e) new = NamesEntries features entry_at old left e.kind × IsIn left.input e.kind e.offset

@@ -1,0 +1,4 @@
+pub mod Items
+pub mod Judging
+pub mod LargeIndexes
+pub mod State

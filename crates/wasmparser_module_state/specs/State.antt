@@ -1,0 +1,56 @@
+-- What the state of the code knows.
+use Rattle.std.specs.Prelude.{◌≡◌, ℕ, [], Option, option_map, map, slice_get}
+use Rattle.std.specs.Option.{option_and_then}
+use Rattle.wasm_spec.specs.Features.{Features}
+use Rattle.wasm_spec.specs.Trees.{DefType}
+use Rattle.wasm_spec.specs.TypeReferences.{func_map, table_map, global_map, external_map}
+use Rattle.wasm_spec.specs.Types as spec
+use Rattle.wasmparser_items.specs.ItemTypes.{memory_type, table_type, global_type, type_ref}
+use Rattle.wasmparser_items.specs.declared.global_type.GlobalType.{GlobalType}
+use Rattle.wasmparser_items.specs.declared.table_type.TableType.{TableType}
+use Rattle.wasmparser_items.specs.declared.type_ref.TypeRef.{TypeRef}
+use Rattle.wasmparser_types.specs.Index.{Index, number_of}
+use Rattle.wasm_validity.specs.Context.{Context}
+use Rattle.wasm_validity.specs.DefinedTypes.{func_type_at}
+use Rattle.wasmparser_module_types.specs.ModuleTypes.{stands_for}
+use Rattle.wasmparser_module_state.specs.declared.module_state.ModuleState.{ModuleState}
+
+abbrev pub features_of : ModuleState → Features
+features_of s = s.types.features
+
+-- types of items, over type indexes
+abbrev pub table : TableType → spec.TableType ℕ
+table type = table_map number_of (table_type type)
+
+abbrev pub global : GlobalType → spec.GlobalType ℕ
+global type = global_map number_of (global_type type)
+
+abbrev pub item : TypeRef → spec.ExternalType ℕ
+item type = external_map number_of (type_ref type)
+
+-- exports and segments can't be added yet
+abbrev pub context : ModuleState → Context
+context s = record {
+  types = s.types.types;
+  groups = s.types.groups;
+  imports = s.imports;
+  imported_functions = s.imported_functions.items;
+  own_functions = s.own_functions.items;
+  tables = map table s.tables.items;
+  memories = map memory_type s.memories.items;
+  tags = s.tags.items;
+  imported_globals = map global s.imported_globals.items;
+  own_globals = map global s.own_globals.items;
+  exports = [];
+  elements = 0;
+  segments = 0;
+  type_size = s.type_size;
+}
+
+-- the function type of a function of the module's own, by its place among these
+abbrev pub own_func_type : Context → ℕ → Option (spec.FuncType DefType)
+own_func_type cx place = option_and_then (func_type_at cx.types) (slice_get cx.own_functions place)
+
+-- A function type as the state's list of types keeps it, by ids, where there is one: with its ids replaced by what they stand for it is this one.
+abbrev pub IsKept : ModuleState → Option (spec.FuncType DefType) → Option (spec.FuncType Index) → Type 0
+IsKept s type kept = type ≡ option_map (func_map (stands_for s.types)) kept

@@ -1,0 +1,58 @@
+//! Entries of sections, each of which is judged and added.
+
+ghost use Rattle.std.specs.Prelude.{◌≡◌};
+ghost use Rattle.wasm_validity.specs.Entries.{Entry};
+ghost use Rattle.wasmparser_module_entries.specs.EntryReading.{EntryReading};
+ghost use Rattle.wasmparser_module_state.specs.Judging.{Adds, AddsEntries, IsMadeOf};
+ghost use Rattle.wasmparser_module_state.specs.State.{context, features_of};
+
+use crate::module_state::ModuleState;
+use std::alloc::Global;
+use wasmparser_error::error::Error;
+use wasmparser_readers::from_reader::{FromReader, Item};
+use wasmparser_readers::section_limited::SectionLimited;
+
+/// An item of a section with a rule.
+pub trait Entry: Item {
+    // The item as an entry of the specification.
+    ghost entry: { Self → Entry };
+
+    // How bytes read as such an entry.
+    ghost entry_at: { EntryReading };
+
+    /// Judges the item, which stands at this offset, after the entries before it, and adds it to them.
+    ///
+    /// # Errors
+    /// `Invalid` where it breaks a rule, `Limit` where it passes that limit, at the offset; `Memory` where memory runs out. Then nothing is
+    /// added; but the types may be gone, where it was a recursive group, and where it was a group of imports, some of them may stand.
+    fn add(self, state: &mut ModuleState, offset: u64) -> Result<(), Error>
+        requires { Self.Item.IsOfModule self }
+        ensures added { Adds (features_of state.old) (context state.old) (entry self) offset result (context state.new) }
+        ensures features { features_of state.new ≡ features_of state.old };
+
+    // The entry is made of what contracts see of the item, and so reads as the item does.
+    ghost is_made: { IsMadeOf Self.Item.form Self.Item.indexes Self.Item.form_at entry entry_at };
+}
+
+/// Judges the items of a section one by one as they are read, and adds them (Core Specification 3.0, Validation, "Modules").
+///
+/// # Errors
+/// `Malformed` where the items don't read or bytes are left after them, `Invalid` where an item breaks a rule, `Limit` where one passes that limit, each at a place of
+/// the section; `Memory` where memory runs out. Then it is open what the state holds.
+pub fn add_entries<'a, T: FromReader<'a> + Entry>(
+    alloc: Global,
+    state: &mut ModuleState,
+    section: SectionLimited<'a, T>,
+) -> Result<(), Error>
+    ensures added { AddsEntries (features_of state.old) T.entry_at (context state.old) section.entry.left result (context state.new) }
+    ensures features { features_of state.new ≡ features_of state.old }
+{
+    // (what a proof knows of the number of types it knows by this call)
+    let _ = state.type_count();
+    let mut items = section.into_iter_with_offsets(alloc);
+    'items: while let Some(item) = items.next() {
+        let (offset, item) = item?;
+        item.add(state, offset)?;
+    }
+    Ok(())
+}

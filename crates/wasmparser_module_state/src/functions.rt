@@ -1,0 +1,74 @@
+//! Functions of a module's own (Core Specification 3.0, Validation, "Functions").
+
+ghost use Rattle.std.specs.Prelude.{◌≡◌, ◌+◌, refl, IfSome, is_some, length, nat_le, option_map};
+ghost use Rattle.std.specs.Option.{option_copied};
+ghost use Rattle.wasm_spec.specs.TypeReferences.{func_refs};
+ghost use Rattle.wasm_validity.specs.DefinedTypes.{func_type_at};
+ghost use Rattle.wasm_validity.specs.Entries.{OfFunction};
+ghost use Rattle.wasmparser_module_entries.specs.EntryReading.{function_entry_at};
+ghost use Rattle.wasmparser_module_state.specs.State.{IsKept, context, own_func_type};
+ghost use Rattle.wasmparser_module_types.specs.ModuleTypes.{AreIds};
+ghost use Rattle.wasmparser_types.specs.CompositeTypes.{func_type};
+
+use crate::entry::Entry;
+use crate::module_state::{ModuleState, refusal};
+use wasm_core_base::limits::{Limit, MAX_WASM_FUNCTIONS};
+use wasmparser_error::error::{Error, ErrorKind};
+use wasmparser_types::composite_type::FuncType;
+
+impl ModuleState {
+    /// The number of functions of the module's own.
+    pub fn own_function_count(&self) -> usize
+        ensures { result ≡ length (context self.now).own_functions }
+    {
+        self.own_functions.len()
+    }
+
+    /// The type of a function of the module's own, by its place among these, as the module's list of types keeps it: by ids. There is none
+    /// where there is no such function, or the index that it has as its type names another kind of type or none.
+    #[tactic(auto, using(crate::proofs::FuncTypes::own_steps))]
+    pub fn own_func_type(&self, place: usize) -> Option<&FuncType>
+        ensures kept { IsKept self.now (own_func_type (context self.now) place) (option_map func_type (option_copied result)) }
+        ensures ids { IfSome result (λ ty. AreIds self.now.types (func_refs (func_type ty.now))) }
+    {
+        let index = *self.own_functions.get(place)?;
+        self.types.func_type(index)
+    }
+
+    /// Whether a type index names a function type.
+    #[tactic(auto, using(crate::proofs::FuncTypes::func_steps))]
+    pub(crate) fn is_func_type(&self, index: u32) -> bool
+        ensures { result ≡ is_some (func_type_at (context self.now).types index) }
+    {
+        self.types.func_type(index).is_some()
+    }
+
+    /// Whether there are as many functions as there may be.
+    pub(crate) fn has_all_functions(&self) -> bool
+        ensures { result ≡ nat_le 1000000 (length (context self.now).imported_functions + length (context self.now).own_functions) }
+    {
+        let imported = self.imported_functions.len() as u64;
+        let own = self.own_functions.len() as u64;
+        imported >= MAX_WASM_FUNCTIONS || own >= MAX_WASM_FUNCTIONS - imported
+    }
+}
+
+// The type index of a function.
+impl Entry for u32 {
+    ghost entry = { λ x. OfFunction x };
+
+    ghost entry_at = { function_entry_at };
+
+    ghost is_made = { record { made = λ x. OfFunction x; is = λ x. refl; reads = λ _ bytes. refl; breaks = λ _ _ _ _ large _. large } };
+
+    fn add(self, state: &mut ModuleState, offset: u64) -> Result<(), Error> {
+        if !state.is_func_type(self) {
+            return Err(refusal(offset, ErrorKind::Invalid));
+        }
+        if state.has_all_functions() {
+            return Err(refusal(offset, ErrorKind::Limit(Limit::Functions)));
+        }
+        state.own_functions.push(self)?;
+        Ok(())
+    }
+}

@@ -1,0 +1,128 @@
+//! Entries of import sections: an import, or a group of imports, which are judged one after the other.
+
+ghost use Rattle.std.specs.Prelude.{◌≡◌, ◌≤◌, ◌<◌, refl, suc, IfErr, IfOk, map};
+ghost use Rattle.std.specs.List.{AllByRecursion};
+ghost use Rattle.wasm_core_base.specs.declared.limits.Limit.TheVariants as limits;
+ghost use Rattle.wasm_core_read.specs.PartReading.{import_item_at};
+ghost use Rattle.wasm_core_read.specs.Reading.{name_at};
+ghost use Rattle.wasm_validity.specs.Entries.{OfImport};
+ghost use Rattle.wasmparser_error.specs.declared.error.ErrorKind.TheVariants as kinds;
+ghost use Rattle.wasmparser_imports.specs.ImportEntries.{IsEntryOfModule, import_entry};
+ghost use Rattle.wasmparser_imports.specs.ImportGroups.{AreRead, items_of};
+ghost use Rattle.wasmparser_imports.specs.ImportItems.{items_refs};
+ghost use Rattle.wasmparser_module_entries.specs.EntryReading.{import_entry_at};
+ghost use Rattle.wasmparser_module_state.specs.Items.{AddsGroup, AddsImports, AddsNamed};
+ghost use Rattle.wasmparser_module_state.specs.LargeIndexes.{large_import};
+ghost use Rattle.wasmparser_module_state.specs.State.{context, features_of, item};
+ghost use Rattle.wasmparser_types.specs.Index.{packable};
+
+use crate::entry::Entry;
+use crate::module_state::{ModuleState, refusal};
+use crate::names::check_name;
+use wasm_core_base::limits::{Limit, MAX_WASM_IMPORTS};
+use wasmparser_error::error::{Error, ErrorKind};
+use wasmparser_imports::import_item::ImportItemCompact;
+use wasmparser_imports::imports::Imports;
+use wasmparser_items::type_ref::TypeRef;
+use wasmparser_readers::section_limited::SectionLimited;
+
+impl ModuleState {
+    // How many entries of import sections there are with one more.
+    fn grown_imports(&self, offset: u64) -> Result<u32, Error>
+        ensures grown { IfOk result (λ grown. (grown ≡ suc (context self.now).imports) × (grown ≤ 1000000)) }
+        ensures full { IfErr result (λ e. (e ≡ record { offset = offset; kind = kinds.Limit limits.Imports }) × (1000000 < suc (context self.now).imports)) }
+    {
+        if u64::from(self.imports) >= MAX_WASM_IMPORTS {
+            return Err(refusal(offset, ErrorKind::Limit(Limit::Imports)));
+        }
+        Ok(self.imports + 1)
+    }
+
+    // Judges an import of this name and adds it.
+    #[tactic(auto, using(crate::proofs::ImportLaws::named_steps))]
+    fn import_named(&mut self, name: &str, ty: &TypeRef, offset: u64) -> Result<(), Error>
+        ensures added { AddsNamed (features_of self.old) (context self.old) name.now (item ty.now) offset result (context self.new) }
+        ensures features { features_of self.new ≡ features_of self.old }
+    {
+        check_name(name, offset)?;
+        self.import_item(ty, offset)
+    }
+
+    // Judges the imports of a group one after the other, and adds them.
+    fn import_items<'a>(
+        &mut self,
+        group: SectionLimited<'a, ImportItemCompact<'a>>,
+        offset: u64,
+    ) -> Result<(), Error>
+        requires read { AreRead import_item_at group }
+        requires small { AllByRecursion (λ n. n < packable) (items_refs (items_of import_item_at group)) }
+        ensures added { AddsGroup (features_of self.old) (context self.old) (map (λ item. item.name) (items_of import_item_at group.entry)) (map (λ item. item.type) (items_of import_item_at group.entry)) offset result (context self.new) }
+        ensures features { features_of self.new ≡ features_of self.old }
+    {
+        let mut items = group.into_iter(*self.tags.allocator());
+        'items: while let Some(item) = items.next() {
+            match item {
+                Ok(item) => self.import_named(item.name, &item.ty, offset)?,
+                Err(error) => return Err(error),
+            }
+        }
+        Ok(())
+    }
+
+    // The same of a group whose imports have one type.
+    fn import_names<'a>(
+        &mut self,
+        ty: &TypeRef,
+        group: SectionLimited<'a, &'a str>,
+        offset: u64,
+    ) -> Result<(), Error>
+        requires { AreRead name_at group }
+        ensures added { AddsGroup (features_of self.old) (context self.old) (items_of name_at group.entry) (map (λ name. item ty.now) (items_of name_at group.entry)) offset result (context self.new) }
+        ensures features { features_of self.new ≡ features_of self.old }
+    {
+        let mut names = group.into_iter(*self.tags.allocator());
+        'names: while let Some(name) = names.next() {
+            let name = name?;
+            self.import_named(name, ty, offset)?;
+        }
+        Ok(())
+    }
+
+    // Judges the imports of an entry, and adds them.
+    #[tactic(auto, using(crate::proofs::ImportLaws::origin_steps))]
+    fn add_imports<'a>(&mut self, entry: Imports<'a>, offset: u64) -> Result<(), Error>
+        requires { IsEntryOfModule entry }
+        ensures added { AddsImports (features_of self.old) (context self.old) (import_entry entry.entry) offset result (context self.new) }
+        ensures features { features_of self.new ≡ features_of self.old }
+    {
+        match entry {
+            Imports::Single(_, import) => {
+                check_name(import.module, offset)?;
+                self.import_named(import.name, &import.ty, offset)
+            }
+            Imports::Compact1 { module, items } => {
+                check_name(module, offset)?;
+                self.import_items(items, offset)
+            }
+            Imports::Compact2 { module, ty, names } => {
+                check_name(module, offset)?;
+                self.import_names(&ty, names, offset)
+            }
+        }
+    }
+}
+
+impl<'a> Entry for Imports<'a> {
+    ghost entry = { λ x. OfImport (import_entry x) };
+
+    ghost entry_at = { import_entry_at };
+
+    ghost is_made = { record { made = λ x. OfImport x; is = λ x. refl; reads = λ _ bytes. refl; breaks = large_import } };
+
+    fn add(self, state: &mut ModuleState, offset: u64) -> Result<(), Error> {
+        let imports = state.grown_imports(offset)?;
+        state.add_imports(self, offset)?;
+        state.imports = imports;
+        Ok(())
+    }
+}

@@ -1,0 +1,177 @@
+//! Imported items (Core Specification 3.0, Validation, "Imports").
+
+ghost use Rattle.std.specs.Prelude.{◌≡◌, ◌+◌, ◌++◌, ◌∷◌, [], ◌≤◌, ◌<◌, IfErr, IfOk};
+ghost use Rattle.wasm_spec.specs.Types as spec;
+ghost use Rattle.wasm_validity.specs.DefinedTypes.{func_type_at};
+ghost use Rattle.wasmparser_error.specs.declared.error.ErrorKind.TheVariants as kinds;
+ghost use Rattle.wasm_core_base.specs.declared.limits.Limit.TheVariants as limits;
+ghost use Rattle.wasmparser_items.specs.ItemTypes.{memory_type};
+ghost use Rattle.wasmparser_module_state.specs.Items.{AddsItem, IsSizeUpTo, IsTypeSize};
+ghost use Rattle.wasmparser_module_state.specs.State.{context, features_of, global, item, table};
+ghost use Rattle.wasmparser_types.specs.CompositeTypes.{func_type};
+
+use crate::module_state::{ModuleState, refusal};
+use wasm_core_base::limits::{
+    Limit, MAX_WASM_MEMORIES, MAX_WASM_TABLES, MAX_WASM_TAGS, MAX_WASM_TYPE_SIZE,
+};
+use wasmparser_error::error::{Error, ErrorKind};
+use wasmparser_items::global_type::GlobalType;
+use wasmparser_items::memory_type::MemoryType;
+use wasmparser_items::table_type::TableType;
+use wasmparser_items::type_ref::TypeRef;
+use wasmparser_types::composite_type::FuncType;
+use wasmparser_types::val_type::ValType;
+
+// A size that no type within the limit on sizes has.
+const LARGE: u64 = MAX_WASM_TYPE_SIZE + 1;
+
+// How large a function type counts, or what is too large.
+#[tactic(auto, using(crate::proofs::Sizes::size_steps))]
+fn size_of(ty: &FuncType) -> u64
+    ensures { IsSizeUpTo (func_type ty.now) result }
+{
+    let params = ty.params().len() as u64;
+    let results = ty.results().len() as u64;
+    if params >= LARGE || results >= LARGE {
+        return LARGE;
+    }
+    2 + (params + results)
+}
+
+impl ModuleState {
+    // How large the types of all imports and exports count with one of this size more.
+    fn grown_size(&self, size: u64, offset: u64) -> Result<u32, Error>
+        ensures grown { IfOk result (λ grown. (grown ≡ (context self.now).type_size + size) × (grown ≤ 999999)) }
+        ensures large { IfErr result (λ e. (e ≡ record { offset = offset; kind = kinds.Limit limits.TypeSize }) × (999999 < (context self.now).type_size + size)) }
+    {
+        let size_before = u64::from(self.type_size);
+        if size > MAX_WASM_TYPE_SIZE || size_before + size > MAX_WASM_TYPE_SIZE {
+            return Err(refusal(offset, ErrorKind::Limit(Limit::TypeSize)));
+        }
+        Ok((size_before + size) as u32)
+    }
+
+    fn import_table(&mut self, ty: &TableType, offset: u64) -> Result<(), Error>
+        ensures added { AddsItem (features_of self.old) (context self.old) (spec.TableExternal (table ty.now)) offset result (context self.new) }
+        ensures features { features_of self.new ≡ features_of self.old }
+    {
+        if !self.keeps_table(ty) {
+            return Err(refusal(offset, ErrorKind::Invalid));
+        }
+        if self.tables.len() as u64 >= MAX_WASM_TABLES {
+            return Err(refusal(offset, ErrorKind::Limit(Limit::Tables)));
+        }
+        let type_size = self.grown_size(1, offset)?;
+        self.tables.push(*ty)?;
+        self.type_size = type_size;
+        Ok(())
+    }
+
+    fn import_memory(&mut self, ty: MemoryType, offset: u64) -> Result<(), Error>
+        ensures added { AddsItem (features_of self.old) (context self.old) (spec.MemoryExternal (memory_type ty)) offset result (context self.new) }
+        ensures features { features_of self.new ≡ features_of self.old }
+    {
+        if !self.keeps_memory(ty) {
+            return Err(refusal(offset, ErrorKind::Invalid));
+        }
+        if self.memories.len() as u64 >= MAX_WASM_MEMORIES {
+            return Err(refusal(offset, ErrorKind::Limit(Limit::Memories)));
+        }
+        let type_size = self.grown_size(1, offset)?;
+        self.memories.push(ty)?;
+        self.type_size = type_size;
+        Ok(())
+    }
+
+    fn import_global(&mut self, ty: &GlobalType, offset: u64) -> Result<(), Error>
+        ensures added { AddsItem (features_of self.old) (context self.old) (spec.GlobalExternal (global ty.now)) offset result (context self.new) }
+        ensures features { features_of self.new ≡ features_of self.old }
+    {
+        if !self.keeps_imported_global(ty) {
+            return Err(refusal(offset, ErrorKind::Invalid));
+        }
+        if self.has_all_globals() {
+            return Err(refusal(offset, ErrorKind::Limit(Limit::Globals)));
+        }
+        let type_size = self.grown_size(1, offset)?;
+        self.push_imported_global(ty.content_type, ty.mutable)?;
+        self.type_size = type_size;
+        Ok(())
+    }
+
+    fn push_imported_global(&mut self, content_type: ValType, mutable: bool) -> Result<(), Error>
+        ensures pushed { IfOk result (λ _. context self.new ≡ record (context self.old) { imported_globals = (context self.old).imported_globals ++ global (record { content_type = content_type; mutable = mutable }) ∷ [] }) }
+        ensures refused { IfErr result (λ e. (e ≡ record { offset = 0; kind = kinds.Memory }) × (context self.new ≡ context self.old)) }
+        ensures features { features_of self.new ≡ features_of self.old }
+    {
+        self.imported_globals.push(GlobalType {
+            content_type,
+            mutable,
+        })?;
+        Ok(())
+    }
+
+    // How large the function type of an index counts, which names one.
+    #[tactic(auto, using(crate::proofs::Sizes::type_steps))]
+    fn size_of_type(&self, index: u32) -> Option<u64>
+        ensures { IsTypeSize (func_type_at (context self.now).types index) result }
+    {
+        match self.types.func_type(index) {
+            None => None,
+            Some(ty) => Some(size_of(ty)),
+        }
+    }
+
+    #[tactic(auto, using(crate::proofs::Sizes::sum_steps))]
+    fn import_function(&mut self, index: u32, offset: u64) -> Result<(), Error>
+        ensures added { AddsItem (features_of self.old) (context self.old) (spec.FuncExternal index) offset result (context self.new) }
+        ensures features { features_of self.new ≡ features_of self.old }
+    {
+        let Some(size) = self.size_of_type(index) else {
+            return Err(refusal(offset, ErrorKind::Invalid));
+        };
+        if self.has_all_functions() {
+            return Err(refusal(offset, ErrorKind::Limit(Limit::Functions)));
+        }
+        let type_size = self.grown_size(size, offset)?;
+        self.imported_functions.push(index)?;
+        self.type_size = type_size;
+        Ok(())
+    }
+
+    #[tactic(auto, using(crate::proofs::Sizes::sum_steps))]
+    fn import_tag(&mut self, index: u32, offset: u64) -> Result<(), Error>
+        ensures added { AddsItem (features_of self.old) (context self.old) (spec.TagExternal index) offset result (context self.new) }
+        ensures features { features_of self.new ≡ features_of self.old }
+    {
+        let size = match self.size_of_type(index) {
+            Some(size) if self.is_tag_type(index) => size,
+            _ => return Err(refusal(offset, ErrorKind::Invalid)),
+        };
+        if self.tags.len() as u64 >= MAX_WASM_TAGS {
+            return Err(refusal(offset, ErrorKind::Limit(Limit::Tags)));
+        }
+        let type_size = self.grown_size(size, offset)?;
+        self.tags.push(index)?;
+        self.type_size = type_size;
+        Ok(())
+    }
+
+    /// Judges an imported item and adds it.
+    ///
+    /// # Errors
+    /// `Invalid` where it breaks a rule, `Limit` where its space, or the size of all types, passes that limit, `Memory` where memory runs out. Nothing is added
+    /// then.
+    pub fn import_item(&mut self, ty: &TypeRef, offset: u64) -> Result<(), Error>
+        ensures added { AddsItem (features_of self.old) (context self.old) (item ty.now) offset result (context self.new) }
+        ensures features { features_of self.new ≡ features_of self.old }
+    {
+        match ty {
+            TypeRef::Func(index) => self.import_function(*index, offset),
+            TypeRef::Table(ty) => self.import_table(ty, offset),
+            TypeRef::Memory(ty) => self.import_memory(*ty, offset),
+            TypeRef::Global(ty) => self.import_global(ty, offset),
+            TypeRef::Tag(ty) => self.import_tag(ty.func_type_idx, offset),
+        }
+    }
+}

@@ -1,0 +1,18 @@
+//! What a validator knows of a module while it reads its sections, and judging an item by it: a part of `wasmparser`.
+#![tactic(auto)]
+
+pub mod body;
+pub mod custom_section;
+pub mod data_count;
+pub mod entry;
+pub mod functions;
+mod globals;
+pub mod import_entries;
+pub mod imports;
+pub mod item_types;
+pub mod memories;
+pub mod module_state;
+mod names;
+pub mod start;
+pub mod tags;
+pub mod types;

@@ -1,0 +1,108 @@
+//! What a validator knows of a module after some of its entries.
+
+ghost use Rattle.std.specs.Prelude.{◌≡◌, ◌+◌, ◌≤◌, length};
+ghost use Rattle.wasm_core_base.specs.Features.{feature_set};
+ghost use Rattle.wasm_spec.specs.Limits.{Types, most};
+ghost use Rattle.wasm_validity.specs.Context.{at_first};
+ghost use Rattle.wasmparser_module_state.specs.State.{context, features_of};
+
+use std::alloc::Global;
+use wasm_core_base::features::WasmFeatures;
+use wasmparser_error::error::{Error, ErrorKind};
+use wasmparser_items::global_type::GlobalType;
+use wasmparser_items::memory_type::MemoryType;
+use wasmparser_items::table_type::TableType;
+use wasmparser_module_types::module_types::ModuleTypes;
+
+/// The index spaces after the entries so far.
+#[derive(Drop)]
+pub struct ModuleState {
+    pub(crate) types: ModuleTypes,
+    pub(crate) imports: u32,
+    pub(crate) imported_functions: Vec<u32>,
+    pub(crate) own_functions: Vec<u32>,
+    pub(crate) tables: Vec<TableType>,
+    pub(crate) memories: Vec<MemoryType>,
+    pub(crate) tags: Vec<u32>,
+    pub(crate) imported_globals: Vec<GlobalType>,
+    pub(crate) own_globals: Vec<GlobalType>,
+    pub(crate) type_size: u32,
+}
+
+// A refusal at a place.
+pub(crate) fn refusal(offset: u64, kind: ErrorKind) -> Error
+    ensures { result ≡ record { offset = offset; kind = kind } }
+{
+    Error { offset, kind }
+}
+
+impl ModuleState {
+    /// What is known before the first entry, under these features.
+    pub fn new(alloc: Global, features: WasmFeatures) -> ModuleState
+        ensures nothing { context result ≡ at_first }
+        ensures features { features_of result ≡ feature_set features }
+    {
+        ModuleState {
+            types: ModuleTypes::new(alloc, features),
+            imports: 0,
+            imported_functions: Vec::new(alloc),
+            own_functions: Vec::new(alloc),
+            tables: Vec::new(alloc),
+            memories: Vec::new(alloc),
+            tags: Vec::new(alloc),
+            imported_globals: Vec::new(alloc),
+            own_globals: Vec::new(alloc),
+            type_size: 1,
+        }
+    }
+
+    /// The features by which entries are judged.
+    pub fn features(&self) -> WasmFeatures
+        ensures { feature_set result ≡ features_of self.now }
+    {
+        self.types.features()
+    }
+
+    /// The number of types, which is within its limit.
+    pub fn type_count(&self) -> usize
+        ensures count { result ≡ length (context self.now).types }
+        ensures few { result ≤ most Types }
+    {
+        self.types.len()
+    }
+
+    /// The number of functions, imported ones counted.
+    pub fn function_count(&self) -> usize
+        ensures { result ≡ length (context self.now).imported_functions + length (context self.now).own_functions }
+    {
+        self.imported_functions.len() + self.own_functions.len()
+    }
+
+    /// The number of tables, imported ones counted.
+    pub fn table_count(&self) -> usize
+        ensures { result ≡ length (context self.now).tables }
+    {
+        self.tables.len()
+    }
+
+    /// The number of memories, imported ones counted.
+    pub fn memory_count(&self) -> usize
+        ensures { result ≡ length (context self.now).memories }
+    {
+        self.memories.len()
+    }
+
+    /// The number of globals, imported ones counted.
+    pub fn global_count(&self) -> usize
+        ensures { result ≡ length (context self.now).imported_globals + length (context self.now).own_globals }
+    {
+        self.imported_globals.len() + self.own_globals.len()
+    }
+
+    /// The number of tags, imported ones counted.
+    pub fn tag_count(&self) -> usize
+        ensures { result ≡ length (context self.now).tags }
+    {
+        self.tags.len()
+    }
+}

@@ -1,0 +1,8 @@
+//! Tests of what a validator knows of a module, through the public calls of `wasmparser_module_state`.
+#![tactic(auto)]
+
+#[cfg(test)]
+mod import_sections;
+pub mod judged;
+#[cfg(test)]
+mod sections;

@@ -1,0 +1,6 @@
+mod AddedGroups
+mod Comparisons
+mod FuncTypes
+mod KnownIds
+mod Refusals
+mod ReplacedIndexes

@@ -1,0 +1,26 @@
+use Rattle.std.proofs.Common.{IsTrue, subst}
+use Rattle.wasm_core_base.specs.Features.{feature_set}
+use Rattle.wasm_spec.specs.Subtyping.{ValBelow}
+use Rattle.wasm_spec.specs.Trees.{unrolled}
+use Rattle.wasm_spec.specs.TypeReferences.{val_map, val_refs}
+use Rattle.wasmparser_module_types.proofs.Comparisons.{below, below_back}
+use Rattle.wasmparser_module_types.specs.ModuleTypes.{AreIds, CanCompare, KnownTypes, stands_for}
+use Rattle.wasmparser_types.specs.ValTypes.{val_type}
+use Rattle.wasmparser_module_types.proofs.module_types.ModuleTypes.is_subtype.Goals as goal
+
+pub returns-clause-below : goal.returns-clause-below
+returns-clause-below c is =
+    let it = c.self.inside in
+    let a = val_type c.args.a in
+    let b = val_type c.args.b in
+    subst (λ (known : KnownTypes). ValBelow unrolled (val_map (stands_for known) a) (val_map (stands_for known) b)) c.self.view_is
+    (below (feature_set it.space.features) it.list it.space.ids.items c.self.invariant.0 a b (c.valtype_is_subtype.ensures.0 is))
+
+pub returns-clause-all : goal.returns-clause-all
+returns-clause-all c =
+    let it = c.self.inside in
+    let a = val_type c.args.a in
+    let b = val_type c.args.b in
+    subst (λ (known : KnownTypes). AreIds known (val_refs a) → AreIds known (val_refs b) → CanCompare known.features (val_refs a) (val_refs b)
+    → ValBelow unrolled (val_map (stands_for known) a) (val_map (stands_for known) b) → IsTrue c.valtype_is_subtype.result) c.self.view_is
+    (λ lower upper can h. c.valtype_is_subtype.ensures.1 (below_back (feature_set it.space.features) it.list it.space.ids.items c.self.invariant.0 a b lower upper can h))

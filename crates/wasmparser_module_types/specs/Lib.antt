@@ -1,0 +1,4 @@
+pub mod ModuleTypes
+pub mod ShapeCodes
+pub mod TreeCodes
+pub mod WithIds

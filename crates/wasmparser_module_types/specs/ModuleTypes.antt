@@ -1,0 +1,135 @@
+-- The types of a module that is read group by group, and the list that knows them.
+use Rattle.std.specs.Prelude.{◌≡◌, ℕ, suc, ◌<◌, ◌≤◌, ◌⊎◌, ◌++◌, Bool, true, List, length, slice_get, Option, option_map, IsSome, refl}
+use Rattle.std.specs.List.{AllByRecursion}
+use Rattle.std.specs.Coded.{Coded, code_by, coded×, coded_ℕ, coded_list}
+use Rattle.wasm_core_base.specs.Limits.{limit}
+use Rattle.wasm_core_base.specs.declared.limits.Limit.TheVariants as limits
+use Rattle.wasm_spec.specs.Features.{Features, needs_type_canonicalization}
+use Rattle.wasm_spec.specs.Groups.{KeepsGroupRules}
+use Rattle.wasm_spec.specs.Limits.{Limit, Groups, Types, IsPassedBy, most}
+use Rattle.wasm_spec.specs.Trees.{DefType, type_at, types_after}
+use Rattle.wasm_spec.specs.TypeReferences.{func_map}
+use Rattle.wasm_spec.specs.Types.{FuncType, RecGroup}
+use Rattle.wasm_validity.specs.DefinedTypes.{PassesGroupLimit, func_type_at}
+use Rattle.wasmparser_chains.specs.Chains.{AreBelowEarlier}
+use Rattle.wasmparser_error.specs.declared.error.Error.{Error}
+use Rattle.wasmparser_error.specs.declared.error.ErrorKind.{ErrorKind}
+use Rattle.wasmparser_error.specs.declared.error.ErrorKind.TheVariants as kinds
+use Rattle.wasmparser_interning.specs.TypeTables.{TablesAgree, TypeTables, sub_types}
+use Rattle.wasmparser_interning_laws.specs.IdTypes.{AreFoundByKey, RefersToNoModule, id_types}
+use Rattle.wasmparser_module_types.specs.TreeCodes.{def_type_code}
+use Rattle.wasmparser_rec_group_laws.specs.Contexts.{types_of}
+use Rattle.wasmparser_rec_groups.specs.Interning.{AreKnown}
+use Rattle.wasmparser_types.specs.Index.{Index, Module, RecGroup as Place, Id, number_of}
+
+-- the types of a module, by type index, the features by which they were judged, how many groups they came in, and the types that ids stand for, by id
+pub record KnownTypes : Type 0 where
+  pub features : Features
+  pub types : List DefType
+  pub groups : ℕ
+  pub interned : List DefType
+
+abbrev pub known_types_code : Coded KnownTypes
+known_types_code =
+    code_by (ℕ × (List DefType × (ℕ × List DefType))) (coded× coded_ℕ (coded× (coded_list def_type_code) (coded× coded_ℕ (coded_list def_type_code))))
+    (λ known. (known.features, (known.types, (known.groups, known.interned))))
+    (λ p. record { features = p.0; types = p.1.0; groups = p.1.1.0; interned = p.1.1.1 }) (λ _. refl)
+
+-- what an index stands for that is an id
+abbrev pub stands_for : KnownTypes → Index → DefType
+stands_for known index = type_at known.interned (number_of index)
+
+-- the index is an id of one of these types
+abbrev pub IsIdOf : List DefType → Index → Type 0
+IsIdOf interned (Module index) = ⊥
+IsIdOf interned (Place place) = ⊥
+IsIdOf interned (Id id) = id < length interned
+
+abbrev pub AreIds : KnownTypes → List Index → Type 0
+AreIds known indexes = AllByRecursion (IsIdOf known.interned) indexes
+
+-- a module of one list counts every group as canonical
+abbrev pub all_groups : ℕ → Bool
+all_groups number = true
+
+-- the types of a module whose types have these ids
+abbrev pub module_types : TypeTables → List ℕ → List DefType
+module_types list ids = types_of all_groups list ids
+
+-- the types that the ids of its list stand for, by id
+abbrev pub interned_types : TypeTables → List DefType
+interned_types list = id_types all_groups list
+
+abbrev pub known_types : Features → TypeTables → List ℕ → ℕ → KnownTypes
+known_types features list ids groups =
+    record { features = features; types = module_types list ids; groups = groups; interned = interned_types list }
+
+-- The list knows the module's types by these ids, and no other types: so it has room for as many as the limit lets a module have.
+pub record KnowsModule (features : Features) (list : TypeTables) (ids : List ℕ) : Type 0 where
+  pub agree : TablesAgree list
+  pub grows : IsSome list.known
+  pub earlier : AreBelowEarlier (slice_get (sub_types list))
+  pub known : AreKnown list ids
+  pub no_module : RefersToNoModule list
+  pub found : needs_type_canonicalization features ≡ true → AreFoundByKey all_groups list
+  pub within : length ids ≤ most Types
+  pub no_others : length list.types ≤ length ids
+
+-- Indexes of two types can be compared: where types aren't canonicalized, two ids may stand for equal types, so there no id is compared with another one.
+abbrev pub CanCompare : Features → List Index → List Index → Type 0
+CanCompare features lower upper = (needs_type_canonicalization features ≡ true) ⊎ AllByRecursion (λ a. AllByRecursion (λ b. a ≡ b) upper) lower
+
+-- ---- adding a group
+
+-- these types stand in front of those
+abbrev pub IsFront : List DefType → List DefType → Type 0
+IsFront types longer = (others : List DefType) × (longer ≡ types ++ others)
+
+-- a group keeps all rules, passes no limit, and its types follow the others; ids stand for what they stood for
+pub record AddsGroup (old new : KnownTypes) (group : RecGroup ℕ) : Type 0 where
+  pub rules : KeepsGroupRules old.features old.types group
+  pub limits : (l : Limit) → ¬ (PassesGroupLimit old.types group l)
+  pub few_groups : suc old.groups ≤ most Groups
+  pub few_types : length (types_after old.types group) ≤ most Types
+  pub types : new.types ≡ types_after old.types group
+  pub groups : new.groups ≡ suc old.groups
+  pub interned : IsFront old.interned new.interned
+
+-- A group would be one too many of so many groups, or a module's types so many that they are too many: how the error at an offset tells which.
+abbrev pub IsTooMany : ℕ → ℕ → ℕ → Error → Type 0
+IsTooMany groups types offset e =
+    ((e ≡ record { offset = offset; kind = kinds.Limit limits.Groups }) × IsPassedBy Groups (suc groups))
+    ⊎ ((e ≡ record { offset = offset; kind = kinds.Limit limits.Types }) × IsPassedBy Types types)
+
+-- the group passes this limit
+abbrev pub PassesLimitOf : KnownTypes → RecGroup ℕ → Limit → Type 0
+PassesLimitOf old group l =
+    ((l ≡ Groups) × IsPassedBy Groups (suc old.groups)) ⊎ (((l ≡ Types) × IsPassedBy Types (length (types_after old.types group))) ⊎ PassesGroupLimit old.types group l)
+
+-- why a group is refused with this kind
+pub data IsCause (old : KnownTypes) (group : RecGroup ℕ) : ErrorKind → Type 0 where
+  breaks_a_rule : ¬ (KeepsGroupRules old.features old.types group) → IsCause old group kinds.Invalid
+  passes_a_limit : (l : _) → PassesLimitOf old group (limit l) → IsCause old group (kinds.Limit l)
+  out_of_memory : IsCause old group kinds.Memory
+
+-- where a refusal of this kind is told, of a group at an offset
+abbrev pub place_of : ErrorKind → ℕ → ℕ
+place_of kinds.Malformed offset = offset
+place_of kinds.Invalid offset = offset
+place_of (kinds.Limit l) offset = offset
+place_of kinds.Operator offset = offset
+place_of kinds.Body offset = offset
+place_of kinds.Total offset = offset
+place_of kinds.Order offset = offset
+place_of kinds.Failed offset = offset
+place_of kinds.Memory offset = 0
+
+pub record RefusesGroup (old : KnownTypes) (group : RecGroup ℕ) (offset : ℕ) (e : Error) : Type 0 where
+  pub cause : IsCause old group e.kind
+  pub place : e.offset ≡ place_of e.kind offset
+
+-- ---- function types
+
+-- A function type as a list keeps it, by ids, if the index names one: with its ids replaced by what they stand for, it is the type that is named.
+abbrev pub IsFuncTypeAt : KnownTypes → ℕ → Option (FuncType Index) → Type 0
+IsFuncTypeAt known index found = func_type_at known.types index ≡ option_map (func_map (stands_for known)) found

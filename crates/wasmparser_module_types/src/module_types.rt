@@ -1,0 +1,255 @@
+//! The types of a module, known to a list of types of its own.
+
+ghost use Rattle.std.specs.Prelude.{◌≡◌, ◌≤◌, ◌+◌, ℕ, suc, IfErr, IfOk, length};
+ghost use Rattle.wasm_core_base.specs.Features.{feature_set};
+ghost use Rattle.wasm_spec.specs.Groups.{IsWellFormedGroup};
+ghost use Rattle.wasm_spec.specs.Limits.{Groups, Types, most};
+ghost use Rattle.wasm_spec.specs.Trees.{types_after};
+ghost use Rattle.wasmparser_error.specs.declared.error.ErrorKind.TheVariants as kinds;
+ghost use Rattle.wasmparser_module_types.specs.ModuleTypes.{IsFront, IsTooMany, KnowsModule, RefusesGroup, interned_types, known_types, module_types};
+ghost use Rattle.wasmparser_rec_group_laws.specs.Contexts.{in_section};
+ghost use Rattle.wasmparser_rec_groups.specs.Interning.{NamesModuleTypes};
+ghost use Rattle.wasmparser_types.specs.RecGroups as spec;
+ghost use Rattle.wasmparser_types.specs.RecGroups.{members};
+
+use crate::kept_types::{func_type_in, id_at, sub_type_in};
+use crate::type_space::TypeSpace;
+use crate::with_ids::{heap_with_ids, val_with_ids};
+use std::alloc::Global;
+use std::marker::Model;
+use wasm_core_base::features::WasmFeatures;
+use wasm_core_base::limits::{Limit, MAX_WASM_REC_GROUPS, MAX_WASM_TYPES};
+use wasmparser_error::error::{Error, ErrorKind};
+use wasmparser_interning::type_list::TypeList;
+use wasmparser_rec_group_laws::laws::{
+    accepted_groups_are_well_formed, context_stays, refused_groups_are_ill_formed,
+};
+use wasmparser_rec_groups::intern::InternRecGroup;
+use wasmparser_types::composite_type::FuncType;
+use wasmparser_types::heap_type::HeapType;
+use wasmparser_types::index::CoreTypeId;
+use wasmparser_types::sub_type::{RecGroup, SubType};
+use wasmparser_types::val_type::ValType;
+
+// A limit that is passed.
+fn passed(limit: Limit, offset: u64) -> Error
+    ensures { result ≡ record { offset = offset; kind = kinds.Limit limit } }
+{
+    Error {
+        offset,
+        kind: ErrorKind::Limit(limit),
+    }
+}
+
+// Whether a module may have one group more, when it has so many groups, and so many types more.
+fn check_counts(groups: u32, types: usize, added: usize, offset: u64) -> Result<(), Error>
+    requires { types ≤ most Types }
+    ensures groups { IfOk result (λ _. suc groups ≤ most Groups) }
+    ensures types { IfOk result (λ _. types + added ≤ most Types) }
+    ensures refused { IfErr result (IsTooMany groups (types + added) offset) }
+{
+    if u64::from(groups) >= MAX_WASM_REC_GROUPS {
+        return Err(passed(Limit::Groups, offset));
+    }
+    if added as u64 > MAX_WASM_TYPES - types as u64 {
+        return Err(passed(Limit::Types, offset));
+    }
+    Ok(())
+}
+
+// Interns a group, and adds the ids of its types. After a refusal the list may have types that the module has not.
+fn intern(
+    space: &mut TypeSpace,
+    list: &mut TypeList,
+    group: RecGroup,
+    offset: u64,
+) -> Result<(), Error>
+    requires knows { KnowsModule (feature_set space.old.features) list.old space.old.ids.items }
+    requires indexes { NamesModuleTypes (spec.rec_group group) }
+    requires room { length space.old.ids.items + length (members (spec.rec_group group)) ≤ most Types }
+    ensures features { feature_set space.new.features ≡ feature_set space.old.features }
+    ensures knows { IfOk result (λ _. KnowsModule (feature_set space.old.features) list.new space.new.ids.items) }
+    ensures accepted { IfOk result (λ _. IsWellFormedGroup (feature_set space.old.features) (module_types list.old space.old.ids.items) (in_section (spec.rec_group group))) }
+    ensures added { IfOk result (λ _. module_types list.new space.new.ids.items ≡ types_after (module_types list.old space.old.ids.items) (in_section (spec.rec_group group))) }
+    ensures kept { IfOk result (λ _. IsFront (interned_types list.old) (interned_types list.new)) }
+    ensures refused { (groups : ℕ) → IfErr result (RefusesGroup (known_types (feature_set space.old.features) list.old space.old.ids.items groups) (in_section (spec.rec_group group)) offset) }
+{
+    // The laws that the clauses follow from, which do nothing.
+    accepted_groups_are_well_formed();
+    refused_groups_are_ill_formed();
+    context_stays();
+    space.canonicalize_and_intern_rec_group(list, group, offset)
+}
+
+// Adds a group. After a refusal the module has no types, nor has the list, in which those of the refused group may stand.
+fn add(
+    space: &mut TypeSpace,
+    list: &mut TypeList,
+    alloc: Global,
+    group: RecGroup,
+    offset: u64,
+) -> Result<(), Error>
+    requires knows { KnowsModule (feature_set space.old.features) list.old space.old.ids.items }
+    requires indexes { NamesModuleTypes (spec.rec_group group) }
+    requires room { length space.old.ids.items + length (members (spec.rec_group group)) ≤ most Types }
+    ensures features { feature_set space.new.features ≡ feature_set space.old.features }
+    ensures knows { KnowsModule (feature_set space.new.features) list.new space.new.ids.items }
+    ensures accepted { IfOk result (λ _. IsWellFormedGroup (feature_set space.old.features) (module_types list.old space.old.ids.items) (in_section (spec.rec_group group))) }
+    ensures added { IfOk result (λ _. module_types list.new space.new.ids.items ≡ types_after (module_types list.old space.old.ids.items) (in_section (spec.rec_group group))) }
+    ensures kept { IfOk result (λ _. IsFront (interned_types list.old) (interned_types list.new)) }
+    ensures refused { (groups : ℕ) → IfErr result (RefusesGroup (known_types (feature_set space.old.features) list.old space.old.ids.items groups) (in_section (spec.rec_group group)) offset) }
+{
+    match intern(space, list, group, offset) {
+        Ok(()) => Ok(()),
+        Err(error) => {
+            let features = space.features();
+            *space = TypeSpace::new(alloc, features);
+            *list = TypeList::new(alloc);
+            Err(error)
+        }
+    }
+}
+
+/// The types of a module, whose groups are judged by features and added one after the other. They are known to a list of types that knows no others.
+#[derive(Drop)]
+pub struct ModuleTypes {
+    alloc: Global,
+    space: TypeSpace,
+    list: TypeList,
+    groups: u32,
+}
+
+impl Model for ModuleTypes {
+    ghost use Rattle.std.specs.Prelude.{◌≤◌};
+    ghost use Rattle.wasm_core_base.specs.Features.{feature_set};
+    ghost use Rattle.wasm_spec.specs.Limits.{Groups, most};
+    ghost use Rattle.wasmparser_module_types.specs.ModuleTypes.{KnownTypes, KnowsModule, known_types, known_types_code};
+
+    ghost Value = { KnownTypes };
+
+    ghost coded = { known_types_code };
+
+    ghost view = { λ it. known_types (feature_set it.space.features) it.list it.space.ids.items it.groups };
+
+    ghost invariant = { λ it. KnowsModule (feature_set it.space.features) it.list it.space.ids.items × (it.groups ≤ most Groups) };
+}
+
+impl ModuleTypes {
+    ghost use Rattle.std.specs.Prelude.{◌≡◌, ◌<◌, ◌≤◌, [], IfErr, IfOk, IfSome, IsTrue, Some, is_some, length, option_map, slice_get};
+    ghost use Rattle.std.specs.Option.{option_copied};
+    ghost use Rattle.wasm_core_base.specs.Features.{feature_set};
+    ghost use Rattle.wasm_spec.specs.Limits.{Types, most};
+    ghost use Rattle.wasm_spec.specs.Subtyping.{ValBelow};
+    ghost use Rattle.wasm_spec.specs.Trees.{type_at, unrolled};
+    ghost use Rattle.wasm_spec.specs.TypeReferences.{func_refs, heap_map, heap_refs, sub_map, sub_refs, val_map, val_refs};
+    ghost use Rattle.wasmparser_module_types.specs.ModuleTypes.{AddsGroup, AreIds, CanCompare, IsFuncTypeAt, RefusesGroup, stands_for};
+    ghost use Rattle.wasmparser_module_types.specs.WithIds.{names_only, names_only_heap};
+    ghost use Rattle.wasmparser_rec_group_laws.specs.Contexts.{in_section};
+    ghost use Rattle.wasmparser_rec_groups.specs.Interning.{NamesModuleTypes};
+    ghost use Rattle.wasmparser_types.specs.CompositeTypes.{func_type};
+    ghost use Rattle.wasmparser_types.specs.HeapTypes.{heap_type};
+    ghost use Rattle.wasmparser_types.specs.Index.{number_of};
+    ghost use Rattle.wasmparser_types.specs.RecGroups as spec;
+    ghost use Rattle.wasmparser_types.specs.SubTypes.{sub_type};
+    ghost use Rattle.wasmparser_types.specs.ValTypes.{val_type};
+
+    /// A module without types.
+    pub fn new(alloc: Global, features: WasmFeatures) -> ModuleTypes
+        ensures { result ≡ record { features = feature_set features; types = []; groups = 0; interned = [] } }
+    {
+        ModuleTypes {
+            alloc,
+            space: TypeSpace::new(alloc, features),
+            list: TypeList::new(alloc),
+            groups: 0,
+        }
+    }
+
+    /// Adds a group, which names types by their places in the module. After a refusal the module's types are left open: where it wasn't for the number of
+    /// groups or of types, the module has none.
+    ///
+    /// # Errors
+    /// `Limit` where the group is one too many, its types are too many, or one of them passes a limit. `Invalid` where it breaks a rule. These are at the offset.
+    /// `Memory` where memory runs out.
+    pub fn add_rec_group(&mut self, group: RecGroup, offset: u64) -> Result<(), Error>
+        requires indexes { NamesModuleTypes (spec.rec_group group) }
+        ensures added { IfOk result (λ _. AddsGroup self.old self.new (in_section (spec.rec_group group))) }
+        ensures refused { IfErr result (RefusesGroup self.old (in_section (spec.rec_group group)) offset) }
+        ensures same_features { self.new.features ≡ self.old.features }
+    {
+        let types = self.space.type_ids().len();
+        check_counts(self.groups, types, group.types().len(), offset)?;
+        add(&mut self.space, &mut self.list, self.alloc, group, offset)?;
+        self.groups += 1;
+        Ok(())
+    }
+
+    /// The function type that a type index names, by ids of the list, or None where the index names another kind of type or none.
+    pub fn func_type(&self, index: u32) -> Option<&FuncType>
+        ensures named { IsFuncTypeAt self.now index (option_map func_type (option_copied result)) }
+        ensures ids { IfSome result (λ ty. AreIds self.now (func_refs (func_type ty.now))) }
+    {
+        func_type_in(&self.list, self.space.type_ids(), index)
+    }
+
+    /// The id of the type that a type index names, or None where the index names none.
+    pub fn type_id(&self, index: u32) -> Option<CoreTypeId>
+        ensures named { slice_get self.now.types index ≡ option_map (type_at self.now.interned) result }
+        ensures known { IfSome result (λ id. id < length self.now.interned) }
+    {
+        id_at(self.space.type_ids(), index as usize)
+    }
+
+    /// The sub type that an id stands for. It names others by ids.
+    pub fn sub_type(&self, id: CoreTypeId) -> &SubType
+        requires { id < length self.now.interned }
+        ensures unrolled { unrolled (type_at self.now.interned id) ≡ Some (sub_map (stands_for self.now) (sub_type result.now)) }
+        ensures ids { AreIds self.now (sub_refs (sub_type result.now)) }
+    {
+        sub_type_in(&self.list, id)
+    }
+
+    /// A heap type with an id in place of the type index that it has, or None where the module has no type of that index. An index of any kind counts as a type
+    /// index, by its number.
+    pub fn heap_with_ids(&self, ty: HeapType) -> Option<HeapType>
+        ensures named { is_some result ≡ names_only_heap self.now.types (heap_map number_of (heap_type ty)) }
+        ensures same { IfSome result (λ new. heap_map (stands_for self.now) (heap_type new) ≡ heap_map (type_at self.now.types) (heap_map number_of (heap_type ty))) }
+        ensures ids { IfSome result (λ new. AreIds self.now (heap_refs (heap_type new))) }
+    {
+        heap_with_ids(self.space.type_ids(), ty)
+    }
+
+    /// A value type with an id in place of the type index that it has, as [`ModuleTypes::heap_with_ids`] gives heap types.
+    pub fn with_ids(&self, ty: ValType) -> Option<ValType>
+        ensures named { is_some result ≡ names_only self.now.types (val_map number_of (val_type ty)) }
+        ensures same { IfSome result (λ new. val_map (stands_for self.now) (val_type new) ≡ val_map (type_at self.now.types) (val_map number_of (val_type ty))) }
+        ensures ids { IfSome result (λ new. AreIds self.now (val_refs (val_type new))) }
+    {
+        val_with_ids(self.space.type_ids(), ty)
+    }
+
+    /// Whether a value type is below another one, where both name types by ids. Where types aren't canonicalized, equal types may have several ids, which count as
+    /// several types here.
+    pub fn is_subtype(&self, a: ValType, b: ValType) -> bool
+        ensures below { IsTrue result → ValBelow unrolled (val_map (stands_for self.now) (val_type a)) (val_map (stands_for self.now) (val_type b)) }
+        ensures all { AreIds self.now (val_refs (val_type a)) → AreIds self.now (val_refs (val_type b)) → CanCompare self.now.features (val_refs (val_type a)) (val_refs (val_type b))
+            → ValBelow unrolled (val_map (stands_for self.now) (val_type a)) (val_map (stands_for self.now) (val_type b)) → IsTrue result }
+    {
+        self.list.valtype_is_subtype(a, b)
+    }
+
+    /// How many types the module has.
+    pub fn len(&self) -> usize
+        ensures count { result ≡ length self.now.types }
+        ensures few { result ≤ most Types }
+    {
+        self.space.type_ids().len()
+    }
+
+    /// The features by which groups are judged.
+    pub fn features(&self) -> WasmFeatures
+        ensures { feature_set result ≡ self.now.features }
+    {
+        self.space.features()
+    }
+}

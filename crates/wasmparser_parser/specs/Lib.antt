@@ -1,4 +1,0 @@
-pub mod Answers
-pub mod CoreTypes
-pub mod Sections
-pub mod SupportedReading

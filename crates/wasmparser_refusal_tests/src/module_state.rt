@@ -1,0 +1,114 @@
+//! Sections of a module, judged item by item.
+
+use std::alloc::Global;
+use std::test::Fail;
+use wasm_core_base::features::{Flags, WasmFeatures};
+use wasm_test_rows::fields::three_fields;
+use wasm_test_rows::rows::check_rows;
+use wasmparser_error::error::{Error, ErrorKind};
+use wasmparser_module_state::module_state::ModuleState;
+use wasmparser_module_state_tests::judged::{answer, on_new_state};
+
+// Sections, all of which are accepted.
+const SECTIONS: &str = "
+    types 00
+    types 03 60 01 7f 01 7e 4e 02 50 00 5f 01 63 01 00 5e 7f 01 4f 01 01 5f 02 63 01 00 7f 00
+    types 01 60 00 00; functions 05 00 00 00 00 00; start 4
+    memories 06 00 00 00 00 00 00 00 00 00 00 00 00
+    types 01 60 00 00; tag_section 0; tags 05 00 00 00 00 00 00 00 00 00 00
+    types 01 60 00 00; imports 0000*5 01700000*5 020000*5 037f00*5 040000*5; functions 01 00; start 5
+    types 01 60 00 00; import_entries 03 00 00 00 00 00 00 02 00 00 00 00 03 7f 00; functions 01 00; start 1
+    types 01 60 00 00; import_entries 02 00 00 7f 02 00 00 00 00 02 00 00 00 00 7e 04 00 00 02 00 00; functions 01 00; start 1
+    types 01 60 00 00; body 00 0b; custom 01 61; data_count 1
+";
+
+// Types; sections of one item each, all of which are accepted; and a section that is invalid after them. A second memory is invalid, as is a second
+// table.
+const ITEMS: &str = "
+    types 02 60 01 7f 00 60 00 00 | functions 01 00; imports 00 01; start 0 | start 1
+    types 02 60 01 7f 00 60 00 00 | imports 00 00; functions 01 01; start 1 | start 2
+    types 02 60 01 7f 00 60 00 00 | imports 00 00; imports 00 01; start 1 | start 2
+    types 02 60 01 7f 00 60 00 00 | import_entries 01 00 00 00 00; import_entries 01 00 00 00 01; start 1 | start 2
+    types 01 60 00 00 | memories 01 00 00; imports 01 70 00 00 | memories 01 00 00
+    types 01 60 00 00 | imports 02 00 00; imports 03 7f 00; imports 04 00 00; tags 01 00 00 | memories 01 00 00
+";
+
+fn is_of_memory(error: Error) -> bool {
+    error.kind == ErrorKind::Memory && error.offset == 0
+}
+
+// Whether a section is accepted; none where memory runs out, on its words or on what it says.
+fn accepts(alloc: Global, state: &mut ModuleState, section: &str) -> Option<bool> {
+    match answer(alloc, state, section)? {
+        Ok(()) => Some(true),
+        Err(error) if is_of_memory(error) => None,
+        Err(_) => Some(false),
+    }
+}
+
+fn accepts_all(alloc: Global, state: &mut ModuleState, sections: &str) -> Option<bool> {
+    for section in sections.split_terminator(';') {
+        if !accepts(alloc, state, section)? {
+            return Some(false);
+        }
+    }
+    Some(true)
+}
+
+// Whether sections are accepted, by another state where memory ran out: what a state holds of a section that was refused is open.
+fn sections_hold(alloc: Global, row: &str) -> Option<bool> {
+    let features = WasmFeatures::default().union(WasmFeatures::COMPACT_IMPORTS);
+    match on_new_state(alloc, features, row, accepts_all) {
+        Some(are_accepted) => Some(are_accepted),
+        None => on_new_state(alloc, features, row, accepts_all),
+    }
+}
+
+#[test]
+fn sections_are_accepted_or_memory_ran_out(rt: HostRuntime) -> Result<(), Fail> {
+    Ok(check_rows(rt.alloc(), SECTIONS, 9, sections_hold)?)
+}
+
+// Whether an item is accepted, at the second time where memory ran out.
+fn takes(alloc: Global, state: &mut ModuleState, item: &str) -> bool {
+    match accepts(alloc, state, item) {
+        Some(is_accepted) => is_accepted,
+        None => accepts(alloc, state, item) == Some(true),
+    }
+}
+
+// Whether a section is refused as invalid; none where memory runs out on its words.
+fn is_invalid(alloc: Global, state: &mut ModuleState, section: &str) -> Option<bool> {
+    match answer(alloc, state, section)? {
+        Ok(()) => Some(false),
+        Err(error) => Some(error.kind == ErrorKind::Invalid),
+    }
+}
+
+fn takes_all(alloc: Global, state: &mut ModuleState, row: &str) -> Option<bool> {
+    let (types, items, invalid) = three_fields(row)?;
+    if !accepts(alloc, state, types)? {
+        return Some(false);
+    }
+    for item in items.split_terminator(';') {
+        if !takes(alloc, state, item) {
+            return Some(false);
+        }
+    }
+    is_invalid(alloc, state, invalid)
+}
+
+fn items_hold(alloc: Global, row: &str) -> Option<bool> {
+    let features = WasmFeatures::default()
+        .difference(WasmFeatures::MULTI_MEMORY)
+        .difference(WasmFeatures::REFERENCE_TYPES);
+    match on_new_state(alloc, features, row, takes_all) {
+        Some(are_taken) => Some(are_taken),
+        None => on_new_state(alloc, features, row, takes_all),
+    }
+}
+
+#[test]
+fn items_that_were_refused_are_not_added(rt: HostRuntime) -> Result<(), Fail> {
+    Ok(check_rows(rt.alloc(), ITEMS, 6, items_hold)?)
+}

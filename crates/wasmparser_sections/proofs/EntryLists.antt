@@ -1,0 +1,36 @@
+-- Rules and limits of entries, where some stand before others.
+use Rattle.std.proofs.Common.{◌≡◌, inr, true, List, [], ◌∷◌, ◌++◌, refl, ◌∙◌}
+use Rattle.std.proofs.lemmas.List.Folds.{list_all-append}
+use Rattle.std.proofs.lemmas.Bool.{and_parts}
+use Rattle.wasm_spec.specs.Features.{Features}
+use Rattle.wasm_spec.specs.Limits.{Limit}
+use Rattle.wasm_validity.specs.Context.{Context, after, after_all}
+use Rattle.wasm_validity.specs.Entries.{Entry}
+use Rattle.wasm_validity.specs.Rules.{KeepRules, KeepLimits, PassLimit}
+use Rattle.wasm_validity.specs.Validity.{is_supported, are_supported}
+
+pub after_both : (cx : Context) (es fs : List Entry) → after_all cx (es ++ fs) ≡ after_all (after_all cx es) fs
+after_both cx [] fs = refl
+after_both cx (e ∷ es) fs = after_both (after cx e) es fs
+
+pub keep_both : (features : Features) (cx : Context) (es fs : List Entry) → KeepRules features cx es → KeepRules features (after_all cx es) fs → KeepRules features cx (es ++ fs)
+keep_both features cx [] fs h k = k
+keep_both features cx (e ∷ es) fs h k = (h.0, keep_both features (after cx e) es fs h.1 k)
+
+pub keep_others : (features : Features) (cx : Context) (es fs : List Entry) → KeepRules features cx (es ++ fs) → KeepRules features (after_all cx es) fs
+keep_others features cx [] fs h = h
+keep_others features cx (e ∷ es) fs h = keep_others features (after cx e) es fs h.1
+
+pub within_both : (cx : Context) (es fs : List Entry) → KeepLimits cx es → KeepLimits (after_all cx es) fs → KeepLimits cx (es ++ fs)
+within_both cx [] fs h k = k
+within_both cx (e ∷ es) fs h k = (h.0, within_both (after cx e) es fs h.1 k)
+
+pub past_others : (limit : Limit) (cx : Context) (es fs : List Entry) → PassLimit limit (after_all cx es) fs → PassLimit limit cx (es ++ fs)
+past_others limit cx [] fs h = h
+past_others limit cx (e ∷ es) fs h = inr (inr (past_others limit (after cx e) es fs h))
+
+pub supported_both : (es fs : List Entry) → are_supported es ≡ true → are_supported fs ≡ true → are_supported (es ++ fs) ≡ true
+supported_both es fs h k = list_all-append is_supported es fs ∙ rw (h, k) refl
+
+pub supported_parts : (es fs : List Entry) → are_supported (es ++ fs) ≡ true → (are_supported es ≡ true) × (are_supported fs ≡ true)
+supported_parts es fs h = and_parts _ _ (rw (list_all-append is_supported es fs) at h)

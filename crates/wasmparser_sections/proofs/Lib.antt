@@ -1,0 +1,7 @@
+mod CountLaws
+mod EntryLists
+mod PieceItems
+mod PieceLaws
+mod PiecePlaces
+mod ReadPieces
+mod SectionEntries

@@ -1,0 +1,150 @@
+-- What the items of a piece say, where they read.
+use Rattle.std.proofs.Common.{◌≡◌, ◌<◌, ℕ, zero, suc, true, false, List, [], ◌∷◌, ◌++◌, length, map, Option, Some, None, option_map, refl, sym, ap, ap₂, ◌∙◌, inl, inr, arith}
+use Rattle.std.proofs.lemmas.Grind.{flat_map-append}
+use Rattle.wasm_core_read.specs.PartReading.{import_at, table_at, global_at, export_at, element_at, data_at}
+use Rattle.wasm_core_read.specs.Reading.{◌>>=◌, ReadingOf, filled, seen_at, unsigned_at}
+use Rattle.wasm_core_read.specs.TypeReading.{items_at, rec_group_at, limits_at, tag_type_at}
+use Rattle.wasm_core_read.proofs.Forms.{bind_some, some_is}
+use Rattle.wasm_spec.specs.Features.{Features, CompactImports, has}
+use Rattle.wasm_validity.specs.Entries.{Entry, OfCustom, OfType, OfImport, OfFunction, OfTable, OfMemory, OfTags, OfTag, OfGlobal, OfExport, OfStart, OfElement, OfDataCount, OfBody, OfData}
+use Rattle.wasm_validity.specs.Validity.{is_supported, are_supported}
+use Rattle.wasmparser_module_entries.specs.EntryReading.{EntryReading}
+use Rattle.wasmparser_module_entries.specs.PieceEntries.{items_of, said_first, with_items, entries_said}
+use Rattle.wasmparser_payloads.specs.Pieces.{Piece, Version, Types, Imports, Functions, Tables, Memories, Tags, Globals, Exports, Start, Elements, DataCount, CodeStart, Body, Segments, Custom, Unknown, End}
+use Rattle.wasmparser_readers.specs.Sections.{Left, left_items}
+use Rattle.wasmparser_sections.specs.PieceJudging.{IsFilled, body_in}
+use Rattle.wasmparser_sections.specs.Sections.{contents_of}
+use Rattle.wasmparser_sections.proofs.SectionEntries.{body_said, bodies_said, none_said}
+
+-- items of one kind as entries
+abbrev pub as_entries : {A : Type 0} → (A → Entry) → (Features → ReadingOf A) → EntryReading
+as_entries made form_at = λ features. seen_at made (form_at features)
+
+-- entries that are so many items of one kind
+pub record AreMade {A : Type 0} (made : A → Entry) (count : ℕ) (entries : List Entry) : Type 0 where
+  pub items : List A
+  pub are : entries ≡ map made items
+  pub counted : length items ≡ count
+
+abbrev read_as : {A : Type 0} → A → List ℕ → Option (A × List ℕ)
+read_as x rest = Some (x, rest)
+
+-- one item before others
+one_more : {A : Type 0} (made : A → Entry) (n : ℕ) (entries : List Entry) (rest : List ℕ) (first : Entry × List ℕ) (others : List Entry × List ℕ) (a : A × List ℕ) → read_as (made a.0) a.1 ≡ Some first
+    → AreMade made n others.0 → read_as (first.0 ∷ others.0) others.1 ≡ read_as entries rest → AreMade made (suc n) entries
+one_more made n entries rest first others a is m whole =
+    record {
+      items = a.0 ∷ m.items;
+      are = sym (ap (λ (q : List Entry × List ℕ). q.0) (some_is (first.0 ∷ others.0, others.1) (entries, rest) whole))
+          ∙ ap₂ (λ (v : Entry) (l : List Entry). v ∷ l) (sym (ap (λ (q : Entry × List ℕ). q.0) (some_is (made a.0, a.1) first is))) m.are;
+      counted = ap (λ n. suc n) m.counted;
+    }
+
+made_items : {A : Type 0} (made : A → Entry) (item_at : ReadingOf A) (n : ℕ) (bytes : List ℕ) (entries : List Entry) (rest : List ℕ) → items_at (seen_at made item_at) n bytes ≡ Some (entries, rest) → AreMade made n entries
+unfolding items_at
+made_items made item_at zero bytes entries rest e = record { items = []; are = sym (ap (λ (q : List Entry × List ℕ). q.0) (some_is ([], bytes) (entries, rest) e)); counted = refl }
+made_items made item_at (suc n) bytes entries rest e =
+    let f = bind_some (seen_at made item_at bytes) (λ first. items_at (seen_at made item_at) n first.1 >>= λ others. Some (first.0 ∷ others.0, others.1)) (entries, rest) e in
+    let o = bind_some (items_at (seen_at made item_at) n f.0.1) (λ others. Some (f.0.0 ∷ others.0, others.1)) (entries, rest) f.2 in
+    let a = bind_some (item_at bytes) (λ a. Some (made a.0, a.1)) f.0 f.1 in
+    one_more made n entries rest f.0 o.0 a.0 a.2 (made_items made item_at n f.0.1 o.0.0 o.0.1 o.1) o.2
+
+-- the items that are left of a section
+pub made_left : {A : Type 0} (made : A → Entry) (form_at : Features → ReadingOf A) (left : Left) (entries : List Entry) → left_items (as_entries made form_at) left ≡ Some entries → AreMade made left.count entries
+unfolding left_items
+made_left made form_at left entries e = by_read (items_at (seen_at made (form_at left.input.features)) left.count left.input.rest) refl e
+  where
+    by_read : (read : Option (List Entry × List ℕ)) → items_at (seen_at made (form_at left.input.features)) left.count left.input.rest ≡ read → filled read ≡ Some entries → AreMade made left.count entries
+    by_read None h e = absurd cc
+    by_read (Some (es, [])) h e = made_items made (form_at left.input.features) left.count left.input.rest entries [] (h ∙ ap (λ (l : List Entry). Some (l, [])) (some_is es entries e))
+    by_read (Some (es, b ∷ rest)) h e = absurd cc
+
+-- where no items are left that fill the bytes, no bytes are
+no_rest : (entry_at : EntryReading) (left : Left) (entries : List Entry) → left_items entry_at left ≡ Some entries → left.count ≡ 0 → length left.input.rest ≡ 0
+unfolding left_items items_at
+no_rest entry_at left entries e c = by_rest left.input.rest (sym (ap (λ n. filled (items_at (entry_at left.input.features) n left.input.rest)) c) ∙ e)
+  where
+    by_rest : (rest : List ℕ) → filled (Some ([], rest)) ≡ Some entries → length rest ≡ 0
+    by_rest [] h = refl
+    by_rest (b ∷ rest) h = absurd cc
+
+-- what a piece says whose items are of one kind: some entries first, and its items
+pub record SaysItems {A : Type 0} (first : List Entry) (made : A → Entry) (left : Left) (entries : List Entry) (others : List Entry) : Type 0 where
+  pub say : entries ≡ first ++ others
+  pub are : AreMade made left.count others
+  pub ended : left.count ≡ 0 → length left.input.rest ≡ 0
+
+pub items_said : {A : Type 0} (first : List Entry) (made : A → Entry) (form_at : Features → ReadingOf A) (left : Left) (entries : List Entry)
+    → with_items first (Some (record { entry_at = as_entries made form_at; left = left })) ≡ Some entries → (others : List Entry) × SaysItems first made left entries others
+items_said first made form_at left entries e = by_read (left_items (as_entries made form_at) left) refl e
+  where
+    by_read : (read : Option (List Entry)) → left_items (as_entries made form_at) left ≡ read → option_map (λ others. first ++ others) read ≡ Some entries → (others : List Entry) × SaysItems first made left entries others
+    by_read None h e = absurd cc
+    by_read (Some others) h e =
+        (others, record { say = sym (some_is (first ++ others) entries e); are = made_left made form_at left others h; ended = no_rest (as_entries made form_at) left others h })
+
+-- ---- which are supported
+
+pub all_supported : {A : Type 0} (made : A → Entry) (count : ℕ) (entries : List Entry) → ((x : A) → is_supported (made x) ≡ true) → AreMade made count entries → are_supported entries ≡ true
+all_supported {A = A} made count entries each m = ap are_supported m.are ∙ of_items m.items
+  where
+    of_items : (xs : List A) → are_supported (map made xs) ≡ true
+    of_items [] = refl
+    of_items (x ∷ xs) = rw (each x) (of_items xs)
+
+none_supported : {A : Type 0} (made : A → Entry) (count : ℕ) (entries : List Entry) → ((x : A) → is_supported (made x) ≡ false) → AreMade made count entries → 0 < count → are_supported entries ≡ false
+none_supported {A = A} made count entries none m lt = ap are_supported m.are ∙ of_items m.items m.counted
+  where
+    of_items : (xs : List A) → length xs ≡ count → are_supported (map made xs) ≡ false
+    of_items [] c = absurd (omega (arith, lt, c))
+    of_items (x ∷ xs) c = rw (none x) refl
+
+-- where something is left of a section whose items aren't supported, what it says isn't supported
+pub filled_is_unsupported : {A : Type 0} (made : A → Entry) (form_at : Features → ReadingOf A) (left : Left) (entries : List Entry) → ((x : A) → is_supported (made x) ≡ false) → IsFilled left
+    → with_items [] (Some (record { entry_at = as_entries made form_at; left = left })) ≡ Some entries → are_supported entries ≡ false
+filled_is_unsupported made form_at left entries none filled e = by_count left.count refl filled
+  where
+    said : (others : List Entry) × SaysItems [] made left entries others
+    said = items_said [] made form_at left entries e
+
+    some : 0 < left.count → are_supported entries ≡ false
+    some lt = ap are_supported said.1.say ∙ none_supported made left.count said.0 none said.1.are lt
+
+    by_count : (n : ℕ) → left.count ≡ n → IsFilled left → are_supported entries ≡ false
+    by_count (suc n) c filled = some (omega (arith, c))
+    by_count zero c (inl lt) = some lt
+    by_count zero c (inr lt) = absurd (omega (arith, lt, said.1.ended c))
+
+-- ---- which bodies there are
+
+no_bodies : {A : Type 0} (first : List Entry) (made : A → Entry) (form_at : Features → ReadingOf A) (left : Left) (entries : List Entry) → bodies_said first ≡ [] → ((x : A) → body_said (made x) ≡ [])
+    → with_items first (Some (record { entry_at = as_entries made form_at; left = left })) ≡ Some entries → bodies_said entries ≡ []
+no_bodies first made form_at left entries none each e =
+    let s = items_said first made form_at left entries e in
+    ap bodies_said (s.1.say ∙ ap (λ (l : List Entry). first ++ l) s.1.are.are) ∙ flat_map-append body_said first (map made s.1.are.items)
+    ∙ ap₂ (λ a b. a ++ b) none (none_said body_said made each s.1.are.items)
+
+alone : (first entries : List Entry) → Some first ≡ Some entries → bodies_said entries ≡ bodies_said first
+alone first entries e = ap bodies_said (sym (some_is first entries e))
+
+-- The bodies in what a piece says are the body that it is.
+pub body_of_piece : (piece : Piece) (entries : List Entry) → entries_said piece ≡ Some entries → bodies_said entries ≡ contents_of (body_in piece)
+unfolding entries_said said_first items_of body_in
+body_of_piece (Version num place) entries e = alone [] entries e
+body_of_piece (Types items) entries e = no_bodies [] (λ x. OfType x) (λ _. rec_group_at) items.left entries refl (λ x. refl) e
+body_of_piece (Imports items) entries e = no_bodies [] (λ x. OfImport x) (λ features. import_at (has features CompactImports)) items.left entries refl (λ x. refl) e
+body_of_piece (Functions items) entries e = no_bodies [] (λ x. OfFunction x) (λ _. unsigned_at 32) items.left entries refl (λ x. refl) e
+body_of_piece (Tables items) entries e = no_bodies [] (λ x. OfTable x) (λ _. table_at) items.left entries refl (λ x. refl) e
+body_of_piece (Memories items) entries e = no_bodies [] (λ x. OfMemory x) (λ _. limits_at) items.left entries refl (λ x. refl) e
+body_of_piece (Tags items) entries e = no_bodies (OfTags ∷ []) (λ x. OfTag x) (λ _. tag_type_at) items.left entries refl (λ x. refl) e
+body_of_piece (Globals items) entries e = no_bodies [] (λ x. OfGlobal x) (λ _. global_at) items.left entries refl (λ x. refl) e
+body_of_piece (Exports items) entries e = no_bodies [] (λ x. OfExport x) (λ _. export_at) items.left entries refl (λ x. refl) e
+body_of_piece (Start function place) entries e = alone (OfStart function ∷ []) entries e
+body_of_piece (Elements items) entries e = no_bodies [] (λ x. OfElement x) (λ _. element_at) items.left entries refl (λ x. refl) e
+body_of_piece (DataCount count place) entries e = alone (OfDataCount count ∷ []) entries e
+body_of_piece (CodeStart count place size) entries e = alone [] entries e
+body_of_piece (Body body) entries e = alone (OfBody body.rest ∷ []) entries e
+body_of_piece (Segments items) entries e = no_bodies [] (λ x. OfData x) (λ _. data_at) items.left entries refl (λ x. refl) e
+body_of_piece (Custom section) entries e = alone (OfCustom section.name ∷ []) entries e
+body_of_piece (Unknown id contents place) entries e = absurd cc
+body_of_piece (End place) entries e = alone [] entries e

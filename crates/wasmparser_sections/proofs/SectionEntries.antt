@@ -1,0 +1,134 @@
+-- What the sections of a module say of its own functions, of bodies and of data.
+use Rattle.std.proofs.Common.{◌≡◌, ℕ, suc, true, List, [], ◌∷◌, ◌++◌, map, flat_map, refl, sym, ap, ap₂, ◌∙◌, append_assoc, append-nil}
+use Rattle.std.proofs.lemmas.Grind.{flat_map-append}
+use Rattle.wasm_spec.specs.Syntax.{Section, Custom, TypeSection, ImportSection, FunctionSection, TableSection, MemorySection, TagSection, GlobalSection, ExportSection, StartSection, ElementSection, DataCountSection, CodeSection, DataSection, imported_by, functions_in, functions_of, bodies_in, bodies_of, data_counts_in, data_counts_of}
+use Rattle.wasm_spec.specs.Types.{ExternalType, FuncExternal, TableExternal, MemoryExternal, GlobalExternal, TagExternal}
+use Rattle.wasm_validity.specs.Context.{Context, after, after_all, after_item, after_items, at_first}
+use Rattle.wasm_validity.specs.Entries.{Entry, OfCustom, OfType, OfImport, OfFunction, OfTable, OfMemory, OfTags, OfTag, OfGlobal, OfExport, OfStart, OfElement, OfDataCount, OfBody, OfData, entries_in, entries_of}
+use Rattle.wasm_validity.specs.Validity.{are_supported, context_of}
+use Rattle.wasmparser_sections.proofs.EntryLists.{supported_parts}
+
+-- ---- entries one by one
+
+abbrev function_said : Entry → List ℕ
+function_said (OfFunction index) = index ∷ []
+function_said _ = []
+
+abbrev pub body_said : Entry → List (List ℕ)
+body_said (OfBody body) = body ∷ []
+body_said _ = []
+
+-- the bodies that entries are
+abbrev pub bodies_said : List Entry → List (List ℕ)
+bodies_said entries = flat_map body_said entries
+
+-- items that say nothing of it
+pub none_said : {A X : Type 0} (said : Entry → List A) (made : X → Entry) → ((x : X) → said (made x) ≡ []) → (xs : List X) → flat_map said (map made xs) ≡ []
+none_said said made none [] = refl
+none_said said made none (x ∷ xs) = ap (λ l. l ++ flat_map said (map made xs)) (none x) ∙ none_said said made none xs
+
+-- items that say themselves
+each_said : {A : Type 0} (said : Entry → List A) (made : A → Entry) → ((x : A) → said (made x) ≡ x ∷ []) → (xs : List A) → flat_map said (map made xs) ≡ xs
+each_said said made each [] = refl
+each_said said made each (x ∷ xs) = ap₂ (λ a b. a ++ b) (each x) (each_said said made each xs)
+
+-- ---- sections
+
+by_section : {A : Type 0} (said : Entry → List A) (in_section : Section → List A) → ((s : Section) → flat_map said (entries_in s) ≡ in_section s) → (sections : List Section)
+    → flat_map said (entries_of sections) ≡ flat_map in_section sections
+by_section said in_section same [] = refl
+by_section said in_section same (s ∷ ss) = flat_map-append said (entries_in s) (entries_of ss) ∙ ap₂ (λ a b. a ++ b) (same s) (by_section said in_section same ss)
+
+functions_alike : (s : Section) → flat_map function_said (entries_in s) ≡ functions_in s
+functions_alike (Custom name contents) = refl
+functions_alike (TypeSection groups) = none_said function_said (λ x. OfType x) (λ x. refl) groups
+functions_alike (ImportSection imports) = none_said function_said (λ x. OfImport x) (λ x. refl) imports
+functions_alike (FunctionSection indexes) = each_said function_said (λ x. OfFunction x) (λ x. refl) indexes
+functions_alike (TableSection tables) = none_said function_said (λ x. OfTable x) (λ x. refl) tables
+functions_alike (MemorySection types) = none_said function_said (λ x. OfMemory x) (λ x. refl) types
+functions_alike (TagSection indexes) = none_said function_said (λ x. OfTag x) (λ x. refl) indexes
+functions_alike (GlobalSection globals) = none_said function_said (λ x. OfGlobal x) (λ x. refl) globals
+functions_alike (ExportSection exports) = none_said function_said (λ x. OfExport x) (λ x. refl) exports
+functions_alike (StartSection function) = refl
+functions_alike (ElementSection segments) = none_said function_said (λ x. OfElement x) (λ x. refl) segments
+functions_alike (DataCountSection count) = refl
+functions_alike (CodeSection bodies) = none_said function_said (λ x. OfBody x) (λ x. refl) bodies
+functions_alike (DataSection segments) = none_said function_said (λ x. OfData x) (λ x. refl) segments
+
+bodies_alike : (s : Section) → flat_map body_said (entries_in s) ≡ bodies_in s
+bodies_alike (Custom name contents) = refl
+bodies_alike (TypeSection groups) = none_said body_said (λ x. OfType x) (λ x. refl) groups
+bodies_alike (ImportSection imports) = none_said body_said (λ x. OfImport x) (λ x. refl) imports
+bodies_alike (FunctionSection indexes) = none_said body_said (λ x. OfFunction x) (λ x. refl) indexes
+bodies_alike (TableSection tables) = none_said body_said (λ x. OfTable x) (λ x. refl) tables
+bodies_alike (MemorySection types) = none_said body_said (λ x. OfMemory x) (λ x. refl) types
+bodies_alike (TagSection indexes) = none_said body_said (λ x. OfTag x) (λ x. refl) indexes
+bodies_alike (GlobalSection globals) = none_said body_said (λ x. OfGlobal x) (λ x. refl) globals
+bodies_alike (ExportSection exports) = none_said body_said (λ x. OfExport x) (λ x. refl) exports
+bodies_alike (StartSection function) = refl
+bodies_alike (ElementSection segments) = none_said body_said (λ x. OfElement x) (λ x. refl) segments
+bodies_alike (DataCountSection count) = refl
+bodies_alike (CodeSection bodies) = each_said body_said (λ x. OfBody x) (λ x. refl) bodies
+bodies_alike (DataSection segments) = none_said body_said (λ x. OfData x) (λ x. refl) segments
+
+pub bodies_of_sections : (sections : List Section) → bodies_said (entries_of sections) ≡ bodies_of sections
+bodies_of_sections sections = by_section body_said bodies_in bodies_alike sections
+
+-- ---- the context
+
+items_leave_functions : (cx : Context) (types : List (ExternalType ℕ)) → (after_items cx types).own_functions ≡ cx.own_functions
+items_leave_functions cx [] = refl
+items_leave_functions cx (FuncExternal function ∷ types) = items_leave_functions (after_item cx (FuncExternal function)) types
+items_leave_functions cx (TableExternal type ∷ types) = items_leave_functions (after_item cx (TableExternal type)) types
+items_leave_functions cx (MemoryExternal type ∷ types) = items_leave_functions (after_item cx (MemoryExternal type)) types
+items_leave_functions cx (GlobalExternal type ∷ types) = items_leave_functions (after_item cx (GlobalExternal type)) types
+items_leave_functions cx (TagExternal function ∷ types) = items_leave_functions (after_item cx (TagExternal function)) types
+
+one_entry : (cx : Context) (entry : Entry) → (after cx entry).own_functions ≡ cx.own_functions ++ function_said entry
+one_entry cx (OfFunction index) = refl
+one_entry cx (OfImport entry) = items_leave_functions (record cx { imports = suc cx.imports }) (imported_by entry) ∙ sym (append-nil cx.own_functions)
+one_entry cx (OfCustom name) = sym (append-nil cx.own_functions)
+one_entry cx (OfType group) = sym (append-nil cx.own_functions)
+one_entry cx (OfTable table) = sym (append-nil cx.own_functions)
+one_entry cx (OfMemory type) = sym (append-nil cx.own_functions)
+one_entry cx OfTags = sym (append-nil cx.own_functions)
+one_entry cx (OfTag index) = sym (append-nil cx.own_functions)
+one_entry cx (OfGlobal global) = sym (append-nil cx.own_functions)
+one_entry cx (OfExport export) = sym (append-nil cx.own_functions)
+one_entry cx (OfStart function) = sym (append-nil cx.own_functions)
+one_entry cx (OfElement segment) = sym (append-nil cx.own_functions)
+one_entry cx (OfDataCount count) = sym (append-nil cx.own_functions)
+one_entry cx (OfBody body) = sym (append-nil cx.own_functions)
+one_entry cx (OfData segment) = sym (append-nil cx.own_functions)
+
+functions_after : (cx : Context) (es : List Entry) → (after_all cx es).own_functions ≡ cx.own_functions ++ flat_map function_said es
+functions_after cx [] = sym (append-nil cx.own_functions)
+functions_after cx (e ∷ es) =
+    functions_after (after cx e) es ∙ ap (λ (l : List ℕ). l ++ flat_map function_said es) (one_entry cx e) ∙ append_assoc cx.own_functions (function_said e) (flat_map function_said es)
+
+pub functions_of_sections : (sections : List Section) → (context_of sections).own_functions ≡ functions_of sections
+functions_of_sections sections = functions_after at_first (entries_of sections) ∙ by_section function_said functions_in functions_alike sections
+
+-- ---- data counts
+
+no_count : (s : Section) → are_supported (entries_in s) ≡ true → data_counts_in s ≡ []
+no_count (Custom name contents) h = refl
+no_count (TypeSection groups) h = refl
+no_count (ImportSection imports) h = refl
+no_count (FunctionSection indexes) h = refl
+no_count (TableSection tables) h = refl
+no_count (MemorySection types) h = refl
+no_count (TagSection indexes) h = refl
+no_count (GlobalSection globals) h = refl
+no_count (ExportSection exports) h = refl
+no_count (StartSection function) h = refl
+no_count (ElementSection segments) h = refl
+no_count (DataCountSection count) h = absurd cc
+no_count (CodeSection bodies) h = refl
+no_count (DataSection segments) h = refl
+
+pub no_counts : (sections : List Section) → are_supported (entries_of sections) ≡ true → data_counts_of sections ≡ []
+no_counts [] h = refl
+no_counts (s ∷ ss) h =
+    let p = supported_parts (entries_in s) (entries_of ss) h in
+    ap₂ (λ a b. a ++ b) (no_count s p.0) (no_counts ss p.1)

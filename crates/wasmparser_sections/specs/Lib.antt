@@ -1,0 +1,2 @@
+pub mod PieceJudging
+pub mod Sections

@@ -1,0 +1,113 @@
+-- Judging the pieces of a module.
+use Rattle.std.specs.Prelude.{◌≡◌, ◌⊎◌, ◌<◌, ⊤, ℕ, length, true, false, List, [], ◌∷◌, ◌++◌, Option, Some, None, Result, Ok, Err}
+use Rattle.wasm_core_base.specs.Limits as core
+use Rattle.wasm_core_read.specs.Input.{Input, IsWithin}
+use Rattle.wasm_spec.specs.Features.{Features}
+use Rattle.wasm_validity.specs.Context.{Context, after_all}
+use Rattle.wasm_validity.specs.Entries.{Entry}
+use Rattle.wasm_validity.specs.Rules.{KeepRules, KeepLimits, PassLimit}
+use Rattle.wasm_validity.specs.Validity.{are_supported}
+use Rattle.wasmparser_error.specs.declared.error.Error.{Error}
+use Rattle.wasmparser_error.specs.declared.error.ErrorKind.{ErrorKind}
+use Rattle.wasmparser_error.specs.declared.error.ErrorKind.TheVariants as kinds
+use Rattle.wasmparser_module_entries.specs.PieceEntries.{Items, items_of, said_first, entries_said, HasFront}
+use Rattle.wasmparser_payloads.specs.Pieces.{Piece, Version, Types, Imports, Functions, Tables, Memories, Tags, Globals, Exports, Start, Elements, DataCount, CodeStart, Body, Segments, Custom, Unknown, End}
+use Rattle.wasmparser_readers.specs.Sections.{Left, Limited, IsEmpty}
+
+-- ---- what a piece says
+
+-- what a piece says is supported, keeps the rules and passes no limit, and what is known after it
+pub record Says (features : Features) (old : Context) (piece : Piece) (new : Context) : Type 0 where
+  pub entries : List Entry
+  pub said : entries_said piece ≡ Some entries
+  pub supported : are_supported entries ≡ true
+  pub rules : KeepRules features old entries
+  pub limits : KeepLimits old entries
+  pub known : new ≡ after_all old entries
+
+-- entries at the front of a piece: what it says by itself, and maybe some of its items
+pub data IsFrontOf (piece : Piece) (entries : List Entry) : Type 0 where
+  by_itself : entries ≡ said_first piece → IsFrontOf piece entries
+  with_some : (items : Items) (front : List Entry) → items_of piece ≡ Some items → HasFront items front → entries ≡ said_first piece ++ front → IsFrontOf piece entries
+
+-- entries at the front of a piece of which something holds
+pub record PieceBegins (piece : Piece) (Holds : List Entry → Type 0) : Type 0 where
+  pub front : List Entry
+  pub is : IsFrontOf piece front
+  pub holds : Holds front
+
+-- the body that a piece is, if it is one
+unfoldable pub body_in : Piece → List Input
+body_in (Body body) = body ∷ []
+body_in _ = []
+
+-- ---- places
+
+-- The place is that of the first byte of a piece. Where nothing can be refused there is none.
+unfoldable pub IsFirstOf : Piece → ℕ → Type 0
+IsFirstOf (Version num place) offset = ⊥
+IsFirstOf (Types items) offset = offset ≡ items.start
+IsFirstOf (Imports items) offset = offset ≡ items.start
+IsFirstOf (Functions items) offset = offset ≡ items.start
+IsFirstOf (Tables items) offset = offset ≡ items.start
+IsFirstOf (Memories items) offset = offset ≡ items.start
+IsFirstOf (Tags items) offset = offset ≡ items.start
+IsFirstOf (Globals items) offset = offset ≡ items.start
+IsFirstOf (Exports items) offset = offset ≡ items.start
+IsFirstOf (Start function place) offset = offset ≡ place.start
+IsFirstOf (Elements items) offset = offset ≡ items.start
+IsFirstOf (DataCount count place) offset = offset ≡ place.start
+IsFirstOf (CodeStart count place size) offset = ⊥
+IsFirstOf (Body body) offset = offset ≡ body.position
+IsFirstOf (Segments items) offset = offset ≡ items.start
+IsFirstOf (Custom section) offset = offset ≡ section.start
+IsFirstOf (Unknown id contents place) offset = offset ≡ place.start
+IsFirstOf (End place) offset = ⊥
+
+abbrev pub IsAmong : Option Items → ℕ → Type 0
+IsAmong None offset = ⊥
+IsAmong (Some items) offset = IsWithin items.left.input offset
+
+-- a place of the piece's bytes: its first byte, or among its items
+abbrev pub IsInPiece : Piece → ℕ → Type 0
+IsInPiece piece offset = IsFirstOf piece offset ⊎ IsAmong (items_of piece) offset
+
+-- where a refusal is: within the piece, or nowhere where memory ran out
+abbrev pub IsPlaced : Piece → ErrorKind → ℕ → Type 0
+IsPlaced piece kinds.Memory offset = offset ≡ 0
+IsPlaced piece _ offset = IsInPiece piece offset
+
+-- ---- answers
+
+-- what a refusal of a piece names
+abbrev pub NamesPiece : Features → Context → Piece → ErrorKind → Type 0
+NamesPiece features old piece kinds.Malformed = (entries : List Entry) → entries_said piece ≡ Some entries → are_supported entries ≡ false
+NamesPiece features old piece kinds.Invalid = PieceBegins piece (λ entries. ¬ (KeepRules features old entries))
+NamesPiece features old piece (kinds.Limit l) = PieceBegins piece (λ entries. PassLimit (core.limit l) old entries)
+NamesPiece features old piece kinds.Memory = ⊤
+NamesPiece features old piece _ = ⊥
+
+-- What a call returned that judges a piece and adds what it says.
+abbrev pub AddsPiece : Features → Context → Piece → Result (Unit {0}) Error → Context → Type 0
+AddsPiece features old piece (Ok x) new = Says features old piece new
+AddsPiece features old piece (Err e) new = NamesPiece features old piece e.kind × IsPlaced piece e.kind e.offset
+
+-- What a call returned that refuses what begins at a place.
+abbrev pub RefusesAt : ℕ → Result (Unit {0}) Error → Type 0
+RefusesAt place (Ok x) = ⊥
+RefusesAt place (Err e) = e ≡ record { offset = place; kind = kinds.Malformed }
+
+-- something is left of a section
+abbrev pub IsFilled : Left → Type 0
+IsFilled left = (0 < left.count) ⊎ (0 < length left.input.rest)
+
+-- what a refusal of items that aren't supported names
+abbrev pub NamesItems : Limited → ErrorKind → ℕ → Type 0
+NamesItems items kinds.Malformed offset = IsFilled items.left × ((offset ≡ items.start) ⊎ IsWithin items.left.input offset)
+NamesItems items kinds.Memory offset = offset ≡ 0
+NamesItems items _ offset = ⊥
+
+-- What a call returned that lets a section pass only where it is empty.
+abbrev pub RefusesItems : Limited → Result (Unit {0}) Error → Type 0
+RefusesItems items (Ok x) = IsEmpty items.left
+RefusesItems items (Err e) = NamesItems items e.kind e.offset

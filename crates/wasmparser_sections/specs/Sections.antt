@@ -1,0 +1,68 @@
+-- Judging the sections of a module, but for what is in its bodies.
+use Rattle.std.specs.Prelude.{◌≡◌, ◌≤◌, ⊤, ℕ, true, List, map, length, Result, Ok, Err}
+use Rattle.std.specs.List.{AllByRecursion}
+use Rattle.wasm_core_base.specs.Limits as core
+use Rattle.wasm_core_read.specs.Input.{Input, end}
+use Rattle.wasm_spec.specs.Features.{Features, CompactImports, has}
+use Rattle.wasm_spec.specs.Grammar.{IsModule}
+use Rattle.wasm_spec.specs.Syntax.{Section, bodies_of}
+use Rattle.wasm_validity.specs.Context.{Context}
+use Rattle.wasm_validity.specs.Entries.{entries_of}
+use Rattle.wasm_validity.specs.Validity.{AreFine, BeginsInvalid, BeginsPast, are_supported, context_of}
+use Rattle.wasmparser_error.specs.declared.error.Error.{Error}
+use Rattle.wasmparser_error.specs.declared.error.ErrorKind.{ErrorKind}
+use Rattle.wasmparser_error.specs.declared.error.ErrorKind.TheVariants as kinds
+use Rattle.wasmparser_module_entries.specs.PieceEntries.{HasAllSections}
+use Rattle.wasmparser_module_state.specs.State.{context, features_of}
+use Rattle.wasmparser_sections.specs.declared.sections.ValidSections.{ValidSections}
+
+-- the bytes of bodies
+abbrev pub contents_of : List Input → List (List ℕ)
+contents_of bodies = map (λ (b : Input). b.rest) bodies
+
+-- bodies end by this place
+abbrev pub EndBy : ℕ → List Input → Type 0
+EndBy last bodies = AllByRecursion (λ (b : Input). end b ≤ last) bodies
+
+-- Sections were read to the end of the bytes, and what is known after them. Whether there are as many bodies as functions is still open.
+pub record AreRead (features : Features) (bytes : List ℕ) (cx : Context) (given : List Input) : Type 0 where
+  pub sections : List Section
+  pub reads : HasAllSections (has features CompactImports) bytes sections
+  pub supported : are_supported (entries_of sections) ≡ true
+  pub fine : AreFine features (entries_of sections)
+  pub known : cx ≡ context_of sections
+  pub bodies : contents_of given ≡ bodies_of sections
+  pub inside : EndBy (length bytes) given
+
+-- the bytes are a module whose sections are supported and keep all rules and limits but those on what is in bodies
+pub record AreAccepted (features : Features) (bytes : List ℕ) (m : ValidSections) : Type 0 where
+  pub sections : List Section
+  pub reads : IsModule (has features CompactImports) bytes sections
+  pub supported : are_supported (entries_of sections) ≡ true
+  pub fine : AreFine features (entries_of sections)
+  pub known : context m.state ≡ context_of sections
+  pub same_features : features_of m.state ≡ features
+  pub bodies : contents_of m.bodies.items ≡ bodies_of sections
+  pub inside : EndBy (length bytes) m.bodies.items
+
+-- what a refusal of sections names
+abbrev pub NamesSections : Features → List ℕ → ErrorKind → Type 0
+NamesSections features bytes kinds.Malformed = (sections : List Section) → IsModule (has features CompactImports) bytes sections → ¬ (are_supported (entries_of sections) ≡ true)
+NamesSections features bytes kinds.Invalid = BeginsInvalid features bytes
+NamesSections features bytes (kinds.Limit l) = BeginsPast features (core.limit l) bytes
+NamesSections features bytes kinds.Memory = ⊤
+NamesSections features bytes _ = ⊥
+
+-- A refusal names what it finds, at a place of the bytes or their end, and at 0 where memory ran out.
+abbrev pub RefusesSections : Features → List ℕ → Error → Type 0
+RefusesSections features bytes e = NamesSections features bytes e.kind × (e.offset ≤ length bytes) × (e.kind ≡ kinds.Memory → e.offset ≡ 0)
+
+-- What a call returned that reads all sections.
+abbrev pub ReadsSections : Features → List ℕ → Result (Unit {0}) Error → Context → List Input → Type 0
+ReadsSections features bytes (Ok x) known bodies = AreRead features bytes known bodies
+ReadsSections features bytes (Err e) known bodies = RefusesSections features bytes e
+
+-- What a call returned that judges the sections of a module.
+abbrev pub JudgesSections : Features → List ℕ → Result ValidSections Error → Type 0
+JudgesSections features bytes (Ok m) = AreAccepted features bytes m
+JudgesSections features bytes (Err e) = RefusesSections features bytes e

@@ -1,0 +1,84 @@
+//! Judging the payloads of a module.
+
+ghost use Rattle.std.specs.Prelude.{◌≡◌, ◌++◌, ◌∷◌, [], IfOk};
+ghost use Rattle.wasmparser_module_state.specs.State.{context, features_of};
+ghost use Rattle.wasmparser_payloads.specs.Parsing.{piece};
+ghost use Rattle.wasmparser_payloads.specs.Pieces.{Body, Tags};
+ghost use Rattle.wasmparser_sections.specs.PieceJudging.{AddsPiece, body_in};
+
+use crate::unsupported::{refuse, refuse_items};
+use std::alloc::Global;
+use wasmparser_error::error::Error;
+use wasmparser_items::tag_type::TagType;
+use wasmparser_module_state::entry::add_entries;
+use wasmparser_module_state::module_state::ModuleState;
+use wasmparser_payloads::function_body::FunctionBody;
+use wasmparser_payloads::payload::Payload;
+use wasmparser_readers::section_limited::SectionLimited;
+
+// A tag section is judged even where it is empty.
+#[tactic(auto, using(crate::proofs::PieceLaws::tag_steps))]
+fn add_tags<'a>(
+    alloc: Global,
+    state: &mut ModuleState,
+    section: SectionLimited<'a, TagType>,
+) -> Result<(), Error>
+    ensures added { AddsPiece (features_of state.old) (context state.old) (Tags section.entry) result (context state.new) }
+    ensures features { features_of state.new ≡ features_of state.old }
+{
+    state.tag_section(section.range().start)?;
+    add_entries(alloc, state, section)
+}
+
+#[tactic(auto, using(crate::proofs::PieceLaws::body_steps))]
+fn add_body<'a>(
+    state: &ModuleState,
+    bodies: &mut Vec<FunctionBody<'a>>,
+    body: FunctionBody<'a>,
+) -> Result<(), Error>
+    ensures added { AddsPiece (features_of state.now) (context state.now) (Body body.entry) result (context state.now) }
+    ensures bodies { IfOk result (λ _. bodies.new.items ≡ bodies.old.items ++ body.entry ∷ []) }
+{
+    state.code_section_entry(body.as_bytes(), body.range().start)?;
+    bodies.push(body)?;
+    Ok(())
+}
+
+/// Judges a payload, and adds what it says.
+///
+/// # Errors
+/// `Malformed` where items don't read or aren't supported, `Invalid` where a rule is broken, `Limit` where one is passed, each at a
+/// place of the payload; `Memory` where memory runs out. Then it is open what the state holds.
+#[tactic(auto, using(crate::proofs::PieceLaws::piece_steps), unfolding(wasmparser_payloads::specs::Parsing::piece, crate::specs::PieceJudging::body_in))]
+pub(crate) fn add_payload<'a>(
+    alloc: Global,
+    state: &mut ModuleState,
+    bodies: &mut Vec<FunctionBody<'a>>,
+    payload: Payload<'a>,
+) -> Result<(), Error>
+    ensures added { AddsPiece (features_of state.old) (context state.old) (piece payload.entry) result (context state.new) }
+    ensures bodies { IfOk result (λ _. bodies.new.items ≡ bodies.old.items ++ body_in (piece payload.entry)) }
+    ensures features { features_of state.new ≡ features_of state.old }
+{
+    match payload {
+        Payload::Version { .. } | Payload::CodeSectionStart { .. } | Payload::End(_) => Ok(()),
+        Payload::TypeSection(section) => add_entries(alloc, state, section),
+        Payload::ImportSection(section) => add_entries(alloc, state, section),
+        Payload::FunctionSection(section) => add_entries(alloc, state, section),
+        Payload::MemorySection(section) => add_entries(alloc, state, section),
+        Payload::TagSection(section) => add_tags(alloc, state, section),
+        Payload::StartSection { func, range } => state.start_section(func, range.start),
+        Payload::CustomSection(section) => {
+            state.custom_section(section.name(), section.range().start)
+        }
+        Payload::CodeSectionEntry(body) => add_body(state, bodies, body),
+        Payload::TableSection(section) => refuse_items(alloc, section),
+        Payload::GlobalSection(section) => refuse_items(alloc, section),
+        Payload::ExportSection(section) => refuse_items(alloc, section),
+        Payload::ElementSection(section) => refuse_items(alloc, section),
+        Payload::DataSection(section) => refuse_items(alloc, section),
+        Payload::DataCountSection { range, .. } | Payload::UnknownSection { range, .. } => {
+            refuse(range.start)
+        }
+    }
+}

@@ -1,5 +1,5 @@
 -- What is generated from the seeds of lists.
-use Rattle.std.proofs.Common.{◌≡◌, ℕ, ◌≤◌, ◌<◌, true, false, List, ◌∷◌, length, refl, sym, subst, ap, ◌∙◌, inl, inr, arith}
+use Rattle.std.proofs.Common.{◌≡◌, ℕ, ◌≤◌, ◌<◌, List, ◌∷◌, length, refl, sym, subst, ap, ◌∙◌, inl, inr, arith}
 use Rattle.wasm_core.specs.Limits.{limit}
 use Rattle.wasm_spec.specs.Limits.{Types, Functions, most}
 use Rattle.wasm_spec.specs.Types.{SubType}
@@ -9,7 +9,7 @@ use Rattle.wasm_smith.specs.Generating.{module_at}
 use Rattle.wasm_smith.specs.Made.{Made}
 use Rattle.wasm_smith.specs.Spelling.{Spells}
 use Rattle.wasm_smith.specs.Parts.{Config}
-use Rattle.wasm_smith.proofs.SeedLaws.{not_good, single_types, no_min_funcs, module_reach, types_on, module_on}
+use Rattle.wasm_smith.proofs.SeedLaws.{drawn_plain, not_good, single_types, no_min_funcs, module_reach, types_on, module_on}
 use Rattle.wasm_gen_writer.specs.Written.{IsGenerated}
 use Rattle.wasm_gen_writer.proofs.Validity.{counts_kept}
 use Rattle.wasm_gen.specs.Asked.{IsReachable, MakesLists, IsWantOrLimit, RefusesRightly}
@@ -47,11 +47,7 @@ spelled : (c : Config) (seed : List ℕ) (e : GenerateError) → IsWantOrLimit c
 spelled c seed e (inl want) groups funcs asked h = want
 spelled c seed e (inr (passed, is, past)) groups funcs asked h =
     let few = no_limit c seed groups funcs (module_at c seed).0 (module_reach c groups funcs seed asked.family.askable h) asked in
-    let kept = counts_kept (module_at c seed).0 (limit passed) past.bounds.small_types few.0 few.1 in
-    absurd (true_is_not_false (sym past.passes ∙ kept))
-  where
-    true_is_not_false : true ≡ false → ⊥
-    true_is_not_false e = cc
+    absurd (counts_kept (module_at c seed).0 (limit passed) past.bounds.small_types (drawn_plain c seed).types few.0 few.1 past.passes)
 
 pub refuses_rightly : (c : Config) (seed : List ℕ) (e : GenerateError) → IsCause c seed e → RefusesRightly c seed e
 refuses_rightly c seed e h = record {

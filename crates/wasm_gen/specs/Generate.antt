@@ -1,11 +1,13 @@
 -- What is promised of a module that is generated, and why none is.
-use Rattle.std.specs.Prelude.{◌≡◌, ⊤, ℕ, true, List, []}
+use Rattle.std.specs.Prelude.{⊤, ℕ, List, []}
 use Rattle.wasm_core.specs.EncodeErrorCases as encoding
 use Rattle.wasm_core.specs.LimitCases as limits
 use Rattle.wasm_core.specs.Limits.{limit}
 use Rattle.wasm_core.specs.Parts as core
 use Rattle.wasm_spec.specs.Features.{Features}
-use Rattle.wasm_spec.specs.Validity.{is_passed}
+use Rattle.wasm_validity.specs.Context.{at_first}
+use Rattle.wasm_validity.specs.Entries.{entries_of}
+use Rattle.wasm_validity.specs.Rules.{PassLimit}
 use Rattle.wasm_smith.specs.Bounds.{IsWithinBounds}
 use Rattle.wasm_smith.specs.Config.{AreFeaturesOf, IsGood, IsBadField}
 use Rattle.wasm_smith.specs.ErrorCases as smith
@@ -43,7 +45,7 @@ pub record PassesLimit (c : Config) (seed : List ℕ) (passed : core.Limit) : Ty
   pub good : IsGood c
   pub valid : (features : Features) → AreFeaturesOf c features → IsValidByIndex features (module_at c seed).0
   pub bounds : IsWithinBounds c (module_at c seed).0
-  pub passes : is_passed (limit passed) (sections_with (module_at c seed).0 []) ≡ true
+  pub passes : PassLimit (limit passed) at_first (entries_of (sections_with (module_at c seed).0 []))
 
 -- why nothing is generated for a configuration that was put in order, from these bytes
 abbrev pub IsCause : Config → List ℕ → GenerateError → Type 0

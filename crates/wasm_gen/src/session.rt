@@ -1,4 +1,4 @@
-//! Validation many modules, one after the other.
+//! Validating many modules, one after the other.
 
 ghost use Rattle.std.specs.Prelude.{◌≡◌};
 ghost use Rattle.wasm_core.specs.Features.{feature_set};
@@ -60,6 +60,9 @@ impl Session {
     /// Validates the bytes of a module, and shows the index spaces of a valid one.
     ///
     /// The kind of a refusal names a fault that is there, or running out of memory; which of several is named is open.
+    ///
+    /// # Errors
+    /// `Failed` at 0 where the validator has ended; else those of `validate_module`.
     pub fn check(&mut self, alloc: Global, bytes: &[u8]) -> Result<Types, Error>
         ensures { Checks self.old bytes.now result self.new }
     {

@@ -21,12 +21,12 @@ pub const ROWS: &str = "
     // A body of 7,654,321 bytes, and of one more.
     default | types functions 0a b6 97 d3 03 01 b1 97 d3 03 00*7654320 0b | yes
     default | types functions 0a b7 97 d3 03 01 b2 97 d3 03 00*7654321 0b | Limit(BodySize)
-    // 1,000,000 functions, one more, and their number alone.
+    // 1,000,000 functions, one more, and so many that aren't there.
     default | types 03 c3 84 3d c0 84 3d 00*1000000 0a c3 8d b7 01 c0 84 3d 02000b*1000000 | yes
     default | types 03 c4 84 3d c1 84 3d 00*1000001 0a c6 8d b7 01 c1 84 3d 02000b*1000001 | Limit(Functions)
-    default | types 03 03 c1 84 3d                         | Limit(Functions)
-    // 1,000,000 types, one more, and their number alone.
+    default | types 03 03 c1 84 3d                         | Malformed
+    // 1,000,000 groups of one type, one more, and so many that aren't there.
     default | 01 c3 8d b7 01 c0 84 3d 600000*1000000       | yes
     default | 01 c6 8d b7 01 c1 84 3d 600000*1000001       | Limit(Groups) or Limit(Types)
-    default | 01 03 c1 84 3d                               | Limit(Groups) or Limit(Types)
+    default | 01 03 c1 84 3d                               | Malformed
 ";

@@ -50,23 +50,8 @@ pub const ROWS: &str = "
     // A body that passes its section.
     default | types functions 0a 04 01 03 00 0b        | Malformed
 
-    // A structure, an array, groups, types that aren't final, with supertypes, or both.
-    default | 01 03 01 5f 00                           | Malformed
-    default | 01 04 01 5e 7f 00                        | Malformed
-    default | 01 03 01 4e 00                           | Malformed
-    default | 01 06 01 4e 01 60 00 00                  | Malformed
-    default | 01 06 01 50 00 60 00 00                  | Malformed
-    default | 01 07 01 4f 01 00 60 00 00               | Malformed
-    default | 01 07 01 50 01 00 60 00 00               | Malformed
-    // A final structure, and what is no type: a final type of a final type.
-    default | 01 05 01 4f 00 5f 00                     | Malformed
+    // What is no type: a final type of a final type.
     default | 01 08 01 4f 00 4f 00 60 00 00            | Malformed
-    // References that may not be null, or to a type of the module's own, as a parameter and as a result.
-    default | 01 06 01 60 01 64 70 00                  | Malformed
-    default | 01 06 01 60 01 63 00 00                  | Malformed
-    default | 01 06 01 60 01 64 00 00                  | Malformed
-    default | 01 06 01 60 00 01 63 00                  | Malformed
-    default | 01 06 01 60 00 01 64 6f                  | Malformed
 
     // Final function types without supertypes, whose number may be padded.
     all | 01 06 01 4f 00 60 00 00                      | yes

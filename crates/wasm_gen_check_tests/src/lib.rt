@@ -13,9 +13,13 @@ mod functions;
 mod lines;
 pub mod modules;
 #[cfg(test)]
+mod other_sections;
+#[cfg(test)]
 mod rows;
 #[cfg(test)]
 mod sessions;
+#[cfg(test)]
+mod types;
 #[cfg(test)]
 mod value_types;
 #[cfg(test)]

@@ -5,5 +5,9 @@ pub const ROWS: &str = "
     line |                                | yes types=0 functions=0 tables=0 memories=0 globals=0 tags=0 elements=0 exports=0
     line | types functions code           | yes types=1 functions=1 tables=0 memories=0 globals=0 tags=0 elements=0 exports=0
     line | 01 0a 03 600000*3 03 06 05 00 01 02 01 00 0a 10 05 02000b*5 | yes types=3 functions=5 tables=0 memories=0 globals=0 tags=0 elements=0 exports=0
+    line | types 05 05 02 00 01 00 01 0d 07 03 00 00 00 00 00 00 | yes types=1 functions=0 tables=0 memories=2 globals=0 tags=3 elements=0 exports=0
+    line | types 02 05 01 00 00 00 00 functions code | yes types=1 functions=2 tables=0 memories=0 globals=0 tags=0 elements=0 exports=0
+    line | types 02 1b 05 00 00 01 70 00 00 00 00 02 00 00 00 00 03 7f 00 00 00 03 7f 00 00 00 04 00 00 | yes types=1 functions=0 tables=1 memories=1 globals=2 tags=1 elements=0 exports=0
     line | types functions 0a 03 01 01 00 | no body
+    line | types 03 02 01 01 code         | no invalid
 ";

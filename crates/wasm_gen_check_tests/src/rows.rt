@@ -2,7 +2,9 @@
 
 use crate::modules::{answers, module_of, new_session};
 use crate::views::has_line;
-use crate::{custom_sections, cuts, function_limits, functions, lines, value_types};
+use crate::{
+    custom_sections, cuts, function_limits, functions, lines, other_sections, types, value_types,
+};
 use std::alloc::Global;
 use std::test::Fail;
 use wasm_core::features::{Flags, WasmFeatures};
@@ -53,14 +55,23 @@ fn asks_for(alloc: Global, bytes: &[u8], asked: &str) -> Option<bool> {
     Some(holds)
 }
 
-// The answer at a place: `yes` at those of the field.
-fn expected_at(field: &str, place: usize) -> &'static str {
+// Whether a number is among those of the field.
+fn has_number(field: &str, number: usize) -> bool {
     for word in field.split_whitespace() {
-        if number_of(word) == Some(place as u64) {
-            return "yes";
+        if number_of(word) == Some(number as u64) {
+            return true;
         }
     }
-    "Malformed"
+    false
+}
+
+// The answer at a place: `yes` at those of the field.
+fn expected_at(field: &str, place: usize) -> &'static str {
+    if has_number(field, place) {
+        "yes"
+    } else {
+        "Malformed"
+    }
 }
 
 // Whether the bytes are a module up to each of these ends, and malformed up to any other place.
@@ -73,12 +84,19 @@ fn is_cut_at(alloc: Global, bytes: &[u8], ends: &str) -> bool {
     holds
 }
 
-// Whether the bytes are a module where the first section has one of these ids, and malformed where it has any other but 0.
-fn has_ids(alloc: Global, bytes: &mut [u8], ids: &str) -> Option<bool> {
+// Whether the bytes are a module where the first section has one of these ids, invalid at others that the field names after a comma, and malformed where
+// it has any other but 0.
+fn has_ids(alloc: Global, bytes: &mut [u8], field: &str) -> Option<bool> {
+    let (ids, invalid) = field.split_once(", but Invalid")?;
     let mut holds = true;
     for id in 1..=255u8 {
         *bytes.get_mut(8)? = id;
-        let expected = expected_at(ids, usize::from(id));
+        let is_invalid = has_number(invalid, usize::from(id));
+        let expected = if is_invalid {
+            "Invalid"
+        } else {
+            expected_at(ids, usize::from(id))
+        };
         holds = holds && answers(alloc, &mut new_session(), bytes, expected);
     }
     Some(holds)
@@ -103,8 +121,10 @@ fn new_sessions_give_these_answers(rt: HostRuntime) -> Result<(), Fail> {
         (custom_sections::ROWS, 45),
         (cuts::ROWS, 3),
         (function_limits::ROWS, 20),
-        (functions::ROWS, 65),
-        (lines::ROWS, 4),
+        (functions::ROWS, 52),
+        (lines::ROWS, 8),
+        (other_sections::ROWS, 65),
+        (types::ROWS, 31),
         (value_types::ROWS, 38),
     ] {
         check_rows(rt.alloc(), table, count, holds)?;

@@ -1,12 +1,11 @@
 -- The encoding of a made module reads as its sections.
-use Rattle.std.proofs.Common.{◌≡◌, ℕ, ◌<◌, ◌≤◌, ◌^◌, Bool, true, List, [], ◌∷◌, ◌++◌, length, map, refl, sym, subst, ap, ◌∙◌, arith, append_assoc}
-use Rattle.std.specs.List.{AllByRecursion, list_all}
+use Rattle.std.proofs.Common.{◌≡◌, ℕ, ◌<◌, ◌≤◌, ◌^◌, Bool, List, [], ◌∷◌, ◌++◌, length, map, refl, sym, subst, ap, ◌∙◌, arith, append_assoc}
+use Rattle.std.specs.List.{AllByRecursion}
 use Rattle.std.proofs.lemmas.List.{append-nil, length-map, nil_from_length}
 use Rattle.wasm_spec.specs.Bytes.{IsU32, IsItems}
 use Rattle.wasm_spec.specs.Grammar.{IsSection, IsModule, AreOrdered}
 use Rattle.wasm_spec.specs.Limits.{Types, Functions, most}
 use Rattle.wasm_spec.specs.ModuleParts.{IsBody}
-use Rattle.wasm_spec.specs.Supported.{is_supported_group, IsSupported}
 use Rattle.wasm_spec.specs.Syntax.{Section, TypeSection, FunctionSection, CodeSection, functions_of, bodies_of, data_counts_of}
 use Rattle.wasm_spec.specs.TypeGrammar.{IsRecGroup}
 use Rattle.wasm_spec.specs.Types.{ValType, SubType, Single}
@@ -22,7 +21,7 @@ use Rattle.wasm_gen_writer.specs.Written.{AreUnreachableBodies, unless_empty, se
 use Rattle.wasm_gen_writer.proofs.BodyEncodings.{AreFewPlain, bodies_are_written, body_length, entry_is, entry_length}
 use Rattle.wasm_gen_writer.proofs.Forms.{all_are, both, list_is, views_are, list_length, section_is}
 use Rattle.wasm_gen_writer.proofs.Numbers.{number_is}
-use Rattle.wasm_gen_writer.proofs.TypeEncodings.{IsSmallPlain, type_is, type_length, type_supported}
+use Rattle.wasm_gen_writer.proofs.TypeEncodings.{IsSmallPlain, type_is, type_length}
 
 -- ---- what the sections have
 
@@ -56,22 +55,6 @@ no_data_counts P [] [] bodies = tt
 no_data_counts P [] (f ∷ fs) bodies = tt
 no_data_counts P (t ∷ ts) [] bodies = tt
 no_data_counts P (t ∷ ts) (f ∷ fs) bodies = tt
-
--- ---- what is supported
-
-groups_supported : (types : List (SubType ℕ)) → AllByRecursion IsPlainFunction types → list_all is_supported_group (map Single types) ≡ true
-groups_supported [] h = refl
-groups_supported (type ∷ types) h = rw (type_supported type h.0) (groups_supported types h.1)
-
-lists_supported : (types : List (SubType ℕ)) (funcs : List ℕ) (bodies : List (List ℕ)) → AllByRecursion IsPlainFunction types → IsSupported (sections types funcs bodies)
-lists_supported [] [] bodies h = refl
-lists_supported [] (f ∷ fs) bodies h = refl
-lists_supported (t ∷ ts) [] bodies h = rw (groups_supported (t ∷ ts) h) refl
-lists_supported (t ∷ ts) (f ∷ fs) bodies h = rw (groups_supported (t ∷ ts) h) refl
-
--- a made module of plain types is supported
-pub is_supported : (m : Made) (bodies : List (List ℕ)) → IsPlainModule m → IsSupported (sections_with m bodies)
-is_supported m bodies plain = lists_supported m.types m.funcs bodies plain.types
 
 -- ---- the contents
 

@@ -1,7 +1,6 @@
 -- The encodings of types.
-use Rattle.std.proofs.Common.{◌≡◌, ℕ, ◌+◌, ◌*◌, ◌≤◌, Bool, true, List, [], ◌∷◌, ◌++◌, length, refl, arith, length-append, inr}
-use Rattle.std.specs.List.{AllByRecursion, list_all}
-use Rattle.wasm_spec.specs.Supported.{is_supported_type, is_supported_sub}
+use Rattle.std.proofs.Common.{◌≡◌, ℕ, ◌+◌, ◌*◌, ◌≤◌, Bool, true, List, [], ◌++◌, length, refl, arith, length-append, inr}
+use Rattle.std.specs.List.{AllByRecursion}
 use Rattle.wasm_spec.specs.TypeGrammar.{IsValType, IsFuncType, IsRecGroup}
 use Rattle.wasm_spec.specs.Types.{ValType, FuncType, CompositeType, FuncComposite, StructComposite, ArrayComposite, ContComposite, SubType, Single}
 use Rattle.wasm_smith.specs.Bounds.{IsSmall}
@@ -9,7 +8,7 @@ use Rattle.wasm_smith.specs.Plain.{IsPlain, IsPlainFunction}
 use Rattle.wasm_spec.specs.Shortest.{list_encoding}
 use Rattle.wasm_spec.specs.TypeEncodings.{val_encoding, func_encoding, composite_encoding, sub_encoding_of, sub_encoding}
 use Rattle.wasm_gen_writer.proofs.Forms.{list_is, list_length}
-use Rattle.wasm_gen_writer.proofs.Values.{value_is, plain_length, plain_supported}
+use Rattle.wasm_gen_writer.proofs.Values.{value_is, plain_length}
 
 abbrev pub IsSmallPlain : SubType ℕ → Type 0
 IsSmallPlain type = IsSmall type × IsPlainFunction type
@@ -77,19 +76,3 @@ parts_length is_final supertypes (ContComposite function) h = absurd h.1.2
 
 pub type_length : (type : SubType ℕ) → IsSmallPlain type → length (sub_encoding type) ≤ 51
 type_length type h = parts_length type.is_final type.supertypes type.composite_type h
-
--- ---- what is supported
-
-values_supported : (types : List (ValType ℕ)) → AllByRecursion IsPlain types → list_all is_supported_type types ≡ true
-values_supported [] h = refl
-values_supported (type ∷ types) h = rw (plain_supported type h.0) (values_supported types h.1)
-
-parts_supported : (is_final : Bool) (supertypes : List ℕ) (composite : CompositeType ℕ) → IsPlainFunction (record { is_final = is_final; supertypes = supertypes; composite_type = composite })
-    → is_supported_sub (record { is_final = is_final; supertypes = supertypes; composite_type = composite }) ≡ true
-parts_supported is_final supertypes (FuncComposite type) h = rw (h.0, h.1, values_supported type.params h.2.0, values_supported type.results h.2.1) refl
-parts_supported is_final supertypes (StructComposite fields) h = absurd h.2
-parts_supported is_final supertypes (ArrayComposite field) h = absurd h.2
-parts_supported is_final supertypes (ContComposite function) h = absurd h.2
-
-pub type_supported : (type : SubType ℕ) → IsPlainFunction type → is_supported_sub type ≡ true
-type_supported type h = parts_supported type.is_final type.supertypes type.composite_type h

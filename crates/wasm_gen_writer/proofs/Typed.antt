@@ -99,20 +99,20 @@ as_many (locals ∷ others) [] h = absurd h
 as_many (locals ∷ others) (body ∷ bodies) h = ap suc (as_many others bodies h.1)
 
 -- an open list supplies whatever is taken
-supplied : (cx : Context ℕ) (types : List (ValType ℕ)) → all_taken cx types (nothing_known (at_start ℕ)) ≡ Some (nothing_known (at_start ℕ))
+supplied : {R : Type 0} (cx : Context R) (types : List (ValType R)) → all_taken cx types (nothing_known (at_start R)) ≡ Some (nothing_known (at_start R))
 supplied cx [] = refl
 supplied cx (type ∷ types) = supplied cx types
 
-typed : (cx : Context ℕ) (type : FuncType ℕ) (runs : List Run) → IsBodyOf cx type runs (Unreachable ∷ End ∷ [])
-typed cx type runs = record {
+typed : {R : Type 0} (cx : Context R) (type : FuncType R) (runs : List Run) → IsBodyOf cx type runs (Unreachable ∷ End ∷ [])
+typed {R} cx type runs = record {
   code = simple Unreachable done;
-  last = nothing_known (at_start ℕ);
+  last = nothing_known (at_start R);
   is_flat = refl;
-  judged = (nothing_known (at_start ℕ), refl, refl);
+  judged = (nothing_known (at_start R), refl, refl);
   ends = rw (supplied cx _) refl;
 }
 
-pub body_is_typed : (features : Features) (is_below : ValType ℕ → ValType ℕ → Bool) (type : FuncType ℕ) (locals : List (ValType ℕ)) (body : List ℕ)
+pub body_is_typed : {R : Type 0} (features : Features) (is_below : ValType R → ValType R → Bool) (type : FuncType R) (locals : List (ValType ℕ)) (body : List ℕ)
     → length type.params ≤ 20 → length locals ≤ 100 → AllByRecursion (λ t. is_allowed features t ≡ true) locals → IsUnreachableBody locals body
     → IsFunctionBody (record { features = features; is_below = is_below }) type body
 body_is_typed features is_below type locals body few_params few allowed b =

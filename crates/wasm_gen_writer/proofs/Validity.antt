@@ -1,192 +1,156 @@
 -- What is valid by index is valid.
-use Rattle.std.proofs.Common.{◌≡◌, ℕ, zero, suc, ◌<◌, ◌≤◌, Bool, true, false, ltb, List, [], ◌∷◌, ◌++◌, length, map, Option, None, Some, refl, sym, subst, ap, ◌∙◌, arith}
-use Rattle.std.specs.List.{AllByRecursion, flat_map, filter_map, cons_option, list_all, list_any, slice_get}
-use Rattle.std.specs.Option.{is_some, unwrap_or}
-use Rattle.std.proofs.lemmas.Bool.{le-ltb}
-use Rattle.std.proofs.lemmas.List.{append-nil, length-map}
-use Rattle.std.proofs.lemmas.Option.{option_and_then_some}
+use Rattle.std.specs.Prelude.{⊤}
+use Rattle.std.proofs.Common.{◌≡◌, ℕ, zero, suc, ◌<◌, ◌≤◌, true, List, [], ◌∷◌, ◌++◌, length, Some, refl, sym, subst, ap, ◌∙◌, arith, slice_get}
+use Rattle.std.specs.List.{AllByRecursion}
+use Rattle.std.specs.Option.{is_some}
+use Rattle.std.proofs.lemmas.List.{append-nil}
 use Rattle.wasm_spec.specs.Features.{Features}
-use Rattle.wasm_spec.specs.Gates.{is_allowed, is_allowed_sub, is_allowed_group}
-use Rattle.wasm_spec.specs.Limits.{Limit, Types, Groups, Imports, Functions, Globals, Tags, Exports, Tables, Memories, ElementSegments, DataSegments, SegmentEntries, Params, Results, Fields, Locals, BodySize, Name, TypeSize, Depth, Length, most}
-use Rattle.wasm_spec.specs.Spaces.{sizes_of}
-use Rattle.wasm_spec.specs.Syntax.{TypeSection, FunctionSection, CodeSection, members, groups_of, types_of, bodies_of}
-use Rattle.wasm_spec.specs.Types.{ValType, FuncType, CompositeType, FuncComposite, StructComposite, ArrayComposite, ContComposite, SubType, RecGroup, Single}
-use Rattle.wasm_spec.specs.Validity.{func_type_of, func_type_at, is_past, is_passed, names_in, KeepRules, BodyAt, IsTypedBody, IsValid}
+use Rattle.wasm_spec.specs.Gates.{is_allowed, is_allowed_sub}
+use Rattle.wasm_spec.specs.Limits.{Limit, Types, Functions, most}
+use Rattle.wasm_spec.specs.Types.{ValType, SubType}
+use Rattle.wasm_validity.specs.Context.{Context, after_all, at_first}
+use Rattle.wasm_validity.specs.Entries.{Entry, entries_of}
+use Rattle.wasm_validity.specs.Rules.{Keeps, KeepRules, KeepLimits, PassLimit}
+use Rattle.wasm_validity.specs.Validity.{BodyAt, IsTypedBody, IsValid, are_supported}
 use Rattle.wasm_smith.specs.Bounds.{IsSmall, IsWithinBounds}
 use Rattle.wasm_smith.specs.Made.{Made}
-use Rattle.wasm_smith.specs.Plain.{IsPlainModule}
+use Rattle.wasm_smith.specs.Plain.{IsPlainFunction, IsPlainModule}
 use Rattle.wasm_smith.specs.Parts.{Config}
-use Rattle.wasm_smith.specs.Validity.{IsValidByIndex}
-use Rattle.wasm_gen_writer.specs.Written.{IsUnreachableBody, AreUnreachableBodies, unless_empty, sections_with}
-use Rattle.wasm_gen_writer.proofs.Forms.{all_at}
-use Rattle.wasm_gen_writer.proofs.SectionEncodings.{sections, functions_are, bodies_are, is_supported}
+use Rattle.wasm_smith.specs.Validity.{IsValidByIndex, func_type_at as written_at}
+use Rattle.wasm_gen_writer.specs.Written.{IsUnreachableBody, AreUnreachableBodies, sections_with}
+use Rattle.wasm_gen_writer.proofs.EntryFolds.{Each, IsCounted, HasNoType, each_append, after_append, rules_of, limits_of, not_passed, passed_first, passed_later}
+use Rattle.wasm_gen_writer.proofs.Forms.{all_are, all_at, both}
+use Rattle.wasm_gen_writer.proofs.MadeEntries.{of_types, of_functions, of_bodies, types_counted, types_are_functions, functions_as_before, types_keep, types_within, types_have_none, types_past, NamesFunction, names_function, functions_keep, functions_within, functions_have_none, functions_past, types_kept, bodies_keep, bodies_within, bodies_have_none, unchanged}
+use Rattle.wasm_gen_writer.proofs.MadeTypes.{group_passes_none, CountsNoItems, no_items_pass}
+use Rattle.wasm_gen_writer.proofs.SectionEncodings.{functions_are, bodies_are, sections}
 use Rattle.wasm_gen_writer.proofs.Typed.{bodies_length, as_many, body_is_typed}
 
--- ---- what the sections have
+-- ---- what the sections say
 
-members_are : (types : List (SubType ℕ)) → flat_map members (map Single types) ≡ types
-members_are [] = refl
-members_are (t ∷ ts) = ap (λ l. t ∷ l) (members_are ts)
+abbrev said : List (SubType ℕ) → List ℕ → List (List ℕ) → List Entry
+said types functions bodies = of_types types ++ (of_functions functions ++ of_bodies bodies)
 
-groups_are : (types : List (SubType ℕ)) (funcs : List ℕ) (bodies : List (List ℕ)) → groups_of (sections types funcs bodies) ≡ map Single types
-groups_are [] [] bodies = refl
-groups_are [] (f ∷ fs) bodies = refl
-groups_are (t ∷ ts) [] bodies = append-nil (map Single (t ∷ ts))
-groups_are (t ∷ ts) (f ∷ fs) bodies = append-nil (map Single (t ∷ ts))
+-- where there are no functions there are no bodies
+entries_are : (types : List (SubType ℕ)) (functions : List ℕ) (bodies : List (List ℕ)) → (functions ≡ [] → bodies ≡ [])
+    → entries_of (sections types functions bodies) ≡ said types functions bodies
+entries_are [] [] bodies none = rw (none refl) refl
+entries_are [] (f ∷ fs) bodies none = ap (λ l. of_functions (f ∷ fs) ++ l) (append-nil (of_bodies bodies))
+entries_are (t ∷ ts) [] bodies none = rw (none refl) refl
+entries_are (t ∷ ts) (f ∷ fs) bodies none = ap (λ l. of_types (t ∷ ts) ++ (of_functions (f ∷ fs) ++ l)) (append-nil (of_bodies bodies))
 
-types_alone : (types : List (SubType ℕ)) → types_of (unless_empty types (TypeSection (map Single types))) ≡ types
-types_alone [] = refl
-types_alone (t ∷ ts) = append-nil (flat_map members (map Single (t ∷ ts))) ∙ members_are (t ∷ ts)
+no_bodies : (functions : List ℕ) (bodies : List (List ℕ)) → length bodies ≡ length functions → functions ≡ [] → bodies ≡ []
+no_bodies functions [] e none = refl
+no_bodies functions (body ∷ bodies) e none = absurd (omega (arith, e, ap length none))
 
-types_are : (types : List (SubType ℕ)) (funcs : List ℕ) (bodies : List (List ℕ)) → types_of (sections types funcs bodies) ≡ types
-types_are [] [] bodies = refl
-types_are [] (f ∷ fs) bodies = refl
-types_are (t ∷ ts) [] bodies = types_alone (t ∷ ts)
-types_are (t ∷ ts) (f ∷ fs) bodies = types_alone (t ∷ ts)
+-- ---- what is known after the types, and after the functions
 
-types_counted : (types : List (SubType ℕ)) (funcs : List ℕ) (bodies : List (List ℕ)) → (sizes_of (sections types funcs bodies)).types ≡ length types
-types_counted [] [] bodies = refl
-types_counted [] (f ∷ fs) bodies = refl
-types_counted (t ∷ ts) [] bodies = omega (arith, ap length (members_are (t ∷ ts)))
-types_counted (t ∷ ts) (f ∷ fs) bodies = omega (arith, ap length (members_are (t ∷ ts)))
+abbrev typed : List (SubType ℕ) → Context
+typed types = after_all at_first (of_types types)
 
-functions_counted : (types : List (SubType ℕ)) (funcs : List ℕ) (bodies : List (List ℕ)) → (sizes_of (sections types funcs bodies)).functions ≡ length funcs
-functions_counted [] [] bodies = refl
-functions_counted [] (f ∷ fs) bodies = omega arith
-functions_counted (t ∷ ts) [] bodies = refl
-functions_counted (t ∷ ts) (f ∷ fs) bodies = omega arith
-
-no_names : (types : List (SubType ℕ)) (funcs : List ℕ) (bodies : List (List ℕ)) → flat_map names_in (sections types funcs bodies) ≡ []
-no_names [] [] bodies = refl
-no_names [] (f ∷ fs) bodies = refl
-no_names (t ∷ ts) [] bodies = refl
-no_names (t ∷ ts) (f ∷ fs) bodies = refl
-
--- ---- limits of counts
-
-pub types_passed : (m : Made) (bodies : List (List ℕ)) → is_passed Types (sections_with m bodies) ≡ ltb (most Types) (length m.types)
-types_passed m bodies = ap (λ n. ltb (most Types) n) (types_counted m.types m.funcs bodies)
-
-pub groups_passed : (m : Made) (bodies : List (List ℕ)) → is_passed Groups (sections_with m bodies) ≡ ltb (most Groups) (length m.types)
-groups_passed m bodies =
-    ap (λ (gs : List (RecGroup ℕ)). ltb (most Groups) (length gs)) (groups_are m.types m.funcs bodies) ∙ ap (λ n. ltb (most Groups) n) (length-map m.types Single)
-
-pub functions_passed : (m : Made) (bodies : List (List ℕ)) → is_passed Functions (sections_with m bodies) ≡ ltb (most Functions) (length m.funcs)
-functions_passed m bodies = ap (λ n. ltb (most Functions) n) (functions_counted m.types m.funcs bodies)
-
--- ---- the other limits
-
-none_passes : {A : Type 0} (test : A → Bool) (P : A → Type 0) → ((x : A) → P x → test x ≡ false) → (xs : List A) → AllByRecursion P xs → list_any test xs ≡ false
-none_passes test P law [] h = refl
-none_passes test P law (x ∷ xs) h = rw (law x h.0) (none_passes test P law xs h.1)
-
-abbrev IsSmallFunction : FuncType ℕ → Type 0
-IsSmallFunction type = (length type.params ≤ 20) × (length type.results ≤ 20)
-
-small_more : (is_final : Bool) (supertypes : List ℕ) (composite : CompositeType ℕ) (others : List (FuncType ℕ))
-    → IsSmall (record { is_final = is_final; supertypes = supertypes; composite_type = composite }) → AllByRecursion IsSmallFunction others
-    → AllByRecursion IsSmallFunction (cons_option (func_type_of (record { is_final = is_final; supertypes = supertypes; composite_type = composite })) others)
-small_more is_final supertypes (FuncComposite type) others h hs = (h, hs)
-small_more is_final supertypes (StructComposite fields) others h hs = hs
-small_more is_final supertypes (ArrayComposite field) others h hs = hs
-small_more is_final supertypes (ContComposite function) others h hs = hs
-
-small_functions : (types : List (SubType ℕ)) → AllByRecursion IsSmall types → AllByRecursion IsSmallFunction (filter_map func_type_of types)
-small_functions [] h = tt
-small_functions (t ∷ ts) h = small_more t.is_final t.supertypes t.composite_type (filter_map func_type_of ts) h.0 (small_functions ts h.1)
-
-params_kept : (m : Made) (bodies : List (List ℕ)) → AllByRecursion IsSmall m.types → is_passed Params (sections_with m bodies) ≡ false
-params_kept m bodies h =
-    ap (λ (l : List (SubType ℕ)). list_any (λ type. is_past Params (length type.params)) (filter_map func_type_of l)) (types_are m.types m.funcs bodies)
-    ∙ none_passes (λ (type : FuncType ℕ). is_past Params (length type.params)) IsSmallFunction
-    (λ type p. le-ltb 1000 (length type.params) (omega (arith, p.0))) (filter_map func_type_of m.types) (small_functions m.types h)
-
-results_kept : (m : Made) (bodies : List (List ℕ)) → AllByRecursion IsSmall m.types → is_passed Results (sections_with m bodies) ≡ false
-results_kept m bodies h =
-    ap (λ (l : List (SubType ℕ)). list_any (λ type. is_past Results (length type.results)) (filter_map func_type_of l)) (types_are m.types m.funcs bodies)
-    ∙ none_passes (λ (type : FuncType ℕ). is_past Results (length type.results)) IsSmallFunction
-    (λ type p. le-ltb 1000 (length type.results) (omega (arith, p.1))) (filter_map func_type_of m.types) (small_functions m.types h)
-
-sizes_kept : (m : Made) (bodies : List (List ℕ)) → length bodies ≡ length m.funcs → AllByRecursion (λ ls. length ls ≤ 100) m.locals → AreUnreachableBodies m.locals bodies
-    → is_passed BodySize (sections_with m bodies) ≡ false
-sizes_kept m bodies many few h =
-    ap (λ (l : List (List ℕ)). list_any (λ body. is_past BodySize (length body)) l) (bodies_are m.types m.funcs bodies many)
-    ∙ none_passes (λ (body : List ℕ). is_past BodySize (length body)) (λ body. length body ≤ 707)
-    (λ body p. le-ltb 7654321 (length body) (omega (arith, p))) bodies (bodies_length m.locals bodies few h)
-
-names_kept : (m : Made) (bodies : List (List ℕ)) → is_passed Name (sections_with m bodies) ≡ false
-names_kept m bodies = ap (λ (l : List (List ℕ)). list_any (λ name. is_past Name (length name)) l) (no_names m.types m.funcs bodies)
-
--- what a made module with few types and functions is known to keep
-record IsInLimits (m : Made) (bodies : List (List ℕ)) : Type 0 where
-  types : length m.types ≤ most Types
-  funcs : length m.funcs ≤ most Functions
-  small : AllByRecursion IsSmall m.types
-  few_locals : AllByRecursion (λ ls. length ls ≤ 100) m.locals
-  many : length bodies ≡ length m.funcs
-  unreachable : AreUnreachableBodies m.locals bodies
-
--- what is asked of it by the limits
-record HasFew (m : Made) (bodies : List (List ℕ)) : Type 0 where
-  types : length m.types ≤ most Types
-  funcs : length m.funcs ≤ most Functions
-  small : AllByRecursion IsSmall m.types
-  few_bytes : is_passed BodySize (sections_with m bodies) ≡ false
-
-limits_kept : (m : Made) (bodies : List (List ℕ)) → HasFew m bodies → (limit : Limit) → is_passed limit (sections_with m bodies) ≡ false
-limits_kept m bodies h Types = types_passed m bodies ∙ le-ltb 1000000 (length m.types) h.types
-limits_kept m bodies h Groups = groups_passed m bodies ∙ le-ltb 1000000 (length m.types) h.types
-limits_kept m bodies h Imports = refl
-limits_kept m bodies h Functions = functions_passed m bodies ∙ le-ltb 1000000 (length m.funcs) h.funcs
-limits_kept m bodies h Globals = refl
-limits_kept m bodies h Tags = refl
-limits_kept m bodies h Exports = refl
-limits_kept m bodies h Tables = refl
-limits_kept m bodies h Memories = refl
-limits_kept m bodies h ElementSegments = refl
-limits_kept m bodies h DataSegments = refl
-limits_kept m bodies h SegmentEntries = refl
-limits_kept m bodies h Params = params_kept m bodies h.small
-limits_kept m bodies h Results = results_kept m bodies h.small
-limits_kept m bodies h Fields = refl
-limits_kept m bodies h Locals = refl
-limits_kept m bodies h BodySize = h.few_bytes
-limits_kept m bodies h Name = names_kept m bodies
-limits_kept m bodies h TypeSize = refl
-limits_kept m bodies h Depth = refl
-limits_kept m bodies h Length = refl
-
-no_bodies : (types : List (SubType ℕ)) (funcs : List ℕ) → bodies_of (unless_empty types (TypeSection (map Single types)) ++ unless_empty funcs (FunctionSection funcs) ++ unless_empty funcs (CodeSection [])) ≡ []
-no_bodies [] [] = refl
-no_bodies [] (f ∷ fs) = refl
-no_bodies (t ∷ ts) [] = refl
-no_bodies (t ∷ ts) (f ∷ fs) = refl
-
--- of what stands outside of bodies no limit is passed where there are few types and functions
-pub counts_kept : (m : Made) (limit : Limit) → AllByRecursion IsSmall m.types → length m.types ≤ most Types → length m.funcs ≤ most Functions → is_passed limit (sections_with m []) ≡ false
-counts_kept m limit small types funcs =
-    let none = ap (λ (l : List (List ℕ)). list_any (λ body. is_past BodySize (length body)) l) (no_bodies m.types m.funcs) in
-    limits_kept m [] (record { types = types; funcs = funcs; small = small; few_bytes = none }) limit
+-- what holds of the types, of the functions and of the bodies in turn
+in_turn : (P : Context → Entry → Type 0) (types : List (SubType ℕ)) (functions : List ℕ) (bodies : List (List ℕ)) → Each P at_first (of_types types)
+    → Each P (typed types) (of_functions functions) → Each P (after_all (typed types) (of_functions functions)) (of_bodies bodies)
+    → Each P at_first (said types functions bodies)
+in_turn P types functions bodies t f b =
+    each_append P at_first (of_types types) (of_functions functions ++ of_bodies bodies) t
+    (each_append P (typed types) (of_functions functions) (of_bodies bodies) f b)
 
 -- ---- rules
 
-all_pass : {A : Type 0} (test : A → Bool) (xs : List A) → AllByRecursion (λ x. test x ≡ true) xs → list_all test xs ≡ true
-all_pass test [] h = refl
-all_pass test (x ∷ xs) h = rw h.0 (all_pass test xs h.1)
+-- what is asked of the types and the functions of a module
+record IsNamed (features : Features) (types : List (SubType ℕ)) (functions : List ℕ) : Type 0 where
+  small : AllByRecursion IsSmall types
+  plain : AllByRecursion IsPlainFunction types
+  allowed : AllByRecursion (λ type. is_allowed_sub features type ≡ true) types
+  named : AllByRecursion (λ index. index < length types) functions
 
-groups_allowed : (features : Features) (types : List (SubType ℕ)) → AllByRecursion (λ type. is_allowed_sub features type ≡ true) types
-    → list_all (is_allowed_group features) (map Single types) ≡ true
-groups_allowed features [] h = refl
-groups_allowed features (t ∷ ts) h = rw h.0 (groups_allowed features ts h.1)
+rules_kept : (features : Features) (types : List (SubType ℕ)) (functions : List ℕ) (bodies : List (List ℕ)) → IsNamed features types functions
+    → KeepRules features at_first (said types functions bodies)
+rules_kept features types functions bodies h =
+    let known = types_are_functions at_first types h.small h.plain tt in
+    let named = all_are (λ index. index < length types) (λ index. index < length (typed types).types)
+    (λ index below. omega (arith, below, types_counted at_first types)) functions h.named in
+    rules_of features at_first (said types functions bodies) (in_turn (Keeps features) types functions bodies
+    (types_keep features at_first types h.plain h.allowed)
+    (functions_keep features (typed types) functions known named)
+    (bodies_keep features (after_all (typed types) (of_functions functions)) bodies))
 
-rules_kept : (features : Features) (types : List (SubType ℕ)) (funcs : List ℕ) (bodies : List (List ℕ)) → list_all (is_allowed_group features) (map Single types) ≡ true
-    → list_all (λ index. is_some (func_type_at types index)) funcs ≡ true → KeepRules features [] (sections types funcs bodies)
-rules_kept features [] [] bodies p q = tt
-rules_kept features [] (f ∷ fs) bodies p q = (q, (refl, tt))
-rules_kept features (t ∷ ts) [] bodies p q = (p, tt)
-rules_kept features (t ∷ ts) (f ∷ fs) bodies p q =
-    let named = subst (λ l. list_all (λ index. is_some (func_type_at l index)) (f ∷ fs) ≡ true) (sym (types_alone (t ∷ ts))) q in
-    (p, (named, (refl, tt)))
+-- ---- limits
+
+-- there are not too many of anything
+record HasFew (types : List (SubType ℕ)) (functions : List ℕ) (bodies : List (List ℕ)) : Type 0 where
+  few_types : length types ≤ most Types
+  few_functions : length functions ≤ most Functions
+  short : AllByRecursion (λ body. length body ≤ 7654321) bodies
+
+numbers_kept : (types : List (SubType ℕ)) (functions : List ℕ) (bodies : List (List ℕ)) → HasFew types functions bodies
+    → Each IsCounted at_first (said types functions bodies)
+numbers_kept types functions bodies h =
+    let as_before = functions_as_before at_first types in
+    in_turn IsCounted types functions bodies
+    (types_within at_first types (omega (arith, h.few_types)) (omega (arith, h.few_types)))
+    (functions_within (typed types) functions (omega (arith, h.few_functions, as_before.0, as_before.1)))
+    (bodies_within (after_all (typed types) (of_functions functions)) bodies h.short)
+
+no_types_past : (limit : Limit) (types : List (SubType ℕ)) (functions : List ℕ) (bodies : List (List ℕ)) → Each (HasNoType limit) at_first (of_types types)
+    → Each (HasNoType limit) at_first (said types functions bodies)
+no_types_past limit types functions bodies h =
+    in_turn (HasNoType limit) types functions bodies h (functions_have_none limit (typed types) functions)
+    (bodies_have_none limit (after_all (typed types) (of_functions functions)) bodies)
+
+small_and_plain : (limit : Limit) (types : List (SubType ℕ)) → AllByRecursion IsSmall types → AllByRecursion IsPlainFunction types → Each (HasNoType limit) at_first (of_types types)
+small_and_plain limit types small plain =
+    types_have_none limit (λ type. IsSmall type × IsPlainFunction type) (λ before type h. group_passes_none before type h.0 h.1 limit) at_first types
+    (both IsSmall IsPlainFunction types small plain)
+
+limits_kept : (types : List (SubType ℕ)) (functions : List ℕ) (bodies : List (List ℕ)) → HasFew types functions bodies → AllByRecursion IsSmall types → AllByRecursion IsPlainFunction types
+    → KeepLimits at_first (said types functions bodies)
+limits_kept types functions bodies few small plain =
+    limits_of at_first (said types functions bodies) (numbers_kept types functions bodies few)
+    (λ limit. no_types_past limit types functions bodies (small_and_plain limit types small plain))
+
+-- ---- limits of what stands outside of bodies
+
+abbrev outside : Made → List Entry
+outside m = said m.types m.funcs []
+
+no_body : (m : Made) → entries_of (sections_with m []) ≡ outside m
+no_body m = entries_are m.types m.funcs [] (λ none. refl)
+
+few_outside : (m : Made) → length m.types ≤ most Types → length m.funcs ≤ most Functions → HasFew m.types m.funcs []
+few_outside m types funcs = record { few_types = types; few_functions = funcs; short = tt }
+
+-- a limit that no type passes by what it has isn't passed where there are few types and functions
+not_past : (m : Made) (limit : Limit) → Each (HasNoType limit) at_first (of_types m.types) → length m.types ≤ most Types → length m.funcs ≤ most Functions
+    → PassLimit limit at_first (entries_of (sections_with m [])) → ⊥
+not_past m limit h types funcs p =
+    not_passed limit at_first (outside m) (numbers_kept m.types m.funcs [] (few_outside m types funcs)) (no_types_past limit m.types m.funcs [] h)
+    (subst (λ entries. PassLimit limit at_first entries) (no_body m) p)
+
+any_type : (types : List (SubType ℕ)) → AllByRecursion (λ type. ⊤) types
+any_type [] = tt
+any_type (type ∷ types) = (tt, any_type types)
+
+pub count_not_past : (m : Made) (limit : Limit) → CountsNoItems limit → length m.types ≤ most Types → length m.funcs ≤ most Functions
+    → PassLimit limit at_first (entries_of (sections_with m [])) → ⊥
+count_not_past m limit none = not_past m limit (types_have_none limit (λ type. ⊤) (λ before type h. no_items_pass before type limit none) at_first m.types (any_type m.types))
+
+-- no limit is passed outside of bodies where there are few types and functions
+pub counts_kept : (m : Made) (limit : Limit) → AllByRecursion IsSmall m.types → AllByRecursion IsPlainFunction m.types → length m.types ≤ most Types → length m.funcs ≤ most Functions
+    → PassLimit limit at_first (entries_of (sections_with m [])) → ⊥
+counts_kept m limit small plain = not_past m limit (small_and_plain limit m.types small plain)
+
+pub types_are_past : (m : Made) → 1000000 < length m.types → PassLimit Types at_first (entries_of (sections_with m []))
+types_are_past m many =
+    subst (λ entries. PassLimit Types at_first entries) (sym (no_body m))
+    (passed_first Types at_first (of_types m.types) (of_functions m.funcs ++ []) (types_past at_first m.types (omega arith) (omega (arith, many))))
+
+pub functions_are_past : (m : Made) → 1000000 < length m.funcs → PassLimit Functions at_first (entries_of (sections_with m []))
+functions_are_past m many =
+    let as_before = functions_as_before at_first m.types in
+    subst (λ entries. PassLimit Functions at_first entries) (sym (no_body m))
+    (passed_later Functions at_first (of_types m.types) (of_functions m.funcs ++ []) (passed_first Functions (typed m.types) (of_functions m.funcs) []
+    (functions_past (typed m.types) m.funcs (omega (arith, as_before.0, as_before.1)) (omega (arith, many, as_before.0, as_before.1)))))
 
 -- ---- bodies
 
@@ -195,23 +159,11 @@ at [] i h = absurd (omega (arith, h))
 at (x ∷ xs) zero h = (x, refl)
 at (x ∷ xs) (suc i) h = at xs i (omega (arith, h))
 
-some_of : {A : Type 0} (o : Option A) → is_some o ≡ true → (x : A) × (o ≡ Some x)
-some_of None e = absurd cc
-some_of (Some x) e = (x, refl)
-
-few_of : (is_final : Bool) (supertypes : List ℕ) (composite : CompositeType ℕ) (type : FuncType ℕ)
-    → IsSmall (record { is_final = is_final; supertypes = supertypes; composite_type = composite })
-    → func_type_of (record { is_final = is_final; supertypes = supertypes; composite_type = composite }) ≡ Some type → length type.params ≤ 20
-few_of is_final supertypes (FuncComposite t) type h e =
-    let same : t ≡ type = ap (λ o. unwrap_or o t) e in
-    subst (λ (f : FuncType ℕ). length f.params ≤ 20) same h.0
-few_of is_final supertypes (StructComposite fields) type h e = absurd cc
-few_of is_final supertypes (ArrayComposite field) type h e = absurd cc
-few_of is_final supertypes (ContComposite function) type h e = absurd cc
-
-few_params : (types : List (SubType ℕ)) (index : ℕ) (type : FuncType ℕ) → AllByRecursion IsSmall types → func_type_at types index ≡ Some type → length type.params ≤ 20
-few_params types index type h e = option_and_then_some func_type_of (slice_get types index) type e
-    (λ sub here is. few_of sub.is_final sub.supertypes sub.composite_type type (all_at IsSmall types index sub h here) is)
+-- an index that names a function type among types as they are written is below their number
+within : (types : List (SubType ℕ)) (index : ℕ) → is_some (written_at types index) ≡ true → index < length types
+within [] index e = absurd cc
+within (type ∷ types) zero e = omega arith
+within (type ∷ types) (suc index) e = omega (arith, within types index e)
 
 -- the locals of a function, and its body
 record Pair (locals : List (List (ValType ℕ))) (bodies : List (List ℕ)) (i : ℕ) : Type 0 where
@@ -229,48 +181,96 @@ pair_at (types ∷ others) (body ∷ bodies) (suc i) h within =
     let p = pair_at others bodies i h.1 (omega (arith, within)) in
     record { types = p.types; body = p.body; declared = p.declared; has = p.has; is = p.is }
 
-body_at : (features : Features) (m : Made) (bodies : List (List ℕ)) → IsValidByIndex features m → IsInLimits m bodies
+-- what is known after all sections of types, of functions and of bodies of these
+types_of_all : (types : List (SubType ℕ)) (functions : List ℕ) (bodies : List (List ℕ)) → (after_all at_first (said types functions bodies)).types ≡ (typed types).types
+types_of_all types functions bodies =
+    ap (λ (cx : Context). cx.types) (after_append at_first (of_types types) (of_functions functions ++ of_bodies bodies) ∙ after_append (typed types) (of_functions functions) (of_bodies bodies)
+    ∙ unchanged (after_all (typed types) (of_functions functions)) bodies)
+    ∙ types_kept (typed types) functions
+
+-- a valid module's locals and bodies
+record HasBodies (features : Features) (m : Made) (bodies : List (List ℕ)) : Type 0 where
+  small : AllByRecursion IsSmall m.types
+  plain : AllByRecursion IsPlainFunction m.types
+  few_locals : AllByRecursion (λ ls. length ls ≤ 100) m.locals
+  many : length bodies ≡ length m.funcs
+  unreachable : AreUnreachableBodies m.locals bodies
+  valid : IsValidByIndex features m
+
+type_named : (m : Made) (bodies : List (List ℕ)) (index : ℕ) → AllByRecursion IsSmall m.types → AllByRecursion IsPlainFunction m.types → index < length m.types
+    → length bodies ≡ length m.funcs → NamesFunction (after_all at_first (entries_of (sections_with m bodies))).types index
+type_named m bodies index small plain below many =
+    let entries = entries_are m.types m.funcs bodies (no_bodies m.funcs bodies many) in
+    let same = ap (λ l. (after_all at_first l).types) entries ∙ types_of_all m.types m.funcs bodies in
+    subst (λ types. NamesFunction types index) (sym same)
+    (names_function (typed m.types).types index (types_are_functions at_first m.types small plain tt) (omega (arith, below, types_counted at_first m.types)))
+
+body_at : (features : Features) (m : Made) (bodies : List (List ℕ)) → HasBodies features m bodies
     → (place : ℕ) → place < length m.funcs → BodyAt (IsTypedBody features) (sections_with m bodies) place
-body_at features m bodies v h place within =
-    let index = at m.funcs place within in
-    let named = all_at (λ index. is_some (func_type_at m.types index) ≡ true) m.funcs place index.0 v.funcs index.1 in
-    let type = some_of (func_type_at m.types index.0) named in
-    let pair = pair_at m.locals bodies place h.unreachable (omega (arith, within, v.bodies)) in
+body_at features m bodies h place below =
+    let index = at m.funcs place below in
+    let named = all_at (λ index. is_some (written_at m.types index) ≡ true) m.funcs place index.0 h.valid.funcs index.1 in
+    let type = type_named m bodies index.0 h.small h.plain (within m.types index.0 named) h.many in
+    let pair = pair_at m.locals bodies place h.unreachable (omega (arith, below, h.valid.bodies)) in
     let few : length pair.types ≤ 100 = all_at (λ (ls : List (ValType ℕ)). length ls ≤ 100) m.locals place pair.types h.few_locals pair.declared in
-    let allowed = all_at (AllByRecursion (λ (t : ValType ℕ). is_allowed features t ≡ true)) m.locals place pair.types v.locals pair.declared in
+    let allowed = all_at (AllByRecursion (λ (t : ValType ℕ). is_allowed features t ≡ true)) m.locals place pair.types h.valid.locals pair.declared in
     record {
       index = index.0;
-      type = type.0;
+      type = type.func;
       body = pair.body;
       indexed = ap (λ (l : List ℕ). slice_get l place) (functions_are m.types m.funcs bodies) ∙ index.1;
-      named = ap (λ (l : List (SubType ℕ)). func_type_at l index.0) (types_are m.types m.funcs bodies) ∙ type.1;
+      named = type.named;
       has = ap (λ (l : List (List ℕ)). slice_get l place) (bodies_are m.types m.funcs bodies h.many) ∙ pair.has;
-      holds = λ is_below. body_is_typed features is_below type.0 pair.types pair.body (few_params m.types index.0 type.0 h.small type.1) few allowed pair.is;
+      holds = λ is_below. body_is_typed features is_below type.func pair.types pair.body type.few few allowed pair.is;
     }
+
+-- ---- modules
+
+-- sections of types, functions and bodies are supported
+pub is_supported : (m : Made) (bodies : List (List ℕ)) → are_supported (entries_of (sections_with m bodies)) ≡ true
+is_supported m bodies = by_sections m.types m.funcs
+  where
+    types_supported : (types : List (SubType ℕ)) (rest : List Entry) → are_supported rest ≡ true → are_supported (of_types types ++ rest) ≡ true
+    types_supported [] rest h = h
+    types_supported (type ∷ types) rest h = types_supported types rest h
+
+    functions_supported : (functions : List ℕ) (rest : List Entry) → are_supported rest ≡ true → are_supported (of_functions functions ++ rest) ≡ true
+    functions_supported [] rest h = h
+    functions_supported (f ∷ fs) rest h = functions_supported fs rest h
+
+    bodies_supported : (bodies : List (List ℕ)) (rest : List Entry) → are_supported rest ≡ true → are_supported (of_bodies bodies ++ rest) ≡ true
+    bodies_supported [] rest h = h
+    bodies_supported (b ∷ bs) rest h = bodies_supported bs rest h
+
+    by_sections : (types : List (SubType ℕ)) (functions : List ℕ) → are_supported (entries_of (sections types functions bodies)) ≡ true
+    by_sections [] [] = refl
+    by_sections [] (f ∷ fs) = functions_supported (f ∷ fs) (of_bodies bodies ++ []) (bodies_supported bodies [] refl)
+    by_sections (t ∷ ts) [] = types_supported (t ∷ ts) [] refl
+    by_sections (t ∷ ts) (f ∷ fs) = types_supported (t ∷ ts) (of_functions (f ∷ fs) ++ (of_bodies bodies ++ []))
+        (functions_supported (f ∷ fs) (of_bodies bodies ++ []) (bodies_supported bodies [] refl))
 
 pub is_valid : (c : Config) (m : Made) (features : Features) (bodies : List (List ℕ)) → IsWithinBounds c m → IsPlainModule m → length m.types ≤ most Types → length m.funcs ≤ most Functions
     → IsValidByIndex features m → AreUnreachableBodies m.locals bodies → IsValid features (sections_with m bodies)
 is_valid c m features bodies b plain few_types few_funcs v h =
-    let kept : IsInLimits m bodies = record {
-      types = few_types;
-      funcs = few_funcs;
+    let many = as_many m.locals bodies h ∙ v.bodies in
+    let entries = entries_are m.types m.funcs bodies (no_bodies m.funcs bodies many) in
+    let named = all_are (λ index. is_some (written_at m.types index) ≡ true) (λ index. index < length m.types) (within m.types) m.funcs v.funcs in
+    let asked : IsNamed features m.types m.funcs = record { small = b.small_types; plain = plain.types; allowed = v.types; named = named } in
+    let short = all_are (λ (body : List ℕ). length body ≤ 707) (λ body. length body ≤ 7654321) (λ body p. omega (arith, p)) bodies (bodies_length m.locals bodies b.few_locals h) in
+    let few : HasFew m.types m.funcs bodies = record { few_types = few_types; few_functions = few_funcs; short = short } in
+    let has : HasBodies features m bodies = record {
       small = b.small_types;
+      plain = plain.types;
       few_locals = b.few_locals;
-      many = as_many m.locals bodies h ∙ v.bodies;
+      many = many;
       unreachable = h;
-    } in
-    let few : HasFew m bodies = record {
-      types = few_types;
-      funcs = few_funcs;
-      small = b.small_types;
-      few_bytes = sizes_kept m bodies kept.many b.few_locals h;
+      valid = v;
     } in
     record {
-      supported = is_supported m bodies plain;
+      supported = is_supported m bodies;
       fine = record {
-        within_limits = limits_kept m bodies few;
-        rules = rules_kept features m.types m.funcs bodies (groups_allowed features m.types v.types)
-            (all_pass (λ index. is_some (func_type_at m.types index)) m.funcs v.funcs);
+        rules = subst (λ l. KeepRules features at_first l) (sym entries) (rules_kept features m.types m.funcs bodies asked);
+        limits = subst (λ l. KeepLimits at_first l) (sym entries) (limits_kept m.types m.funcs bodies few b.small_types plain.types);
       };
-      bodies = λ place within. body_at features m bodies v kept place (omega (arith, within, ap length (functions_are m.types m.funcs bodies)));
+      bodies = λ place below. body_at features m bodies has place (omega (arith, below, ap length (functions_are m.types m.funcs bodies)));
     }

@@ -2,7 +2,6 @@
 use Rattle.std.proofs.Common.{◌≡◌, ◌≢◌, ◌⊎◌, ℕ, ◌<◌, ◌≤◌, Bool, true, false, List, length, Option, Some, refl, sym, subst, ap, ◌∙◌, arith, inl, inr}
 use Rattle.std.proofs.lemmas.Bool.{eq-eqb, eqb-true}
 use Rattle.wasm_spec.specs.Bodies.{IsLocalType}
-use Rattle.wasm_spec.specs.Supported.{is_supported_type}
 use Rattle.wasm_spec.specs.TypeGrammar.{heap_code, IsValType}
 use Rattle.wasm_spec.specs.Types.{AbstractHeapType, Func, Extern, Any, None, NoExtern, NoFunc, Eq, Struct, Array, I31, Exn, NoExn, Cont, NoCont, HeapType, Abstract, Concrete, ValType, I32, I64, F32, F64, V128, Ref}
 use Rattle.wasm_core.specs.TypeReading.{look_up, val_type_codes}
@@ -22,20 +21,18 @@ value_is (Ref true (Abstract heap)) h = inr refl
 value_is (Ref false (Abstract heap)) h = absurd cc
 value_is (Ref nullable (Concrete index)) h = absurd h
 
-pub plain_supported : (type : ValType ℕ) → IsPlain type → is_supported_type type ≡ true
-plain_supported I32 h = refl
-plain_supported I64 h = refl
-plain_supported F32 h = refl
-plain_supported F64 h = refl
-plain_supported V128 h = refl
-plain_supported (Ref true (Abstract heap)) h = refl
-plain_supported (Ref false (Abstract heap)) h = absurd cc
-plain_supported (Ref nullable (Concrete index)) h = absurd h
-
+-- it is the type of a local
 pub local_is : (type : ValType ℕ) → IsPlain type → IsLocalType (val_encoding type) type
-local_is type h = (value_is type h, plain_supported type h)
+local_is I32 h = (value_is I32 h, refl)
+local_is I64 h = (value_is I64 h, refl)
+local_is F32 h = (value_is F32 h, refl)
+local_is F64 h = (value_is F64 h, refl)
+local_is V128 h = (value_is V128 h, refl)
+local_is (Ref true (Abstract heap)) h = (value_is (Ref true (Abstract heap)) h, refl)
+local_is (Ref false (Abstract heap)) h = absurd cc
+local_is (Ref nullable (Concrete index)) h = absurd h
 
--- each encoding of a supported type is one byte, or two
+-- each encoding of the type of a local is one byte, or two
 pub value_length : (bytes : List ℕ) (type : ValType ℕ) → IsLocalType bytes type → length bytes ≤ 2
 value_length bytes I32 h = omega (arith, ap length h.0)
 value_length bytes I64 h = omega (arith, ap length h.0)

@@ -7,7 +7,7 @@ use Rattle.wasm_spec.specs.Features.{Features}
 use Rattle.wasm_spec.specs.Grammar.{IsModule}
 use Rattle.wasm_spec.specs.Syntax.{Section, TypeSection, FunctionSection, CodeSection}
 use Rattle.wasm_spec.specs.Types.{ValType, Single}
-use Rattle.wasm_spec.specs.Validity.{IsValid}
+use Rattle.wasm_validity.specs.Validity.{IsValid}
 use Rattle.wasm_smith.specs.Bounds.{IsWithinBounds}
 use Rattle.wasm_smith.specs.Config.{AreFeaturesOf}
 use Rattle.wasm_smith.specs.Made.{Made}

@@ -1,20 +1,22 @@
 //! Laws of made modules: where layers meet, their contracts cite these. The functions do nothing: their contracts are
 //! theorems.
 
-ghost use Rattle.std.specs.Prelude.{◌≡◌, ◌≤◌, ◌<◌, ◌^◌, ℕ, Bool, false, List, [], length, map};
+ghost use Rattle.std.specs.Prelude.{◌≡◌, ◌≤◌, ◌<◌, ◌^◌, ℕ, Bool, List, [], length, map, true};
 ghost use Rattle.std.specs.List.{AllByRecursion};
 ghost use Rattle.wasm_gen_writer.specs.Encodings.{body_encoding, module_encoding};
 ghost use Rattle.wasm_gen_writer.specs.Written.{AreUnreachableBodies, sections_with};
 ghost use Rattle.wasm_smith.specs.Bounds.{IsSmall, IsWithinBounds};
-ghost use Rattle.wasm_smith.specs.Plain.{IsPlainModule};
+ghost use Rattle.wasm_smith.specs.Plain.{IsPlainFunction, IsPlainModule};
 ghost use Rattle.wasm_smith.specs.Made.{Made};
 ghost use Rattle.wasm_smith.specs.Parts.{Config};
 ghost use Rattle.wasm_smith.specs.Validity.{IsValidByIndex};
 ghost use Rattle.wasm_spec.specs.Features.{Features};
 ghost use Rattle.wasm_spec.specs.Grammar.{IsModule};
 ghost use Rattle.wasm_spec.specs.Limits.{Limit, Types, Functions, most};
-ghost use Rattle.wasm_spec.specs.Supported.{IsSupported};
-ghost use Rattle.wasm_spec.specs.Validity.{IsValid, is_passed};
+ghost use Rattle.wasm_validity.specs.Context.{at_first};
+ghost use Rattle.wasm_validity.specs.Entries.{entries_of};
+ghost use Rattle.wasm_validity.specs.Rules.{PassLimit};
+ghost use Rattle.wasm_validity.specs.Validity.{IsValid, are_supported};
 
 /// A made module of plain types that is valid by index is valid, whatever the encodings of its bodies, unless it has too
 /// many types or functions.
@@ -24,15 +26,17 @@ pub fn valid_by_index()
         → IsValidByIndex features m → AreUnreachableBodies m.locals bodies → IsValid features (sections_with m bodies) }
 {}
 
-/// Of what stands outside of bodies a made module passes no limit, unless it has too many types or functions.
+/// Of what stands outside of bodies a made module of plain types passes no limit, unless it has too many types or
+/// functions.
 pub fn few_counts()
-    ensures { (m : Made) (limit : Limit) → AllByRecursion IsSmall m.types → length m.types ≤ most Types
-        → length m.funcs ≤ most Functions → is_passed limit (sections_with m []) ≡ false }
+    ensures { (m : Made) (limit : Limit) → AllByRecursion IsSmall m.types → AllByRecursion IsPlainFunction m.types
+        → length m.types ≤ most Types → length m.funcs ≤ most Functions
+        → ¬ (PassLimit limit at_first (entries_of (sections_with m []))) }
 {}
 
-/// The sections of a made module of plain types are supported, whatever the encodings of its bodies.
+/// The sections of a made module are supported, whatever the encodings of its bodies.
 pub fn supported_sections()
-    ensures { (m : Made) (bodies : List (List ℕ)) → IsPlainModule m → IsSupported (sections_with m bodies) }
+    ensures { (m : Made) (bodies : List (List ℕ)) → are_supported (entries_of (sections_with m bodies)) ≡ true }
 {}
 
 /// The encoding of a made module reads as its sections, with bodies of its locals, whether compact imports are on or not.

@@ -1,20 +1,22 @@
 //! The limits that a made module can pass: more types and functions can be asked for than a module may have.
 
-ghost use Rattle.std.specs.Prelude.{◌≡◌, ◌≤◌, [], length, true, false, IfSome, IfNone};
+ghost use Rattle.std.specs.Prelude.{◌≤◌, [], length, IfSome, IfNone};
 ghost use Rattle.wasm_core.specs.Limits.{limit};
 ghost use Rattle.wasm_gen_writer.specs.Written.{sections_with};
 ghost use Rattle.wasm_spec.specs.Limits.{Types, Groups, Functions, most};
-ghost use Rattle.wasm_spec.specs.Validity.{is_passed};
+ghost use Rattle.wasm_validity.specs.Context.{at_first};
+ghost use Rattle.wasm_validity.specs.Entries.{entries_of};
+ghost use Rattle.wasm_validity.specs.Rules.{PassLimit};
 
 use wasm_core::limits::Limit;
 use wasm_smith::module::Module;
 
 /// A limit that the sections of a made module pass.
 pub fn passed_limit(made: &Module) -> Option<Limit>
-    ensures found { IfSome result (λ l. is_passed (limit l) (sections_with made.now.made []) ≡ true) }
-    ensures no_types { IfNone result (is_passed Types (sections_with made.now.made []) ≡ false) }
-    ensures no_groups { IfNone result (is_passed Groups (sections_with made.now.made []) ≡ false) }
-    ensures no_functions { IfNone result (is_passed Functions (sections_with made.now.made []) ≡ false) }
+    ensures found { IfSome result (λ l. PassLimit (limit l) at_first (entries_of (sections_with made.now.made []))) }
+    ensures no_types { IfNone result (¬ (PassLimit Types at_first (entries_of (sections_with made.now.made [])))) }
+    ensures no_groups { IfNone result (¬ (PassLimit Groups at_first (entries_of (sections_with made.now.made [])))) }
+    ensures no_functions { IfNone result (¬ (PassLimit Functions at_first (entries_of (sections_with made.now.made [])))) }
     ensures few_types { IfNone result (length made.now.made.types ≤ most Types) }
     ensures few_funcs { IfNone result (length made.now.made.funcs ≤ most Functions) }
 {

@@ -58,7 +58,7 @@ drawn_bounds c s good enough =
       few_locals = valid.code_few c (length funcs.0) funcs.1;
     }
 
-drawn_plain : (c : Config) (s : List ℕ) → IsPlainModule (module_at c s).0
+pub drawn_plain : (c : Config) (s : List ℕ) → IsPlainModule (module_at c s).0
 unfolding module_at
 drawn_plain c s =
     let types = types_at c s in

@@ -8,12 +8,12 @@ use Rattle.wasm_spec.specs.Features.{Features, ReferenceTypes, MultiValue, Simd,
 use Rattle.wasm_spec.specs.Gates.{is_allowed, is_allowed_sub}
 use Rattle.wasm_spec.specs.Types.{AbstractHeapType, Func, Extern, Exn, Cont, NoCont, Abstract, ValType, I32, I64, F32, F64, V128, Ref, FuncType, FuncComposite, SubType}
 use Rattle.wasm_spec.specs.Types as spec
-use Rattle.wasm_spec.specs.Validity.{func_type_of, func_type_at}
 use Rattle.wasm_smith_config.specs.Config.{AreFeaturesOf}
 use Rattle.wasm_smith_config.specs.declared.config.Config.{Config}
 use Rattle.wasm_smith_unstructured.specs.Draws.{int_at, choose_at}
 use Rattle.wasm_smith_module.specs.Bounds.{IsSmall}
 use Rattle.wasm_smith_module.specs.Plain.{IsPlain, IsPlainFunction}
+use Rattle.wasm_smith_module.specs.Validity.{func_type_of, func_type_at}
 use Rattle.wasm_smith_module.specs.Generating.{Kind, NumberOrVector, Reference, Offers, offers, reference_to, reference_at, value_of, value_at, values_at, type_at, max_results, types_at, funcs_at, code_at}
 use Rattle.wasm_smith_module.proofs.ListLaws.{index_below, all_append, all_if, all_imply, all_pass, chosen, grow_all, grow_few, grow_enough, times_all, times_many}
 

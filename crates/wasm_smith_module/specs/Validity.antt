@@ -1,11 +1,26 @@
 -- Which made modules are valid: the rules of validation over plain lists of types and functions, a type being its index. It knows no bytes.
 -- Core Specification 3.0, Validation, "Types" and "Modules".
-use Rattle.std.specs.Prelude.{◌≡◌, true, length, is_some}
-use Rattle.std.specs.List.{AllByRecursion}
+use Rattle.std.specs.Prelude.{◌≡◌, ℕ, true, List, length, Option, Some, None, is_some}
+use Rattle.std.specs.List.{AllByRecursion, slice_get}
+use Rattle.std.specs.Option.{option_and_then}
 use Rattle.wasm_spec.specs.Features.{Features}
 use Rattle.wasm_spec.specs.Gates.{is_allowed, is_allowed_sub}
-use Rattle.wasm_spec.specs.Validity.{func_type_at}
+use Rattle.wasm_spec.specs.Types.{FuncType, CompositeType, FuncComposite, StructComposite, ArrayComposite, ContComposite, SubType}
 use Rattle.wasm_smith_module.specs.Made.{Made}
+
+-- the function type, if the type is one
+abbrev pub func_type_of : SubType ℕ → Option (FuncType ℕ)
+func_type_of type = match_func type.composite_type
+  where
+    match_func : CompositeType ℕ → Option (FuncType ℕ)
+    match_func (FuncComposite type) = Some type
+    match_func (StructComposite fields) = None
+    match_func (ArrayComposite field) = None
+    match_func (ContComposite function) = None
+
+-- the function type that an index names, if it names one
+abbrev pub func_type_at : List (SubType ℕ) → ℕ → Option (FuncType ℕ)
+func_type_at types index = option_and_then func_type_of (slice_get types index)
 
 -- The types are allowed, each function's type is a function type, each function has its locals, and these are allowed. (Types with supertypes,
 -- and references to types, are not made: `Plain` says so.)

@@ -1,4 +1,4 @@
-use Rattle.wasm_gen_writer.proofs.SectionEncodings.{is_supported}
+use Rattle.wasm_gen_writer.proofs.Validity.{is_supported}
 use Rattle.wasm_gen_writer.proofs.laws.supported_sections.Goals as goal
 
 pub returns : goal.returns

@@ -1,0 +1,6 @@
+mod AggregateLaws
+mod Meanings
+mod OperandLists
+mod Spaces
+mod StepLaws
+mod TakingLaws

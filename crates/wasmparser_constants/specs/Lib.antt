@@ -1,0 +1,3 @@
+pub mod Operands
+pub mod Scopes
+pub mod Steps

@@ -1,0 +1,59 @@
+-- What calls return that do with the operands what an operator does.
+use Rattle.std.specs.Prelude.{◌≡◌, ⊤, ℕ, List, [], ◌∷◌, Option, Some, None, Result, Ok, Err}
+use Rattle.wasm_spec.specs.Trees.{DefType}
+use Rattle.wasm_spec.specs.TypeReferences.{ref_refs, val_refs}
+use Rattle.wasm_spec.specs.Types as spec
+use Rattle.wasm_validity.specs.ConstantTyping.{ConvertsLast, Does, Effect, TakesOff, Operands as Standing}
+use Rattle.wasmparser_constants.specs.Operands.{Operands, AreKnown, meant, meant_type}
+use Rattle.wasmparser_error.specs.declared.error.Error.{Error}
+use Rattle.wasmparser_error.specs.declared.error.ErrorKind.{ErrorKind}
+use Rattle.wasmparser_error.specs.declared.error.ErrorKind.TheVariants as kinds
+use Rattle.wasmparser_module_types.specs.ModuleTypes.{KnownTypes, AreIds, CanCompare}
+use Rattle.wasmparser_types.specs.Index.{Index}
+
+-- a refusal at a place of what is wrong, or for memory
+abbrev pub Refuses : ℕ → Type 0 → ErrorKind → ℕ → Type 0
+Refuses place Wrong kinds.Invalid offset = Wrong × (offset ≡ place)
+Refuses place Wrong kinds.Memory offset = offset ≡ 0
+Refuses place Wrong _ offset = ⊥
+
+-- a type with which any operand can be compared
+pub record IsWanted (known : KnownTypes) (type : spec.ValType Index) : Type 0 where
+  pub ids : AreIds known (val_refs type)
+  pub comparable : (lower : List Index) → CanCompare known.features lower (val_refs type)
+
+-- ---- operands that are taken off
+
+-- What a call returned that takes operands of these types off, the last one first.
+abbrev pub TakesAll : KnownTypes → ℕ → List (spec.ValType DefType) → Operands → Result (Unit {0}) Error → Operands → Type 0
+TakesAll known place types old (Ok x) new = TakesOff types (meant known old) (λ others. others ≡ meant known new) × AreKnown known new
+TakesAll known place types old (Err e) new = Refuses place (¬ (TakesOff types (meant known old) (λ others. ⊤))) e.kind e.offset
+
+abbrev pub Takes : KnownTypes → ℕ → spec.ValType DefType → Operands → Result (Unit {0}) Error → Operands → Type 0
+Takes known place type old result new = TakesAll known place (type ∷ []) old result new
+
+-- a reference of one kind as one of another, if it is one, which may be null where that might
+abbrev pub IsConverted : KnownTypes → spec.AbstractHeapType → spec.AbstractHeapType → spec.ValType Index → Option (spec.RefType Index) → Type 0
+IsConverted known from to operand None = ¬ (ConvertsLast from to (meant_type known operand ∷ []) (λ others. ⊤))
+IsConverted known from to operand (Some type) =
+    ConvertsLast from to (meant_type known operand ∷ []) (λ others. others ≡ meant_type known (spec.Ref type.nullable type.heap_type) ∷ []) × AreIds known (ref_refs type)
+
+-- ---- operators
+
+-- the operands that an operator leaves
+abbrev pub Leads : Option Effect → Standing → Standing → Type 0
+Leads effect old new = Does effect old (λ next. next ≡ new)
+
+-- the operator may not stand there
+abbrev pub IsStuck : Option Effect → Standing → Type 0
+IsStuck effect old = ¬ (Does effect old (λ next. ⊤))
+
+-- What a call returned that does what an operator does.
+abbrev pub Steps : KnownTypes → ℕ → Option Effect → Operands → Result (Unit {0}) Error → Operands → Type 0
+Steps known place effect old (Ok x) new = Leads effect (meant known old) (meant known new) × AreKnown known new
+Steps known place effect old (Err e) new = Refuses place (IsStuck effect (meant known old)) e.kind e.offset
+
+-- What a call returned that judges whether something holds.
+abbrev pub Judges : ℕ → Type 0 → Result (Unit {0}) Error → Type 0
+Judges place Holds (Ok x) = Holds
+Judges place Holds (Err e) = Refuses place (¬ Holds) e.kind e.offset

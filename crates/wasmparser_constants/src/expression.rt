@@ -1,0 +1,105 @@
+//! Whether a constant expression gives a value of a type (Core Specification 3.0, Validation, "Constant Expressions").
+
+ghost use Rattle.std.specs.Prelude.{◌≡◌};
+ghost use Rattle.wasm_validity.specs.ConstantTyping.{IsConstantOf, Leaves, effect};
+ghost use Rattle.wasmparser_const_exprs.specs.ConstExprs.{expression_of};
+ghost use Rattle.wasmparser_const_exprs.specs.ConstOperators.{const_operator};
+ghost use Rattle.wasmparser_constants.specs.Operands.{AreKnown, meant, meant_type};
+ghost use Rattle.wasmparser_constants.specs.Scopes.{context, features_of, known};
+ghost use Rattle.wasmparser_constants.specs.Steps.{IsWanted, Judges, Steps};
+ghost use Rattle.wasmparser_types.specs.ValTypes.{val_type};
+
+use crate::operands::Operands;
+use crate::scope::Scope;
+use std::iter::Iterator;
+use wasmparser_const_exprs::const_expr::ConstExpr;
+use wasmparser_const_exprs::const_operator::ConstOperator;
+use wasmparser_error::error::Error;
+use wasmparser_types::heap_type::AbstractHeapType;
+use wasmparser_types::val_type::ValType;
+
+impl<'a> Scope<'a> {
+    // Does what an operator does.
+    fn step(&self, operands: &mut Operands, operator: &ConstOperator) -> Result<(), Error>
+        requires known { AreKnown (known self.now) operands.old }
+        ensures { Steps (known self.now) self.now.offset (effect (features_of self.now) (context self.now) (const_operator operator.now)) operands.old result operands.new }
+    {
+        let features = self.types.features();
+        match operator {
+            ConstOperator::I32Const { .. } => self.put(operands, &ValType::I32, true),
+            ConstOperator::I64Const { .. } => self.put(operands, &ValType::I64, true),
+            ConstOperator::F32Const { .. } => self.put(operands, &ValType::F32, features.floats()),
+            ConstOperator::F64Const { .. } => self.put(operands, &ValType::F64, features.floats()),
+            ConstOperator::V128Const { .. } => self.put(operands, &ValType::V128, features.simd()),
+            ConstOperator::RefNull { hty } => self.put_null(operands, hty),
+            ConstOperator::RefFunc { function_index } => {
+                self.put_function(operands, *function_index)
+            }
+            ConstOperator::GlobalGet { global_index } => self.put_global(operands, *global_index),
+            ConstOperator::I32Add | ConstOperator::I32Sub | ConstOperator::I32Mul => {
+                self.compute(operands, &ValType::I32)
+            }
+            ConstOperator::I64Add | ConstOperator::I64Sub | ConstOperator::I64Mul => {
+                self.compute(operands, &ValType::I64)
+            }
+            ConstOperator::StructNew { struct_type_index } => {
+                self.new_structure(operands, *struct_type_index)
+            }
+            ConstOperator::StructNewDefault { struct_type_index } => {
+                self.default_structure(operands, *struct_type_index)
+            }
+            ConstOperator::ArrayNew { array_type_index } => {
+                self.new_array(operands, *array_type_index)
+            }
+            ConstOperator::ArrayNewDefault { array_type_index } => {
+                self.default_array(operands, *array_type_index)
+            }
+            ConstOperator::ArrayNewFixed {
+                array_type_index,
+                array_size,
+            } => self.fixed_array(operands, *array_type_index, *array_size),
+            ConstOperator::AnyConvertExtern => {
+                self.convert(operands, AbstractHeapType::Extern, AbstractHeapType::Any)
+            }
+            ConstOperator::ExternConvertAny => {
+                self.convert(operands, AbstractHeapType::Any, AbstractHeapType::Extern)
+            }
+            ConstOperator::RefI31 => self.put_scalar(operands),
+        }
+    }
+
+    // One operand is left, below this type.
+    fn check_last(&self, operands: &mut Operands, wanted: &ValType) -> Result<(), Error>
+        requires known { AreKnown (known self.now) operands.old }
+        requires wanted { IsWanted (known self.now) (val_type wanted.now) }
+        ensures { Judges self.now.offset (Leaves (meant_type (known self.now) (val_type wanted.now)) (meant (known self.now) operands.old)) result }
+    {
+        self.take(operands, wanted)?;
+        if operands.len() > 0 {
+            return Err(self.broken());
+        }
+        Ok(())
+    }
+
+    /// Judges that an expression gives a value of this type, which names types by ids. The operands are emptied first; what they are
+    /// afterwards is open.
+    ///
+    /// # Errors
+    /// `Invalid` where it doesn't, at the place of refusals; `Memory` where memory runs out.
+    pub fn check_constant(
+        &self,
+        operands: &mut Operands,
+        expression: &ConstExpr<'_>,
+        wanted: &ValType,
+    ) -> Result<(), Error>
+        requires wanted { IsWanted (known self.now) (val_type wanted.now) }
+        ensures { Judges self.now.offset (IsConstantOf (features_of self.now) (context self.now) (meant_type (known self.now) (val_type wanted.now)) (expression_of expression.now.rest)) result }
+    {
+        operands.clear();
+        let mut operators = expression.operators();
+        'operators: while let Some(operator) = operators.next() {
+            self.step(operands, &operator)?;
+        }
+        self.check_last(operands, wanted)
+    }
+}

@@ -1,0 +1,9 @@
+//! Typing of constant expressions: a part of `wasmparser`.
+#![tactic(auto)]
+
+mod aggregates;
+pub mod expression;
+mod lookups;
+pub mod operands;
+pub mod scope;
+mod steps;

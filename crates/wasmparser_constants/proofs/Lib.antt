@@ -1,6 +1,8 @@
 mod AggregateLaws
 mod Meanings
 mod OperandLists
-mod Spaces
-mod StepLaws
-mod TakingLaws
+pub mod SeenLaws
+pub mod Spaces
+pub mod StepLaws
+pub mod TakingLaws
+pub mod WantedTypes

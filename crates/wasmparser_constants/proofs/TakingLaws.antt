@@ -2,13 +2,13 @@
 use Rattle.std.proofs.Common.{◌≡◌, ◌<◌, ◌-◌, ℕ, suc, List, [], ◌∷◌, ◌++◌, replicate, arith, map, reverse, ap, refl, subst, sym, ◌∙◌}
 use Rattle.std.proofs.lemmas.List.{map-append, reverse-append}
 use Rattle.std.specs.List.{AllByRecursion}
-use Rattle.std.specs.Prelude.{⊤}
+use Rattle.std.specs.Prelude.{⊤, Result, Ok, Err}
 use Rattle.wasm_spec.specs.Trees.{DefType}
 use Rattle.wasm_spec.specs.Types.{ValType}
 use Rattle.wasm_validity.specs.ConstantTyping.{Operands as Standing, TakesOff}
 use Rattle.wasmparser_constants.specs.Operands.{Operands, AreKnown, meant, meant_type}
 use Rattle.wasmparser_constants.specs.Scopes.{field_values}
-use Rattle.wasmparser_constants.specs.Steps.{Refuses}
+use Rattle.wasmparser_constants.specs.Steps.{Judges, Refuses}
 use Rattle.wasmparser_error.specs.declared.error.Error.{Error}
 use Rattle.wasmparser_error.specs.declared.error.ErrorKind.{ErrorKind}
 use Rattle.wasmparser_error.specs.declared.error.ErrorKind.TheVariants as kinds
@@ -67,6 +67,11 @@ refuses_on place kinds.Body offset f r = r
 refuses_on place kinds.Total offset f r = r
 refuses_on place kinds.Order offset f r = r
 refuses_on place kinds.Failed offset f r = r
+
+-- what a call returned that judges something judges what that is as good as
+pub judges_on : {P Q : Type 0} (place : ℕ) → (P → Q) → (Q → P) → (result : Result (Unit {0}) Error) → Judges place P result → Judges place Q result
+judges_on place f g (Ok x) h = f h
+judges_on place f g (Err e) h = refuses_on place e.kind e.offset (λ not q. not (g q)) h
 
 one_more : {X : Type 0} (x : X) (n i : ℕ) → i < n → replicate (n - i) x ≡ x ∷ replicate (n - suc i) x
 one_more x n i lt = ap (λ m. replicate m x) (later n i lt)

@@ -22,7 +22,16 @@ known scope = scope.types.now
 abbrev pub features_of : Scope → Features
 features_of scope = (known scope).features
 
--- of the context, what constant expressions ask
+-- of a context, what constant expressions ask
+abbrev pub seen : Context → Context
+seen cx = record at_first {
+  types = cx.types;
+  imported_functions = cx.imported_functions;
+  own_functions = cx.own_functions;
+  imported_globals = cx.imported_globals;
+  own_globals = cx.own_globals;
+}
+
 abbrev pub context : Scope → Context
 context scope = record at_first {
   types = (known scope).types;

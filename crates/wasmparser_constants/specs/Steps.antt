@@ -1,5 +1,7 @@
 -- What calls return that do with the operands what an operator does.
-use Rattle.std.specs.Prelude.{◌≡◌, ⊤, ℕ, List, [], ◌∷◌, Option, Some, None, Result, Ok, Err}
+use Rattle.std.specs.Prelude.{◌≡◌, ◌⊎◌, ⊤, ℕ, true, List, [], ◌∷◌, Option, Some, None, Result, Ok, Err}
+use Rattle.wasm_spec.specs.Features.{Features}
+use Rattle.wasm_spec.specs.Gates.{is_allowed}
 use Rattle.wasm_spec.specs.Trees.{DefType}
 use Rattle.wasm_spec.specs.TypeReferences.{ref_refs, val_refs}
 use Rattle.wasm_spec.specs.Types as spec
@@ -21,6 +23,10 @@ Refuses place Wrong _ offset = ⊥
 pub record IsWanted (known : KnownTypes) (type : spec.ValType Index) : Type 0 where
   pub ids : AreIds known (val_refs type)
   pub comparable : (lower : List Index) → CanCompare known.features lower (val_refs type)
+
+-- A type with which any operand can be compared once ids stand in place of its type indexes: it may be written, or it names no type.
+abbrev pub CanBeWanted : Features → spec.ValType Index → Type 0
+CanBeWanted features type = (is_allowed features type ≡ true) ⊎ (val_refs type ≡ [])
 
 -- ---- operands that are taken off
 

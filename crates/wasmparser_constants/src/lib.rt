@@ -7,3 +7,4 @@ mod lookups;
 pub mod operands;
 pub mod scope;
 mod steps;
+pub mod written_types;

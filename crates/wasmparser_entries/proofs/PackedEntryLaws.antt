@@ -2,6 +2,7 @@
 use Rattle.std.proofs.Common.{◌≡◌, ◌≤◌, ℕ, List, Option, Some, None, refl, sym, ap, ◌∙◌}
 use Rattle.std.specs.List.{AllByRecursion, Any}
 use Rattle.wasm_core_read.specs.ConstantReading.{expression_at}
+use Rattle.wasm_core_read.specs.Input.{Input}
 use Rattle.wasm_core_read.specs.PartReading.{table_at, global_at, element_from, element_at, functions_at, kind_and_items_at, bare_table_from, with_initialiser}
 use Rattle.wasm_core_read.specs.Reading.{◌>>=◌, ReadingOf, unsigned_at, seen_at, pair_at, announced_at, after_code, no_code}
 use Rattle.wasm_core_read.specs.TypeReading.{list_at, ref_type_at, table_type_from, table_type_at, global_type_at}
@@ -18,7 +19,9 @@ use Rattle.wasmparser_readers.specs.PackedReading.{packed_index}
 use Rattle.wasmparser_readers.proofs.MappedReading.{Mapped, MappedFrom, given, both, by_code, by_none, by_first, by_view, by_pair}
 use Rattle.wasmparser_readers.proofs.ModuleLaws.{item_unread, item_read, item_large, ref_back, ref_large_in, val_large_in}
 use Rattle.wasmparser_readers.proofs.PackedLaws.{ref_is}
-use Rattle.wasmparser_entries.specs.Entries.{PackedTable, table_of, refs_of_table, PackedGlobal, global_of, refs_of_global, PackedItems, Functions, Expressions, PackedElement, items_of, element_of, refs_of_items, refs_of_element, packed_refs_of_items}
+use Rattle.wasmparser_entries.specs.declared.element.ElementItems.{ElementItems}
+use Rattle.wasmparser_entries.specs.declared.element.ElementItems.TheVariants as kinds
+use Rattle.wasmparser_entries.specs.Entries.{AreItemsRead, ItemsAreLast, PackedTable, table_of, refs_of_table, PackedGlobal, global_of, refs_of_global, PackedItems, Functions, Expressions, PackedElement, items_of, element_of, refs_of_items, refs_of_element, packed_refs_of_items}
 use Rattle.wasmparser_entries.specs.PackedEntries.{bare_table, initialised_at, packed_entry_from, packed_entry_at, packed_initialised_at, typed_at, packed_element_from, packed_element_at}
 
 -- ---- tables
@@ -136,8 +139,8 @@ element_is = λ bytes. by_number (unsigned_at 32 bytes)
     by_number None = refl
     by_number (Some n) = element_is_from n.0 n.1
 
-abbrev IsElementOfModule : PackedElement → Type 0
-IsElementOfModule element = AllByRecursion IsModuleIndex (packed_refs_of_items element.items)
+abbrev IsPackedOfModule : PackedElement → Type 0
+IsPackedOfModule element = AllByRecursion IsModuleIndex (packed_refs_of_items element.items)
 
 items_back : (x : syntax.ElementItems) → AllByRecursion IsModuleIndex (packed_refs_of_items (pack_items x)) → items_of (pack_items x) ≡ x
 unfolding pack_items
@@ -149,7 +152,7 @@ unfolding pack_items
 items_large (syntax.FunctionItems functions) h = absurd (h tt)
 items_large (syntax.ExpressionItems type expressions) h = ref_large_in type h
 
-element_back : (x : syntax.ElementSegment) → IsElementOfModule (pack_element x) → element_of (pack_element x) ≡ x
+element_back : (x : syntax.ElementSegment) → IsPackedOfModule (pack_element x) → element_of (pack_element x) ≡ x
 unfolding pack_element
 element_back x h = ap (λ (i : syntax.ElementItems). record { mode = x.mode; items = i }) (items_back x.items h)
 
@@ -157,10 +160,15 @@ pub element_unread : (bytes : List ℕ) → packed_element_at bytes ≡ None →
 element_unread bytes e = item_unread _ _ _ element_is bytes e
 
 pub element_read : (bytes : List ℕ) (v : PackedElement) (rest : List ℕ) → packed_element_at bytes ≡ Some (v, rest) → AllByRecursion IsModuleIndex (packed_refs_of_items v.items) → element_at bytes ≡ Some (element_of v, rest)
-element_read bytes v rest e h = item_read _ _ _ element_of IsElementOfModule element_is element_back bytes v rest e h
+element_read bytes v rest e h = item_read _ _ _ element_of IsPackedOfModule element_is element_back bytes v rest e h
 
 pub element_large : (bytes : List ℕ) (v : PackedElement) (rest : List ℕ) → packed_element_at bytes ≡ Some (v, rest) → ¬ (AllByRecursion IsModuleIndex (packed_refs_of_items v.items)) → HasLargeIndex refs_of_element (element_at bytes)
 unfolding pack_element
-element_large bytes v rest e h = item_large _ _ _ IsElementOfModule refs_of_element element_is (λ x not. items_large x.items not) bytes v rest e h
+element_large bytes v rest e h = item_large _ _ _ IsPackedOfModule refs_of_element element_is (λ x not. items_large x.items not) bytes v rest e h
 
-pub ruleset element_items = (element_unread, element_read, element_large)
+-- items that a reader passed read again
+pub items_read : (old new : Input) (items : ElementItems) → ItemsAreLast old new items → AreItemsRead items
+items_read old new (kinds.Functions section) are = are.read
+items_read old new (kinds.Expressions type section) are = are.read
+
+pub ruleset element_items = (element_unread, element_read, element_large, items_read)

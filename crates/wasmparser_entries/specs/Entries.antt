@@ -1,6 +1,9 @@
 -- Tables, globals and segments of the code as those of the specification, with their type indexes packed.
-use Rattle.std.specs.Prelude.{⊤, ℕ, List, [], Option, Some, None}
+use Rattle.std.specs.List.{AllByRecursion}
+use Rattle.std.specs.Prelude.{◌≡◌, ⊤, ℕ, List, [], Option, Some, None}
+use Rattle.wasm_core_read.specs.ConstantReading.{expression_at}
 use Rattle.wasm_core_read.specs.Input.{Input}
+use Rattle.wasm_core_read.specs.Reading.{unsigned_at}
 use Rattle.wasm_spec.specs.Constants.{ConstantExpression}
 use Rattle.wasm_spec.specs.Syntax as syntax
 use Rattle.wasm_spec.specs.TypeReferences.{ref_map, table_map, global_map, ref_refs, table_refs, global_refs}
@@ -8,7 +11,9 @@ use Rattle.wasm_spec.specs.Types as spec
 use Rattle.wasmparser_types.specs.Index.{Index, number_of}
 use Rattle.wasmparser_const_exprs.specs.ConstExprs.{expression_of}
 use Rattle.wasmparser_items.specs.ItemTypes.{table_type, global_type}
+use Rattle.wasmparser_readers.specs.ModuleIndexes.{IsModuleIndex}
 use Rattle.wasmparser_readers.specs.Passing.{IsPart, IsLastPart}
+use Rattle.wasmparser_readers.specs.Sections.{left_items}
 use Rattle.wasmparser_entries.specs.Lists.{AreFunctions, AreExpressions, functions_of, expressions_of}
 use Rattle.wasmparser_entries.specs.declared.table.Table.{Table}
 use Rattle.wasmparser_entries.specs.declared.table.TableInit.{TableInit}
@@ -97,6 +102,11 @@ OffsetIsPart old new kinds.Declared = ⊤
 abbrev pub HasItsParts : Input → Input → Element → Type 0
 HasItsParts old new element = OffsetIsPart old new element.kind × ItemsAreLast old new element.items
 
+-- the items of a segment, which are read later, do read
+abbrev pub AreItemsRead : ElementItems → Type 0
+AreItemsRead (items.Functions section) = left_items (λ _. unsigned_at 32) section.left ≡ Some (functions_of section.left)
+AreItemsRead (items.Expressions type section) = left_items (λ _. expression_at) section.left ≡ Some (expressions_of section.left)
+
 abbrev pub packed_element : Element → PackedElement
 packed_element element = record { mode = element_mode element.kind; items = packed_items element.items }
 
@@ -117,6 +127,10 @@ refs_of_element element = refs_of_items element.items
 abbrev pub packed_refs_of_items : PackedItems → List Index
 packed_refs_of_items (Functions functions) = []
 packed_refs_of_items (Expressions type expressions) = ref_refs type
+
+-- each type is named by its place in the module, and the items, which are read later, do read
+abbrev pub IsElementOfModule : Element → Type 0
+IsElementOfModule element = AllByRecursion IsModuleIndex (packed_refs_of_items (packed_items element.items)) × AreItemsRead element.items
 
 -- ---- data segments
 

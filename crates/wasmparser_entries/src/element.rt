@@ -8,7 +8,7 @@ ghost use Rattle.wasm_core_read.specs.Reading.{Answers};
 ghost use Rattle.wasm_core_read.specs.TypeReading.{list_at};
 ghost use Rattle.wasm_spec.specs.Syntax as spec;
 ghost use Rattle.wasmparser_const_exprs.specs.ConstExprs.{expression_of};
-ghost use Rattle.wasmparser_entries.specs.Entries.{HasItsParts, ItemsAreLast, element_of, packed_element, packed_items, packed_refs_of_items, refs_of_element};
+ghost use Rattle.wasmparser_entries.specs.Entries.{HasItsParts, IsElementOfModule, ItemsAreLast, element_of, packed_element, packed_items, packed_refs_of_items, refs_of_element};
 ghost use Rattle.wasmparser_entries.specs.declared.element.ElementKind.TheVariants as kinds;
 ghost use Rattle.wasmparser_entries.specs.Lists.{AreExpressions, AreFunctions, expressions_of, functions_of};
 ghost use Rattle.wasmparser_entries.specs.PackedEntries.{marked_from, packed_element_from, packed_element_at, packed_expressions_from, typed_at};
@@ -234,7 +234,7 @@ impl<'a> Item for Element<'a> {
 
     ghost indexes = { refs_of_element };
 
-    ghost IsOfModule = { λ element. AllByRecursion IsModuleIndex (packed_refs_of_items (packed_items element.items)) };
+    ghost IsOfModule = { IsElementOfModule };
 
     ghost TakesMemory = { ⊥ };
 }
@@ -242,7 +242,7 @@ impl<'a> Item for Element<'a> {
 impl<'a> FromReader<'a> for Element<'a> {
     #[tactic(auto, using(crate::proofs::PackedEntryLaws::element_items))]
     fn from_reader(_alloc: Global, reader: &mut BinaryReader<'a>) -> Result<Element<'a>, Error>
-        ensures reads { ReadsItem (λ element. element_of (packed_element element)) (λ element. AllByRecursion IsModuleIndex (packed_refs_of_items (packed_items element.items))) ⊥ refs_of_element reader.old reader.new result (element_at reader.old.rest) }
+        ensures reads { ReadsItem (λ element. element_of (packed_element element)) IsElementOfModule ⊥ refs_of_element reader.old reader.new result (element_at reader.old.rest) }
         ensures parts { IfOk result (λ element. HasItsParts reader.old reader.new element) }
     {
         let offset = reader.original_position();

@@ -22,7 +22,7 @@ use Rattle.wasmparser_types.specs.Index.{Index}
 
 -- ---- where no reference is compared with another one
 
-abbrev AreOne : {R : Type 0} → List R → List R → Type 0
+abbrev pub AreOne : {R : Type 0} → List R → List R → Type 0
 AreOne lower upper = AllByRecursion (λ a. AllByRecursion (λ b. a ≡ b) upper) lower
 
 module _ {R S : Type 0} (f : R → S) (from : SubTypes R) (to : SubTypes S) (keeps : KeepsTypes f from to) where
@@ -94,7 +94,8 @@ allowed_lower features V128 upper allowed = inr tt
 allowed_lower features (Ref nullable (Abstract heap)) upper allowed = inr tt
 allowed_lower features (Ref nullable (Concrete r)) upper allowed = inl (allowed_concrete features nullable r allowed)
 
-none_above : (lower : List Index) → AreOne lower []
+-- no type that names none is asked
+pub none_above : (lower : List Index) → AreOne lower []
 none_above [] = tt
 none_above (a ∷ lower) = (tt, none_above lower)
 

@@ -1,5 +1,5 @@
 mod AddedGroups
-mod Comparisons
+pub mod Comparisons
 mod FuncTypes
 mod KnownIds
 mod Refusals

@@ -1,14 +1,12 @@
 -- Judging the imports of a group one by one, as they are read, is judging all of them.
-use Rattle.std.proofs.Common.{◌≡◌, ◌⊎◌, inl, inr, ◌≤◌, ◌<◌, ℕ, zero, suc, Bool, true, false, List, [], ◌∷◌, ◌++◌, length, map, Option, Some, None, option_map, refl, sym, ap, subst, ◌∙◌, arith, slice_index_or}
+use Rattle.std.proofs.Common.{◌≡◌, ◌⊎◌, inl, inr, ◌<◌, ℕ, Bool, true, false, List, [], ◌∷◌, ◌++◌, length, map, Some, refl, sym, ap, subst, ◌∙◌}
 use Rattle.std.specs.Prelude.{not, ◌&&◌}
 use Rattle.std.proofs.lemmas.Bool.{and_parts}
 use Rattle.std.proofs.lemmas.List.{append-nil}
 use Rattle.std.proofs.lemmas.List.Folds.{list_all-append}
-use Rattle.std.specs.List.{AllByRecursion, Any, list_all}
+use Rattle.std.specs.List.{AllByRecursion, list_all}
 use Rattle.wasm_core_base.specs.Limits as core
-use Rattle.wasm_core_read.specs.Input.{IsWithin}
-use Rattle.wasm_core_read.specs.Reading.{◌>>=◌, ReadingOf, filled, name_at}
-use Rattle.wasm_core_read.specs.TypeReading.{items_at}
+use Rattle.wasm_core_read.specs.Reading.{ReadingOf, name_at}
 use Rattle.wasm_core_read.proofs.Forms.{some_is}
 use Rattle.wasm_spec.specs.Features.{Features}
 use Rattle.wasm_spec.specs.Limits.{Limit, Name}
@@ -21,13 +19,13 @@ use Rattle.wasmparser_error.specs.declared.error.ErrorKind.{ErrorKind}
 use Rattle.wasmparser_error.specs.declared.error.ErrorKind.TheVariants as kinds
 use Rattle.wasmparser_imports.specs.ImportItems.{items_refs}
 use Rattle.wasmparser_items.specs.ItemTypes.{packed_refs}
-use Rattle.wasmparser_readers.specs.Answers.{HasLargeIndex, IsItemRefusal}
-use Rattle.wasmparser_readers.specs.Sections.{Left, left_items, IsEmpty, IsNext, IsNextRefusal, IsUnread}
-use Rattle.wasmparser_readers.proofs.SectionLaws.{item_and_left, none_left, unread_left}
+use Rattle.wasmparser_readers.specs.Sections.{Left, left_items, IsEmpty, IsNext, IsNextRefusal}
+use Rattle.wasmparser_readers.proofs.SectionLaws.{none_left}
 use Rattle.wasmparser_types.specs.Index.{packable}
 use Rattle.wasmparser_module_state.specs.Items.{AcceptsItems, NamesItems, named_measures}
 use Rattle.wasmparser_module_state.specs.Judging.{HasItemsMore}
 use Rattle.wasmparser_module_state.proofs.ImportLaws.{passes_first, passes_later}
+use Rattle.wasmparser_module_state.proofs.ReadItems.{HaveSmall, no_indexes, none_large, read_again, split}
 
 -- ---- what was added tells what is left
 
@@ -113,10 +111,6 @@ one_refused features old now all_names names all_types types name type kinds.Fai
 
 -- ---- the items of a group's reader
 
--- of items that name no type by an index that can't be packed
-abbrev pub HaveSmall : {A : Type 0} → (A → List ℕ) → List A → Type 0
-HaveSmall indexes items = AllByRecursion (λ x. ¬ (Any (λ index. packable ≤ index) (indexes x))) items
-
 -- Some items of a group were read and added, and the others are left.
 pub record Standing {A : Type 0} (features : Features) (item_at : ReadingOf A) (indexes : A → List ℕ) (name_of : A → List ℕ) (type_of : A → ExternalType ℕ) (all : List A) (old now : Context) (left : Left) : Type 0 where
   pub rest : List A
@@ -127,19 +121,6 @@ pub record Standing {A : Type 0} (features : Features) (item_at : ReadingOf A) (
 pub begins : {A : Type 0} (features : Features) (item_at : ReadingOf A) (indexes : A → List ℕ) (name_of : A → List ℕ) (type_of : A → ExternalType ℕ) (all : List A) (old : Context) (left : Left)
     → left_items (λ features. item_at) left ≡ Some all → HaveSmall indexes all → Standing features item_at indexes name_of type_of all old old left
 begins features item_at indexes name_of type_of all old left reads small = record { rest = all; reads = reads; small = small; added = none_added features old (map name_of all) (map type_of all) }
-
--- the first of the items that are left, and the others
-record Split {A : Type 0} (item_at : ReadingOf A) (rest : List A) (item : A) (next : Left) : Type 0 where
-  others : List A
-  is : rest ≡ item ∷ others
-  reads : left_items (λ features. item_at) next ≡ Some others
-
-split : {A : Type 0} (item_at : ReadingOf A) (left next : Left) (offset : ℕ) (item : A) (rest : List A) → left_items (λ features. item_at) left ≡ Some rest → IsNext (λ features. item_at) left next offset item → Split item_at rest item next
-split {A = A} item_at left next offset item rest e h = by_read (left_items (λ features. item_at) next) refl (sym (item_and_left (λ features. item_at) left next offset item h) ∙ e)
-  where
-    by_read : (read : Option (List A)) → left_items (λ features. item_at) next ≡ read → option_map (λ items. item ∷ items) read ≡ Some rest → Split item_at rest item next
-    by_read None is said = absurd cc
-    by_read (Some others) is said = record { others = others; is = sym (some_is (item ∷ others) rest said); reads = is }
 
 pub goes_on : {A : Type 0} (features : Features) (item_at : ReadingOf A) (indexes : A → List ℕ) (name_of : A → List ℕ) (type_of : A → ExternalType ℕ) (all : List A) (old now new : Context) (left next : Left) (offset : ℕ) (item : A)
     → Standing features item_at indexes name_of type_of all old now left → IsNext (λ features. item_at) left next offset item
@@ -175,55 +156,16 @@ pub stays : {A : Type 0} (features : Features) (item_at : ReadingOf A) (indexes 
     → Standing features item_at indexes name_of type_of all old now left → new ≡ now → HasItemsMore old new
 stays features item_at indexes name_of type_of all old now new left s same = subst (HasItemsMore old) (sym same) s.added.more
 
--- the first of the items that are left is the one that reads
-first_of : {A : Type 0} (item_at : ReadingOf A) (n : ℕ) (bytes : List ℕ) (rest : List A) (read : A × List ℕ) → filled (items_at item_at (suc n) bytes) ≡ Some rest → item_at bytes ≡ Some read → (others : List A) × (rest ≡ read.0 ∷ others)
-unfolding items_at
-first_of {A = A} item_at n bytes rest read e is = by_others (items_at item_at n read.1) (rw is at e)
-  where
-    by_others : (more : Option (List A × List ℕ)) → filled (more >>= λ others. Some (read.0 ∷ others.0, others.1)) ≡ Some rest → (others : List A) × (rest ≡ read.0 ∷ others)
-    by_others None h = absurd cc
-    by_others (Some (xs, [])) h = (xs, sym (some_is (read.0 ∷ xs) rest h))
-    by_others (Some (xs, b ∷ bs)) h = absurd cc
-
 -- the items of a group have read before, so that none is refused as one that doesn't
 pub never_refused : {A : Type 0} (features : Features) (item_at : ReadingOf A) (indexes : A → List ℕ) (name_of : A → List ℕ) (type_of : A → ExternalType ℕ) (all : List A) (old now : Context) (left : Left) (e : Error)
     → Standing features item_at indexes name_of type_of all old now left → IsNextRefusal ⊥ indexes (λ features. item_at) left e → ⊥
-unfolding left_items
-never_refused {A = A} features item_at indexes name_of type_of all old now left e s h = by_kind e.kind h
-  where
-    large_first : (count : ℕ) → left.count ≡ count → 0 < count → (read : Option (A × List ℕ)) → item_at left.input.rest ≡ read → HasLargeIndex indexes read → ⊥
-    large_first zero counted lt read is large = absurd (omega (arith, lt))
-    large_first (suc count) counted lt None is large = large
-    large_first (suc count) counted lt (Some read) is large =
-        let first = first_of item_at count left.input.rest s.rest read (ap (λ n. filled (items_at item_at n left.input.rest)) (sym counted) ∙ s.reads) is in
-        let small : HaveSmall indexes (read.0 ∷ first.0) = subst (HaveSmall indexes) first.1 s.small in
-        small.0 large
-
-    by_kind : (kind : ErrorKind) → IsItemRefusal kind e.offset ⊥ (IsUnread (λ features. item_at) left × IsWithin left.input e.offset)
-        ((0 < left.count) × HasLargeIndex indexes (item_at left.input.rest) × (e.offset ≡ left.input.position)) → ⊥
-    by_kind kinds.Malformed h = let said = sym (unread_left (λ features. item_at) left h.0) ∙ s.reads in absurd cc
-    by_kind kinds.Invalid h = large_first left.count refl h.0 (item_at left.input.rest) refl h.1
-    by_kind kinds.Memory h = h.0
-    by_kind (kinds.Limit l) h = h
-    by_kind kinds.Operator h = h
-    by_kind kinds.Body h = h
-    by_kind kinds.Total h = h
-    by_kind kinds.Order h = h
-    by_kind kinds.Failed h = h
+never_refused features item_at indexes name_of type_of all old now left e s h = read_again item_at indexes left s.rest e s.reads s.small h
 
 -- ---- small indexes
 
 all_parts : (P : ℕ → Type 0) (xs ys : List ℕ) → AllByRecursion P (xs ++ ys) → AllByRecursion P xs × AllByRecursion P ys
 all_parts P [] ys all = (tt, all)
 all_parts P (x ∷ xs) ys all = let others = all_parts P xs ys all.1 in ((all.0, others.0), others.1)
-
-none_large : (xs : List ℕ) → AllByRecursion (λ n. n < packable) xs → ¬ (Any (λ n. packable ≤ n) xs)
-none_large [] all any = absurd (omega (arith, any.2))
-none_large (x ∷ xs) all any = by_place (none_large xs all.1) any.0 any.1 any.2 any.3 any.4
-  where
-    by_place : ¬ (Any (λ n. packable ≤ n) xs) → (place n : ℕ) → place < length (x ∷ xs) → slice_index_or (x ∷ xs) place n ≡ n → packable ≤ n → ⊥
-    by_place others zero n lt is large = let same : x ≡ n = is in omega (arith, all.0, same, large)
-    by_place others (suc place) n lt is large = others (place, n, omega (arith, lt), is, large)
 
 pub small_items : (items : List ImportItem) → AllByRecursion (λ n. n < packable) (items_refs items) → HaveSmall (λ item. packed_refs item.type) items
 small_items [] all = tt
@@ -232,8 +174,7 @@ small_items (item ∷ items) all =
     (none_large (packed_refs item.type) parts.0, small_items items parts.1)
 
 pub small_names : (names : List (List ℕ)) → HaveSmall (λ name. []) names
-small_names [] = tt
-small_names (name ∷ names) = (none_large [] tt, small_names names)
+small_names names = no_indexes names
 
 -- ---- names of one type
 

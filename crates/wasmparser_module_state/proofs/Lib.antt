@@ -1,9 +1,12 @@
 mod EntryLaws
 mod FuncTypes
-mod FunctionSpace
 mod GroupLaws
 mod ImportLaws
 mod ItemTypes
+mod Judged
+mod ReadItems
+mod SegmentLaws
 mod Sizes
 mod TypeCounts
 mod TypeLaws
+mod UnitTypes

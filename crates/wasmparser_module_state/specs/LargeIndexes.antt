@@ -1,4 +1,4 @@
--- An import with an index that can't be packed breaks its rule, where the types are within their limit: no type has that index.
+-- An item with an index that can't be packed breaks its rule, where the types are within their limit: no type has that index.
 use Rattle.std.specs.Prelude.{◌≡◌, ◌≤◌, ◌⊎◌, ℕ, true, List, [], ◌∷◌, ◌++◌, length, map, nat_lt, refl}
 use Rattle.std.specs.List.{list_all}
 use Rattle.std.proofs.Common.{inl, inr, sym, subst, lit≤}
@@ -6,13 +6,14 @@ use Rattle.std.proofs.Math.Nat.{le_trans, lt_of_lt_of_le, not-le_of_lt}
 use Rattle.std.proofs.lemmas.Bool.{and_parts, ltb-true}
 use Rattle.wasm_spec.specs.Features.{Features}
 use Rattle.wasm_spec.specs.Limits.{Types, most, total_of_types}
-use Rattle.wasm_spec.specs.Syntax.{ImportEntry, Import, CompactItems, CompactNames, ImportItem}
+use Rattle.wasm_spec.specs.Syntax.{ImportEntry, Import, CompactItems, CompactNames, ImportItem, Table, Global, ElementSegment, ElementItems, FunctionItems, ExpressionItems}
 use Rattle.wasm_spec.specs.TypeReferences.{heap_refs, val_refs, table_refs, global_refs}
 use Rattle.wasm_spec.specs.Types.{HeapType, Abstract, Concrete, ValType, I32, I64, F32, F64, V128, Ref, ExternalType, FuncExternal, TableExternal, MemoryExternal, GlobalExternal, TagExternal}
 use Rattle.wasm_validity.specs.Context.{Context, after_item}
-use Rattle.wasm_validity.specs.Entries.{OfImport}
-use Rattle.wasm_validity.specs.Rules.{Keeps, keeps_item, keep_items, has_small_index}
+use Rattle.wasm_validity.specs.Entries.{OfImport, OfTable, OfGlobal, OfElement}
+use Rattle.wasm_validity.specs.Rules.{Keeps, KeepsItems, keeps_item, keep_items, has_small_index}
 use Rattle.wasm_validity.specs.TypeRules.{is_named, is_value}
+use Rattle.wasmparser_entries.specs.Entries.{refs_of_element, refs_of_global, refs_of_items, refs_of_table}
 use Rattle.wasmparser_imports.specs.ImportEntries.{entry_refs}
 use Rattle.wasmparser_imports.specs.ImportItems.{items_refs}
 use Rattle.wasmparser_items.specs.ItemTypes.{packed_refs}
@@ -86,3 +87,18 @@ pub large_import : (features : Features) (cx : Context) (entry : ImportEntry) �
 large_import features cx (Import origin name type) few large keeps = no_item features cx type few large (and_parts (keeps_item features cx type) true keeps).0
 large_import features cx (CompactItems origin items) few large keeps = no_items features cx items few large keeps
 large_import features cx (CompactNames origin type names) few large keeps = not_small type large (and_parts _ _ keeps).0
+
+-- ---- the module's own items
+
+pub large_table : (features : Features) (cx : Context) (table : Table) → length cx.types ≤ most Types → HasLarge (refs_of_table table) → ¬ (Keeps features cx (OfTable table))
+large_table features cx table few large keeps = no_item features cx (TableExternal table.type) few large keeps.type
+
+pub large_global : (features : Features) (cx : Context) (global : Global) → length cx.types ≤ most Types → HasLarge (refs_of_global global) → ¬ (Keeps features cx (OfGlobal global))
+large_global features cx global few large keeps = no_value features cx global.type.value_type few large keeps.type
+
+pub large_element : (features : Features) (cx : Context) (segment : ElementSegment) → length cx.types ≤ most Types → HasLarge (refs_of_element segment) → ¬ (Keeps features cx (OfElement segment))
+large_element features cx segment few large keeps = by_items segment.items large keeps.items
+  where
+    by_items : (items : ElementItems) → HasLarge (refs_of_items items) → KeepsItems features cx items → ⊥
+    by_items (FunctionItems functions) large keeps = large
+    by_items (ExpressionItems type expressions) large keeps = not_named cx type.heap_type few large (and_parts _ _ keeps.0).1

@@ -1,3 +1,4 @@
+pub mod Initialisers
 pub mod Items
 pub mod Judging
 pub mod LargeIndexes

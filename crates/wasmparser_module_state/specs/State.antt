@@ -28,7 +28,7 @@ global type = global_map number_of (global_type type)
 abbrev pub item : TypeRef → spec.ExternalType ℕ
 item type = external_map number_of (type_ref type)
 
--- exports and segments can't be added yet
+-- exports can't be added yet
 abbrev pub context : ModuleState → Context
 context s = record {
   types = s.types.types;
@@ -42,8 +42,8 @@ context s = record {
   imported_globals = map global s.imported_globals.items;
   own_globals = map global s.own_globals.items;
   exports = [];
-  elements = 0;
-  segments = 0;
+  elements = s.elements;
+  segments = s.segments;
   type_size = s.type_size;
 }
 

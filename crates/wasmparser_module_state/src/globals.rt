@@ -1,10 +1,20 @@
 //! The space of globals (Core Specification 3.0, Validation, "Globals").
 
-ghost use Rattle.std.specs.Prelude.{◌≡◌, ◌+◌, length, nat_le};
-ghost use Rattle.wasmparser_module_state.specs.State.{context};
+ghost use Rattle.std.specs.Prelude.{◌≡◌, ◌+◌, ◌++◌, ◌∷◌, [], refl, IfErr, IfOk, length, nat_le};
+ghost use Rattle.wasm_validity.specs.Entries.{OfGlobal};
+ghost use Rattle.wasmparser_entries.specs.Entries.{global_of, packed_global};
+ghost use Rattle.wasmparser_error.specs.declared.error.ErrorKind.TheVariants as kinds;
+ghost use Rattle.wasmparser_module_entries.specs.EntryReading.{global_entry_at};
+ghost use Rattle.wasmparser_module_state.specs.LargeIndexes.{large_global};
+ghost use Rattle.wasmparser_module_state.specs.State.{context, features_of, global};
 
-use crate::module_state::ModuleState;
-use wasm_core_base::limits::MAX_WASM_GLOBALS;
+use crate::entry::Entry;
+use crate::module_state::{ModuleState, refusal};
+use wasm_core_base::limits::{Limit, MAX_WASM_GLOBALS};
+use wasmparser_entries::global::Global;
+use wasmparser_error::error::{Error, ErrorKind};
+use wasmparser_items::global_type::GlobalType;
+use wasmparser_types::val_type::ValType;
 
 impl ModuleState {
     /// Whether there are as many globals as there may be.
@@ -14,5 +24,36 @@ impl ModuleState {
         let imported = self.imported_globals.len() as u64;
         let own = self.own_globals.len() as u64;
         imported >= MAX_WASM_GLOBALS || own >= MAX_WASM_GLOBALS - imported
+    }
+
+    fn push_own_global(&mut self, content_type: ValType, mutable: bool) -> Result<(), Error>
+        ensures pushed { IfOk result (λ _. context self.new ≡ record (context self.old) { own_globals = (context self.old).own_globals ++ global (record { content_type = content_type; mutable = mutable }) ∷ [] }) }
+        ensures refused { IfErr result (λ e. (e ≡ record { offset = 0; kind = kinds.Memory }) × (context self.new ≡ context self.old)) }
+        ensures features { features_of self.new ≡ features_of self.old }
+    {
+        self.own_globals.push(GlobalType {
+            content_type,
+            mutable,
+        })?;
+        Ok(())
+    }
+}
+
+impl<'a> Entry for Global<'a> {
+    ghost entry = { λ x. OfGlobal (global_of (packed_global x)) };
+
+    ghost entry_at = { global_entry_at };
+
+    ghost is_made = { record { made = λ x. OfGlobal x; is = λ x. refl; reads = λ _ bytes. refl; breaks = large_global } };
+
+    fn add(self, state: &mut ModuleState, offset: u64) -> Result<(), Error> {
+        if !state.is_value(&self.ty.content_type) {
+            return Err(refusal(offset, ErrorKind::Invalid));
+        }
+        if state.has_all_globals() {
+            return Err(refusal(offset, ErrorKind::Limit(Limit::Globals)));
+        }
+        state.check_initialiser(&self.init_expr, &self.ty.content_type, offset)?;
+        state.push_own_global(self.ty.content_type, self.ty.mutable)
     }
 }

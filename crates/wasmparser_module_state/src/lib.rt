@@ -3,16 +3,20 @@
 
 pub mod body;
 pub mod custom_section;
+pub mod data;
 pub mod data_count;
+pub mod elements;
 pub mod entry;
 pub mod functions;
-mod globals;
+pub mod globals;
 pub mod import_entries;
 pub mod imports;
+mod initialisers;
 pub mod item_types;
 pub mod memories;
 pub mod module_state;
 mod names;
 pub mod start;
+pub mod tables;
 pub mod tags;
 pub mod types;

@@ -1,6 +1,6 @@
 //! Memories, and those of a module's own (Core Specification 3.0, Validation, "Memory Types" and "Memories").
 
-ghost use Rattle.std.specs.Prelude.{◌≡◌, refl};
+ghost use Rattle.std.specs.Prelude.{◌≡◌, refl, option_map, slice_get};
 ghost use Rattle.wasm_core_base.specs.Features.{feature_set};
 ghost use Rattle.wasm_validity.specs.Entries.{OfMemory};
 ghost use Rattle.wasm_validity.specs.Rules.{keeps_memory};
@@ -48,6 +48,14 @@ fn is_memory_type(features: WasmFeatures, ty: MemoryType) -> bool
 }
 
 impl ModuleState {
+    /// The type of the memory with this index, if there is one.
+    #[tactic(auto, using(crate::proofs::SegmentLaws::space_steps))]
+    pub(crate) fn memory_at(&self, index: u32) -> Option<MemoryType>
+        ensures { option_map memory_type result ≡ slice_get (context self.now).memories index }
+    {
+        self.memories.get(index as usize).copied()
+    }
+
     /// Whether another memory of this type keeps the rules.
     pub(crate) fn keeps_memory(&self, ty: MemoryType) -> bool
         ensures { result ≡ keeps_memory (features_of self.now) (context self.now) (memory_type ty) }

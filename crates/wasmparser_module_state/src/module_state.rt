@@ -8,6 +8,7 @@ ghost use Rattle.wasmparser_module_state.specs.State.{context, features_of};
 
 use std::alloc::Global;
 use wasm_core_base::features::WasmFeatures;
+use wasmparser_constants::operands::Operands;
 use wasmparser_error::error::{Error, ErrorKind};
 use wasmparser_items::global_type::GlobalType;
 use wasmparser_items::memory_type::MemoryType;
@@ -26,7 +27,11 @@ pub struct ModuleState {
     pub(crate) tags: Vec<u32>,
     pub(crate) imported_globals: Vec<GlobalType>,
     pub(crate) own_globals: Vec<GlobalType>,
+    pub(crate) elements: u32,
+    pub(crate) segments: u32,
     pub(crate) type_size: u32,
+    // (kept for its room alone: contracts don't see it)
+    pub(crate) operands: Operands,
 }
 
 // A refusal at a place.
@@ -52,7 +57,10 @@ impl ModuleState {
             tags: Vec::new(alloc),
             imported_globals: Vec::new(alloc),
             own_globals: Vec::new(alloc),
+            elements: 0,
+            segments: 0,
             type_size: 1,
+            operands: Operands::new(alloc),
         }
     }
 
@@ -104,5 +112,19 @@ impl ModuleState {
         ensures { result ≡ length (context self.now).tags }
     {
         self.tags.len()
+    }
+
+    /// The number of element segments.
+    pub fn element_count(&self) -> u32
+        ensures { result ≡ (context self.now).elements }
+    {
+        self.elements
+    }
+
+    /// The number of data segments.
+    pub fn data_count(&self) -> u32
+        ensures { result ≡ (context self.now).segments }
+    {
+        self.segments
     }
 }

@@ -1,6 +1,6 @@
 //! The start function (Core Specification 3.0, Validation, "Start Function").
 
-ghost use Rattle.std.specs.Prelude.{◌≡◌, ◌≢◌, ◌++◌, slice_get, IfErr};
+ghost use Rattle.std.specs.Prelude.{◌≡◌, ◌≢◌, slice_get, IfErr};
 ghost use Rattle.wasm_validity.specs.Context.{functions_in};
 ghost use Rattle.wasm_validity.specs.Entries.{OfStart};
 ghost use Rattle.wasm_validity.specs.Rules.{is_unit, keeps_start};
@@ -10,22 +10,8 @@ ghost use Rattle.wasmparser_module_state.specs.Judging.{Adds};
 ghost use Rattle.wasmparser_module_state.specs.State.{context, features_of};
 
 use crate::module_state::{ModuleState, refusal};
+use wasmparser_constants::scope::item_at;
 use wasmparser_error::error::{Error, ErrorKind};
-
-// The type index of a function, if there is that function: imported ones stand before the module's own.
-#[tactic(auto, using(crate::proofs::FunctionSpace::function_steps))]
-fn type_at(imported: &[u32], own: &[u32], function: usize) -> Option<u32>
-    ensures { result ≡ slice_get (imported.now ++ own.now) function }
-{
-    if function < imported.len() {
-        return Some(imported[function]);
-    }
-    let place = function - imported.len();
-    if place < own.len() {
-        return Some(own[place]);
-    }
-    None
-}
 
 impl ModuleState {
     ghost use Rattle.std.specs.Prelude.{◌≡◌};
@@ -34,7 +20,7 @@ impl ModuleState {
     fn type_of_function(&self, function: u32) -> Option<u32>
         ensures { result ≡ slice_get (functions_in (context self.now)) function }
     {
-        type_at(
+        item_at(
             &self.imported_functions,
             &self.own_functions,
             function as usize,
@@ -42,7 +28,7 @@ impl ModuleState {
     }
 
     // Whether an index names the type of functions that take and give nothing.
-    #[tactic(auto, using(crate::proofs::FunctionSpace::unit_steps))]
+    #[tactic(auto, using(crate::proofs::UnitTypes::unit_steps))]
     fn is_unit_type(&self, index: u32) -> bool
         ensures { result ≡ is_unit (func_type_at (context self.now).types index) }
     {

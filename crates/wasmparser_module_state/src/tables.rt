@@ -1,0 +1,66 @@
+//! Tables of a module's own (Core Specification 3.0, Validation, "Tables").
+
+ghost use Rattle.std.specs.Prelude.{◌≡◌, refl, true, option_map, slice_get};
+ghost use Rattle.wasm_validity.specs.Entries.{OfTable};
+ghost use Rattle.wasm_validity.specs.Rules.{keeps_table};
+ghost use Rattle.wasmparser_constants.specs.Steps.{Judges};
+ghost use Rattle.wasmparser_entries.specs.Entries.{packed_table, table_of};
+ghost use Rattle.wasmparser_module_entries.specs.EntryReading.{table_entry_at};
+ghost use Rattle.wasmparser_module_state.specs.Initialisers.{IsFilled};
+ghost use Rattle.wasmparser_module_state.specs.LargeIndexes.{large_table};
+ghost use Rattle.wasmparser_module_state.specs.State.{context, features_of, table};
+
+use crate::entry::Entry;
+use crate::module_state::{ModuleState, refusal};
+use wasm_core_base::limits::{Limit, MAX_WASM_TABLES};
+use wasmparser_entries::table::{Table, TableInit};
+use wasmparser_error::error::{Error, ErrorKind};
+use wasmparser_items::table_type::TableType;
+use wasmparser_types::val_type::ValType;
+
+impl ModuleState {
+    /// The type of the table with this index, if there is one.
+    #[tactic(auto, using(crate::proofs::SegmentLaws::space_steps))]
+    pub(crate) fn table_at(&self, index: u32) -> Option<TableType>
+        ensures { option_map table result ≡ slice_get (context self.now).tables index }
+    {
+        self.tables.get(index as usize).copied()
+    }
+
+    // Judges what the elements of a table begin as.
+    fn check_elements(&mut self, item: &Table<'_>, offset: u64) -> Result<(), Error>
+        requires keeps { keeps_table (features_of self.old) (context self.old) (table item.now.ty) ≡ true }
+        ensures judged { Judges offset (IsFilled (features_of self.old) (context self.old) (table_of (packed_table item.now))) result }
+        ensures same { context self.new ≡ context self.old }
+        ensures features { features_of self.new ≡ features_of self.old }
+    {
+        let element_type = item.ty.element_type;
+        match &item.init {
+            TableInit::RefNull if element_type.is_nullable() => Ok(()),
+            TableInit::Expr(expression) if self.features().function_references() => {
+                self.check_table_initialiser(expression, &ValType::Ref(element_type), offset)
+            }
+            _ => Err(refusal(offset, ErrorKind::Invalid)),
+        }
+    }
+}
+
+impl<'a> Entry for Table<'a> {
+    ghost entry = { λ x. OfTable (table_of (packed_table x)) };
+
+    ghost entry_at = { table_entry_at };
+
+    ghost is_made = { record { made = λ x. OfTable x; is = λ x. refl; reads = λ _ bytes. refl; breaks = large_table } };
+
+    fn add(self, state: &mut ModuleState, offset: u64) -> Result<(), Error> {
+        if !state.keeps_table(&self.ty) {
+            return Err(refusal(offset, ErrorKind::Invalid));
+        }
+        if state.tables.len() as u64 >= MAX_WASM_TABLES {
+            return Err(refusal(offset, ErrorKind::Limit(Limit::Tables)));
+        }
+        state.check_elements(&self, offset)?;
+        state.tables.push(self.ty)?;
+        Ok(())
+    }
+}

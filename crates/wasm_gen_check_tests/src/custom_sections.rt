@@ -55,6 +55,6 @@ pub const ROWS: &str = "
     default | 00 03 02 e2 82       | Malformed
     default | 00 04 03 f0 9f 98    | Malformed
     default | 00 02 01 80          | Malformed
-    // With no entries, sections of these ids are a module. What a start section says then is a function. The id in the row is one of many.
-    ids     | 01 01 00             | 1 2 3 4 5 6 7 9 10 11 13, but Invalid 8
+    // With no entries, sections of these ids are a module. What a start section says then is a function, and a data count none. The id in the row is one of many.
+    ids     | 01 01 00             | 1 2 3 4 5 6 7 9 10 11 12 13, but Invalid 8
 ";

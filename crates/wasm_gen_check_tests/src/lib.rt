@@ -6,9 +6,15 @@ mod custom_sections;
 #[cfg(test)]
 mod cuts;
 #[cfg(test)]
+mod data_segments;
+#[cfg(test)]
+mod elements;
+#[cfg(test)]
 mod function_limits;
 #[cfg(test)]
 mod functions;
+#[cfg(test)]
+mod globals;
 #[cfg(test)]
 mod lines;
 pub mod modules;
@@ -18,6 +24,8 @@ mod other_sections;
 mod rows;
 #[cfg(test)]
 mod sessions;
+#[cfg(test)]
+mod tables;
 #[cfg(test)]
 mod types;
 #[cfg(test)]

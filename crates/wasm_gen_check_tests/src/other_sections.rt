@@ -1,4 +1,4 @@
-//! Imports, memories, tags, the start function, and sections of which no item is supported.
+//! Imports, memories, tags, the start function, and exports, which aren't supported.
 
 /// Features, sections, and the answer.
 pub const ROWS: &str = "
@@ -66,13 +66,9 @@ pub const ROWS: &str = "
     // Tags stand before the start function, and after memories.
     default              | types functions 05 03 01 00 01 0d 03 01 00 00 08 01 00 code | yes
     default              | types 0d 03 01 00 00 05 03 01 00 01 | Malformed
-    // Items that aren't supported: a table, a global, an export, element and data segments, a data count.
-    default              | 04 04 01 70 00 00                 | Malformed
-    default              | 06 06 01 7f 00 41 00 0b           | Malformed
+    // An export, which isn't supported, and none.
     default              | 05 03 01 00 01 07 05 01 01 6d 02 00 | Malformed
-    default              | 09 04 01 01 00 00                 | Malformed
-    default              | 0b 03 01 01 00                    | Malformed
-    default              | 0c 01 00                          | Malformed
+    default              | 07 01 00                          | yes
     // A byte after no items.
     default              | 02 02 00 00                       | Malformed
     default              | 0b 02 00 00                       | Malformed

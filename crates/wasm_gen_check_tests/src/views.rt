@@ -13,9 +13,9 @@ fn writes(alloc: Global, bytes: &[u8], line: &str) -> bool {
     answer == Ok(line.starts_with("yes")) && written.strip_suffix(b"\n") == Some(line.as_bytes())
 }
 
-// Whether a view has none of what isn't supported.
-fn has_nothing_else(view: TypesRef<'_>) -> bool {
-    view.element_count() == 0 && view.core_exports().is_some_and(|it| it.count() == 0)
+// Whether a view has no exports, which aren't supported.
+fn has_no_exports(view: TypesRef<'_>) -> bool {
+    view.core_exports().is_some_and(|it| it.count() == 0)
 }
 
 // Whether a view counts what the line says.
@@ -26,10 +26,11 @@ fn is_line_of(alloc: Global, view: TypesRef<'_>, line: &str) -> bool {
     let memories = view.memory_count();
     let globals = view.global_count();
     let tags = view.tag_count();
+    let elements = view.element_count();
     let shown = format!(in alloc;
-        "yes types={types} functions={functions} tables={tables} memories={memories} globals={globals} tags={tags} elements=0 exports=0"
+        "yes types={types} functions={functions} tables={tables} memories={memories} globals={globals} tags={tags} elements={elements} exports=0"
     );
-    shown.is_ok_and(|it| it.as_str() == line) && has_nothing_else(view)
+    shown.is_ok_and(|it| it.as_str() == line) && has_no_exports(view)
 }
 
 /// Whether the line is written of a module, and its view counts what the line says.

@@ -1,11 +1,12 @@
 -- Values that worked examples share.
 use Rattle.std.specs.Prelude.{◌≡◌, ℕ, suc, Bool, true, false, List, [], ◌∷◌, ◌++◌, length, Some, None}
 use Rattle.std.specs.List.{list_all}
+use Rattle.wasm_spec.specs.Examples.{at_least}
 use Rattle.wasm_spec.specs.Features.{Flag, Features, has}
 use Rattle.wasm_spec.specs.Limits.{Limit}
-use Rattle.wasm_spec.specs.Syntax.{Import}
+use Rattle.wasm_spec.specs.Syntax.{Import, Table}
 use Rattle.wasm_spec.specs.TypeExamples.{empty_structure, final_type, gives, takes}
-use Rattle.wasm_spec.specs.Types.{HeapType, I32, I64, RefType, ValType, FuncComposite, Single, Limits, TableType, GlobalType, ExternalType, ExternalKind}
+use Rattle.wasm_spec.specs.Types.{HeapType, I32, I64, RefType, ValType, FuncComposite, Single, Limits, TableType, GlobalType, ExternalType, ExternalKind, funcref}
 use Rattle.wasm_validity.specs.Context.{Context, after_all, at_first}
 use Rattle.wasm_validity.specs.Entries.{Entry, OfExport, OfImport, OfTable, OfType}
 use Rattle.wasm_validity.specs.Rules.{Keeps, Passes, measures}
@@ -58,6 +59,10 @@ table_of type limits = record { element_type = type; limits = limits }
 -- a table of the module's own without an initialiser
 abbrev pub own_table : RefType ℕ → Limits → Entry
 own_table type limits = OfTable (record { type = table_of type limits; initialiser = None })
+
+-- one of references to functions
+abbrev pub one_table : Table
+one_table = record { type = table_of funcref (at_least 1); initialiser = None }
 
 abbrev pub constant : ValType ℕ → GlobalType ℕ
 constant type = record { value_type = type; mutable = false }

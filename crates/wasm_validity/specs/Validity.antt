@@ -1,5 +1,5 @@
--- Which modules are valid. Core Specification 3.0, Validation, "Modules". A valid module has only what is supported: entries that validators judge,
--- and bodies of supported operators, with locals of supported types.
+-- Which modules are valid. Core Specification 3.0, Validation, "Modules". A valid module has only what is supported: entries other than exports,
+-- which validators don't judge, and bodies of supported operators, with locals of supported types.
 use Rattle.std.specs.Prelude.{◌≡◌, ℕ, Bool, true, false, List, Some}
 use Rattle.std.specs.List.{EachIndex, SomeIndex, list_all, slice_get}
 use Rattle.wasm_spec.specs.Bodies.{Context as BodyContext, IsFunctionBody, HasManyLocals, HasOtherOperator}
@@ -11,24 +11,16 @@ use Rattle.wasm_spec.specs.Trees.{DefType}
 use Rattle.wasm_spec.specs.Types.{ValType, FuncType}
 use Rattle.wasm_validity.specs.Context.{Context, after_all, at_first}
 use Rattle.wasm_validity.specs.DefinedTypes.{func_type_at}
-use Rattle.wasm_validity.specs.Entries.{Entry, OfCustom, OfType, OfImport, OfFunction, OfMemory, OfTags, OfTag, OfStart, OfBody, entries_of}
+use Rattle.wasm_validity.specs.Entries.{Entry, OfExport, entries_of}
 use Rattle.wasm_validity.specs.Fronts.{BeginsWith}
 use Rattle.wasm_validity.specs.Rules.{KeepRules, KeepLimits, PassLimit}
 
 -- ---- what is supported
 
--- This goes away once all entries are judged.
+-- This goes away once exports are judged too.
 abbrev pub is_supported : Entry → Bool
-is_supported (OfCustom name) = true
-is_supported (OfType group) = true
-is_supported (OfImport entry) = true
-is_supported (OfFunction index) = true
-is_supported (OfMemory type) = true
-is_supported OfTags = true
-is_supported (OfTag index) = true
-is_supported (OfStart function) = true
-is_supported (OfBody body) = true
-is_supported _ = false
+is_supported (OfExport export) = false
+is_supported _ = true
 
 abbrev pub are_supported : List Entry → Bool
 are_supported entries = list_all is_supported entries

@@ -126,6 +126,15 @@ pub fn globals()
     ensures exported_variable { KeptWith (MutableGlobal ∷ []) (record at_first { own_globals = constant I32 ∷ variable I32 ∷ [] }) (exports [] GlobalKind 1) }
 {}
 
+/// Exports of globals, of which imported ones come first.
+pub fn exported_globals()
+    ensures imported { IsKept (record at_first { imported_globals = constant I32 ∷ []; own_globals = variable I32 ∷ constant I32 ∷ [] }) (exports [] GlobalKind 0) }
+    ensures own_variable { KeptWith (MutableGlobal ∷ []) (record at_first { imported_globals = constant I32 ∷ []; own_globals = variable I32 ∷ constant I32 ∷ [] }) (exports [] GlobalKind 1) }
+    ensures own { IsKept (record at_first { imported_globals = constant I32 ∷ []; own_globals = variable I32 ∷ constant I32 ∷ [] }) (exports [] GlobalKind 2) }
+    ensures past { IsBroken (record at_first { imported_globals = constant I32 ∷ []; own_globals = variable I32 ∷ constant I32 ∷ [] }) (exports [] GlobalKind 3) }
+    ensures imported_variable { KeptWith (MutableGlobal ∷ []) (after at_first (imports (GlobalExternal (variable I32)))) (exports [] GlobalKind 0) }
+{}
+
 /// An export names an item of the space of its kind, by a name that no other export has.
 pub fn exports_of_items()
     ensures memory { IsKept (after at_first (OfMemory (at_least 1))) (exports [] MemoryKind 0) }

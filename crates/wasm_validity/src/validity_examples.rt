@@ -1,15 +1,18 @@
 //! Worked examples of valid modules, and of what the front of bytes decides.
 
-ghost use Rattle.std.specs.Prelude.{◌≡◌, ◌++◌, ℕ, List, [], ◌∷◌, length, replicate};
+ghost use Rattle.std.specs.Prelude.{◌≡◌, ◌++◌, ℕ, List, [], ◌∷◌, None, false, length, replicate, true};
 ghost use Rattle.std.specs.List.{flat_map};
-ghost use Rattle.wasm_spec.specs.Features.{Features, Gc, MultiValue, bit_of};
+ghost use Rattle.wasm_spec.specs.Examples.{at_least};
+ghost use Rattle.wasm_spec.specs.Features.{Features, BulkMemory, Gc, MultiValue, bit_of, has};
 ghost use Rattle.wasm_spec.specs.Grammar.{header};
 ghost use Rattle.wasm_spec.specs.Limits.{Memories, Params};
-ghost use Rattle.wasm_spec.specs.Syntax.{Section, Custom, TypeSection, ImportSection, FunctionSection, TableSection, GlobalSection, ExportSection, ElementSection, CodeSection, DataCountSection, DataSection, ImportEntry, Table, Global, Export, ElementSegment, DataSegment};
+ghost use Rattle.wasm_spec.specs.Syntax.{Section, Custom, TypeSection, FunctionSection, TableSection, MemorySection, GlobalSection, ExportSection, ElementSection, CodeSection, DataCountSection, DataSection, Export, ActiveElement, FunctionItems, ActiveData};
 ghost use Rattle.wasm_spec.specs.TypeExamples.{empty_function, empty_structure, final_type, gives, open_type};
 ghost use Rattle.wasm_spec.specs.Types.{I32, FuncComposite, RecGroup, Single};
 ghost use Rattle.wasm_validity.specs.Context.{at_first};
+ghost use Rattle.wasm_validity.specs.ConstantExamples.{i32_number};
 ghost use Rattle.wasm_validity.specs.Entries.{entries_of};
+ghost use Rattle.wasm_validity.specs.Examples.{constant, one_table};
 ghost use Rattle.wasm_validity.specs.Rules.{KeepRules};
 ghost use Rattle.wasm_validity.specs.Validity.{BeginsInvalid, BeginsPast, IsValid};
 
@@ -49,15 +52,24 @@ pub fn gates()
     ensures without_gc { ¬ (KeepRules 0 at_first (entries_of (TypeSection (Single (open_type empty_function) ∷ []) ∷ []))) }
 {}
 
-/// Entries whose rules aren't said whole are in no valid module. A section without entries says nothing, whatever its kind.
+/// Exports are in no valid module, wherever they stand. A section without entries says nothing, whatever its kind.
 pub fn unsupported()
-    ensures table { (features : Features) (table : Table) → ¬ (IsValid features (TableSection (table ∷ []) ∷ [])) }
-    ensures global { (features : Features) (global : Global) → ¬ (IsValid features (GlobalSection (global ∷ []) ∷ [])) }
     ensures export { (features : Features) (export : Export) → ¬ (IsValid features (ExportSection (export ∷ []) ∷ [])) }
-    ensures element { (features : Features) (segment : ElementSegment) → ¬ (IsValid features (ElementSection (segment ∷ []) ∷ [])) }
-    ensures data { (features : Features) (segment : DataSegment) → ¬ (IsValid features (DataSection (segment ∷ []) ∷ [])) }
-    ensures data_count { (features : Features) (count : ℕ) → ¬ (IsValid features (DataCountSection count ∷ [])) }
+    ensures among_others { (features : Features) (before after : List Section) (exports : List Export) (export : Export)
+        → ¬ (IsValid features (before ++ (ExportSection (exports ++ (export ∷ [])) ∷ after))) }
     ensures empty { (features : Features) → IsValid features (TableSection [] ∷ ExportSection [] ∷ []) }
+{}
+
+/// All other kinds of entries are in valid modules: a table, a global, segments of both kinds, and a data count, which is a feature.
+pub fn supported()
+    ensures table { (features : Features) → IsValid features (TableSection (one_table ∷ []) ∷ []) }
+    ensures global { (features : Features) → IsValid features (GlobalSection (record { type = constant I32; initialiser = i32_number ∷ [] } ∷ []) ∷ []) }
+    ensures element { (features : Features) → IsValid features
+        (TableSection (one_table ∷ []) ∷ ElementSection (record { mode = ActiveElement None (i32_number ∷ []); items = FunctionItems [] } ∷ []) ∷ []) }
+    ensures data { (features : Features) → IsValid features
+        (MemorySection (at_least 1 ∷ []) ∷ DataSection (record { mode = ActiveData None (i32_number ∷ []); contents = [] } ∷ []) ∷ []) }
+    ensures data_count { (features : Features) → has features BulkMemory ≡ true → IsValid features (DataCountSection 0 ∷ []) }
+    ensures data_count_without { (features : Features) (count : ℕ) → has features BulkMemory ≡ false → ¬ (IsValid features (DataCountSection count ∷ [])) }
 {}
 
 /// What the front of a module decides, whatever follows: of 101 memories the last is one too many, so is the last of 1,001 parameters, and a

@@ -1,42 +1,66 @@
--- Sections that were read are a module where there are as many bodies as functions.
-use Rattle.std.proofs.Common.{◌≡◌, ◌≢◌, ℕ, List, length, sym, ap, subst, ◌∙◌, arith}
-use Rattle.std.specs.List.{AllByRecursion}
+-- Sections that were read are a module where there are as many bodies as functions, and as many data segments as each data count states.
+use Rattle.std.proofs.Common.{◌≡◌, ℕ, true, ◌==◌, List, [], ◌∷◌, length, refl, sym, ap, subst, ◌∙◌, arith}
+use Rattle.std.specs.List.{AllByRecursion, list_all}
+use Rattle.std.proofs.lemmas.Bool.{and_parts, eq-eqb, eqb-true}
 use Rattle.std.proofs.lemmas.List.{length-map}
 use Rattle.wasm_core_read.specs.Input.{Input}
 use Rattle.wasm_spec.specs.Features.{Features, CompactImports, has}
 use Rattle.wasm_spec.specs.Grammar.{IsModule}
-use Rattle.wasm_spec.specs.Syntax.{Section, functions_of, bodies_of, data_of}
+use Rattle.wasm_spec.specs.Syntax.{Section, functions_of, bodies_of, data_of, data_counts_of}
 use Rattle.wasm_validity.specs.Context.{Context}
 use Rattle.wasmparser_module_entries.proofs.ModuleFronts.{all_alike, module_is_whole, whole_is_module}
 use Rattle.wasmparser_error.specs.declared.error.ErrorKind.TheVariants as kinds
 use Rattle.wasmparser_module_state.specs.State.{context, features_of}
-use Rattle.wasmparser_sections.specs.Sections.{AreRead, AreAccepted, RefusesSections}
+use Rattle.wasmparser_sections.specs.Sections.{AreRead, CountsAgree, AreAccepted, RefusesSections}
 use Rattle.wasmparser_sections.specs.declared.sections.ValidSections.{ValidSections}
-use Rattle.wasmparser_sections.proofs.SectionEntries.{functions_of_sections, no_counts}
+use Rattle.wasmparser_sections.proofs.SectionEntries.{functions_of_sections, segments_of_sections}
 
-count_of_functions : (features : Features) (bytes : List ℕ) (cx : Context) (given : List Input) (r : AreRead features bytes cx given) → length cx.own_functions ≡ length (functions_of r.sections)
-count_of_functions features bytes cx given r = ap (λ (c : Context). length c.own_functions) r.known ∙ ap (λ (l : List ℕ). length l) (functions_of_sections r.sections)
+-- ---- counts one by one
 
-count_of_bodies : (features : Features) (bytes : List ℕ) (cx : Context) (given : List Input) (r : AreRead features bytes cx given) → length given ≡ length (bodies_of r.sections)
-count_of_bodies features bytes cx given r = sym (length-map given (λ (b : Input). b.rest)) ∙ ap (λ (l : List (List ℕ)). length l) r.bodies
+pub each_counted : (segments : ℕ) (counts : List ℕ) → list_all (λ count. count == segments) counts ≡ true → AllByRecursion (λ count. count ≡ segments) counts
+each_counted segments [] h = tt
+each_counted segments (count ∷ counts) h =
+    let p = and_parts (count == segments) (list_all (λ count. count == segments) counts) h in
+    (eqb-true count segments p.0, each_counted segments counts p.1)
 
-counts_agree : (features : Features) (bytes : List ℕ) (cx : Context) (given : List Input) (r : AreRead features bytes cx given) → length cx.own_functions ≡ length given → IsModule (has features CompactImports) bytes r.sections
-counts_agree features bytes cx given r same =
-    whole_is_module (has features CompactImports) bytes r.sections r.reads
-    (sym (count_of_functions features bytes cx given r) ∙ same ∙ count_of_bodies features bytes cx given r)
-    (subst (AllByRecursion (λ count. count ≡ length (data_of r.sections))) (sym (no_counts r.sections r.supported)) tt)
+pub all_counted : (segments : ℕ) (counts : List ℕ) → AllByRecursion (λ count. count ≡ segments) counts → list_all (λ count. count == segments) counts ≡ true
+all_counted segments [] h = refl
+all_counted segments (count ∷ counts) h = rw (eq-eqb count segments h.0) (all_counted segments counts h.1)
 
-counts_differ : (features : Features) (bytes : List ℕ) (cx : Context) (given : List Input) → AreRead features bytes cx given → length cx.own_functions ≢ length given
-    → (sections : List Section) → ¬ (IsModule (has features CompactImports) bytes sections)
-counts_differ features bytes cx given r other sections m =
-    let same : r.sections ≡ sections = all_alike (has features CompactImports) bytes r.sections sections r.reads (module_is_whole (has features CompactImports) bytes sections m) in
-    other (count_of_functions features bytes cx given r ∙ subst (λ (s : List Section). length (functions_of s) ≡ length (bodies_of s)) (sym same) m.agreeing ∙ sym (count_of_bodies features bytes cx given r))
+-- ---- what was read, and what is known of it
 
-pub accepted : (features : Features) (bytes : List ℕ) (m : ValidSections) → AreRead features bytes (context m.state) m.bodies.items → features_of m.state ≡ features → length (context m.state).own_functions ≡ length m.bodies.items
-    → AreAccepted features bytes m
-accepted features bytes m r same counts = record {
+module _ (features : Features) (bytes : List ℕ) (cx : Context) (given : List Input) (stated : List ℕ) (r : AreRead features bytes cx given stated) where
+  count_of_functions : length cx.own_functions ≡ length (functions_of r.sections)
+  count_of_functions = ap (λ (c : Context). length c.own_functions) r.known ∙ ap (λ (l : List ℕ). length l) (functions_of_sections r.sections)
+
+  count_of_bodies : length given ≡ length (bodies_of r.sections)
+  count_of_bodies = sym (length-map given (λ (b : Input). b.rest)) ∙ ap (λ (l : List (List ℕ)). length l) r.bodies
+
+  count_of_segments : cx.segments ≡ length (data_of r.sections)
+  count_of_segments = ap (λ (c : Context). c.segments) r.known ∙ segments_of_sections r.sections
+
+  counts_agree : CountsAgree cx given stated → IsModule (has features CompactImports) bytes r.sections
+  counts_agree same =
+      whole_is_module (has features CompactImports) bytes r.sections r.reads
+      (sym count_of_functions ∙ same.0 ∙ count_of_bodies)
+      (subst (AllByRecursion (λ count. count ≡ length (data_of r.sections))) r.counts (subst (λ (n : ℕ). AllByRecursion (λ count. count ≡ n) stated) count_of_segments same.1))
+
+  -- no other sections are read of the same bytes
+  of_module : (sections : List Section) → IsModule (has features CompactImports) bytes sections → CountsAgree cx given stated
+  of_module sections m =
+      let same : sections ≡ r.sections = sym (all_alike (has features CompactImports) bytes r.sections sections r.reads (module_is_whole (has features CompactImports) bytes sections m)) in
+      let here : IsModule (has features CompactImports) bytes r.sections = subst (IsModule (has features CompactImports) bytes) same m in (
+        count_of_functions ∙ here.agreeing ∙ sym count_of_bodies,
+        subst (AllByRecursion (λ count. count ≡ cx.segments)) (sym r.counts) (subst (λ (n : ℕ). AllByRecursion (λ count. count ≡ n) (data_counts_of r.sections)) (sym count_of_segments) here.counted),
+      )
+
+-- ---- what is answered
+
+pub accepted : (features : Features) (bytes : List ℕ) (m : ValidSections) → AreRead features bytes (context m.state) m.bodies.items m.data_counts.items → features_of m.state ≡ features
+    → CountsAgree (context m.state) m.bodies.items m.data_counts.items → AreAccepted features bytes m
+accepted features bytes m r same agree = record {
   sections = r.sections;
-  reads = counts_agree features bytes (context m.state) m.bodies.items r counts;
+  reads = counts_agree features bytes (context m.state) m.bodies.items m.data_counts.items r agree;
   supported = r.supported;
   fine = r.fine;
   known = r.known;
@@ -45,6 +69,6 @@ accepted features bytes m r same counts = record {
   inside = r.inside;
 }
 
-pub not_counted : (features : Features) (bytes : List ℕ) (cx : Context) (given : List Input) → AreRead features bytes cx given → length cx.own_functions ≢ length given
+pub not_counted : (features : Features) (bytes : List ℕ) (cx : Context) (given : List Input) (stated : List ℕ) → AreRead features bytes cx given stated → ¬ (CountsAgree cx given stated)
     → RefusesSections features bytes (record { offset = length bytes; kind = kinds.Malformed })
-not_counted features bytes cx given r other = (λ sections m supported. counts_differ features bytes cx given r other sections m, omega arith, λ k. absurd cc)
+not_counted features bytes cx given stated r other = (λ sections m supported. other (of_module features bytes cx given stated r sections m), omega arith, λ k. absurd cc)

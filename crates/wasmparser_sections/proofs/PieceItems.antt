@@ -1,5 +1,5 @@
 -- What the items of a piece say, where they read.
-use Rattle.std.proofs.Common.{◌≡◌, ◌<◌, ℕ, zero, suc, true, false, List, [], ◌∷◌, ◌++◌, length, map, Option, Some, None, option_map, refl, sym, ap, ap₂, ◌∙◌, inl, inr, arith}
+use Rattle.std.proofs.Common.{◌≡◌, ◌<◌, ℕ, zero, suc, true, false, List, [], ◌∷◌, ◌++◌, length, map, flat_map, Option, Some, None, option_map, refl, sym, ap, ap₂, ◌∙◌, inl, inr, arith}
 use Rattle.std.proofs.lemmas.Grind.{flat_map-append}
 use Rattle.wasm_core_read.specs.PartReading.{import_at, table_at, global_at, export_at, element_at, data_at}
 use Rattle.wasm_core_read.specs.Reading.{◌>>=◌, ReadingOf, filled, seen_at, unsigned_at}
@@ -12,9 +12,9 @@ use Rattle.wasmparser_module_entries.specs.EntryReading.{EntryReading}
 use Rattle.wasmparser_module_entries.specs.PieceEntries.{items_of, said_first, with_items, entries_said}
 use Rattle.wasmparser_payloads.specs.Pieces.{Piece, Version, Types, Imports, Functions, Tables, Memories, Tags, Globals, Exports, Start, Elements, DataCount, CodeStart, Body, Segments, Custom, Unknown, End}
 use Rattle.wasmparser_readers.specs.Sections.{Left, left_items}
-use Rattle.wasmparser_sections.specs.PieceJudging.{IsFilled, body_in}
+use Rattle.wasmparser_sections.specs.PieceJudging.{IsFilled, body_in, count_in}
 use Rattle.wasmparser_sections.specs.Sections.{contents_of}
-use Rattle.wasmparser_sections.proofs.SectionEntries.{body_said, bodies_said, none_said}
+use Rattle.wasmparser_sections.proofs.SectionEntries.{body_said, bodies_said, count_said, data_counts_said, none_said}
 
 -- items of one kind as entries
 abbrev pub as_entries : {A : Type 0} → (A → Entry) → (Features → ReadingOf A) → EntryReading
@@ -115,36 +115,60 @@ filled_is_unsupported made form_at left entries none filled e = by_count left.co
     by_count zero c (inl lt) = some lt
     by_count zero c (inr lt) = absurd (omega (arith, lt, said.1.ended c))
 
--- ---- which bodies there are
+-- ---- which bodies and data counts there are
 
-no_bodies : {A : Type 0} (first : List Entry) (made : A → Entry) (form_at : Features → ReadingOf A) (left : Left) (entries : List Entry) → bodies_said first ≡ [] → ((x : A) → body_said (made x) ≡ [])
-    → with_items first (Some (record { entry_at = as_entries made form_at; left = left })) ≡ Some entries → bodies_said entries ≡ []
-no_bodies first made form_at left entries none each e =
+-- what entries say that are items of one kind after some first, of which none says it
+none_of_items : {A B : Type 0} (said : Entry → List B) (first : List Entry) (made : A → Entry) (form_at : Features → ReadingOf A) (left : Left) (entries : List Entry) → flat_map said first ≡ [] → ((x : A) → said (made x) ≡ [])
+    → with_items first (Some (record { entry_at = as_entries made form_at; left = left })) ≡ Some entries → flat_map said entries ≡ []
+none_of_items said first made form_at left entries none each e =
     let s = items_said first made form_at left entries e in
-    ap bodies_said (s.1.say ∙ ap (λ (l : List Entry). first ++ l) s.1.are.are) ∙ flat_map-append body_said first (map made s.1.are.items)
-    ∙ ap₂ (λ a b. a ++ b) none (none_said body_said made each s.1.are.items)
+    ap (flat_map said) (s.1.say ∙ ap (λ (l : List Entry). first ++ l) s.1.are.are) ∙ flat_map-append said first (map made s.1.are.items)
+    ∙ ap₂ (λ a b. a ++ b) none (none_said said made each s.1.are.items)
 
-alone : (first entries : List Entry) → Some first ≡ Some entries → bodies_said entries ≡ bodies_said first
-alone first entries e = ap bodies_said (sym (some_is first entries e))
+-- entries without items
+alone : {B : Type 0} (said : Entry → List B) (first entries : List Entry) → Some first ≡ Some entries → flat_map said entries ≡ flat_map said first
+alone said first entries e = ap (flat_map said) (sym (some_is first entries e))
 
 -- The bodies in what a piece says are the body that it is.
 pub body_of_piece : (piece : Piece) (entries : List Entry) → entries_said piece ≡ Some entries → bodies_said entries ≡ contents_of (body_in piece)
 unfolding entries_said said_first items_of body_in
-body_of_piece (Version num place) entries e = alone [] entries e
-body_of_piece (Types items) entries e = no_bodies [] (λ x. OfType x) (λ _. rec_group_at) items.left entries refl (λ x. refl) e
-body_of_piece (Imports items) entries e = no_bodies [] (λ x. OfImport x) (λ features. import_at (has features CompactImports)) items.left entries refl (λ x. refl) e
-body_of_piece (Functions items) entries e = no_bodies [] (λ x. OfFunction x) (λ _. unsigned_at 32) items.left entries refl (λ x. refl) e
-body_of_piece (Tables items) entries e = no_bodies [] (λ x. OfTable x) (λ _. table_at) items.left entries refl (λ x. refl) e
-body_of_piece (Memories items) entries e = no_bodies [] (λ x. OfMemory x) (λ _. limits_at) items.left entries refl (λ x. refl) e
-body_of_piece (Tags items) entries e = no_bodies (OfTags ∷ []) (λ x. OfTag x) (λ _. tag_type_at) items.left entries refl (λ x. refl) e
-body_of_piece (Globals items) entries e = no_bodies [] (λ x. OfGlobal x) (λ _. global_at) items.left entries refl (λ x. refl) e
-body_of_piece (Exports items) entries e = no_bodies [] (λ x. OfExport x) (λ _. export_at) items.left entries refl (λ x. refl) e
-body_of_piece (Start function place) entries e = alone (OfStart function ∷ []) entries e
-body_of_piece (Elements items) entries e = no_bodies [] (λ x. OfElement x) (λ _. element_at) items.left entries refl (λ x. refl) e
-body_of_piece (DataCount count place) entries e = alone (OfDataCount count ∷ []) entries e
-body_of_piece (CodeStart count place size) entries e = alone [] entries e
-body_of_piece (Body body) entries e = alone (OfBody body.rest ∷ []) entries e
-body_of_piece (Segments items) entries e = no_bodies [] (λ x. OfData x) (λ _. data_at) items.left entries refl (λ x. refl) e
-body_of_piece (Custom section) entries e = alone (OfCustom section.name ∷ []) entries e
+body_of_piece (Version num place) entries e = alone body_said [] entries e
+body_of_piece (Types items) entries e = none_of_items body_said [] (λ x. OfType x) (λ _. rec_group_at) items.left entries refl (λ x. refl) e
+body_of_piece (Imports items) entries e = none_of_items body_said [] (λ x. OfImport x) (λ features. import_at (has features CompactImports)) items.left entries refl (λ x. refl) e
+body_of_piece (Functions items) entries e = none_of_items body_said [] (λ x. OfFunction x) (λ _. unsigned_at 32) items.left entries refl (λ x. refl) e
+body_of_piece (Tables items) entries e = none_of_items body_said [] (λ x. OfTable x) (λ _. table_at) items.left entries refl (λ x. refl) e
+body_of_piece (Memories items) entries e = none_of_items body_said [] (λ x. OfMemory x) (λ _. limits_at) items.left entries refl (λ x. refl) e
+body_of_piece (Tags items) entries e = none_of_items body_said (OfTags ∷ []) (λ x. OfTag x) (λ _. tag_type_at) items.left entries refl (λ x. refl) e
+body_of_piece (Globals items) entries e = none_of_items body_said [] (λ x. OfGlobal x) (λ _. global_at) items.left entries refl (λ x. refl) e
+body_of_piece (Exports items) entries e = none_of_items body_said [] (λ x. OfExport x) (λ _. export_at) items.left entries refl (λ x. refl) e
+body_of_piece (Start function place) entries e = alone body_said (OfStart function ∷ []) entries e
+body_of_piece (Elements items) entries e = none_of_items body_said [] (λ x. OfElement x) (λ _. element_at) items.left entries refl (λ x. refl) e
+body_of_piece (DataCount count place) entries e = alone body_said (OfDataCount count ∷ []) entries e
+body_of_piece (CodeStart count place size) entries e = alone body_said [] entries e
+body_of_piece (Body body) entries e = alone body_said (OfBody body.rest ∷ []) entries e
+body_of_piece (Segments items) entries e = none_of_items body_said [] (λ x. OfData x) (λ _. data_at) items.left entries refl (λ x. refl) e
+body_of_piece (Custom section) entries e = alone body_said (OfCustom section.name ∷ []) entries e
 body_of_piece (Unknown id contents place) entries e = absurd cc
-body_of_piece (End place) entries e = alone [] entries e
+body_of_piece (End place) entries e = alone body_said [] entries e
+
+-- The data counts in what a piece says are the one that it states.
+pub count_of_piece : (piece : Piece) (entries : List Entry) → entries_said piece ≡ Some entries → data_counts_said entries ≡ count_in piece
+unfolding entries_said said_first items_of count_in
+count_of_piece (Version num place) entries e = alone count_said [] entries e
+count_of_piece (Types items) entries e = none_of_items count_said [] (λ x. OfType x) (λ _. rec_group_at) items.left entries refl (λ x. refl) e
+count_of_piece (Imports items) entries e = none_of_items count_said [] (λ x. OfImport x) (λ features. import_at (has features CompactImports)) items.left entries refl (λ x. refl) e
+count_of_piece (Functions items) entries e = none_of_items count_said [] (λ x. OfFunction x) (λ _. unsigned_at 32) items.left entries refl (λ x. refl) e
+count_of_piece (Tables items) entries e = none_of_items count_said [] (λ x. OfTable x) (λ _. table_at) items.left entries refl (λ x. refl) e
+count_of_piece (Memories items) entries e = none_of_items count_said [] (λ x. OfMemory x) (λ _. limits_at) items.left entries refl (λ x. refl) e
+count_of_piece (Tags items) entries e = none_of_items count_said (OfTags ∷ []) (λ x. OfTag x) (λ _. tag_type_at) items.left entries refl (λ x. refl) e
+count_of_piece (Globals items) entries e = none_of_items count_said [] (λ x. OfGlobal x) (λ _. global_at) items.left entries refl (λ x. refl) e
+count_of_piece (Exports items) entries e = none_of_items count_said [] (λ x. OfExport x) (λ _. export_at) items.left entries refl (λ x. refl) e
+count_of_piece (Start function place) entries e = alone count_said (OfStart function ∷ []) entries e
+count_of_piece (Elements items) entries e = none_of_items count_said [] (λ x. OfElement x) (λ _. element_at) items.left entries refl (λ x. refl) e
+count_of_piece (DataCount count place) entries e = alone count_said (OfDataCount count ∷ []) entries e
+count_of_piece (CodeStart count place size) entries e = alone count_said [] entries e
+count_of_piece (Body body) entries e = alone count_said (OfBody body.rest ∷ []) entries e
+count_of_piece (Segments items) entries e = none_of_items count_said [] (λ x. OfData x) (λ _. data_at) items.left entries refl (λ x. refl) e
+count_of_piece (Custom section) entries e = alone count_said (OfCustom section.name ∷ []) entries e
+count_of_piece (Unknown id contents place) entries e = absurd cc
+count_of_piece (End place) entries e = alone count_said [] entries e

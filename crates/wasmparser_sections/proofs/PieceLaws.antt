@@ -5,7 +5,6 @@ use Rattle.wasm_core_read.specs.Input.{Input, IsWithin}
 use Rattle.wasm_core_read.specs.PartReading.{import_at, table_at, global_at, export_at, element_at, data_at}
 use Rattle.wasm_core_read.specs.Reading.{ReadingOf, unsigned_at}
 use Rattle.wasm_core_read.specs.TypeReading.{items_at, rec_group_at, limits_at, tag_type_at}
-use Rattle.wasm_core_read.proofs.Forms.{some_is}
 use Rattle.wasm_spec.specs.Features.{Features, CompactImports, has}
 use Rattle.wasm_validity.specs.Context.{Context, after_all}
 use Rattle.wasm_validity.specs.Entries.{Entry, OfCustom, OfType, OfImport, OfFunction, OfTable, OfMemory, OfTags, OfTag, OfGlobal, OfExport, OfStart, OfElement, OfDataCount, OfBody, OfData}
@@ -14,7 +13,7 @@ use Rattle.wasm_validity.specs.Validity.{is_supported, are_supported}
 use Rattle.wasmparser_error.specs.declared.error.Error.{Error}
 use Rattle.wasmparser_error.specs.declared.error.ErrorKind.{ErrorKind}
 use Rattle.wasmparser_error.specs.declared.error.ErrorKind.TheVariants as kinds
-use Rattle.wasmparser_module_entries.specs.EntryReading.{type_entry_at, import_entry_at, function_entry_at, memory_entry_at, tag_entry_at}
+use Rattle.wasmparser_module_entries.specs.EntryReading.{type_entry_at, import_entry_at, function_entry_at, table_entry_at, memory_entry_at, tag_entry_at, global_entry_at, element_entry_at, data_entry_at}
 use Rattle.wasmparser_module_entries.specs.PieceEntries.{items_of, said_first, with_items, entries_said}
 use Rattle.wasmparser_module_state.specs.Judging.{Accepts, Adds, NamesEntry, IsAt, Fronts, NamesEntries, IsIn, AddsEntries}
 use Rattle.wasmparser_payloads.specs.Pieces.{Piece, Place, Version, Types, Imports, Functions, Tables, Memories, Tags, Globals, Exports, Start, Elements, DataCount, CodeStart, Body, Segments, Custom, Unknown, End, Named}
@@ -68,6 +67,15 @@ adds_custom features old section result h = adds_one features old (Custom sectio
 pub adds_body : (features : Features) (old : Context) (body : Input) (result : Result (Unit {0}) Error) → Adds features old (OfBody body.rest) body.position result old → AddsPiece features old (Body body) result old
 unfolding said_first entries_said items_of IsFirstOf
 adds_body features old body result h = adds_one features old (Body body) (OfBody body.rest) body.position result old refl refl refl refl h
+
+pub adds_data_count : (features : Features) (old : Context) (count : ℕ) (place : Place) (result : Result (Unit {0}) Error) → Adds features old (OfDataCount count) place.start result old → AddsPiece features old (DataCount count place) result old
+unfolding said_first entries_said items_of IsFirstOf
+adds_data_count features old count place result h = adds_one features old (DataCount count place) (OfDataCount count) place.start result old refl refl refl refl h
+
+-- a data count that was judged, and kept afterwards
+pub says_data_count : (features : Features) (old : Context) (count start after : ℕ) → Accepts features old (OfDataCount count) old → Says features old (DataCount count (record { start = start; after = after })) old
+unfolding entries_said said_first items_of
+says_data_count features old count start after h = says_one features old (DataCount count (record { start = start; after = after })) (OfDataCount count) old refl refl h
 
 -- ---- pieces that say nothing
 
@@ -149,10 +157,30 @@ unfolding said_first entries_said items_of
 adds_functions features old items result new h =
     adds_items features old old (Functions items) [] (λ x. OfFunction x) (λ _. unsigned_at 32) items.left result new (record { items = refl; says_first = refl; said = refl }) refl (λ x. refl) tt tt refl h
 
+pub adds_tables : (features : Features) (old : Context) (items : Limited) (result : Result (Unit {0}) Error) (new : Context) → AddsEntries features table_entry_at old items.left result new → AddsPiece features old (Tables items) result new
+unfolding said_first entries_said items_of
+adds_tables features old items result new h =
+    adds_items features old old (Tables items) [] (λ x. OfTable x) (λ _. table_at) items.left result new (record { items = refl; says_first = refl; said = refl }) refl (λ x. refl) tt tt refl h
+
 pub adds_memories : (features : Features) (old : Context) (items : Limited) (result : Result (Unit {0}) Error) (new : Context) → AddsEntries features memory_entry_at old items.left result new → AddsPiece features old (Memories items) result new
 unfolding said_first entries_said items_of
 adds_memories features old items result new h =
     adds_items features old old (Memories items) [] (λ x. OfMemory x) (λ _. limits_at) items.left result new (record { items = refl; says_first = refl; said = refl }) refl (λ x. refl) tt tt refl h
+
+pub adds_globals : (features : Features) (old : Context) (items : Limited) (result : Result (Unit {0}) Error) (new : Context) → AddsEntries features global_entry_at old items.left result new → AddsPiece features old (Globals items) result new
+unfolding said_first entries_said items_of
+adds_globals features old items result new h =
+    adds_items features old old (Globals items) [] (λ x. OfGlobal x) (λ _. global_at) items.left result new (record { items = refl; says_first = refl; said = refl }) refl (λ x. refl) tt tt refl h
+
+pub adds_elements : (features : Features) (old : Context) (items : Limited) (result : Result (Unit {0}) Error) (new : Context) → AddsEntries features element_entry_at old items.left result new → AddsPiece features old (Elements items) result new
+unfolding said_first entries_said items_of
+adds_elements features old items result new h =
+    adds_items features old old (Elements items) [] (λ x. OfElement x) (λ _. element_at) items.left result new (record { items = refl; says_first = refl; said = refl }) refl (λ x. refl) tt tt refl h
+
+pub adds_segments : (features : Features) (old : Context) (items : Limited) (result : Result (Unit {0}) Error) (new : Context) → AddsEntries features data_entry_at old items.left result new → AddsPiece features old (Segments items) result new
+unfolding said_first entries_said items_of
+adds_segments features old items result new h =
+    adds_items features old old (Segments items) [] (λ x. OfData x) (λ _. data_at) items.left result new (record { items = refl; says_first = refl; said = refl }) refl (λ x. refl) tt tt refl h
 
 -- a tag section was judged by itself, and then its items
 pub adds_tags : (features : Features) (old mid : Context) (items : Limited) (result : Result (Unit {0}) Error) (new : Context) → Accepts features old OfTags mid → AddsEntries features tag_entry_at mid items.left result new
@@ -190,35 +218,10 @@ refuses_items features old p made form_at items (Err e) its none first h = by_ki
     by_kind kinds.Order h = absurd h
     by_kind kinds.Failed h = absurd h
 
-pub refuses_tables : (features : Features) (old : Context) (items : Limited) (result : Result (Unit {0}) Error) → RefusesItems items result → AddsPiece features old (Tables items) result old
-unfolding said_first entries_said items_of IsFirstOf
-refuses_tables features old items result h =
-    refuses_items features old (Tables items) (λ x. OfTable x) (λ _. table_at) items result (record { items = refl; says_first = refl; said = refl }) (λ x. refl) refl h
-
-pub refuses_globals : (features : Features) (old : Context) (items : Limited) (result : Result (Unit {0}) Error) → RefusesItems items result → AddsPiece features old (Globals items) result old
-unfolding said_first entries_said items_of IsFirstOf
-refuses_globals features old items result h =
-    refuses_items features old (Globals items) (λ x. OfGlobal x) (λ _. global_at) items result (record { items = refl; says_first = refl; said = refl }) (λ x. refl) refl h
-
 pub refuses_exports : (features : Features) (old : Context) (items : Limited) (result : Result (Unit {0}) Error) → RefusesItems items result → AddsPiece features old (Exports items) result old
 unfolding said_first entries_said items_of IsFirstOf
 refuses_exports features old items result h =
     refuses_items features old (Exports items) (λ x. OfExport x) (λ _. export_at) items result (record { items = refl; says_first = refl; said = refl }) (λ x. refl) refl h
-
-pub refuses_elements : (features : Features) (old : Context) (items : Limited) (result : Result (Unit {0}) Error) → RefusesItems items result → AddsPiece features old (Elements items) result old
-unfolding said_first entries_said items_of IsFirstOf
-refuses_elements features old items result h =
-    refuses_items features old (Elements items) (λ x. OfElement x) (λ _. element_at) items result (record { items = refl; says_first = refl; said = refl }) (λ x. refl) refl h
-
-pub refuses_segments : (features : Features) (old : Context) (items : Limited) (result : Result (Unit {0}) Error) → RefusesItems items result → AddsPiece features old (Segments items) result old
-unfolding said_first entries_said items_of IsFirstOf
-refuses_segments features old items result h =
-    refuses_items features old (Segments items) (λ x. OfData x) (λ _. data_at) items result (record { items = refl; says_first = refl; said = refl }) (λ x. refl) refl h
-
-pub refuses_count : (features : Features) (old : Context) (count : ℕ) (place : Place) (result : Result (Unit {0}) Error) → RefusesAt place.start result → AddsPiece features old (DataCount count place) result old
-unfolding said_first entries_said items_of IsFirstOf
-refuses_count features old count place (Ok x) h = absurd h
-refuses_count features old count place (Err e) h = rw h (λ entries said. ap are_supported (sym (some_is (OfDataCount count ∷ []) entries said)), inl refl)
 
 pub refuses_unknown : (features : Features) (old : Context) (id : ℕ) (contents : List ℕ) (place : Place) (result : Result (Unit {0}) Error) → RefusesAt place.start result → AddsPiece features old (Unknown id contents place) result old
 unfolding said_first entries_said items_of IsFirstOf
@@ -229,4 +232,6 @@ pub ruleset body_steps = (adds_body)
 
 pub ruleset tag_steps = (adds_tags, tags_refused)
 
-pub ruleset piece_steps = (header_says_nothing, code_start_says_nothing, end_says_nothing, adds_start, adds_custom, adds_types, adds_imports, adds_functions, adds_memories, refuses_tables, refuses_globals, refuses_exports, refuses_elements, refuses_segments, refuses_count, refuses_unknown)
+pub ruleset count_steps = (adds_data_count, says_data_count)
+
+pub ruleset piece_steps = (header_says_nothing, code_start_says_nothing, end_says_nothing, adds_start, adds_custom, adds_types, adds_imports, adds_functions, adds_tables, adds_memories, adds_globals, adds_elements, adds_segments, refuses_exports, refuses_unknown)

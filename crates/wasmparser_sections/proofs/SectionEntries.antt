@@ -1,12 +1,11 @@
--- What the sections of a module say of its own functions, of bodies and of data.
-use Rattle.std.proofs.Common.{◌≡◌, ℕ, suc, true, List, [], ◌∷◌, ◌++◌, map, flat_map, refl, sym, ap, ap₂, ◌∙◌, append_assoc, append-nil}
+-- What the sections of a module say of its own functions, of bodies, of data counts and of data.
+use Rattle.std.proofs.Common.{◌≡◌, ℕ, suc, ◌+◌, List, [], ◌∷◌, ◌++◌, length, map, flat_map, refl, sym, ap, ap₂, ◌∙◌, append_assoc, append-nil, length-append, arith}
 use Rattle.std.proofs.lemmas.Grind.{flat_map-append}
-use Rattle.wasm_spec.specs.Syntax.{Section, Custom, TypeSection, ImportSection, FunctionSection, TableSection, MemorySection, TagSection, GlobalSection, ExportSection, StartSection, ElementSection, DataCountSection, CodeSection, DataSection, imported_by, functions_in, functions_of, bodies_in, bodies_of, data_counts_in, data_counts_of}
+use Rattle.wasm_spec.specs.Syntax.{Section, Custom, TypeSection, ImportSection, FunctionSection, TableSection, MemorySection, TagSection, GlobalSection, ExportSection, StartSection, ElementSection, DataCountSection, CodeSection, DataSection, DataSegment, imported_by, functions_in, functions_of, bodies_in, bodies_of, data_in, data_of, data_counts_in, data_counts_of}
 use Rattle.wasm_spec.specs.Types.{ExternalType, FuncExternal, TableExternal, MemoryExternal, GlobalExternal, TagExternal}
 use Rattle.wasm_validity.specs.Context.{Context, after, after_all, after_item, after_items, at_first}
 use Rattle.wasm_validity.specs.Entries.{Entry, OfCustom, OfType, OfImport, OfFunction, OfTable, OfMemory, OfTags, OfTag, OfGlobal, OfExport, OfStart, OfElement, OfDataCount, OfBody, OfData, entries_in, entries_of}
-use Rattle.wasm_validity.specs.Validity.{are_supported, context_of}
-use Rattle.wasmparser_sections.proofs.EntryLists.{supported_parts}
+use Rattle.wasm_validity.specs.Validity.{context_of}
 
 -- ---- entries one by one
 
@@ -21,6 +20,18 @@ body_said _ = []
 -- the bodies that entries are
 abbrev pub bodies_said : List Entry → List (List ℕ)
 bodies_said entries = flat_map body_said entries
+
+abbrev pub count_said : Entry → List ℕ
+count_said (OfDataCount count) = count ∷ []
+count_said _ = []
+
+-- the data counts that entries state
+abbrev pub data_counts_said : List Entry → List ℕ
+data_counts_said entries = flat_map count_said entries
+
+abbrev segment_said : Entry → List DataSegment
+segment_said (OfData segment) = segment ∷ []
+segment_said _ = []
 
 -- items that say nothing of it
 pub none_said : {A X : Type 0} (said : Entry → List A) (made : X → Entry) → ((x : X) → said (made x) ≡ []) → (xs : List X) → flat_map said (map made xs) ≡ []
@@ -74,19 +85,62 @@ bodies_alike (DataSection segments) = none_said body_said (λ x. OfData x) (λ x
 pub bodies_of_sections : (sections : List Section) → bodies_said (entries_of sections) ≡ bodies_of sections
 bodies_of_sections sections = by_section body_said bodies_in bodies_alike sections
 
+counts_alike : (s : Section) → flat_map count_said (entries_in s) ≡ data_counts_in s
+counts_alike (Custom name contents) = refl
+counts_alike (TypeSection groups) = none_said count_said (λ x. OfType x) (λ x. refl) groups
+counts_alike (ImportSection imports) = none_said count_said (λ x. OfImport x) (λ x. refl) imports
+counts_alike (FunctionSection indexes) = none_said count_said (λ x. OfFunction x) (λ x. refl) indexes
+counts_alike (TableSection tables) = none_said count_said (λ x. OfTable x) (λ x. refl) tables
+counts_alike (MemorySection types) = none_said count_said (λ x. OfMemory x) (λ x. refl) types
+counts_alike (TagSection indexes) = none_said count_said (λ x. OfTag x) (λ x. refl) indexes
+counts_alike (GlobalSection globals) = none_said count_said (λ x. OfGlobal x) (λ x. refl) globals
+counts_alike (ExportSection exports) = none_said count_said (λ x. OfExport x) (λ x. refl) exports
+counts_alike (StartSection function) = refl
+counts_alike (ElementSection segments) = none_said count_said (λ x. OfElement x) (λ x. refl) segments
+counts_alike (DataCountSection count) = refl
+counts_alike (CodeSection bodies) = none_said count_said (λ x. OfBody x) (λ x. refl) bodies
+counts_alike (DataSection segments) = none_said count_said (λ x. OfData x) (λ x. refl) segments
+
+pub counts_of_sections : (sections : List Section) → data_counts_said (entries_of sections) ≡ data_counts_of sections
+counts_of_sections sections = by_section count_said data_counts_in counts_alike sections
+
+segments_alike : (s : Section) → flat_map segment_said (entries_in s) ≡ data_in s
+segments_alike (Custom name contents) = refl
+segments_alike (TypeSection groups) = none_said segment_said (λ x. OfType x) (λ x. refl) groups
+segments_alike (ImportSection imports) = none_said segment_said (λ x. OfImport x) (λ x. refl) imports
+segments_alike (FunctionSection indexes) = none_said segment_said (λ x. OfFunction x) (λ x. refl) indexes
+segments_alike (TableSection tables) = none_said segment_said (λ x. OfTable x) (λ x. refl) tables
+segments_alike (MemorySection types) = none_said segment_said (λ x. OfMemory x) (λ x. refl) types
+segments_alike (TagSection indexes) = none_said segment_said (λ x. OfTag x) (λ x. refl) indexes
+segments_alike (GlobalSection globals) = none_said segment_said (λ x. OfGlobal x) (λ x. refl) globals
+segments_alike (ExportSection exports) = none_said segment_said (λ x. OfExport x) (λ x. refl) exports
+segments_alike (StartSection function) = refl
+segments_alike (ElementSection segments) = none_said segment_said (λ x. OfElement x) (λ x. refl) segments
+segments_alike (DataCountSection count) = refl
+segments_alike (CodeSection bodies) = none_said segment_said (λ x. OfBody x) (λ x. refl) bodies
+segments_alike (DataSection segments) = each_said segment_said (λ x. OfData x) (λ x. refl) segments
+
 -- ---- the context
 
-items_leave_functions : (cx : Context) (types : List (ExternalType ℕ)) → (after_items cx types).own_functions ≡ cx.own_functions
-items_leave_functions cx [] = refl
-items_leave_functions cx (FuncExternal function ∷ types) = items_leave_functions (after_item cx (FuncExternal function)) types
-items_leave_functions cx (TableExternal type ∷ types) = items_leave_functions (after_item cx (TableExternal type)) types
-items_leave_functions cx (MemoryExternal type ∷ types) = items_leave_functions (after_item cx (MemoryExternal type)) types
-items_leave_functions cx (GlobalExternal type ∷ types) = items_leave_functions (after_item cx (GlobalExternal type)) types
-items_leave_functions cx (TagExternal function ∷ types) = items_leave_functions (after_item cx (TagExternal function)) types
+-- what imports leave as it is
+record AreLeft (old new : Context) : Type 0 where
+  functions : new.own_functions ≡ old.own_functions
+  segments : new.segments ≡ old.segments
+
+items_leave : (cx : Context) (types : List (ExternalType ℕ)) → AreLeft cx (after_items cx types)
+items_leave cx [] = record { functions = refl; segments = refl }
+items_leave cx (type ∷ types) = by_item type (items_leave (after_item cx type) types)
+  where
+    by_item : (type : ExternalType ℕ) → AreLeft (after_item cx type) (after_items (after_item cx type) types) → AreLeft cx (after_items (after_item cx type) types)
+    by_item (FuncExternal function) l = record { functions = l.functions; segments = l.segments }
+    by_item (TableExternal type) l = record { functions = l.functions; segments = l.segments }
+    by_item (MemoryExternal type) l = record { functions = l.functions; segments = l.segments }
+    by_item (GlobalExternal type) l = record { functions = l.functions; segments = l.segments }
+    by_item (TagExternal function) l = record { functions = l.functions; segments = l.segments }
 
 one_entry : (cx : Context) (entry : Entry) → (after cx entry).own_functions ≡ cx.own_functions ++ function_said entry
 one_entry cx (OfFunction index) = refl
-one_entry cx (OfImport entry) = items_leave_functions (record cx { imports = suc cx.imports }) (imported_by entry) ∙ sym (append-nil cx.own_functions)
+one_entry cx (OfImport entry) = (items_leave (record cx { imports = suc cx.imports }) (imported_by entry)).functions ∙ sym (append-nil cx.own_functions)
 one_entry cx (OfCustom name) = sym (append-nil cx.own_functions)
 one_entry cx (OfType group) = sym (append-nil cx.own_functions)
 one_entry cx (OfTable table) = sym (append-nil cx.own_functions)
@@ -109,26 +163,28 @@ functions_after cx (e ∷ es) =
 pub functions_of_sections : (sections : List Section) → (context_of sections).own_functions ≡ functions_of sections
 functions_of_sections sections = functions_after at_first (entries_of sections) ∙ by_section function_said functions_in functions_alike sections
 
--- ---- data counts
+-- ---- data segments
 
-no_count : (s : Section) → are_supported (entries_in s) ≡ true → data_counts_in s ≡ []
-no_count (Custom name contents) h = refl
-no_count (TypeSection groups) h = refl
-no_count (ImportSection imports) h = refl
-no_count (FunctionSection indexes) h = refl
-no_count (TableSection tables) h = refl
-no_count (MemorySection types) h = refl
-no_count (TagSection indexes) h = refl
-no_count (GlobalSection globals) h = refl
-no_count (ExportSection exports) h = refl
-no_count (StartSection function) h = refl
-no_count (ElementSection segments) h = refl
-no_count (DataCountSection count) h = absurd cc
-no_count (CodeSection bodies) h = refl
-no_count (DataSection segments) h = refl
+one_segment : (cx : Context) (entry : Entry) → (after cx entry).segments ≡ cx.segments + length (segment_said entry)
+one_segment cx (OfData segment) = omega arith
+one_segment cx (OfImport entry) = (items_leave (record cx { imports = suc cx.imports }) (imported_by entry)).segments ∙ omega arith
+one_segment cx (OfCustom name) = omega arith
+one_segment cx (OfType group) = omega arith
+one_segment cx (OfFunction index) = omega arith
+one_segment cx (OfTable table) = omega arith
+one_segment cx (OfMemory type) = omega arith
+one_segment cx OfTags = omega arith
+one_segment cx (OfTag index) = omega arith
+one_segment cx (OfGlobal global) = omega arith
+one_segment cx (OfExport export) = omega arith
+one_segment cx (OfStart function) = omega arith
+one_segment cx (OfElement segment) = omega arith
+one_segment cx (OfDataCount count) = omega arith
+one_segment cx (OfBody body) = omega arith
 
-pub no_counts : (sections : List Section) → are_supported (entries_of sections) ≡ true → data_counts_of sections ≡ []
-no_counts [] h = refl
-no_counts (s ∷ ss) h =
-    let p = supported_parts (entries_in s) (entries_of ss) h in
-    ap₂ (λ a b. a ++ b) (no_count s p.0) (no_counts ss p.1)
+segments_after : (cx : Context) (es : List Entry) → (after_all cx es).segments ≡ cx.segments + length (flat_map segment_said es)
+segments_after cx [] = omega arith
+segments_after cx (e ∷ es) = omega (arith, segments_after (after cx e) es, one_segment cx e, length-append (segment_said e) (flat_map segment_said es))
+
+pub segments_of_sections : (sections : List Section) → (context_of sections).segments ≡ length (data_of sections)
+segments_of_sections sections = omega (arith, segments_after at_first (entries_of sections), ap (λ (l : List DataSegment). length l) (by_section segment_said data_in segments_alike sections))

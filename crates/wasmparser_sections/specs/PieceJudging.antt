@@ -41,6 +41,11 @@ unfoldable pub body_in : Piece → List Input
 body_in (Body body) = body ∷ []
 body_in _ = []
 
+-- the data count that a piece states, if it is one
+unfoldable pub count_in : Piece → List ℕ
+count_in (DataCount count place) = count ∷ []
+count_in _ = []
+
 -- ---- places
 
 -- The place is that of the first byte of a piece. Where nothing can be refused there is none.

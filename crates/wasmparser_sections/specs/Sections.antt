@@ -5,7 +5,7 @@ use Rattle.wasm_core_base.specs.Limits as core
 use Rattle.wasm_core_read.specs.Input.{Input, end}
 use Rattle.wasm_spec.specs.Features.{Features, CompactImports, has}
 use Rattle.wasm_spec.specs.Grammar.{IsModule}
-use Rattle.wasm_spec.specs.Syntax.{Section, bodies_of}
+use Rattle.wasm_spec.specs.Syntax.{Section, bodies_of, data_counts_of}
 use Rattle.wasm_validity.specs.Context.{Context}
 use Rattle.wasm_validity.specs.Entries.{entries_of}
 use Rattle.wasm_validity.specs.Validity.{AreFine, BeginsInvalid, BeginsPast, are_supported, context_of}
@@ -24,15 +24,21 @@ contents_of bodies = map (λ (b : Input). b.rest) bodies
 abbrev pub EndBy : ℕ → List Input → Type 0
 EndBy last bodies = AllByRecursion (λ (b : Input). end b ≤ last) bodies
 
--- Sections were read to the end of the bytes, and what is known after them. Whether there are as many bodies as functions is still open.
-pub record AreRead (features : Features) (bytes : List ℕ) (cx : Context) (given : List Input) : Type 0 where
+-- Sections were read to the end of the bytes, and what is known after them, with these bodies and data counts. Whether there are as many bodies as
+-- functions, and as many data segments as is stated, is still open.
+pub record AreRead (features : Features) (bytes : List ℕ) (cx : Context) (given : List Input) (stated : List ℕ) : Type 0 where
   pub sections : List Section
   pub reads : HasAllSections (has features CompactImports) bytes sections
   pub supported : are_supported (entries_of sections) ≡ true
   pub fine : AreFine features (entries_of sections)
   pub known : cx ≡ context_of sections
   pub bodies : contents_of given ≡ bodies_of sections
+  pub counts : stated ≡ data_counts_of sections
   pub inside : EndBy (length bytes) given
+
+-- there are as many bodies as functions, and as many data segments as each data count states
+abbrev pub CountsAgree : Context → List Input → List ℕ → Type 0
+CountsAgree cx given stated = (length cx.own_functions ≡ length given) × AllByRecursion (λ count. count ≡ cx.segments) stated
 
 -- the bytes are a module whose sections are supported and keep all rules and limits but those on what is in bodies
 pub record AreAccepted (features : Features) (bytes : List ℕ) (m : ValidSections) : Type 0 where
@@ -58,9 +64,9 @@ abbrev pub RefusesSections : Features → List ℕ → Error → Type 0
 RefusesSections features bytes e = NamesSections features bytes e.kind × (e.offset ≤ length bytes) × (e.kind ≡ kinds.Memory → e.offset ≡ 0)
 
 -- What a call returned that reads all sections.
-abbrev pub ReadsSections : Features → List ℕ → Result (Unit {0}) Error → Context → List Input → Type 0
-ReadsSections features bytes (Ok x) known bodies = AreRead features bytes known bodies
-ReadsSections features bytes (Err e) known bodies = RefusesSections features bytes e
+abbrev pub ReadsSections : Features → List ℕ → Result (Unit {0}) Error → Context → List Input → List ℕ → Type 0
+ReadsSections features bytes (Ok x) known bodies stated = AreRead features bytes known bodies stated
+ReadsSections features bytes (Err e) known bodies stated = RefusesSections features bytes e
 
 -- What a call returned that judges the sections of a module.
 abbrev pub JudgesSections : Features → List ℕ → Result ValidSections Error → Type 0

@@ -1,4 +1,4 @@
-//! Sections that aren't judged yet.
+//! Sections that aren't judged.
 
 ghost use Rattle.wasmparser_sections.specs.PieceJudging.{RefusesAt, RefusesItems};
 

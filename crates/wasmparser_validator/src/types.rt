@@ -1,6 +1,6 @@
 //! What a validator shows of a valid module.
 
-// Supported modules have no element segments and no exports.
+// Supported modules have no exports.
 
 ghost use Rattle.std.specs.Prelude.{◌≡◌, length, IsSomeAnd};
 ghost use Rattle.std.specs.Iterator.{YieldsFirst, item_count};
@@ -53,7 +53,7 @@ impl Types {
             memories: state.memory_count() as u32,
             globals: state.global_count() as u32,
             tags: state.tag_count() as u32,
-            elements: 0,
+            elements: state.element_count(),
         }
     }
 

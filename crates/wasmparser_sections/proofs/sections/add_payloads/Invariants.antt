@@ -5,4 +5,4 @@ use Rattle.wasmparser_sections.proofs.sections.add_payloads.Given as goal
 
 abbrev pub invariant-payloads : goal.invariant-payloads
 invariant-payloads l =
-    Progress (features_of l.fn.state) l.fn.bytes (context l.state) l.bodies.items l.payloads × (features_of l.state ≡ features_of l.fn.state)
+    Progress (features_of l.fn.state) l.fn.bytes (context l.state) l.bodies.items l.data_counts.items l.payloads × (features_of l.state ≡ features_of l.fn.state)

@@ -5,6 +5,10 @@ use wasm_core_base::features::WasmFeatures;
 use wasm_core_read::binary_reader::BinaryReader;
 use wasm_test_rows::fields::word_and_rest;
 use wasm_test_rows::values::{bytes_of, number_of};
+use wasmparser_entries::data::Data;
+use wasmparser_entries::element::Element;
+use wasmparser_entries::global as globals;
+use wasmparser_entries::table::Table;
 use wasmparser_error::error::Error;
 use wasmparser_imports::imports::Imports;
 use wasmparser_items::memory_type::MemoryType;
@@ -90,7 +94,11 @@ fn answer_bytes(
         "import_entries" => Some(adds::<Imports<'_>>(alloc, state, content)),
         "functions" => Some(adds::<u32>(alloc, state, content)),
         "memories" => Some(adds::<MemoryType>(alloc, state, content)),
+        "tables" => Some(adds::<Table<'_>>(alloc, state, content)),
         "tags" => Some(adds::<TagType>(alloc, state, content)),
+        "globals" => Some(adds::<globals::Global<'_>>(alloc, state, content)),
+        "elements" => Some(adds::<Element<'_>>(alloc, state, content)),
+        "data" => Some(adds::<Data<'_>>(alloc, state, content)),
         "body" => Some(state.code_section_entry(content, OFFSET)),
         "custom" => Some(custom(state, content)),
         _ => None,

@@ -144,9 +144,29 @@ const SECTIONS: &str = r"
     | types 01 60 02 7f 7f 01 7f; imports 0000*199999 0000 | TypeSize
     | types 01 60 00 00; imports 037f00*999997 040000 | TypeSize
     | imports 037f00*999998 01700000 | TypeSize
+
+    // the module's own items that stand on constants
+    | tables 64 700000*100 | yes
+    | tables 65 700000*101 | Tables
+    | imports 01700000; tables 64 700000*100 | Tables
+    | globals c0 84 3d 7f0041000b*1000000 | yes
+    | globals c1 84 3d 7f0041000b*1000001 | Globals
+    | imports 037f00*999998; globals 02 7f0041000b*2 | yes
+    | imports 037f00*999998; globals 03 7f0041000b*3 | Globals
+    | types 01 5f 90 4e 7f00*10000; globals 01 64 00 00 4100*10000 fb 00 00 0b | yes
+    | types 01 5f 90 4e 7f00*10000; globals 01 64 00 00 4100*9999 fb 00 00 0b | invalid
+    | types 01 5e 7f 00; globals 01 64 00 00 4100*100000 fb 08 00 a0 8d 06 0b | yes
+    | types 01 5e 7f 00; globals 01 64 00 00 4100*100000 fb 08 00 ff ff ff ff 0f 0b | invalid
+    | elements a0 8d 06 010000*100000 | yes
+    | elements a1 8d 06 010000*100001 | ElementSegments
+    | types 01 60 00 00; functions 01 00; elements 01 01 00 80 ad e2 04 00*10000000 | yes
+    | types 01 60 00 00; functions 01 00; elements 01 01 00 81 ad e2 04 00*10000001 | SegmentEntries
+    | elements 01 05 70 c0 84 3d d0700b*1000000 | yes
+    | data a0 8d 06 0100*100000 | yes
+    | data a1 8d 06 0100*100001 | DataSegments
 ";
 
-const COUNT_OF_SECTIONS: usize = 115;
+const COUNT_OF_SECTIONS: usize = 133;
 
 fn switched(features: WasmFeatures, word: &str) -> Option<WasmFeatures> {
     let flag = match word.trim_start_matches('-') {

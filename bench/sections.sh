@@ -1,0 +1,91 @@
+#!/bin/sh
+# Seconds and peak memory of `wasm_gen check` on modules of a million items of a kind: imports of globals, globals, functions and expressions of element
+# segments, segments, and operands of constant expressions. Beside it node's WebAssembly.validate on files of 100,000 items, where node is there. A module
+# is to take 1.5 s and 100 bytes an item beyond the input at most; where one takes more, the status is 1.
+set -eu
+. "$(dirname "$0")/setup.sh"
+# (a process that holds the modules would lend its size to those that it starts)
+python3 - "$folder" <<'PYTHON'
+import sys
+header = b"\0asm\1\0\0\0"
+
+def number(n):
+    out = bytearray()
+    while n > 127:
+        out.append(n & 127 | 128)
+        n >>= 7
+    out.append(n)
+    return bytes(out)
+
+def section(id, count, items):
+    content = number(count) + items
+    return bytes([id]) + number(len(content)) + content
+
+types = section(1, 1, b"\x60\0\0")
+function = section(3, 1, b"\0")
+body = section(10, 1, b"\2\0\x0b")
+table = section(4, 1, b"\x70\0\1")
+structure = section(1, 1, b"\x5f" + number(1_000) + b"\x7f\0" * 1_000)
+others = lambda n: b"".join(b"\x7f\0\x23" + number(i) + b"\x0b" for i in range(n - 1))
+
+def modules(n):
+    few = min(n, 100_000)
+    return [
+        ("imports of globals", n - 2, section(2, n - 2, b"\0\0\3\x7f\0" * (n - 2))),
+        ("globals of i32", n, section(6, n, b"\x7f\0\x41\0\x0b" * n)),
+        ("globals, each of the one before", n, section(6, n, b"\x7f\0\x41\0\x0b" + others(n))),
+        ("functions in an element segment", n, types + function + table + section(9, 1, b"\0\x41\0\x0b" + number(n) + bytes(n)) + body),
+        ("expressions in an element segment", n, types + function + table + section(9, 1, b"\4\x41\0\x0b" + number(n) + b"\xd2\0\x0b" * n) + body),
+        ("element segments", few, section(9, few, b"\1\0\0" * few)),
+        ("data segments", few, section(5, 1, b"\0\1") + section(11, few, b"\0\x41\0\x0b\0" * few)),
+        ("operands of structures", n, structure + section(6, n // 1_000, (b"\x64\0\0" + b"\x41\0" * 1_000 + b"\xfb\0\0\x0b") * (n // 1_000))),
+    ]
+
+for size in ["large", "small"]:
+    with open(f"{sys.argv[1]}/{size}", "w") as names:
+        for at, (name, count, content) in enumerate(modules(1_000_000 if size == "large" else 100_000)):
+            open(f"{sys.argv[1]}/{size}{at}.wasm", "wb").write(header + content)
+            print(count, name, file=names)
+open(f"{sys.argv[1]}/empty.wasm", "wb").write(header)
+PYTHON
+python3 - "$program" "$folder" <<'PYTHON'
+import os, shutil, subprocess, sys, time
+program, folder = sys.argv[1:]
+
+def measure(path):
+    best = None
+    for _ in range(3):
+        begin = time.perf_counter()
+        child = subprocess.Popen([program, "check", path], stdout=subprocess.PIPE)
+        out = child.stdout.read().decode().strip()
+        _, _, usage = os.wait4(child.pid, 0)
+        taken = time.perf_counter() - begin
+        if best is None or taken < best[0]:
+            best = (taken, usage.ru_maxrss * 1024, out)
+    return best
+
+def modules(size):
+    for at, line in enumerate(open(f"{folder}/{size}")):
+        count, name = line.split(maxsplit=1)
+        yield int(count), name.strip(), f"{folder}/{size}{at}.wasm"
+
+script = """const bytes = require('fs').readFileSync(process.argv[1]);
+const begin = process.hrtime.bigint();
+const answer = WebAssembly.validate(bytes);
+console.log(Number(process.hrtime.bigint() - begin) / 1e6, answer ? 'yes' : 'no');"""
+past = False
+start = measure(f"{folder}/empty.wasm")[0]
+for count, name, path in modules("large"):
+    taken, peak, out = measure(path)
+    size = os.path.getsize(path)
+    # (16 MiB for the process, which begins as a copy of this one)
+    past |= taken > 1.5 or peak > size + 100 * count + (16 << 20) or not out.startswith("yes")
+    print(f"{count:,} {name}: {taken:.2f} s, {peak / 2**20:.0f} MiB at most for {size / 2**20:.0f} MiB, answers {out.split()[0]}")
+if shutil.which("node"):
+    print(f"{'of 100,000, without the start of the program, which takes':s} {start * 1e3:.1f} ms:")
+    for count, name, path in modules("small"):
+        taken = measure(path)[0] - start
+        said = subprocess.run(["node", "-e", script, path], stdout=subprocess.PIPE, text=True).stdout.split()
+        print(f"  {count:,} {name}: {taken * 1e3:.1f} ms with reading the file; node's call: {float(said[0]):.1f} ms, answers {said[1]}")
+sys.exit(past)
+PYTHON

@@ -1,0 +1,5 @@
+//! The exports of a module by their names: a part of `wasmparser`.
+#![tactic(auto)]
+
+pub mod export_names;
+mod name_hasher;

@@ -1,0 +1,34 @@
+//! Hashing of names that whoever wrote the module may have chosen.
+
+use std::hash::{BuildHasher, DefaultHasher, Hasher};
+
+/// Hashes each name after others, which may be all names of a section. Who chooses names so that they collide after some others has other names
+/// then, after which they don't.
+#[derive(Clone, Copy)]
+pub(crate) struct NameHasher {
+    start: DefaultHasher,
+}
+
+impl NameHasher {
+    /// After no names.
+    pub(crate) fn new() -> NameHasher {
+        NameHasher {
+            start: DefaultHasher::new(),
+        }
+    }
+
+    /// One name more goes before those that are hashed.
+    pub(crate) fn start_after(&mut self, name: &str) {
+        self.start.write(name.as_bytes());
+    }
+}
+
+impl BuildHasher for NameHasher {
+    type Hasher = DefaultHasher;
+
+    ghost build_hasher = { λ hasher. hasher.start };
+
+    fn build_hasher(&self) -> DefaultHasher {
+        self.start
+    }
+}

@@ -10,6 +10,8 @@ mod data_segments;
 #[cfg(test)]
 mod elements;
 #[cfg(test)]
+mod exports;
+#[cfg(test)]
 mod function_limits;
 #[cfg(test)]
 mod functions;

@@ -1,4 +1,4 @@
-//! Imports, memories, tags, the start function, and exports, which aren't supported.
+//! Imports, memories, tags and the start function.
 
 /// Features, sections, and the answer.
 pub const ROWS: &str = "
@@ -66,9 +66,6 @@ pub const ROWS: &str = "
     // Tags stand before the start function, and after memories.
     default              | types functions 05 03 01 00 01 0d 03 01 00 00 08 01 00 code | yes
     default              | types 0d 03 01 00 00 05 03 01 00 01 | Malformed
-    // An export, which isn't supported, and none.
-    default              | 05 03 01 00 01 07 05 01 01 6d 02 00 | Malformed
-    default              | 07 01 00                          | yes
     // A byte after no items.
     default              | 02 02 00 00                       | Malformed
     default              | 0b 02 00 00                       | Malformed

@@ -1,10 +1,10 @@
 //! Rows of a module, and what new sessions answer on it.
 
 use crate::modules::{answers, module_of, new_session};
-use crate::views::has_line;
+use crate::views::{has_exports, has_line};
 use crate::{
-    custom_sections, cuts, data_segments, elements, function_limits, functions, globals, lines,
-    other_sections, tables, types, value_types,
+    custom_sections, cuts, data_segments, elements, exports, function_limits, functions, globals,
+    lines, other_sections, tables, types, value_types,
 };
 use std::alloc::Global;
 use std::test::Fail;
@@ -120,6 +120,7 @@ fn holds(alloc: Global, row: &str) -> Option<bool> {
         "cuts" => Some(is_cut_at(alloc, &bytes, expected)),
         "ids" => has_ids(alloc, &mut bytes, expected),
         "line" => Some(has_line(alloc, &bytes, expected)),
+        "names" => Some(has_exports(alloc, &bytes, expected)),
         _ => Some(answers_under(alloc, features_of(way)?, &bytes, answer_in(expected))),
     }
 }
@@ -131,11 +132,12 @@ fn new_sessions_give_these_answers(rt: HostRuntime) -> Result<(), Fail> {
         (cuts::ROWS, 3),
         (data_segments::ROWS, 41),
         (elements::ROWS, 43),
+        (exports::ROWS, 38),
         (function_limits::ROWS, 20),
         (functions::ROWS, 52),
         (globals::ROWS, 57),
-        (lines::ROWS, 9),
-        (other_sections::ROWS, 61),
+        (lines::ROWS, 12),
+        (other_sections::ROWS, 59),
         (tables::ROWS, 34),
         (types::ROWS, 31),
         (value_types::ROWS, 38),

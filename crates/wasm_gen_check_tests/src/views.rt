@@ -13,9 +13,30 @@ fn writes(alloc: Global, bytes: &[u8], line: &str) -> bool {
     answer == Ok(line.starts_with("yes")) && written.strip_suffix(b"\n") == Some(line.as_bytes())
 }
 
-// Whether a view has no exports, which aren't supported.
-fn has_no_exports(view: TypesRef<'_>) -> bool {
-    view.core_exports().is_some_and(|it| it.count() == 0)
+// The number of a view's exports.
+fn export_count(view: TypesRef<'_>) -> usize {
+    view.core_exports().map_or(0, |it| it.count())
+}
+
+// Whether these are the names of a view's exports, in order.
+fn are_exported(view: TypesRef<'_>, names: &str) -> bool {
+    let Some(mut exports) = view.core_exports() else {
+        return false;
+    };
+    for name in names.split_whitespace() {
+        if !exports.next().is_some_and(|it| it.name == name) {
+            return false;
+        }
+    }
+    exports.next().is_none()
+}
+
+/// Whether the module is valid and exports items by these names.
+pub fn has_exports(alloc: Global, bytes: &[u8], names: &str) -> bool {
+    match new_session().check(alloc, bytes) {
+        Ok(view) => are_exported(view.as_ref(), names),
+        Err(_) => false,
+    }
 }
 
 // Whether a view counts what the line says.
@@ -27,10 +48,11 @@ fn is_line_of(alloc: Global, view: TypesRef<'_>, line: &str) -> bool {
     let globals = view.global_count();
     let tags = view.tag_count();
     let elements = view.element_count();
+    let exports = export_count(view);
     let shown = format!(in alloc;
-        "yes types={types} functions={functions} tables={tables} memories={memories} globals={globals} tags={tags} elements={elements} exports=0"
+        "yes types={types} functions={functions} tables={tables} memories={memories} globals={globals} tags={tags} elements={elements} exports={exports}"
     );
-    shown.is_ok_and(|it| it.as_str() == line) && has_no_exports(view)
+    shown.is_ok_and(|it| it.as_str() == line)
 }
 
 /// Whether the line is written of a module, and its view counts what the line says.

@@ -11,7 +11,7 @@ use Rattle.wasm_spec.specs.Types.{ValType, SubType}
 use Rattle.wasm_validity.specs.Context.{Context, after_all, at_first}
 use Rattle.wasm_validity.specs.Entries.{Entry, entries_of}
 use Rattle.wasm_validity.specs.Rules.{Keeps, KeepRules, KeepLimits, PassLimit}
-use Rattle.wasm_validity.specs.Validity.{BodyAt, IsTypedBody, IsValid, are_supported}
+use Rattle.wasm_validity.specs.Validity.{BodyAt, IsTypedBody, IsValid}
 use Rattle.wasm_smith.specs.Bounds.{IsSmall, IsWithinBounds}
 use Rattle.wasm_smith.specs.Made.{Made}
 use Rattle.wasm_smith.specs.Plain.{IsPlainFunction, IsPlainModule}
@@ -226,29 +226,6 @@ body_at features m bodies h place below =
 
 -- ---- modules
 
--- sections of types, functions and bodies are supported
-pub is_supported : (m : Made) (bodies : List (List ℕ)) → are_supported (entries_of (sections_with m bodies)) ≡ true
-is_supported m bodies = by_sections m.types m.funcs
-  where
-    types_supported : (types : List (SubType ℕ)) (rest : List Entry) → are_supported rest ≡ true → are_supported (of_types types ++ rest) ≡ true
-    types_supported [] rest h = h
-    types_supported (type ∷ types) rest h = types_supported types rest h
-
-    functions_supported : (functions : List ℕ) (rest : List Entry) → are_supported rest ≡ true → are_supported (of_functions functions ++ rest) ≡ true
-    functions_supported [] rest h = h
-    functions_supported (f ∷ fs) rest h = functions_supported fs rest h
-
-    bodies_supported : (bodies : List (List ℕ)) (rest : List Entry) → are_supported rest ≡ true → are_supported (of_bodies bodies ++ rest) ≡ true
-    bodies_supported [] rest h = h
-    bodies_supported (b ∷ bs) rest h = bodies_supported bs rest h
-
-    by_sections : (types : List (SubType ℕ)) (functions : List ℕ) → are_supported (entries_of (sections types functions bodies)) ≡ true
-    by_sections [] [] = refl
-    by_sections [] (f ∷ fs) = functions_supported (f ∷ fs) (of_bodies bodies ++ []) (bodies_supported bodies [] refl)
-    by_sections (t ∷ ts) [] = types_supported (t ∷ ts) [] refl
-    by_sections (t ∷ ts) (f ∷ fs) = types_supported (t ∷ ts) (of_functions (f ∷ fs) ++ (of_bodies bodies ++ []))
-        (functions_supported (f ∷ fs) (of_bodies bodies ++ []) (bodies_supported bodies [] refl))
-
 pub is_valid : (c : Config) (m : Made) (features : Features) (bodies : List (List ℕ)) → IsWithinBounds c m → IsPlainModule m → length m.types ≤ most Types → length m.funcs ≤ most Functions
     → IsValidByIndex features m → AreUnreachableBodies m.locals bodies → IsValid features (sections_with m bodies)
 is_valid c m features bodies b plain few_types few_funcs v h =
@@ -267,7 +244,6 @@ is_valid c m features bodies b plain few_types few_funcs v h =
       valid = v;
     } in
     record {
-      supported = is_supported m bodies;
       fine = record {
         rules = subst (λ l. KeepRules features at_first l) (sym entries) (rules_kept features m.types m.funcs bodies asked);
         limits = subst (λ l. KeepLimits at_first l) (sym entries) (limits_kept m.types m.funcs bodies few b.small_types plain.types);

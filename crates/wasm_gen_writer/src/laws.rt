@@ -1,7 +1,7 @@
 //! Laws of made modules: where layers meet, their contracts cite these. The functions do nothing: their contracts are
 //! theorems.
 
-ghost use Rattle.std.specs.Prelude.{◌≡◌, ◌≤◌, ◌<◌, ◌^◌, ℕ, Bool, List, [], length, map, true};
+ghost use Rattle.std.specs.Prelude.{◌≡◌, ◌≤◌, ◌<◌, ◌^◌, ℕ, Bool, List, [], length, map};
 ghost use Rattle.std.specs.List.{AllByRecursion};
 ghost use Rattle.wasm_gen_writer.specs.Encodings.{body_encoding, module_encoding};
 ghost use Rattle.wasm_gen_writer.specs.Written.{AreUnreachableBodies, sections_with};
@@ -16,7 +16,7 @@ ghost use Rattle.wasm_spec.specs.Limits.{Limit, Types, Functions, most};
 ghost use Rattle.wasm_validity.specs.Context.{at_first};
 ghost use Rattle.wasm_validity.specs.Entries.{entries_of};
 ghost use Rattle.wasm_validity.specs.Rules.{PassLimit};
-ghost use Rattle.wasm_validity.specs.Validity.{IsValid, are_supported};
+ghost use Rattle.wasm_validity.specs.Validity.{IsValid};
 
 /// A made module of plain types that is valid by index is valid, whatever the encodings of its bodies, unless it has too
 /// many types or functions.
@@ -32,11 +32,6 @@ pub fn few_counts()
     ensures { (m : Made) (limit : Limit) → AllByRecursion IsSmall m.types → AllByRecursion IsPlainFunction m.types
         → length m.types ≤ most Types → length m.funcs ≤ most Functions
         → ¬ (PassLimit limit at_first (entries_of (sections_with m []))) }
-{}
-
-/// The sections of a made module are supported, whatever the encodings of its bodies.
-pub fn supported_sections()
-    ensures { (m : Made) (bodies : List (List ℕ)) → are_supported (entries_of (sections_with m bodies)) ≡ true }
 {}
 
 /// The encoding of a made module reads as its sections, with bodies of its locals, whether compact imports are on or not.

@@ -4,7 +4,7 @@ use Rattle.std.specs.List.{list_all}
 use Rattle.wasm_spec.specs.Examples.{at_least}
 use Rattle.wasm_spec.specs.Features.{Flag, Features, has}
 use Rattle.wasm_spec.specs.Limits.{Limit}
-use Rattle.wasm_spec.specs.Syntax.{Import, Table}
+use Rattle.wasm_spec.specs.Syntax.{Export, Import, Table}
 use Rattle.wasm_spec.specs.TypeExamples.{empty_structure, final_type, gives, takes}
 use Rattle.wasm_spec.specs.Types.{HeapType, I32, I64, RefType, ValType, FuncComposite, Single, Limits, TableType, GlobalType, ExternalType, ExternalKind, funcref}
 use Rattle.wasm_validity.specs.Context.{Context, after_all, at_first}
@@ -76,8 +76,11 @@ variable type = record { value_type = type; mutable = true }
 abbrev pub imports : ExternalType ℕ → Entry
 imports type = OfImport (Import [] [] type)
 
+abbrev pub export_of : List ℕ → ExternalKind → ℕ → Export
+export_of name kind index = record { name = name; kind = kind; index = index }
+
 abbrev pub exports : List ℕ → ExternalKind → ℕ → Entry
-exports name kind index = OfExport (record { name = name; kind = kind; index = index })
+exports name kind index = OfExport (export_of name kind index)
 
 -- ---- types
 

@@ -1,6 +1,6 @@
 -- The rules on what sections say: for each entry, in the context of those before it. Core Specification 3.0, Validation, "Modules", and appendix
 -- "Implementation Limitations" for what is measured. Each rule is asked under a set of features, which the standard doesn't have.
-use Rattle.std.specs.Prelude.{◌≡◌, ◌⊎◌, ⊤, ℕ, suc, ◌+◌, ◌<◌, Bool, true, false, not, ◌&&◌, ◌||◌, List, [], ◌∷◌, ◌++◌, length, map, nat_eq, nat_lt, Option, Some, None, is_some, if◌then◌else◌}
+use Rattle.std.specs.Prelude.{◌≡◌, ◌⊎◌, ⊤, ℕ, suc, ◌+◌, ◌<◌, Bool, true, false, bytes_eq, not, ◌&&◌, ◌||◌, List, [], ◌∷◌, ◌++◌, length, map, nat_eq, nat_lt, Option, Some, None, is_some, if◌then◌else◌}
 use Rattle.std.specs.List.{AllByRecursion, list_all, list_any, slice_get}
 use Rattle.std.specs.Option.{unwrap_or}
 use Rattle.wasm_spec.specs.Constants.{ConstantExpression}
@@ -138,12 +138,7 @@ may_leave features (Some _) = true
 
 -- (Modules, "Exports"): names are distinct
 abbrev pub keeps_export : Features → Context → Export → Bool
-keeps_export features cx export = may_leave features (item_at cx export.kind export.index) && not (list_any (same_name export.name) cx.exports)
-  where
-    same_name : List ℕ → List ℕ → Bool
-    same_name [] [] = true
-    same_name (a ∷ xs) (b ∷ ys) = nat_eq a b && same_name xs ys
-    same_name _ _ = false
+keeps_export features cx export = may_leave features (item_at cx export.kind export.index) && not (list_any (bytes_eq export.name) cx.exports)
 
 -- a function type that takes nothing and gives nothing, if there is one
 abbrev pub is_unit : Option (FuncType DefType) → Bool

@@ -1,7 +1,7 @@
--- Which modules are valid. Core Specification 3.0, Validation, "Modules". A valid module has only what is supported: entries other than exports,
--- which validators don't judge, and bodies of supported operators, with locals of supported types.
-use Rattle.std.specs.Prelude.{◌≡◌, ℕ, Bool, true, false, List, Some}
-use Rattle.std.specs.List.{EachIndex, SomeIndex, list_all, slice_get}
+-- Which modules are valid. Core Specification 3.0, Validation, "Modules". A valid module keeps all rules, and its bodies are of supported operators, with
+-- locals of supported types.
+use Rattle.std.specs.Prelude.{◌≡◌, ℕ, Bool, List, Some}
+use Rattle.std.specs.List.{EachIndex, SomeIndex, slice_get}
 use Rattle.wasm_spec.specs.Bodies.{Context as BodyContext, IsFunctionBody, HasManyLocals, HasOtherOperator}
 use Rattle.wasm_spec.specs.Features.{Features, CompactImports, has}
 use Rattle.wasm_spec.specs.Grammar.{IsModule}
@@ -11,19 +11,9 @@ use Rattle.wasm_spec.specs.Trees.{DefType}
 use Rattle.wasm_spec.specs.Types.{ValType, FuncType}
 use Rattle.wasm_validity.specs.Context.{Context, after_all, at_first}
 use Rattle.wasm_validity.specs.DefinedTypes.{func_type_at}
-use Rattle.wasm_validity.specs.Entries.{Entry, OfExport, entries_of}
+use Rattle.wasm_validity.specs.Entries.{Entry, entries_of}
 use Rattle.wasm_validity.specs.Fronts.{BeginsWith}
 use Rattle.wasm_validity.specs.Rules.{KeepRules, KeepLimits, PassLimit}
-
--- ---- what is supported
-
--- This goes away once exports are judged too.
-abbrev pub is_supported : Entry → Bool
-is_supported (OfExport export) = false
-is_supported _ = true
-
-abbrev pub are_supported : List Entry → Bool
-are_supported entries = list_all is_supported entries
 
 -- ---- entries
 
@@ -79,9 +69,8 @@ IsBrokenBody features type body =
 
 -- ---- modules
 
--- Sections that read as a module are those of a valid one under a set of features: they are supported and fine, and each body is well typed.
+-- Sections that read as a module are those of a valid one under a set of features: they are fine, and each body is well typed.
 pub record IsValid (features : Features) (sections : List Section) : Type 0 where
-  pub supported : are_supported (entries_of sections) ≡ true
   pub fine : AreFine features (entries_of sections)
   pub bodies : EachBody (IsTypedBody features) sections
 
@@ -99,10 +88,9 @@ pub record BeginsPast (features : Features) (limit : Limit) (bytes : List ℕ) :
   pub begins : BeginsWith (has features CompactImports) bytes entries
   pub passes : PassLimit limit at_first entries
 
--- the bytes read as a module whose sections are supported and fine, and of some body of it something holds
+-- the bytes read as a module whose sections are fine, and of some body of it something holds
 pub record HasBody (features : Features) (Holds : FuncType DefType → List ℕ → Type 0) (bytes : List ℕ) : Type 0 where
   pub sections : List Section
   pub reads : IsModule (has features CompactImports) bytes sections
-  pub supported : are_supported (entries_of sections) ≡ true
   pub fine : AreFine features (entries_of sections)
   pub some : SomeBody Holds sections

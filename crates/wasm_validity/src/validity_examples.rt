@@ -3,18 +3,18 @@
 ghost use Rattle.std.specs.Prelude.{◌≡◌, ◌++◌, ℕ, List, [], ◌∷◌, None, false, length, replicate, true};
 ghost use Rattle.std.specs.List.{flat_map};
 ghost use Rattle.wasm_spec.specs.Examples.{at_least};
-ghost use Rattle.wasm_spec.specs.Features.{Features, BulkMemory, Gc, MultiValue, bit_of, has};
+ghost use Rattle.wasm_spec.specs.Features.{Features, BulkMemory, Gc, MultiValue, MutableGlobal, bit_of, has};
 ghost use Rattle.wasm_spec.specs.Grammar.{header};
 ghost use Rattle.wasm_spec.specs.Limits.{Memories, Params};
 ghost use Rattle.wasm_spec.specs.Syntax.{Section, Custom, TypeSection, FunctionSection, TableSection, MemorySection, GlobalSection, ExportSection, ElementSection, CodeSection, DataCountSection, DataSection, Export, ActiveElement, FunctionItems, ActiveData};
 ghost use Rattle.wasm_spec.specs.TypeExamples.{empty_function, empty_structure, final_type, gives, open_type};
-ghost use Rattle.wasm_spec.specs.Types.{I32, FuncComposite, RecGroup, Single};
-ghost use Rattle.wasm_validity.specs.Context.{at_first};
+ghost use Rattle.wasm_spec.specs.Types.{I32, FuncComposite, GlobalKind, MemoryKind, RecGroup, Single};
+ghost use Rattle.wasm_validity.specs.Context.{at_first, item_at};
 ghost use Rattle.wasm_validity.specs.ConstantExamples.{i32_number};
 ghost use Rattle.wasm_validity.specs.Entries.{entries_of};
-ghost use Rattle.wasm_validity.specs.Examples.{constant, one_table};
+ghost use Rattle.wasm_validity.specs.Examples.{constant, export_of, one_table, variable};
 ghost use Rattle.wasm_validity.specs.Rules.{KeepRules};
-ghost use Rattle.wasm_validity.specs.Validity.{BeginsInvalid, BeginsPast, IsValid};
+ghost use Rattle.wasm_validity.specs.Validity.{BeginsInvalid, BeginsPast, IsValid, context_of};
 
 /// A name of 100,000 bytes is the longest, wherever it stands, and nothing else is limited in custom sections.
 pub fn long_names()
@@ -52,16 +52,25 @@ pub fn gates()
     ensures without_gc { ¬ (KeepRules 0 at_first (entries_of (TypeSection (Single (open_type empty_function) ∷ []) ∷ []))) }
 {}
 
-/// Exports are in no valid module, wherever they stand. A section without entries says nothing, whatever its kind.
-pub fn unsupported()
-    ensures export { (features : Features) (export : Export) → ¬ (IsValid features (ExportSection (export ∷ []) ∷ [])) }
-    ensures among_others { (features : Features) (before after : List Section) (exports : List Export) (export : Export)
+/// Exports name items that are there, each by a name of its own, and variables with a feature alone. A section without
+/// entries says nothing, whatever its kind.
+pub fn exports()
+    ensures two_names { (features : Features) → IsValid features
+        (MemorySection (at_least 1 ∷ []) ∷ ExportSection (export_of (97 ∷ []) MemoryKind 0 ∷ export_of (98 ∷ []) MemoryKind 0 ∷ []) ∷ []) }
+    ensures one_name { (features : Features) → ¬ (IsValid features
+        (MemorySection (at_least 1 ∷ []) ∷ ExportSection (export_of (97 ∷ []) MemoryKind 0 ∷ export_of (97 ∷ []) MemoryKind 0 ∷ []) ∷ [])) }
+    ensures nothing { (features : Features) (before after : List Section) (exports : List Export) (export : Export)
+        → item_at (context_of before) export.kind export.index ≡ None
         → ¬ (IsValid features (before ++ (ExportSection (exports ++ (export ∷ [])) ∷ after))) }
+    ensures variable { (features : Features) → has features MutableGlobal ≡ true → IsValid features
+        (GlobalSection (record { type = variable I32; initialiser = i32_number ∷ [] } ∷ []) ∷ ExportSection (export_of [] GlobalKind 0 ∷ []) ∷ []) }
+    ensures variable_without { (features : Features) → has features MutableGlobal ≡ false → ¬ (IsValid features
+        (GlobalSection (record { type = variable I32; initialiser = i32_number ∷ [] } ∷ []) ∷ ExportSection (export_of [] GlobalKind 0 ∷ []) ∷ [])) }
     ensures empty { (features : Features) → IsValid features (TableSection [] ∷ ExportSection [] ∷ []) }
 {}
 
-/// All other kinds of entries are in valid modules: a table, a global, segments of both kinds, and a data count, which is a feature.
-pub fn supported()
+/// Other kinds of entries in valid modules: a table, a global, segments of both kinds, and a data count, which is a feature.
+pub fn kinds_of_entries()
     ensures table { (features : Features) → IsValid features (TableSection (one_table ∷ []) ∷ []) }
     ensures global { (features : Features) → IsValid features (GlobalSection (record { type = constant I32; initialiser = i32_number ∷ [] } ∷ []) ∷ []) }
     ensures element { (features : Features) → IsValid features

@@ -5,7 +5,6 @@ use Rattle.wasm_spec.specs.Limits.{Limit}
 use Rattle.wasm_validity.specs.Context.{Context, after, after_all}
 use Rattle.wasm_validity.specs.Entries.{Entry}
 use Rattle.wasm_validity.specs.Rules.{KeepLimits, KeepRules, PassLimit, Passes, are_within, is_past}
-use Rattle.wasm_validity.specs.Validity.{is_supported, are_supported}
 
 pub known : (cx : Context) (a b : List Entry) → after_all cx (a ++ b) ≡ after_all (after_all cx a) b
 known cx [] b = refl
@@ -33,9 +32,6 @@ both_true : (a b : Bool) → (a && b) ≡ true → (a ≡ true) × (b ≡ true)
 both_true true b h = (refl, h)
 both_true false b h = absurd cc
 
-and_true : (a b : Bool) → a ≡ true → b ≡ true → (a && b) ≡ true
-and_true a b h k = rw (h, k) refl
-
 is_not : (b : Bool) → not b ≡ true → b ≡ true → ⊥
 is_not true h k = absurd cc
 is_not false h k = absurd cc
@@ -55,19 +51,4 @@ pub passing : (limit : Limit) (cx : Context) (a b : List Entry) → PassLimit li
 passing limit cx [] b p = p
 passing limit cx (entry ∷ a) b p = inr (inr (passing limit (after cx entry) a b p))
 
--- ---- what is supported
-
-pub supported_split : (a b : List Entry) → are_supported (a ++ b) ≡ true → (are_supported a ≡ true) × (are_supported b ≡ true)
-supported_split [] b h = (refl, h)
-supported_split (entry ∷ a) b h =
-    let one = both_true (is_supported entry) (are_supported (a ++ b)) h in
-    let r = supported_split a b one.1 in
-    (and_true (is_supported entry) (are_supported a) one.0 r.0, r.1)
-
-pub supported_join : (a b : List Entry) → are_supported a ≡ true → are_supported b ≡ true → are_supported (a ++ b) ≡ true
-supported_join [] b h k = k
-supported_join (entry ∷ a) b h k =
-    let one = both_true (is_supported entry) (are_supported a) h in
-    and_true (is_supported entry) (are_supported (a ++ b)) one.0 (supported_join a b one.1 k)
-
-pub ruleset in_turn = (known, rules_split, rules_join, limits_split, limits_join, within, passing, supported_split, supported_join)
+pub ruleset in_turn = (known, rules_split, rules_join, limits_split, limits_join, within, passing)

@@ -9,7 +9,7 @@ ghost use Rattle.wasm_validity.specs.Context.{Context, after_all, at_first};
 ghost use Rattle.wasm_validity.specs.DefinedTypes.{func_type_at};
 ghost use Rattle.wasm_validity.specs.Entries.{Entry};
 ghost use Rattle.wasm_validity.specs.Rules.{KeepLimits, KeepRules, PassLimit};
-ghost use Rattle.wasm_validity.specs.Validity.{are_supported, context_of};
+ghost use Rattle.wasm_validity.specs.Validity.{context_of};
 ghost use Rattle.wasm_validity_laws.specs.SpaceSizes.{sizes_in};
 
 /// Entries keep the rules and limits one after the other: those at the front do, and then those after them in their
@@ -21,8 +21,6 @@ pub fn entries_in_turn()
     ensures limits { (cx : Context) (a b : List Entry) → KeepLimits cx (a ++ b) ↔ (KeepLimits cx a × KeepLimits (after_all cx a) b) }
     ensures within { (limit : Limit) (cx : Context) (entries : List Entry) → KeepLimits cx entries → ¬ (PassLimit limit cx entries) }
     ensures passing { (limit : Limit) (cx : Context) (a b : List Entry) → PassLimit limit (after_all cx a) b → PassLimit limit cx (a ++ b) }
-    ensures supported { (a b : List Entry) → are_supported (a ++ b) ≡ true → (are_supported a ≡ true) × (are_supported b ≡ true) }
-    ensures both { (a b : List Entry) → are_supported a ≡ true → are_supported b ≡ true → are_supported (a ++ b) ≡ true }
 {}
 
 /// What a function of the module's own names as its type stays a function type, whatever types come after it.

@@ -4,7 +4,6 @@ pub use Rattle.wasmparser_error.specs.declared.error.ErrorKind.{ErrorKind}
 pub use Rattle.wasmparser_error.specs.declared.error.ErrorKind.TheVariants.{Malformed, Invalid, Limit, Operator, Body, Total, Order, Failed, Memory}
 pub use Rattle.wasmparser_validator.specs.Shown.{shown, exports_left}
 pub use Rattle.wasmparser_validator.specs.declared.types.CoreExports.{CoreExports}
-pub use Rattle.wasmparser_validator.specs.declared.types.EntityType.{EntityType}
 pub use Rattle.wasmparser_validator.specs.declared.types.Types.{Types}
 pub use Rattle.wasmparser_validator.specs.declared.types.TypesRef.{TypesRef}
 pub use Rattle.wasmparser_validator.specs.declared.validator_id.ValidatorId.{ValidatorId}

@@ -1,4 +1,5 @@
 mod EntryLaws
+mod ExportLaws
 mod FuncTypes
 mod GroupLaws
 mod ImportLaws

@@ -1,10 +1,11 @@
 -- What the state of the code knows.
-use Rattle.std.specs.Prelude.{◌≡◌, ℕ, [], Option, option_map, map, slice_get}
+use Rattle.std.specs.Prelude.{◌≡◌, ℕ, Option, option_map, map, slice_get}
 use Rattle.std.specs.Option.{option_and_then}
 use Rattle.wasm_spec.specs.Features.{Features}
 use Rattle.wasm_spec.specs.Trees.{DefType}
 use Rattle.wasm_spec.specs.TypeReferences.{func_map, table_map, global_map, external_map}
 use Rattle.wasm_spec.specs.Types as spec
+use Rattle.wasmparser_export_names.specs.ExportNames.{names_of}
 use Rattle.wasmparser_items.specs.ItemTypes.{memory_type, table_type, global_type, type_ref}
 use Rattle.wasmparser_items.specs.declared.global_type.GlobalType.{GlobalType}
 use Rattle.wasmparser_items.specs.declared.table_type.TableType.{TableType}
@@ -28,7 +29,6 @@ global type = global_map number_of (global_type type)
 abbrev pub item : TypeRef → spec.ExternalType ℕ
 item type = external_map number_of (type_ref type)
 
--- exports can't be added yet
 abbrev pub context : ModuleState → Context
 context s = record {
   types = s.types.types;
@@ -41,7 +41,7 @@ context s = record {
   tags = s.tags.items;
   imported_globals = map global s.imported_globals.items;
   own_globals = map global s.own_globals.items;
-  exports = [];
+  exports = names_of s.exports;
   elements = s.elements;
   segments = s.segments;
   type_size = s.type_size;

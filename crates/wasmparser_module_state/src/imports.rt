@@ -40,7 +40,7 @@ fn size_of(ty: &FuncType) -> u64
 
 impl ModuleState {
     // How large the types of all imports and exports count with one of this size more.
-    fn grown_size(&self, size: u64, offset: u64) -> Result<u32, Error>
+    pub(crate) fn grown_size(&self, size: u64, offset: u64) -> Result<u32, Error>
         ensures grown { IfOk result (λ grown. (grown ≡ (context self.now).type_size + size) × (grown ≤ 999999)) }
         ensures large { IfErr result (λ e. (e ≡ record { offset = offset; kind = kinds.Limit limits.TypeSize }) × (999999 < (context self.now).type_size + size)) }
     {
@@ -113,7 +113,7 @@ impl ModuleState {
 
     // How large the function type of an index counts, which names one.
     #[tactic(auto, using(crate::proofs::Sizes::type_steps))]
-    fn size_of_type(&self, index: u32) -> Option<u64>
+    pub(crate) fn size_of_type(&self, index: u32) -> Option<u64>
         ensures { IsTypeSize (func_type_at (context self.now).types index) result }
     {
         match self.types.func_type(index) {

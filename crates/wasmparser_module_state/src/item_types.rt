@@ -50,7 +50,7 @@ fn most_elements(ty: &TableType) -> u64
 }
 
 // Whether a global may be imported or exported.
-fn may_cross(features: WasmFeatures, ty: &GlobalType) -> bool
+pub(crate) fn may_cross(features: WasmFeatures, ty: &GlobalType) -> bool
     ensures { result ≡ may_cross (feature_set features) (global ty.now) }
 {
     !ty.mutable || features.mutable_global()

@@ -7,6 +7,7 @@ pub mod data;
 pub mod data_count;
 pub mod elements;
 pub mod entry;
+pub mod exports;
 pub mod functions;
 pub mod globals;
 pub mod import_entries;

@@ -10,6 +10,7 @@ use std::alloc::Global;
 use wasm_core_base::features::WasmFeatures;
 use wasmparser_constants::operands::Operands;
 use wasmparser_error::error::{Error, ErrorKind};
+use wasmparser_export_names::export_names::ExportNames;
 use wasmparser_items::global_type::GlobalType;
 use wasmparser_items::memory_type::MemoryType;
 use wasmparser_items::table_type::TableType;
@@ -27,6 +28,7 @@ pub struct ModuleState {
     pub(crate) tags: Vec<u32>,
     pub(crate) imported_globals: Vec<GlobalType>,
     pub(crate) own_globals: Vec<GlobalType>,
+    pub(crate) exports: ExportNames,
     pub(crate) elements: u32,
     pub(crate) segments: u32,
     pub(crate) type_size: u32,
@@ -57,6 +59,7 @@ impl ModuleState {
             tags: Vec::new(alloc),
             imported_globals: Vec::new(alloc),
             own_globals: Vec::new(alloc),
+            exports: ExportNames::new(alloc),
             elements: 0,
             segments: 0,
             type_size: 1,

@@ -17,7 +17,7 @@ impl ModuleState {
     ghost use Rattle.std.specs.Prelude.{◌≡◌};
 
     // The type index of a function, if there is that function.
-    fn type_of_function(&self, function: u32) -> Option<u32>
+    pub(crate) fn type_of_function(&self, function: u32) -> Option<u32>
         ensures { result ≡ slice_get (functions_in (context self.now)) function }
     {
         item_at(

@@ -11,6 +11,7 @@ use wasmparser_entries::global as globals;
 use wasmparser_entries::table::Table;
 use wasmparser_error::error::Error;
 use wasmparser_imports::imports::Imports;
+use wasmparser_items::export::Export;
 use wasmparser_items::memory_type::MemoryType;
 use wasmparser_items::tag_type::TagType;
 use wasmparser_items::type_ref::TypeRef;
@@ -97,6 +98,7 @@ fn answer_bytes(
         "tables" => Some(adds::<Table<'_>>(alloc, state, content)),
         "tags" => Some(adds::<TagType>(alloc, state, content)),
         "globals" => Some(adds::<globals::Global<'_>>(alloc, state, content)),
+        "exports" => Some(adds::<Export<'_>>(alloc, state, content)),
         "elements" => Some(adds::<Element<'_>>(alloc, state, content)),
         "data" => Some(adds::<Data<'_>>(alloc, state, content)),
         "body" => Some(state.code_section_entry(content, OFFSET)),

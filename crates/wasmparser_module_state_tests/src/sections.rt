@@ -23,6 +23,19 @@ const SECTIONS: &str = r"
     | types 01 60 00 | malformed
     | types 01 60 00 00 00 | malformed
 
+    // exports
+    | memories 01 00 01; exports 01 01 61 02 00 | yes
+    | memories 01 00 01; exports 02 01 61 02 00 01 61 02 00 | invalid
+    | memories 01 00 01; exports 02 01 61 02 00 00 02 00 | yes
+    | memories 01 00 01; exports 01 01 61 02 00; exports 01 01 61 02 00 | invalid
+    | exports 01 01 61 02 00 | invalid
+    | globals 01 7f 01 41000b; exports 01 01 61 03 00 | yes
+    -mutable_global | globals 01 7f 01 41000b; exports 01 01 61 03 00 | invalid
+    | types 01 60 00 00; tags 01 00 00; exports 01 01 61 04 00 | yes
+    | types 01 60 00 00; functions 01 00; exports 01 01 61 00 01 | invalid
+    | memories 01 00 01; exports 01 01 61 02 | malformed
+    | memories 01 00 01; exports 01 01 61 02 00 00 | malformed
+
     // functions
     | types 01 60 00 00; functions 02 00 00 | yes
     | types 01 60 00 00; functions 01 01 | invalid
@@ -166,7 +179,7 @@ const SECTIONS: &str = r"
     | data a1 8d 06 0100*100001 | DataSegments
 ";
 
-const COUNT_OF_SECTIONS: usize = 133;
+const COUNT_OF_SECTIONS: usize = 144;
 
 fn switched(features: WasmFeatures, word: &str) -> Option<WasmFeatures> {
     let flag = match word.trim_start_matches('-') {

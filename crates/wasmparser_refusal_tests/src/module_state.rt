@@ -22,6 +22,7 @@ const SECTIONS: &str = "
     types 01 60 00 00; body 00 0b; custom 01 61; data_count 1
     types 01 60 00 00; functions 02 00 00; globals 05 7f00 41000b 7f01 41000b 7000 d0700b 647000 d2010b 7f00 23000b; tables 05 700000 700000 700000 700000 400064700001d2000b
     types 02 60 00 00 5f 05 7f007f007f007f007f00; functions 01 00; globals 01 64 01 00 4100*5 fb 00 01 0b; tables 01 70 00 01; memories 01 00 01; elements 02 00 41000b 01 00 05 70 02 d0700b d2000b; data 02 01 00 00 41000b 00
+    memories 01 00 01; exports 0a 01610200 01620200 01630200 01640200 01650200 01660200 01670200 01680200 01690200 000200
 ";
 
 // Types; sections of one item each, all of which are accepted; and a section that is invalid after them. A second memory is invalid, as is a second
@@ -35,6 +36,7 @@ const ITEMS: &str = "
     types 01 60 00 00 | imports 02 00 00; imports 03 7f 00; imports 04 00 00; tags 01 00 00 | memories 01 00 00
     types 01 60 00 00 | functions 01 00; globals 01 7f 00 41000b; globals 01 7f 00 23000b; data 01 01 00 | globals 01 7f 00 23020b
     types 01 60 00 00 | functions 01 00; tables 01 70 00 01; elements 01 00 41000b 01 00 | tables 01 70 00 01
+    types 01 60 00 00 | memories 01 00 01; exports 01 01 61 02 00; exports 01 01 62 02 00; exports 01 00 02 00 | exports 01 01 61 02 00
 ";
 
 fn is_of_memory(error: Error) -> bool {
@@ -70,7 +72,7 @@ fn sections_hold(alloc: Global, row: &str) -> Option<bool> {
 
 #[test]
 fn sections_are_accepted_or_memory_ran_out(rt: HostRuntime) -> Result<(), Fail> {
-    Ok(check_rows(rt.alloc(), SECTIONS, 11, sections_hold)?)
+    Ok(check_rows(rt.alloc(), SECTIONS, 12, sections_hold)?)
 }
 
 // Whether an item is accepted, at the second time where memory ran out.
@@ -114,5 +116,5 @@ fn items_hold(alloc: Global, row: &str) -> Option<bool> {
 
 #[test]
 fn items_that_were_refused_are_not_added(rt: HostRuntime) -> Result<(), Fail> {
-    Ok(check_rows(rt.alloc(), ITEMS, 8, items_hold)?)
+    Ok(check_rows(rt.alloc(), ITEMS, 9, items_hold)?)
 }

@@ -61,7 +61,6 @@ pub accepted : (features : Features) (bytes : List ℕ) (m : ValidSections) → 
 accepted features bytes m r same agree = record {
   sections = r.sections;
   reads = counts_agree features bytes (context m.state) m.bodies.items m.data_counts.items r agree;
-  supported = r.supported;
   fine = r.fine;
   known = r.known;
   same_features = same;
@@ -71,4 +70,4 @@ accepted features bytes m r same agree = record {
 
 pub not_counted : (features : Features) (bytes : List ℕ) (cx : Context) (given : List Input) (stated : List ℕ) → AreRead features bytes cx given stated → ¬ (CountsAgree cx given stated)
     → RefusesSections features bytes (record { offset = length bytes; kind = kinds.Malformed })
-not_counted features bytes cx given stated r other = (λ sections m supported. other (of_module features bytes cx given stated r sections m), omega arith, λ k. absurd cc)
+not_counted features bytes cx given stated r other = (λ sections m. other (of_module features bytes cx given stated r sections m), omega arith, λ k. absurd cc)

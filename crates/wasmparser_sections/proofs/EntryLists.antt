@@ -1,13 +1,10 @@
 -- Rules and limits of entries, where some stand before others.
-use Rattle.std.proofs.Common.{◌≡◌, inr, true, List, [], ◌∷◌, ◌++◌, refl, ◌∙◌}
-use Rattle.std.proofs.lemmas.List.Folds.{list_all-append}
-use Rattle.std.proofs.lemmas.Bool.{and_parts}
+use Rattle.std.proofs.Common.{◌≡◌, inr, List, [], ◌∷◌, ◌++◌, refl}
 use Rattle.wasm_spec.specs.Features.{Features}
 use Rattle.wasm_spec.specs.Limits.{Limit}
 use Rattle.wasm_validity.specs.Context.{Context, after, after_all}
 use Rattle.wasm_validity.specs.Entries.{Entry}
 use Rattle.wasm_validity.specs.Rules.{KeepRules, KeepLimits, PassLimit}
-use Rattle.wasm_validity.specs.Validity.{is_supported, are_supported}
 
 pub after_both : (cx : Context) (es fs : List Entry) → after_all cx (es ++ fs) ≡ after_all (after_all cx es) fs
 after_both cx [] fs = refl
@@ -28,9 +25,3 @@ within_both cx (e ∷ es) fs h k = (h.0, within_both (after cx e) es fs h.1 k)
 pub past_others : (limit : Limit) (cx : Context) (es fs : List Entry) → PassLimit limit (after_all cx es) fs → PassLimit limit cx (es ++ fs)
 past_others limit cx [] fs h = h
 past_others limit cx (e ∷ es) fs h = inr (inr (past_others limit (after cx e) es fs h))
-
-pub supported_both : (es fs : List Entry) → are_supported es ≡ true → are_supported fs ≡ true → are_supported (es ++ fs) ≡ true
-supported_both es fs h k = list_all-append is_supported es fs ∙ rw (h, k) refl
-
-pub supported_parts : (es fs : List Entry) → are_supported (es ++ fs) ≡ true → (are_supported es ≡ true) × (are_supported fs ≡ true)
-supported_parts es fs h = and_parts _ _ (rw (list_all-append is_supported es fs) at h)

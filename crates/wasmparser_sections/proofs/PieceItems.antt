@@ -1,5 +1,5 @@
 -- What the items of a piece say, where they read.
-use Rattle.std.proofs.Common.{◌≡◌, ◌<◌, ℕ, zero, suc, true, false, List, [], ◌∷◌, ◌++◌, length, map, flat_map, Option, Some, None, option_map, refl, sym, ap, ap₂, ◌∙◌, inl, inr, arith}
+use Rattle.std.proofs.Common.{◌≡◌, ℕ, zero, suc, List, [], ◌∷◌, ◌++◌, length, map, flat_map, Option, Some, None, option_map, refl, sym, ap, ap₂, ◌∙◌}
 use Rattle.std.proofs.lemmas.Grind.{flat_map-append}
 use Rattle.wasm_core_read.specs.PartReading.{import_at, table_at, global_at, export_at, element_at, data_at}
 use Rattle.wasm_core_read.specs.Reading.{◌>>=◌, ReadingOf, filled, seen_at, unsigned_at}
@@ -7,12 +7,11 @@ use Rattle.wasm_core_read.specs.TypeReading.{items_at, rec_group_at, limits_at, 
 use Rattle.wasm_core_read.proofs.Forms.{bind_some, some_is}
 use Rattle.wasm_spec.specs.Features.{Features, CompactImports, has}
 use Rattle.wasm_validity.specs.Entries.{Entry, OfCustom, OfType, OfImport, OfFunction, OfTable, OfMemory, OfTags, OfTag, OfGlobal, OfExport, OfStart, OfElement, OfDataCount, OfBody, OfData}
-use Rattle.wasm_validity.specs.Validity.{is_supported, are_supported}
 use Rattle.wasmparser_module_entries.specs.EntryReading.{EntryReading}
 use Rattle.wasmparser_module_entries.specs.PieceEntries.{items_of, said_first, with_items, entries_said}
 use Rattle.wasmparser_payloads.specs.Pieces.{Piece, Version, Types, Imports, Functions, Tables, Memories, Tags, Globals, Exports, Start, Elements, DataCount, CodeStart, Body, Segments, Custom, Unknown, End}
 use Rattle.wasmparser_readers.specs.Sections.{Left, left_items}
-use Rattle.wasmparser_sections.specs.PieceJudging.{IsFilled, body_in, count_in}
+use Rattle.wasmparser_sections.specs.PieceJudging.{body_in, count_in}
 use Rattle.wasmparser_sections.specs.Sections.{contents_of}
 use Rattle.wasmparser_sections.proofs.SectionEntries.{body_said, bodies_said, count_said, data_counts_said, none_said}
 
@@ -50,7 +49,7 @@ made_items made item_at (suc n) bytes entries rest e =
     one_more made n entries rest f.0 o.0 a.0 a.2 (made_items made item_at n f.0.1 o.0.0 o.0.1 o.1) o.2
 
 -- the items that are left of a section
-pub made_left : {A : Type 0} (made : A → Entry) (form_at : Features → ReadingOf A) (left : Left) (entries : List Entry) → left_items (as_entries made form_at) left ≡ Some entries → AreMade made left.count entries
+made_left : {A : Type 0} (made : A → Entry) (form_at : Features → ReadingOf A) (left : Left) (entries : List Entry) → left_items (as_entries made form_at) left ≡ Some entries → AreMade made left.count entries
 unfolding left_items
 made_left made form_at left entries e = by_read (items_at (seen_at made (form_at left.input.features)) left.count left.input.rest) refl e
   where
@@ -59,20 +58,10 @@ made_left made form_at left entries e = by_read (items_at (seen_at made (form_at
     by_read (Some (es, [])) h e = made_items made (form_at left.input.features) left.count left.input.rest entries [] (h ∙ ap (λ (l : List Entry). Some (l, [])) (some_is es entries e))
     by_read (Some (es, b ∷ rest)) h e = absurd cc
 
--- where no items are left that fill the bytes, no bytes are
-no_rest : (entry_at : EntryReading) (left : Left) (entries : List Entry) → left_items entry_at left ≡ Some entries → left.count ≡ 0 → length left.input.rest ≡ 0
-unfolding left_items items_at
-no_rest entry_at left entries e c = by_rest left.input.rest (sym (ap (λ n. filled (items_at (entry_at left.input.features) n left.input.rest)) c) ∙ e)
-  where
-    by_rest : (rest : List ℕ) → filled (Some ([], rest)) ≡ Some entries → length rest ≡ 0
-    by_rest [] h = refl
-    by_rest (b ∷ rest) h = absurd cc
-
 -- what a piece says whose items are of one kind: some entries first, and its items
 pub record SaysItems {A : Type 0} (first : List Entry) (made : A → Entry) (left : Left) (entries : List Entry) (others : List Entry) : Type 0 where
   pub say : entries ≡ first ++ others
   pub are : AreMade made left.count others
-  pub ended : left.count ≡ 0 → length left.input.rest ≡ 0
 
 pub items_said : {A : Type 0} (first : List Entry) (made : A → Entry) (form_at : Features → ReadingOf A) (left : Left) (entries : List Entry)
     → with_items first (Some (record { entry_at = as_entries made form_at; left = left })) ≡ Some entries → (others : List Entry) × SaysItems first made left entries others
@@ -80,40 +69,7 @@ items_said first made form_at left entries e = by_read (left_items (as_entries m
   where
     by_read : (read : Option (List Entry)) → left_items (as_entries made form_at) left ≡ read → option_map (λ others. first ++ others) read ≡ Some entries → (others : List Entry) × SaysItems first made left entries others
     by_read None h e = absurd cc
-    by_read (Some others) h e =
-        (others, record { say = sym (some_is (first ++ others) entries e); are = made_left made form_at left others h; ended = no_rest (as_entries made form_at) left others h })
-
--- ---- which are supported
-
-pub all_supported : {A : Type 0} (made : A → Entry) (count : ℕ) (entries : List Entry) → ((x : A) → is_supported (made x) ≡ true) → AreMade made count entries → are_supported entries ≡ true
-all_supported {A = A} made count entries each m = ap are_supported m.are ∙ of_items m.items
-  where
-    of_items : (xs : List A) → are_supported (map made xs) ≡ true
-    of_items [] = refl
-    of_items (x ∷ xs) = rw (each x) (of_items xs)
-
-none_supported : {A : Type 0} (made : A → Entry) (count : ℕ) (entries : List Entry) → ((x : A) → is_supported (made x) ≡ false) → AreMade made count entries → 0 < count → are_supported entries ≡ false
-none_supported {A = A} made count entries none m lt = ap are_supported m.are ∙ of_items m.items m.counted
-  where
-    of_items : (xs : List A) → length xs ≡ count → are_supported (map made xs) ≡ false
-    of_items [] c = absurd (omega (arith, lt, c))
-    of_items (x ∷ xs) c = rw (none x) refl
-
--- where something is left of a section whose items aren't supported, what it says isn't supported
-pub filled_is_unsupported : {A : Type 0} (made : A → Entry) (form_at : Features → ReadingOf A) (left : Left) (entries : List Entry) → ((x : A) → is_supported (made x) ≡ false) → IsFilled left
-    → with_items [] (Some (record { entry_at = as_entries made form_at; left = left })) ≡ Some entries → are_supported entries ≡ false
-filled_is_unsupported made form_at left entries none filled e = by_count left.count refl filled
-  where
-    said : (others : List Entry) × SaysItems [] made left entries others
-    said = items_said [] made form_at left entries e
-
-    some : 0 < left.count → are_supported entries ≡ false
-    some lt = ap are_supported said.1.say ∙ none_supported made left.count said.0 none said.1.are lt
-
-    by_count : (n : ℕ) → left.count ≡ n → IsFilled left → are_supported entries ≡ false
-    by_count (suc n) c filled = some (omega (arith, c))
-    by_count zero c (inl lt) = some lt
-    by_count zero c (inr lt) = absurd (omega (arith, lt, said.1.ended c))
+    by_read (Some others) h e = (others, record { say = sym (some_is (first ++ others) entries e); are = made_left made form_at left others h })
 
 -- ---- which bodies and data counts there are
 

@@ -1,26 +1,25 @@
 -- Judging what a piece says, kind by kind.
-use Rattle.std.proofs.Common.{◌≡◌, ◌⊎◌, inl, inr, ℕ, true, false, List, [], ◌∷◌, ◌++◌, Some, None, refl, sym, ap, subst, ◌∙◌, Ok, Err, Result}
+use Rattle.std.proofs.Common.{◌≡◌, ◌⊎◌, inl, inr, ℕ, List, [], ◌∷◌, ◌++◌, Some, None, refl, sym, ap, subst, ◌∙◌, Ok, Err, Result}
 use Rattle.wasm_core_base.specs.Limits as core
 use Rattle.wasm_core_read.specs.Input.{Input, IsWithin}
 use Rattle.wasm_core_read.specs.PartReading.{import_at, table_at, global_at, export_at, element_at, data_at}
 use Rattle.wasm_core_read.specs.Reading.{ReadingOf, unsigned_at}
-use Rattle.wasm_core_read.specs.TypeReading.{items_at, rec_group_at, limits_at, tag_type_at}
+use Rattle.wasm_core_read.specs.TypeReading.{rec_group_at, limits_at, tag_type_at}
 use Rattle.wasm_spec.specs.Features.{Features, CompactImports, has}
 use Rattle.wasm_validity.specs.Context.{Context, after_all}
 use Rattle.wasm_validity.specs.Entries.{Entry, OfCustom, OfType, OfImport, OfFunction, OfTable, OfMemory, OfTags, OfTag, OfGlobal, OfExport, OfStart, OfElement, OfDataCount, OfBody, OfData}
 use Rattle.wasm_validity.specs.Rules.{KeepRules, KeepLimits, PassLimit, Passes, PassesByTypes, measures}
-use Rattle.wasm_validity.specs.Validity.{is_supported, are_supported}
 use Rattle.wasmparser_error.specs.declared.error.Error.{Error}
 use Rattle.wasmparser_error.specs.declared.error.ErrorKind.{ErrorKind}
 use Rattle.wasmparser_error.specs.declared.error.ErrorKind.TheVariants as kinds
-use Rattle.wasmparser_module_entries.specs.EntryReading.{type_entry_at, import_entry_at, function_entry_at, table_entry_at, memory_entry_at, tag_entry_at, global_entry_at, element_entry_at, data_entry_at}
+use Rattle.wasmparser_module_entries.specs.EntryReading.{type_entry_at, import_entry_at, function_entry_at, table_entry_at, memory_entry_at, tag_entry_at, global_entry_at, export_entry_at, element_entry_at, data_entry_at}
 use Rattle.wasmparser_module_entries.specs.PieceEntries.{items_of, said_first, with_items, entries_said}
 use Rattle.wasmparser_module_state.specs.Judging.{Accepts, Adds, NamesEntry, IsAt, Fronts, NamesEntries, IsIn, AddsEntries}
 use Rattle.wasmparser_payloads.specs.Pieces.{Piece, Place, Version, Types, Imports, Functions, Tables, Memories, Tags, Globals, Exports, Start, Elements, DataCount, CodeStart, Body, Segments, Custom, Unknown, End, Named}
 use Rattle.wasmparser_readers.specs.Sections.{Left, Limited, left_items}
-use Rattle.wasmparser_sections.specs.PieceJudging.{Says, by_itself, with_some, PieceBegins, IsFirstOf, IsAmong, IsInPiece, IsPlaced, NamesPiece, AddsPiece, RefusesAt, NamesItems, RefusesItems}
-use Rattle.wasmparser_sections.proofs.EntryLists.{after_both, keep_both, keep_others, within_both, past_others, supported_both}
-use Rattle.wasmparser_sections.proofs.PieceItems.{as_entries, made_left, all_supported, filled_is_unsupported}
+use Rattle.wasmparser_sections.specs.PieceJudging.{Says, by_itself, with_some, PieceBegins, IsFirstOf, IsAmong, IsInPiece, IsPlaced, NamesPiece, AddsPiece, RefusesAt}
+use Rattle.wasmparser_sections.proofs.EntryLists.{after_both, keep_both, keep_others, within_both, past_others}
+use Rattle.wasmparser_sections.proofs.PieceItems.{as_entries}
 
 -- ---- pieces that say one entry by themselves
 
@@ -47,40 +46,40 @@ refused_first features old p entry place kind offset said first h = by_kind kind
     by_kind kinds.Order h = absurd h.0
     by_kind kinds.Failed h = absurd h.0
 
-says_one : (features : Features) (old : Context) (p : Piece) (entry : Entry) (new : Context) → entries_said p ≡ Some (entry ∷ []) → is_supported entry ≡ true → Accepts features old entry new → Says features old p new
-says_one features old p entry new said supported h =
-    record { entries = entry ∷ []; said = said; supported = rw supported refl; rules = (h.rule, tt); limits = (h.limits, tt); known = h.known }
+says_one : (features : Features) (old : Context) (p : Piece) (entry : Entry) (new : Context) → entries_said p ≡ Some (entry ∷ []) → Accepts features old entry new → Says features old p new
+says_one features old p entry new said h =
+    record { entries = entry ∷ []; said = said; rules = (h.rule, tt); limits = (h.limits, tt); known = h.known }
 
-adds_one : (features : Features) (old : Context) (p : Piece) (entry : Entry) (place : ℕ) (result : Result (Unit {0}) Error) (new : Context) → said_first p ≡ entry ∷ [] → entries_said p ≡ Some (entry ∷ []) → is_supported entry ≡ true
+adds_one : (features : Features) (old : Context) (p : Piece) (entry : Entry) (place : ℕ) (result : Result (Unit {0}) Error) (new : Context) → said_first p ≡ entry ∷ [] → entries_said p ≡ Some (entry ∷ [])
     → IsFirstOf p place → Adds features old entry place result new → AddsPiece features old p result new
-adds_one features old p entry place (Ok x) new first said supported placed h = says_one features old p entry new said supported h
-adds_one features old p entry place (Err e) new first said supported placed h = refused_first features old p entry place e.kind e.offset first placed (h.0, h.1)
+adds_one features old p entry place (Ok x) new first said placed h = says_one features old p entry new said h
+adds_one features old p entry place (Err e) new first said placed h = refused_first features old p entry place e.kind e.offset first placed (h.0, h.1)
 
 pub adds_start : (features : Features) (old : Context) (function : ℕ) (place : Place) (result : Result (Unit {0}) Error) → Adds features old (OfStart function) place.start result old → AddsPiece features old (Start function place) result old
 unfolding said_first entries_said items_of IsFirstOf
-adds_start features old function place result h = adds_one features old (Start function place) (OfStart function) place.start result old refl refl refl refl h
+adds_start features old function place result h = adds_one features old (Start function place) (OfStart function) place.start result old refl refl refl h
 
 pub adds_custom : (features : Features) (old : Context) (section : Named) (result : Result (Unit {0}) Error) → Adds features old (OfCustom section.name) section.start result old → AddsPiece features old (Custom section) result old
 unfolding said_first entries_said items_of IsFirstOf
-adds_custom features old section result h = adds_one features old (Custom section) (OfCustom section.name) section.start result old refl refl refl refl h
+adds_custom features old section result h = adds_one features old (Custom section) (OfCustom section.name) section.start result old refl refl refl h
 
 pub adds_body : (features : Features) (old : Context) (body : Input) (result : Result (Unit {0}) Error) → Adds features old (OfBody body.rest) body.position result old → AddsPiece features old (Body body) result old
 unfolding said_first entries_said items_of IsFirstOf
-adds_body features old body result h = adds_one features old (Body body) (OfBody body.rest) body.position result old refl refl refl refl h
+adds_body features old body result h = adds_one features old (Body body) (OfBody body.rest) body.position result old refl refl refl h
 
 pub adds_data_count : (features : Features) (old : Context) (count : ℕ) (place : Place) (result : Result (Unit {0}) Error) → Adds features old (OfDataCount count) place.start result old → AddsPiece features old (DataCount count place) result old
 unfolding said_first entries_said items_of IsFirstOf
-adds_data_count features old count place result h = adds_one features old (DataCount count place) (OfDataCount count) place.start result old refl refl refl refl h
+adds_data_count features old count place result h = adds_one features old (DataCount count place) (OfDataCount count) place.start result old refl refl refl h
 
 -- a data count that was judged, and kept afterwards
 pub says_data_count : (features : Features) (old : Context) (count start after : ℕ) → Accepts features old (OfDataCount count) old → Says features old (DataCount count (record { start = start; after = after })) old
 unfolding entries_said said_first items_of
-says_data_count features old count start after h = says_one features old (DataCount count (record { start = start; after = after })) (OfDataCount count) old refl refl h
+says_data_count features old count start after h = says_one features old (DataCount count (record { start = start; after = after })) (OfDataCount count) old refl h
 
 -- ---- pieces that say nothing
 
 says_nothing : (features : Features) (old : Context) (p : Piece) → entries_said p ≡ Some [] → Says features old p old
-says_nothing features old p said = record { entries = []; said = said; supported = refl; rules = tt; limits = tt; known = refl }
+says_nothing features old p said = record { entries = []; said = said; rules = tt; limits = tt; known = refl }
 
 pub header_says_nothing : (features : Features) (old : Context) (num : ℕ) (place : Place) → Says features old (Version num place) old
 unfolding said_first entries_said items_of
@@ -103,21 +102,20 @@ record HasItems {A : Type 0} (p : Piece) (first : List Entry) (made : A → Entr
   said : entries_said p ≡ with_items first (Some (record { entry_at = as_entries made form_at; left = left }))
 
 adds_items : {A : Type 0} (features : Features) (old mid : Context) (p : Piece) (first : List Entry) (made : A → Entry) (form_at : Features → ReadingOf A) (left : Left) (result : Result (Unit {0}) Error) (new : Context)
-    → HasItems p first made form_at left → are_supported first ≡ true → ((x : A) → is_supported (made x) ≡ true) → KeepRules features old first → KeepLimits old first → mid ≡ after_all old first
+    → HasItems p first made form_at left → KeepRules features old first → KeepLimits old first → mid ≡ after_all old first
     → AddsEntries features (as_entries made form_at) mid left result new → AddsPiece features old p result new
-adds_items features old mid p first made form_at left (Ok x) new its supported each rules limits known h =
+adds_items features old mid p first made form_at left (Ok x) new its rules limits known h =
     record {
       entries = first ++ h.entries;
       said = its.said ∙ rw h.reads refl;
-      supported = supported_both first h.entries supported (all_supported made left.count h.entries each (made_left made form_at left h.entries h.reads));
       rules = keep_both features old first h.entries rules (subst (λ cx. KeepRules features cx h.entries) known h.rules);
       limits = within_both old first h.entries limits (subst (λ cx. KeepLimits cx h.entries) known h.limits);
       known = h.known ∙ ap (λ cx. after_all cx h.entries) known ∙ sym (after_both old first h.entries);
     }
-adds_items features old mid p first made form_at left (Err e) new its supported each rules limits known h = by_kind e.kind h
+adds_items features old mid p first made form_at left (Err e) new its rules limits known h = by_kind e.kind h
   where
-    unread : left_items (as_entries made form_at) left ≡ None → (entries : List Entry) → entries_said p ≡ Some entries → are_supported entries ≡ false
-    unread none entries said = let none_said : entries_said p ≡ None = its.said ∙ rw none refl in let w = sym none_said ∙ said in absurd cc
+    unread : left_items (as_entries made form_at) left ≡ None → entries_said p ≡ None
+    unread none = its.said ∙ rw none refl
 
     placed : IsWithin left.input e.offset → IsInPiece p e.offset
     placed w = inr (subst (λ items. IsAmong items e.offset) (sym its.items) w)
@@ -145,88 +143,65 @@ adds_items features old mid p first made form_at left (Err e) new its supported 
 pub adds_types : (features : Features) (old : Context) (items : Limited) (result : Result (Unit {0}) Error) (new : Context) → AddsEntries features type_entry_at old items.left result new → AddsPiece features old (Types items) result new
 unfolding said_first entries_said items_of
 adds_types features old items result new h =
-    adds_items features old old (Types items) [] (λ x. OfType x) (λ _. rec_group_at) items.left result new (record { items = refl; says_first = refl; said = refl }) refl (λ x. refl) tt tt refl h
+    adds_items features old old (Types items) [] (λ x. OfType x) (λ _. rec_group_at) items.left result new (record { items = refl; says_first = refl; said = refl }) tt tt refl h
 
 pub adds_imports : (features : Features) (old : Context) (items : Limited) (result : Result (Unit {0}) Error) (new : Context) → AddsEntries features import_entry_at old items.left result new → AddsPiece features old (Imports items) result new
 unfolding said_first entries_said items_of
 adds_imports features old items result new h =
-    adds_items features old old (Imports items) [] (λ x. OfImport x) (λ g. import_at (has g CompactImports)) items.left result new (record { items = refl; says_first = refl; said = refl }) refl (λ x. refl) tt tt refl h
+    adds_items features old old (Imports items) [] (λ x. OfImport x) (λ g. import_at (has g CompactImports)) items.left result new (record { items = refl; says_first = refl; said = refl }) tt tt refl h
 
 pub adds_functions : (features : Features) (old : Context) (items : Limited) (result : Result (Unit {0}) Error) (new : Context) → AddsEntries features function_entry_at old items.left result new → AddsPiece features old (Functions items) result new
 unfolding said_first entries_said items_of
 adds_functions features old items result new h =
-    adds_items features old old (Functions items) [] (λ x. OfFunction x) (λ _. unsigned_at 32) items.left result new (record { items = refl; says_first = refl; said = refl }) refl (λ x. refl) tt tt refl h
+    adds_items features old old (Functions items) [] (λ x. OfFunction x) (λ _. unsigned_at 32) items.left result new (record { items = refl; says_first = refl; said = refl }) tt tt refl h
 
 pub adds_tables : (features : Features) (old : Context) (items : Limited) (result : Result (Unit {0}) Error) (new : Context) → AddsEntries features table_entry_at old items.left result new → AddsPiece features old (Tables items) result new
 unfolding said_first entries_said items_of
 adds_tables features old items result new h =
-    adds_items features old old (Tables items) [] (λ x. OfTable x) (λ _. table_at) items.left result new (record { items = refl; says_first = refl; said = refl }) refl (λ x. refl) tt tt refl h
+    adds_items features old old (Tables items) [] (λ x. OfTable x) (λ _. table_at) items.left result new (record { items = refl; says_first = refl; said = refl }) tt tt refl h
 
 pub adds_memories : (features : Features) (old : Context) (items : Limited) (result : Result (Unit {0}) Error) (new : Context) → AddsEntries features memory_entry_at old items.left result new → AddsPiece features old (Memories items) result new
 unfolding said_first entries_said items_of
 adds_memories features old items result new h =
-    adds_items features old old (Memories items) [] (λ x. OfMemory x) (λ _. limits_at) items.left result new (record { items = refl; says_first = refl; said = refl }) refl (λ x. refl) tt tt refl h
+    adds_items features old old (Memories items) [] (λ x. OfMemory x) (λ _. limits_at) items.left result new (record { items = refl; says_first = refl; said = refl }) tt tt refl h
 
 pub adds_globals : (features : Features) (old : Context) (items : Limited) (result : Result (Unit {0}) Error) (new : Context) → AddsEntries features global_entry_at old items.left result new → AddsPiece features old (Globals items) result new
 unfolding said_first entries_said items_of
 adds_globals features old items result new h =
-    adds_items features old old (Globals items) [] (λ x. OfGlobal x) (λ _. global_at) items.left result new (record { items = refl; says_first = refl; said = refl }) refl (λ x. refl) tt tt refl h
+    adds_items features old old (Globals items) [] (λ x. OfGlobal x) (λ _. global_at) items.left result new (record { items = refl; says_first = refl; said = refl }) tt tt refl h
+
+pub adds_exports : (features : Features) (old : Context) (items : Limited) (result : Result (Unit {0}) Error) (new : Context) → AddsEntries features export_entry_at old items.left result new → AddsPiece features old (Exports items) result new
+unfolding said_first entries_said items_of
+adds_exports features old items result new h =
+    adds_items features old old (Exports items) [] (λ x. OfExport x) (λ _. export_at) items.left result new (record { items = refl; says_first = refl; said = refl }) tt tt refl h
 
 pub adds_elements : (features : Features) (old : Context) (items : Limited) (result : Result (Unit {0}) Error) (new : Context) → AddsEntries features element_entry_at old items.left result new → AddsPiece features old (Elements items) result new
 unfolding said_first entries_said items_of
 adds_elements features old items result new h =
-    adds_items features old old (Elements items) [] (λ x. OfElement x) (λ _. element_at) items.left result new (record { items = refl; says_first = refl; said = refl }) refl (λ x. refl) tt tt refl h
+    adds_items features old old (Elements items) [] (λ x. OfElement x) (λ _. element_at) items.left result new (record { items = refl; says_first = refl; said = refl }) tt tt refl h
 
 pub adds_segments : (features : Features) (old : Context) (items : Limited) (result : Result (Unit {0}) Error) (new : Context) → AddsEntries features data_entry_at old items.left result new → AddsPiece features old (Segments items) result new
 unfolding said_first entries_said items_of
 adds_segments features old items result new h =
-    adds_items features old old (Segments items) [] (λ x. OfData x) (λ _. data_at) items.left result new (record { items = refl; says_first = refl; said = refl }) refl (λ x. refl) tt tt refl h
+    adds_items features old old (Segments items) [] (λ x. OfData x) (λ _. data_at) items.left result new (record { items = refl; says_first = refl; said = refl }) tt tt refl h
 
 -- a tag section was judged by itself, and then its items
 pub adds_tags : (features : Features) (old mid : Context) (items : Limited) (result : Result (Unit {0}) Error) (new : Context) → Accepts features old OfTags mid → AddsEntries features tag_entry_at mid items.left result new
     → AddsPiece features old (Tags items) result new
 unfolding said_first entries_said items_of
 adds_tags features old mid items result new begins h =
-    adds_items features old mid (Tags items) (OfTags ∷ []) (λ x. OfTag x) (λ _. tag_type_at) items.left result new (record { items = refl; says_first = refl; said = refl }) refl (λ x. refl) (begins.rule, tt) (begins.limits, tt) begins.known h
+    adds_items features old mid (Tags items) (OfTags ∷ []) (λ x. OfTag x) (λ _. tag_type_at) items.left result new (record { items = refl; says_first = refl; said = refl }) (begins.rule, tt) (begins.limits, tt) begins.known h
 
 pub tags_refused : (features : Features) (old : Context) (items : Limited) (kind : ErrorKind) (offset : ℕ) → NamesEntry features old OfTags kind × IsAt items.start kind offset → NamesPiece features old (Tags items) kind × IsPlaced (Tags items) kind offset
 unfolding said_first entries_said items_of IsFirstOf
 tags_refused features old items kind offset h = refused_first features old (Tags items) OfTags items.start kind offset refl refl h
 
--- ---- pieces that aren't supported
-
--- a section of items that passes only where it is empty
-refuses_items : {A : Type 0} (features : Features) (old : Context) (p : Piece) (made : A → Entry) (form_at : Features → ReadingOf A) (items : Limited) (result : Result (Unit {0}) Error)
-    → HasItems p [] made form_at items.left → ((x : A) → is_supported (made x) ≡ false) → IsFirstOf p items.start → RefusesItems items result → AddsPiece features old p result old
-unfolding left_items items_at
-refuses_items features old p made form_at items (Ok x) its none first h =
-    says_nothing features old p (its.said ∙ rw (h.none, h.ended) refl)
-refuses_items features old p made form_at items (Err e) its none first h = by_kind e.kind h
-  where
-    placed : (e.offset ≡ items.start) ⊎ IsWithin items.left.input e.offset → IsInPiece p e.offset
-    placed (inl e') = inl (subst (IsFirstOf p) (sym e') first)
-    placed (inr w) = inr (subst (λ its. IsAmong its e.offset) (sym its.items) w)
-
-    by_kind : (kind : ErrorKind) → NamesItems items kind e.offset → NamesPiece features old p kind × IsPlaced p kind e.offset
-    by_kind kinds.Malformed h = (λ entries said. filled_is_unsupported made form_at items.left entries none h.0 (sym its.said ∙ said), placed h.1)
-    by_kind kinds.Memory h = (tt, h)
-    by_kind kinds.Invalid h = absurd h
-    by_kind (kinds.Limit l) h = absurd h
-    by_kind kinds.Operator h = absurd h
-    by_kind kinds.Body h = absurd h
-    by_kind kinds.Total h = absurd h
-    by_kind kinds.Order h = absurd h
-    by_kind kinds.Failed h = absurd h
-
-pub refuses_exports : (features : Features) (old : Context) (items : Limited) (result : Result (Unit {0}) Error) → RefusesItems items result → AddsPiece features old (Exports items) result old
-unfolding said_first entries_said items_of IsFirstOf
-refuses_exports features old items result h =
-    refuses_items features old (Exports items) (λ x. OfExport x) (λ _. export_at) items result (record { items = refl; says_first = refl; said = refl }) (λ x. refl) refl h
+-- ---- unknown sections
 
 pub refuses_unknown : (features : Features) (old : Context) (id : ℕ) (contents : List ℕ) (place : Place) (result : Result (Unit {0}) Error) → RefusesAt place.start result → AddsPiece features old (Unknown id contents place) result old
 unfolding said_first entries_said items_of IsFirstOf
 refuses_unknown features old id contents place (Ok x) h = absurd h
-refuses_unknown features old id contents place (Err e) h = rw h (λ entries said. absurd cc, inl refl)
+refuses_unknown features old id contents place (Err e) h = rw h (refl, inl refl)
 
 pub ruleset body_steps = (adds_body)
 
@@ -234,4 +209,4 @@ pub ruleset tag_steps = (adds_tags, tags_refused)
 
 pub ruleset count_steps = (adds_data_count, says_data_count)
 
-pub ruleset piece_steps = (header_says_nothing, code_start_says_nothing, end_says_nothing, adds_start, adds_custom, adds_types, adds_imports, adds_functions, adds_tables, adds_memories, adds_globals, adds_elements, adds_segments, refuses_exports, refuses_unknown)
+pub ruleset piece_steps = (header_says_nothing, code_start_says_nothing, end_says_nothing, adds_start, adds_custom, adds_types, adds_imports, adds_functions, adds_tables, adds_memories, adds_globals, adds_exports, adds_elements, adds_segments, refuses_unknown)

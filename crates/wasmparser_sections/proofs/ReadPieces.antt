@@ -1,26 +1,22 @@
 -- Judging a module piece by piece is judging what its sections say.
-use Rattle.std.proofs.Common.{◌≡◌, ◌≤◌, ◌<◌, ℕ, true, List, [], ◌∷◌, ◌++◌, length, Option, Some, None, refl, sym, ap, ap₂, subst, ◌∙◌, append-nil, arith, Err}
+use Rattle.std.proofs.Common.{◌≡◌, ◌≤◌, ◌<◌, ℕ, List, [], ◌∷◌, ◌++◌, length, Option, Some, None, refl, sym, ap, ap₂, subst, ◌∙◌, append-nil, arith, Err}
 use Rattle.std.proofs.lemmas.Grind.{flat_map-append}
 use Rattle.std.proofs.lemmas.List.{map-append}
 use Rattle.wasm_core_base.specs.Limits as core
 use Rattle.wasm_core_read.specs.Input.{Input}
 use Rattle.wasm_spec.specs.Bytes.{AreBytes}
 use Rattle.wasm_spec.specs.Features.{Features, CompactImports, has}
-use Rattle.wasm_spec.specs.Grammar.{IsModule}
-use Rattle.wasm_spec.specs.Syntax.{Section}
 use Rattle.wasm_validity.specs.Context.{Context, after_all, at_first}
-use Rattle.wasm_validity.specs.Entries.{Entry, entries_of}
+use Rattle.wasm_validity.specs.Entries.{Entry}
 use Rattle.wasm_validity.specs.Fronts.{BeginsWith}
 use Rattle.wasm_validity.specs.Rules.{KeepRules, KeepLimits, PassLimit}
-use Rattle.wasm_validity.specs.Validity.{are_supported}
 use Rattle.wasmparser_error.specs.declared.error.Error.{Error}
 use Rattle.wasmparser_error.specs.declared.error.ErrorKind.{ErrorKind}
 use Rattle.wasmparser_error.specs.declared.error.ErrorKind.TheVariants as kinds
 use Rattle.wasmparser_module_entries.specs.PieceEntries.{Reaches, Begun, Further, no_piece, no_items, ReachesEnd, items_of, said_first, entries_said}
-use Rattle.wasmparser_module_entries.proofs.BeginLaws.{reached_begins, front_is_begun, said_is_begun}
+use Rattle.wasmparser_module_entries.proofs.BeginLaws.{front_is_begun, said_is_begun}
 use Rattle.wasmparser_module_entries.proofs.EndLaws.{ended_is_whole}
-use Rattle.wasmparser_module_entries.proofs.ModuleFronts.{fronts_are_first}
-use Rattle.wasmparser_module_entries.proofs.Steps.{after_start, is_going}
+use Rattle.wasmparser_module_entries.proofs.Steps.{is_going}
 use Rattle.wasmparser_module_entries.proofs.UnreadLaws.{unread_is_none}
 use Rattle.wasmparser_payloads.proofs.Places.{stays, whole_lies, place_lies}
 use Rattle.wasmparser_payloads.specs.declared.payloads.Stage.{Stage}
@@ -29,7 +25,7 @@ use Rattle.wasmparser_payloads.specs.Parsing.{Settings, whole_module, IsInside, 
 use Rattle.wasmparser_payloads.specs.Pieces.{Piece, Version, Types, Imports, Functions, Tables, Memories, Tags, Globals, Exports, Start, Elements, DataCount, CodeStart, Body, Segments, Custom, Unknown, End, Remains, next_piece}
 use Rattle.wasmparser_sections.specs.PieceJudging.{Says, IsFrontOf, by_itself, with_some, IsPlaced, NamesPiece, AddsPiece, body_in, count_in}
 use Rattle.wasmparser_sections.specs.Sections.{contents_of, EndBy, AreRead, NamesSections, RefusesSections}
-use Rattle.wasmparser_sections.proofs.EntryLists.{after_both, keep_both, keep_others, within_both, past_others, supported_both, supported_parts}
+use Rattle.wasmparser_sections.proofs.EntryLists.{after_both, keep_both, keep_others, within_both, past_others}
 use Rattle.wasmparser_sections.proofs.PieceItems.{body_of_piece, count_of_piece}
 use Rattle.wasmparser_sections.proofs.PiecePlaces.{PieceLies, piece_lies}
 use Rattle.wasmparser_sections.proofs.SectionEntries.{body_said, bodies_said, bodies_of_sections, count_said, data_counts_said, counts_of_sections}
@@ -38,12 +34,10 @@ use Rattle.wasmparser_sections.proofs.SectionEntries.{body_said, bodies_said, bo
 abbrev pub settings_of : Features → Settings
 settings_of features = record { offset = 0; features = features }
 
--- What is known after some pieces of a module, which say entries that are supported and keep the rules and limits, with these bodies and data counts; and
--- what is left of it.
+-- What is known after some pieces of a module, which say entries that keep the rules and limits, with these bodies and data counts; and what is left of it.
 pub record Progress (features : Features) (bytes : List ℕ) (cx : Context) (given : List Input) (stated : List ℕ) (now : Remains) : Type 0 where
   pub entries : List Entry
   pub reached : Reaches (whole_module (settings_of features) bytes) entries now
-  pub supported : are_supported entries ≡ true
   pub rules : KeepRules features at_first entries
   pub limits : KeepLimits at_first entries
   pub known : cx ≡ after_all at_first entries
@@ -57,7 +51,6 @@ pub begins : (features : Features) (bytes : List ℕ) (cx : Context) (given : Li
 begins features bytes cx given stated nothing none no_counts = record {
   entries = [];
   reached = Begun;
-  supported = refl;
   rules = tt;
   limits = tt;
   known = nothing;
@@ -122,7 +115,6 @@ goes_on features bytes cx next given more stated others now new p s e says added
     record {
       entries = s.entries ++ says.entries;
       reached = Further p says.entries s.reached e says.said;
-      supported = supported_both s.entries says.entries s.supported says.supported;
       rules = keep_both features at_first s.entries says.entries s.rules (subst (λ c. KeepRules features c says.entries) s.known says.rules);
       limits = within_both at_first s.entries says.entries s.limits (subst (λ c. KeepLimits c says.entries) s.known says.limits);
       known = says.known ∙ ap (λ c. after_all c says.entries) s.known ∙ sym (after_both at_first s.entries says.entries);
@@ -153,20 +145,8 @@ refused features bytes cx new-cx given stated now new p error are s e h = by_kin
         front_is_begun (settings_of features) bytes (s.entries ++ front) are
         (record { before = s.entries; now = now; reached = s.reached; piece = p; next = new; is_next = e; items = items; has = has_items; front = others; reads = reads; say = ap (λ (l : List Entry). s.entries ++ l) is })
 
-    unsupported : NamesPiece features cx p kinds.Malformed → (sections : List Section) → IsModule (has features CompactImports) bytes sections → ¬ (are_supported (entries_of sections) ≡ true)
-    unsupported names sections m supported = by_said (entries_said p) refl
-      where
-        by_said : (said : Option (List Entry)) → entries_said p ≡ said → ⊥
-        by_said None says = unread_is_none (settings_of features) bytes are (no_items p s.reached e says) sections m
-        by_said (Some said) says =
-            let begun = reached_begins (settings_of features) bytes (s.entries ++ said) new are (Further p said s.reached e says) (after_start now p new e) in
-            let first = fronts_are_first (has features CompactImports) bytes (s.entries ++ said) sections begun m in
-            let whole = supported_parts (s.entries ++ said) first.0 (ap are_supported (sym first.1) ∙ supported) in
-            let w = sym (names said says) ∙ (supported_parts s.entries said whole.0).1 in
-            absurd cc
-
     by_kind : (kind : ErrorKind) → NamesPiece features cx p kind → IsPlaced p kind error.offset → NamesSections features bytes kind × (error.offset ≤ length bytes) × (kind ≡ kinds.Memory → error.offset ≡ 0)
-    by_kind kinds.Malformed names placed = (unsupported names, (lies.places error.offset placed).1, λ k. absurd cc)
+    by_kind kinds.Malformed names placed = (λ sections m. unread_is_none (settings_of features) bytes are (no_items p s.reached e names) sections m, (lies.places error.offset placed).1, λ k. absurd cc)
     by_kind kinds.Invalid names placed = (
       record {
         entries = s.entries ++ names.front;
@@ -200,7 +180,7 @@ not_ended s new less done = absurd (omega (arith, subst (λ (g : Stage). at_most
 pub unread : (features : Features) (bytes : List ℕ) (cx : Context) (given : List Input) (stated : List ℕ) (now : Remains) (error : Error) → AreBytes bytes → Progress features bytes cx given stated now → ¬ (now.stage ≡ Done)
     → next_piece now ≡ None → error.kind ≡ kinds.Malformed → IsInside now error.offset → RefusesSections features bytes error
 unread features bytes cx given stated now error are s going none kind inside =
-    rw kind (λ sections m supported. unread_is_none (settings_of features) bytes are (no_piece s.reached going none) sections m, (place_lies 0 (length bytes) now error.offset s.lie inside).1, λ k. absurd cc)
+    rw kind (λ sections m. unread_is_none (settings_of features) bytes are (no_piece s.reached going none) sections m, (place_lies 0 (length bytes) now error.offset s.lie inside).1, λ k. absurd cc)
 
 -- ---- the end
 
@@ -210,7 +190,6 @@ all_read features bytes cx given stated now are s done =
     record {
       sections = w.0;
       reads = w.1;
-      supported = subst (λ es. are_supported es ≡ true) w.2 s.supported;
       fine = record { rules = subst (λ es. KeepRules features at_first es) w.2 s.rules; limits = subst (λ es. KeepLimits at_first es) w.2 s.limits };
       known = s.known ∙ ap (after_all at_first) w.2;
       bodies = s.bodies ∙ ap bodies_said w.2 ∙ bodies_of_sections w.0;

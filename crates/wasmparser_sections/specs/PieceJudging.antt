@@ -1,26 +1,23 @@
 -- Judging the pieces of a module.
-use Rattle.std.specs.Prelude.{◌≡◌, ◌⊎◌, ◌<◌, ⊤, ℕ, length, true, false, List, [], ◌∷◌, ◌++◌, Option, Some, None, Result, Ok, Err}
+use Rattle.std.specs.Prelude.{◌≡◌, ◌⊎◌, ⊤, ℕ, List, [], ◌∷◌, ◌++◌, Option, Some, None, Result, Ok, Err}
 use Rattle.wasm_core_base.specs.Limits as core
 use Rattle.wasm_core_read.specs.Input.{Input, IsWithin}
 use Rattle.wasm_spec.specs.Features.{Features}
 use Rattle.wasm_validity.specs.Context.{Context, after_all}
 use Rattle.wasm_validity.specs.Entries.{Entry}
 use Rattle.wasm_validity.specs.Rules.{KeepRules, KeepLimits, PassLimit}
-use Rattle.wasm_validity.specs.Validity.{are_supported}
 use Rattle.wasmparser_error.specs.declared.error.Error.{Error}
 use Rattle.wasmparser_error.specs.declared.error.ErrorKind.{ErrorKind}
 use Rattle.wasmparser_error.specs.declared.error.ErrorKind.TheVariants as kinds
 use Rattle.wasmparser_module_entries.specs.PieceEntries.{Items, items_of, said_first, entries_said, HasFront}
 use Rattle.wasmparser_payloads.specs.Pieces.{Piece, Version, Types, Imports, Functions, Tables, Memories, Tags, Globals, Exports, Start, Elements, DataCount, CodeStart, Body, Segments, Custom, Unknown, End}
-use Rattle.wasmparser_readers.specs.Sections.{Left, Limited, IsEmpty}
 
 -- ---- what a piece says
 
--- what a piece says is supported, keeps the rules and passes no limit, and what is known after it
+-- what a piece says keeps the rules and passes no limit, and what is known after it
 pub record Says (features : Features) (old : Context) (piece : Piece) (new : Context) : Type 0 where
   pub entries : List Entry
   pub said : entries_said piece ≡ Some entries
-  pub supported : are_supported entries ≡ true
   pub rules : KeepRules features old entries
   pub limits : KeepLimits old entries
   pub known : new ≡ after_all old entries
@@ -86,7 +83,7 @@ IsPlaced piece _ offset = IsInPiece piece offset
 
 -- what a refusal of a piece names
 abbrev pub NamesPiece : Features → Context → Piece → ErrorKind → Type 0
-NamesPiece features old piece kinds.Malformed = (entries : List Entry) → entries_said piece ≡ Some entries → are_supported entries ≡ false
+NamesPiece features old piece kinds.Malformed = entries_said piece ≡ None
 NamesPiece features old piece kinds.Invalid = PieceBegins piece (λ entries. ¬ (KeepRules features old entries))
 NamesPiece features old piece (kinds.Limit l) = PieceBegins piece (λ entries. PassLimit (core.limit l) old entries)
 NamesPiece features old piece kinds.Memory = ⊤
@@ -101,18 +98,3 @@ AddsPiece features old piece (Err e) new = NamesPiece features old piece e.kind 
 abbrev pub RefusesAt : ℕ → Result (Unit {0}) Error → Type 0
 RefusesAt place (Ok x) = ⊥
 RefusesAt place (Err e) = e ≡ record { offset = place; kind = kinds.Malformed }
-
--- something is left of a section
-abbrev pub IsFilled : Left → Type 0
-IsFilled left = (0 < left.count) ⊎ (0 < length left.input.rest)
-
--- what a refusal of items that aren't supported names
-abbrev pub NamesItems : Limited → ErrorKind → ℕ → Type 0
-NamesItems items kinds.Malformed offset = IsFilled items.left × ((offset ≡ items.start) ⊎ IsWithin items.left.input offset)
-NamesItems items kinds.Memory offset = offset ≡ 0
-NamesItems items _ offset = ⊥
-
--- What a call returned that lets a section pass only where it is empty.
-abbrev pub RefusesItems : Limited → Result (Unit {0}) Error → Type 0
-RefusesItems items (Ok x) = IsEmpty items.left
-RefusesItems items (Err e) = NamesItems items e.kind e.offset

@@ -1,5 +1,5 @@
 -- Judging the sections of a module, but for what is in its bodies.
-use Rattle.std.specs.Prelude.{◌≡◌, ◌≤◌, ⊤, ℕ, true, List, map, length, Result, Ok, Err}
+use Rattle.std.specs.Prelude.{◌≡◌, ◌≤◌, ⊤, ℕ, List, map, length, Result, Ok, Err}
 use Rattle.std.specs.List.{AllByRecursion}
 use Rattle.wasm_core_base.specs.Limits as core
 use Rattle.wasm_core_read.specs.Input.{Input, end}
@@ -8,7 +8,7 @@ use Rattle.wasm_spec.specs.Grammar.{IsModule}
 use Rattle.wasm_spec.specs.Syntax.{Section, bodies_of, data_counts_of}
 use Rattle.wasm_validity.specs.Context.{Context}
 use Rattle.wasm_validity.specs.Entries.{entries_of}
-use Rattle.wasm_validity.specs.Validity.{AreFine, BeginsInvalid, BeginsPast, are_supported, context_of}
+use Rattle.wasm_validity.specs.Validity.{AreFine, BeginsInvalid, BeginsPast, context_of}
 use Rattle.wasmparser_error.specs.declared.error.Error.{Error}
 use Rattle.wasmparser_error.specs.declared.error.ErrorKind.{ErrorKind}
 use Rattle.wasmparser_error.specs.declared.error.ErrorKind.TheVariants as kinds
@@ -29,7 +29,6 @@ EndBy last bodies = AllByRecursion (λ (b : Input). end b ≤ last) bodies
 pub record AreRead (features : Features) (bytes : List ℕ) (cx : Context) (given : List Input) (stated : List ℕ) : Type 0 where
   pub sections : List Section
   pub reads : HasAllSections (has features CompactImports) bytes sections
-  pub supported : are_supported (entries_of sections) ≡ true
   pub fine : AreFine features (entries_of sections)
   pub known : cx ≡ context_of sections
   pub bodies : contents_of given ≡ bodies_of sections
@@ -40,11 +39,10 @@ pub record AreRead (features : Features) (bytes : List ℕ) (cx : Context) (give
 abbrev pub CountsAgree : Context → List Input → List ℕ → Type 0
 CountsAgree cx given stated = (length cx.own_functions ≡ length given) × AllByRecursion (λ count. count ≡ cx.segments) stated
 
--- the bytes are a module whose sections are supported and keep all rules and limits but those on what is in bodies
+-- the bytes are a module whose sections keep all rules and limits but those on what is in bodies
 pub record AreAccepted (features : Features) (bytes : List ℕ) (m : ValidSections) : Type 0 where
   pub sections : List Section
   pub reads : IsModule (has features CompactImports) bytes sections
-  pub supported : are_supported (entries_of sections) ≡ true
   pub fine : AreFine features (entries_of sections)
   pub known : context m.state ≡ context_of sections
   pub same_features : features_of m.state ≡ features
@@ -53,7 +51,7 @@ pub record AreAccepted (features : Features) (bytes : List ℕ) (m : ValidSectio
 
 -- what a refusal of sections names
 abbrev pub NamesSections : Features → List ℕ → ErrorKind → Type 0
-NamesSections features bytes kinds.Malformed = (sections : List Section) → IsModule (has features CompactImports) bytes sections → ¬ (are_supported (entries_of sections) ≡ true)
+NamesSections features bytes kinds.Malformed = (sections : List Section) → ¬ (IsModule (has features CompactImports) bytes sections)
 NamesSections features bytes kinds.Invalid = BeginsInvalid features bytes
 NamesSections features bytes (kinds.Limit l) = BeginsPast features (core.limit l) bytes
 NamesSections features bytes kinds.Memory = ⊤

@@ -3,4 +3,4 @@
 
 pub mod payload;
 pub mod sections;
-pub mod unsupported;
+pub mod unknown;

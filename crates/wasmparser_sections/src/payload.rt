@@ -1,15 +1,18 @@
 //! Judging the payloads of a module.
 
 ghost use Rattle.std.specs.Prelude.{◌≡◌, ◌++◌, ◌∷◌, [], IfOk};
+ghost use Rattle.wasmparser_module_entries.specs.EntryReading.{export_entry_at};
+ghost use Rattle.wasmparser_module_state.specs.Judging.{AddsEntries};
 ghost use Rattle.wasmparser_module_state.specs.State.{context, features_of};
 ghost use Rattle.wasmparser_payloads.specs.Parsing.{piece};
 ghost use Rattle.wasmparser_payloads.specs.Pieces.{Body, DataCount, Tags};
 ghost use Rattle.wasmparser_sections.specs.PieceJudging.{AddsPiece, body_in, count_in};
 
-use crate::unsupported::{refuse, refuse_items};
+use crate::unknown::refuse;
 use std::alloc::Global;
 use std::ops::Range;
 use wasmparser_error::error::Error;
+use wasmparser_items::export::Export;
 use wasmparser_items::tag_type::TagType;
 use wasmparser_module_state::entry::add_entries;
 use wasmparser_module_state::module_state::ModuleState;
@@ -60,10 +63,22 @@ fn add_data_count(
     Ok(())
 }
 
+fn add_exports<'a>(
+    alloc: Global,
+    state: &mut ModuleState,
+    section: SectionLimited<'a, Export<'a>>,
+) -> Result<(), Error>
+    ensures added { AddsEntries (features_of state.old) export_entry_at (context state.old) section.entry.left result (context state.new) }
+    ensures features { features_of state.new ≡ features_of state.old }
+{
+    state.start_exports(section.clone()?);
+    add_entries(alloc, state, section)
+}
+
 /// Judges a payload, and adds what it says.
 ///
 /// # Errors
-/// `Malformed` where items don't read or aren't supported, `Invalid` where a rule is broken, `Limit` where one is passed, each at a
+/// `Malformed` where items don't read or the section is unknown, `Invalid` where a rule is broken, `Limit` where one is passed, each at a
 /// place of the payload; `Memory` where memory runs out. Then it is open what the state holds.
 #[tactic(auto, using(crate::proofs::PieceLaws::piece_steps), unfolding(wasmparser_payloads::specs::Parsing::piece, crate::specs::PieceJudging::body_in, crate::specs::PieceJudging::count_in))]
 pub(crate) fn add_payload<'a>(
@@ -87,7 +102,7 @@ pub(crate) fn add_payload<'a>(
         Payload::MemorySection(section) => add_entries(alloc, state, section),
         Payload::TagSection(section) => add_tags(alloc, state, section),
         Payload::GlobalSection(section) => add_entries(alloc, state, section),
-        Payload::ExportSection(section) => refuse_items(alloc, section),
+        Payload::ExportSection(section) => add_exports(alloc, state, section),
         Payload::StartSection { func, range } => state.start_section(func, range.start),
         Payload::ElementSection(section) => add_entries(alloc, state, section),
         Payload::DataCountSection { count, range } => {

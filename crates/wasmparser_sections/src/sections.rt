@@ -112,7 +112,7 @@ impl<'a> ValidSections<'a> {
 /// Judges the sections of a module one after the other as they are read.
 ///
 /// # Errors
-/// `Malformed` where the bytes are no module whose sections are supported, `Invalid` where what they say at their front breaks a rule,
+/// `Malformed` where the bytes are no module, `Invalid` where what they say at their front breaks a rule,
 /// `Limit` where that passes a limit, each at a place of the bytes or their end; `Memory` where memory runs out.
 pub fn validate_sections<'a>(
     alloc: Global,

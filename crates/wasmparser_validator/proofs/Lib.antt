@@ -1,6 +1,7 @@
 pub mod BodyLaws
 pub mod BodyValidationLaws
 pub mod Counts
+mod ExportLaws
 pub mod LocalTypeLaws
 pub mod LocalsLimit
 pub mod VerdictLaws

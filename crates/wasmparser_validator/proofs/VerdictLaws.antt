@@ -57,7 +57,7 @@ OwnFunctions = (sections : List Section) → (context_of sections).own_functions
 -- what a module that is accepted can be refused for
 only_memory : (features : Features) (bytes : List ℕ) (sections : List Section) (kind : ErrorKind) → FrontsAreFirst → RulesInTurn → LimitsInTurn → NoneWithin
     → IsAccepted features bytes sections → NamesSections features bytes kind → kind ≡ kinds.Memory
-only_memory features bytes sections kinds.Malformed fronts rules bounds within a n = absurd (n sections a.reads a.valid.supported)
+only_memory features bytes sections kinds.Malformed fronts rules bounds within a n = absurd (n sections a.reads)
 only_memory features bytes sections kinds.Invalid fronts rules bounds within a n =
     let first = fronts (has features CompactImports) bytes n.entries sections n.begins a.reads in
     absurd (n.breaks ((rules features at_first n.entries first.0).0 (subst (KeepRules features at_first) first.1 a.valid.fine.rules)).0)
@@ -136,7 +136,6 @@ accepted_module features bytes m shown own sizes w validated shows =
         record {
           reads = w.reads;
           valid = record {
-            supported = w.supported;
             fine = w.fine;
             bodies = λ place lt.
                 let j = validated place (omega (arith, lt, n)) in
@@ -202,7 +201,6 @@ refused_body features bytes m e own w refused =
     let some : (Holds : FuncType DefType → List ℕ → Type 0) → Holds j.0 j.1.rest → HasBody features Holds bytes = λ Holds holds. record {
       sections = w.sections;
       reads = w.reads;
-      supported = w.supported;
       fine = w.fine;
       some = (refused.0, lt, at Holds holds);
     } in

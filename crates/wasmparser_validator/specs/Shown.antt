@@ -1,20 +1,19 @@
 -- What is shown of a module.
-use Rattle.std.specs.Borrow.{Bor}
-use Rattle.std.specs.Prelude.{ℕ, ◌+◌, ◌≤◌, List, [], length}
+use Rattle.std.specs.Prelude.{ℕ, ◌+◌, ◌≤◌, List, drop, length}
 use Rattle.wasm_spec.specs.Limits.{Functions, Globals, Memories, Tables, Tags, most}
 use Rattle.wasm_spec.specs.Spaces.{Sizes}
+use Rattle.wasm_spec.specs.Syntax.{Export}
 use Rattle.wasm_validity.specs.Context.{Context}
 use Rattle.wasmparser_validator.specs.declared.types.CoreExports.{CoreExports}
-use Rattle.wasmparser_validator.specs.declared.types.EntityType.{EntityType}
 use Rattle.wasmparser_validator.specs.declared.types.TypesRef.{TypesRef}
 
 -- what a borrowed view shows
 abbrev pub shown : TypesRef → Sizes
 shown types = types.types.now
 
--- the exports that are still to come: none, since a section with exports isn't supported
-abbrev pub exports_left : CoreExports → List (Bor (List ℕ) × EntityType)
-exports_left exports = []
+-- the exports that are still to come
+abbrev pub exports_left : CoreExports → List Export
+exports_left it = drop it.place it.exports.now
 
 -- no index space has more items than its limit lets through
 pub record AreFew (cx : Context) : Type 0 where

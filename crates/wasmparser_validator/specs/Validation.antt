@@ -1,5 +1,5 @@
 -- What a validator answers to any bytes.
-use Rattle.std.specs.Prelude.{◌≡◌, ◌≢◌, ◌≤◌, ⊤, ℕ, true, List, length, Result, IfOk, IfErr}
+use Rattle.std.specs.Prelude.{◌≡◌, ◌≢◌, ◌≤◌, ⊤, ℕ, List, length, Result, IfOk, IfErr}
 use Rattle.wasm_core_base.specs.declared.limits.Limit.TheVariants as limits
 use Rattle.wasm_core_base.specs.Limits as core
 use Rattle.wasm_core_base.specs.declared.limits.Limit.{Limit}
@@ -7,8 +7,7 @@ use Rattle.wasm_spec.specs.Features.{Features, CompactImports, has}
 use Rattle.wasm_spec.specs.Grammar.{IsModule}
 use Rattle.wasm_spec.specs.Spaces.{Sizes, sizes_of}
 use Rattle.wasm_spec.specs.Syntax.{Section}
-use Rattle.wasm_validity.specs.Entries.{entries_of}
-use Rattle.wasm_validity.specs.Validity.{IsValid, BeginsPast, BeginsInvalid, HasBody, IsBodyPast, IsOtherBody, IsBrokenBody, are_supported}
+use Rattle.wasm_validity.specs.Validity.{IsValid, BeginsPast, BeginsInvalid, HasBody, IsBodyPast, IsOtherBody, IsBrokenBody}
 use Rattle.wasmparser_error.specs.declared.error.Error.{Error}
 use Rattle.wasmparser_error.specs.declared.error.ErrorKind.{ErrorKind}
 use Rattle.wasmparser_error.specs.declared.error.ErrorKind.TheVariants as kinds
@@ -34,8 +33,8 @@ pub record IsValidated (features : Features) (bytes : List ℕ) (verdict : Resul
   pub right : IfOk verdict (λ shown. (sections : List Section) × IsAccepted features bytes sections × (shown ≡ sizes_of sections))
   -- a module that is to be accepted is refused only when out of memory; that memory did run out is left to tests
   pub complete : (sections : List Section) → IsAccepted features bytes sections → IfErr verdict (λ e. e.kind ≡ kinds.Memory)
-  -- bytes are malformed only where no supported module reads
-  pub malformed : IfErr verdict (λ e. e.kind ≡ kinds.Malformed → (sections : List Section) → IsModule (has features CompactImports) bytes sections → ¬ (are_supported (entries_of sections) ≡ true))
+  -- bytes are malformed only where no module reads
+  pub malformed : IfErr verdict (λ e. e.kind ≡ kinds.Malformed → (sections : List Section) → ¬ (IsModule (has features CompactImports) bytes sections))
   -- a module is invalid only where what its bytes say at their front breaks a rule that is no limit, no grammar and no matter of bodies
   pub invalid : IfErr verdict (λ e. e.kind ≡ kinds.Invalid → BeginsInvalid features bytes)
   -- a limit is named only where what the bytes say at their front passes it; that of locals only where all else is fine and the locals of a body

@@ -1,14 +1,15 @@
 //! What a validator shows of a valid module.
 
-// Supported modules have no exports.
-
-ghost use Rattle.std.specs.Prelude.{◌≡◌, length, IsSomeAnd};
-ghost use Rattle.std.specs.Iterator.{YieldsFirst, item_count};
+ghost use Rattle.std.specs.Prelude.{◌≡◌, ◌<◌, ◌^◌, length, IsSomeAnd};
+ghost use Rattle.std.specs.Iterator.{YieldsFirstBy, item_count};
 ghost use Rattle.wasm_validity_laws.specs.SpaceSizes.{sizes_in};
+ghost use Rattle.wasmparser_items.specs.Exports.{export_item};
 ghost use Rattle.wasmparser_module_state.specs.State.{context};
 ghost use Rattle.wasmparser_validator.specs.Shown.{AreFew, shown, exports_left};
 
 use std::marker::Model;
+use wasmparser_export_names::export_names::ExportNames;
+use wasmparser_items::export::Export;
 use wasmparser_module_state::module_state::ModuleState;
 
 /// The index spaces of a valid module. Contracts see it as the sizes of these spaces.
@@ -21,9 +22,11 @@ pub struct Types {
     globals: u32,
     tags: u32,
     elements: u32,
+    exports: ExportNames,
 }
 
 impl Model for Types {
+    ghost use Rattle.std.specs.Prelude.{length};
     ghost use Rattle.wasm_spec.specs.Spaces.{Sizes};
 
     ghost Value = { Sizes };
@@ -36,15 +39,15 @@ impl Model for Types {
       globals = t.globals;
       tags = t.tags;
       elements = t.elements;
-      exports = 0;
+      exports = length t.exports;
     } };
 }
 
 impl Types {
     /// The index spaces of a module of which this is known at its end.
-    pub(crate) fn new(state: &ModuleState) -> Types
-        requires { AreFew (context state.now) }
-        ensures { result ≡ sizes_in (context state.now) }
+    pub(crate) fn new(state: ModuleState) -> Types
+        requires { AreFew (context state) }
+        ensures { result ≡ sizes_in (context state) }
     {
         Types {
             types: state.type_count() as u32,
@@ -54,6 +57,7 @@ impl Types {
             globals: state.global_count() as u32,
             tags: state.tag_count() as u32,
             elements: state.element_count(),
+            exports: state.into_exports(),
         }
     }
 
@@ -128,35 +132,42 @@ impl<'a> TypesRef<'a> {
         types.elements
     }
 
-    /// The exports in order, each a name and what it stands for. Always `Some`, since there are no components.
+    /// The exports in order. Always `Some`, since there are no components.
     pub fn core_exports(&self) -> Option<CoreExports<'a>>
-        ensures { IsSomeAnd result (λ exports. length (exports_left exports) ≡ (shown self.now).exports) }
+        ensures all { IsSomeAnd result (λ exports. length (exports_left exports) ≡ (shown self.now).exports) }
+        ensures fits { IsSomeAnd result (λ exports. length (exports_left exports) < 2 ^ 64) }
     {
         let types = self.types;
-        // A proof knows the view of a value once a field of it is used.
-        let _ = &types.types;
-        Some(CoreExports { types })
+        let exports = &types.exports;
+        // A proof knows by this call that their number is a machine's.
+        let _ = exports.len();
+        Some(CoreExports { exports, place: 0 })
     }
 }
 
-/// What an export stands for. It has no case, so no value, and nothing to derive but these.
-#[derive(Clone, Copy)]
-pub enum EntityType {}
-
-/// The exports of a module in order.
+/// The exports of a module that are still to come, in order.
 #[derive(Debug, Drop)]
 pub struct CoreExports<'a> {
-    types: &'a Types,
+    exports: &'a ExportNames,
+    place: usize,
 }
 
 impl<'a> Iterator for CoreExports<'a> {
-    type Item = (&'a str, EntityType);
+    type Item = Export<'a>;
 
-    ghost next_gives = { YieldsFirst exports_left };
+    ghost next_gives = { YieldsFirstBy export_item exports_left };
 
     ghost remaining = { item_count exports_left };
 
-    fn next(&mut self) -> Option<(&'a str, EntityType)> {
-        None
+    #[tactic(auto, using(crate::proofs::ExportLaws::next_steps))]
+    fn next(&mut self) -> Option<Export<'a>> {
+        let exports = self.exports;
+        // (so the next place is a number too)
+        if self.place >= exports.len() {
+            return None;
+        }
+        let export = exports.get(self.place)?;
+        self.place += 1;
+        Some(export)
     }
 }

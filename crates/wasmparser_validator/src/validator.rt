@@ -22,7 +22,7 @@ use wasmparser_sections::sections::{ValidSections, validate_sections};
 /// after all sections.
 ///
 /// # Errors
-/// `Malformed` where the bytes are no module whose sections are supported. `Invalid` and `Limit` where what stands at their front breaks a
+/// `Malformed` where the bytes are no module. `Invalid` and `Limit` where what stands at their front breaks a
 /// rule or passes a limit. `Operator`, `Body` and the limit on locals, where all else is fine, for a body. `Memory` where memory runs out.
 pub fn validate_module(alloc: Global, bytes: &[u8], features: WasmFeatures) -> Result<Types, Error>
     ensures { IsValidated (feature_set features) bytes.now result }
@@ -31,19 +31,19 @@ pub fn validate_module(alloc: Global, bytes: &[u8], features: WasmFeatures) -> R
     entries_in_turn();
     fronts_of_modules();
     let sections = validate_sections(alloc, bytes, features)?;
-    show_types(&sections, features)
+    show_types(sections, features)
 }
 
 // Validates the bodies of a module of which all else is fine, and shows its index spaces.
-fn show_types(sections: &ValidSections<'_>, features: WasmFeatures) -> Result<Types, Error>
-    requires fine { (bytes : List ℕ) × AreAccepted (feature_set features) bytes sections.now }
-    ensures { (bytes : List ℕ) → AreAccepted (feature_set features) bytes sections.now → IsValidated (feature_set features) bytes result }
+fn show_types(sections: ValidSections<'_>, features: WasmFeatures) -> Result<Types, Error>
+    requires fine { (bytes : List ℕ) × AreAccepted (feature_set features) bytes sections }
+    ensures { (bytes : List ℕ) → AreAccepted (feature_set features) bytes sections.entry → IsValidated (feature_set features) bytes result }
 {
     // The laws that the clause follows from, which do nothing.
     known_spaces();
     named_functions();
     validate_bodies(&sections.state, &sections.bodies, features)?;
-    Ok(Types::new(&sections.state))
+    Ok(Types::new(sections.state))
 }
 
 // Validates the body of each function of the module's own.

@@ -29,7 +29,6 @@ each features (suc place) h = absurd (omega (arith, h))
 pub returns : goal.returns
 returns c = record {
   valid = λ features exceptions. record {
-    supported = refl;
     fine = record {
       rules = (
         record {

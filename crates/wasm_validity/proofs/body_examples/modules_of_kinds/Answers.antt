@@ -62,7 +62,6 @@ has_body : (features : Features) (Holds : FuncType DefType → List ℕ → Type
 has_body features Holds body short bytes within holds = record {
   sections = sections_of body;
   reads = reads (has features CompactImports) body short bytes;
-  supported = refl;
   fine = record {
     rules = (
       record {

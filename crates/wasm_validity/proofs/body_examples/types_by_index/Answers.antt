@@ -43,7 +43,6 @@ each features (suc (suc place)) h = absurd (omega (arith, h))
 pub returns : goal.returns
 returns c = record {
   named = λ features. record {
-    supported = refl;
     fine = record {
       rules = (
         record {

@@ -26,7 +26,6 @@ each features (suc place) h = absurd (omega (arith, h))
 pub returns : goal.returns
 returns c = record {
   second = λ features gc types. record {
-    supported = refl;
     fine = record {
       rules = (
         record {

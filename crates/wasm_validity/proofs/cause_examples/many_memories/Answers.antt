@@ -1,4 +1,4 @@
-use Rattle.std.proofs.Common.{refl, arith}
+use Rattle.std.proofs.Common.{arith}
 use Rattle.wasm_validity.specs.Context.{at_first}
 use Rattle.wasm_validity.proofs.ManyMemories.{keep_limits, keep_rules, pass_limits}
 use Rattle.wasm_validity.proofs.cause_examples.many_memories.Goals as goal
@@ -6,7 +6,6 @@ use Rattle.wasm_validity.proofs.cause_examples.many_memories.Goals as goal
 pub returns : goal.returns
 returns c = record {
   most = λ features several. record {
-    supported = refl;
     fine = record { rules = keep_rules features at_first 100 several; limits = keep_limits at_first 100 (omega arith) };
     bodies = λ i h. absurd (omega (arith, h));
   };

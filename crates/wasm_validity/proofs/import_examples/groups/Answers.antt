@@ -3,7 +3,6 @@ use Rattle.wasm_validity.proofs.import_examples.groups.Goals as goal
 
 pub returns-clause-items : goal.returns-clause-items
 returns-clause-items c = λ features. record {
-  supported = refl;
   fine = record { rules = (refl, tt); limits = (record { numbers = refl; types = λ limit p. p }, tt) };
   bodies = λ i h. absurd (omega (arith, h));
 }
@@ -16,7 +15,6 @@ returns-clause-second_name c = λ features name type e v. let f = rw e at v.fine
 
 pub returns-clause-empty : goal.returns-clause-empty
 returns-clause-empty c = λ features. record {
-  supported = refl;
   fine = record { rules = (refl, (refl, tt)); limits = (record { numbers = refl; types = λ limit p. p }, (record { numbers = refl; types = λ limit p. p }, tt)) };
   bodies = λ i h. absurd (omega (arith, h));
 }

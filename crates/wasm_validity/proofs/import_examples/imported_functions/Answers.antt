@@ -10,7 +10,6 @@ use Rattle.wasm_validity.proofs.import_examples.imported_functions.Goals as goal
 
 pub returns-clause-starts : goal.returns-clause-starts
 returns-clause-starts c = λ features origin name e f. record {
-  supported = refl;
   fine = record {
     rules = (
       record {
@@ -50,7 +49,6 @@ each features (suc place) h = absurd (omega (arith, h))
 
 pub returns-clause-own_after_it : goal.returns-clause-own_after_it
 returns-clause-own_after_it c = λ features. record {
-  supported = refl;
   fine = record {
     rules = (
       record {

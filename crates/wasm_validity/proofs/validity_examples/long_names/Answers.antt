@@ -9,7 +9,6 @@ use Rattle.wasm_validity.proofs.validity_examples.long_names.Goals as goal
 
 pub returns-clause-valid : goal.returns-clause-valid
 returns-clause-valid c = λ features a b contents e f. record {
-  supported = refl;
   fine = record {
     rules = (tt, (tt, tt));
     limits = (record { numbers = rw e refl; types = λ limit p. p }, (record { numbers = rw f refl; types = λ limit p. p }, tt));

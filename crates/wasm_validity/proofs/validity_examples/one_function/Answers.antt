@@ -31,7 +31,6 @@ each features (suc place) h = absurd (omega (arith, h))
 pub returns : goal.returns
 returns c = record {
   valid = λ features. record {
-    supported = refl;
     fine = record {
       rules = (
         record {

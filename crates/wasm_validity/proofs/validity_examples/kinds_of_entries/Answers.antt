@@ -1,21 +1,18 @@
 use Rattle.std.proofs.Common.{refl, sym, ◌∙◌, arith}
 use Rattle.wasm_spec.specs.Subtyping.{same}
-use Rattle.wasm_validity.proofs.validity_examples.supported.Goals as goal
+use Rattle.wasm_validity.proofs.validity_examples.kinds_of_entries.Goals as goal
 
 pub returns : goal.returns
 returns c = record {
   table = λ features. record {
-    supported = refl;
     fine = record { rules = (record { type = refl; filled = refl; initialiser = tt }, tt); limits = (record { numbers = refl; types = λ limit p. p }, tt) };
     bodies = λ i h. absurd (omega (arith, h));
   };
   global = λ features. record {
-    supported = refl;
     fine = record { rules = (record { type = refl; initialiser = tt }, tt); limits = (record { numbers = refl; types = λ limit p. p }, tt) };
     bodies = λ i h. absurd (omega (arith, h));
   };
   element = λ features. record {
-    supported = refl;
     fine = record {
       rules = (record { type = refl; filled = refl; initialiser = tt }, (record { items = tt; mode = (record { null = λ e. refl; heap = same }, tt) }, tt));
       limits = (record { numbers = refl; types = λ limit p. p }, (record { numbers = refl; types = λ limit p. p }, tt));
@@ -23,12 +20,10 @@ returns c = record {
     bodies = λ i h. absurd (omega (arith, h));
   };
   «data» = λ features. record {
-    supported = refl;
     fine = record { rules = (refl, (tt, tt)); limits = (record { numbers = refl; types = λ limit p. p }, (record { numbers = refl; types = λ limit p. p }, tt)) };
     bodies = λ i h. absurd (omega (arith, h));
   };
   data_count = λ features on. record {
-    supported = refl;
     fine = record { rules = (on, tt); limits = (record { numbers = refl; types = λ limit p. p }, tt) };
     bodies = λ i h. absurd (omega (arith, h));
   };

@@ -1,0 +1,137 @@
+//! Exports (Core Specification 3.0, Validation, "Exports").
+
+ghost use Rattle.std.specs.List.{list_any};
+ghost use Rattle.std.specs.Prelude.{◌≡◌, ◌++◌, ◌∷◌, [], Some, bytes_eq, false, length, option_map, refl, IfErr, IfOk};
+ghost use Rattle.wasm_core_base.specs.Features.{feature_set};
+ghost use Rattle.wasm_validity.specs.Context.{item_at, size_of};
+ghost use Rattle.wasm_validity.specs.Entries.{OfExport};
+ghost use Rattle.wasm_validity.specs.Rules.{may_leave};
+ghost use Rattle.wasmparser_export_names.specs.ExportNames.{names_of};
+ghost use Rattle.wasmparser_items.specs.Exports.{export_item, external_kind};
+ghost use Rattle.wasmparser_module_entries.specs.EntryReading.{export_entry_at};
+ghost use Rattle.wasmparser_module_state.specs.Exports.{CountsAs, IsNameRefusal};
+ghost use Rattle.wasmparser_module_state.specs.State.{context, features_of, item};
+
+use crate::entry::Entry;
+use crate::item_types::may_cross;
+use crate::module_state::{ModuleState, refusal};
+use crate::names::check_name;
+use wasm_core_base::features::WasmFeatures;
+use wasm_core_base::limits::{Limit, MAX_WASM_EXPORTS};
+use wasmparser_constants::scope::item_at;
+use wasmparser_error::error::{Error, ErrorKind};
+use wasmparser_export_names::export_names::ExportNames;
+use wasmparser_items::export::{Export, ExternalKind};
+use wasmparser_items::tag_type::{TagKind, TagType};
+use wasmparser_items::type_ref::TypeRef;
+use wasmparser_readers::section_limited::SectionLimited;
+
+impl ModuleState {
+    /// The number of exports.
+    pub fn export_count(&self) -> usize
+        ensures { result ≡ length (context self.now).exports }
+    {
+        self.exports.len()
+    }
+
+    /// The exports alone.
+    pub fn into_exports(self) -> ExportNames
+        ensures names { names_of result ≡ (context self).exports }
+        ensures count { length result ≡ length (context self).exports }
+    {
+        self.exports
+    }
+
+    /// Makes ready for the exports of a section where there are none: finding their names takes no longer where they were chosen to make it slow.
+    pub fn start_exports<'a>(&mut self, section: SectionLimited<'a, Export<'a>>)
+        ensures same { context self.new ≡ context self.old }
+        ensures features { features_of self.new ≡ features_of self.old }
+    {
+        if self.exports.len() == 0 {
+            self.exports = ExportNames::for_section(*self.tags.allocator(), section);
+        }
+    }
+
+    // What is exported, which the item of a kind with this index is.
+    #[tactic(auto, using(crate::proofs::ExportLaws::item_steps))]
+    pub(crate) fn exported_type(&self, kind: ExternalKind, index: u32) -> Option<TypeRef>
+        ensures { option_map item result ≡ item_at (context self.now) (external_kind kind) index }
+    {
+        let place = index as usize;
+        match kind {
+            ExternalKind::Func => Some(TypeRef::Func(self.type_of_function(index)?)),
+            ExternalKind::Table => Some(TypeRef::Table(self.table_at(index)?)),
+            ExternalKind::Memory => Some(TypeRef::Memory(self.memory_at(index)?)),
+            ExternalKind::Global => {
+                let ty = item_at(&self.imported_globals, &self.own_globals, place)?;
+                Some(TypeRef::Global(ty))
+            }
+            ExternalKind::Tag => {
+                let func_type_idx = self.tags.get(place).copied()?;
+                Some(TypeRef::Tag(TagType {
+                    kind: TagKind::Exception,
+                    func_type_idx,
+                }))
+            }
+        }
+    }
+
+    // How large a type counts, of which no function type is named where none is there.
+    #[tactic(auto, using(crate::proofs::ExportLaws::size_steps))]
+    fn size_of_item(&self, ty: &TypeRef) -> u64
+        ensures { CountsAs (size_of (context self.now) (item ty.now)) result }
+    {
+        match ty {
+            TypeRef::Func(index) => self.size_of_type(*index).unwrap_or(0),
+            TypeRef::Tag(ty) => self.size_of_type(ty.func_type_idx).unwrap_or(0),
+            _ => 1,
+        }
+    }
+
+    // Adds an export, where its name is new and it may be exported.
+    fn push_export(&mut self, export: &Export<'_>, offset: u64) -> Result<(), Error>
+        ensures pushed { IfOk result (λ _. (list_any (bytes_eq export.now.name.now) (context self.old).exports ≡ false) × (context self.new ≡ record (context self.old) { exports = (context self.old).exports ++ export.now.name.now ∷ [] })) }
+        ensures refused { IfErr result (λ e. IsNameRefusal offset (list_any (bytes_eq export.now.name.now) (context self.old).exports) e × (context self.new ≡ context self.old)) }
+        ensures features { features_of self.new ≡ features_of self.old }
+    {
+        if !self.exports.insert(export)? {
+            return Err(refusal(offset, ErrorKind::Invalid));
+        }
+        Ok(())
+    }
+}
+
+// Whether what is exported may be.
+fn may_leave(features: WasmFeatures, ty: &TypeRef) -> bool
+    ensures { result ≡ may_leave (feature_set features) (Some (item ty.now)) }
+{
+    match ty {
+        TypeRef::Global(ty) => may_cross(features, ty),
+        _ => true,
+    }
+}
+
+impl<'a> Entry for Export<'a> {
+    ghost entry = { λ x. OfExport (export_item x) };
+
+    ghost entry_at = { export_entry_at };
+
+    ghost is_made = { record { made = λ x. OfExport x; is = λ x. refl; reads = λ _ bytes. refl; breaks = λ _ _ _ _ large _. large } };
+
+    #[tactic(auto, using(crate::proofs::ExportLaws::export_steps))]
+    fn add(self, state: &mut ModuleState, offset: u64) -> Result<(), Error> {
+        let ty = match state.exported_type(self.kind, self.index) {
+            Some(ty) if may_leave(state.features(), &ty) => ty,
+            _ => return Err(refusal(offset, ErrorKind::Invalid)),
+        };
+        check_name(self.name, offset)?;
+        if state.export_count() as u64 >= MAX_WASM_EXPORTS {
+            return Err(refusal(offset, ErrorKind::Limit(Limit::Exports)));
+        }
+        let size = state.size_of_item(&ty);
+        let type_size = state.grown_size(size, offset)?;
+        state.push_export(&self, offset)?;
+        state.type_size = type_size;
+        Ok(())
+    }
+}

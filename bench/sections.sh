@@ -1,5 +1,5 @@
 #!/bin/sh
-# Seconds and peak memory of `wasm_gen check` on modules of a million items of a kind: imports of globals, globals, functions and expressions of element
+# Seconds and peak memory of `wasm_gen check` on modules of a million items of a kind: imports of globals, exports, globals, functions and expressions of element
 # segments, segments, and operands of constant expressions. Beside it node's WebAssembly.validate on files of 100,000 items, where node is there. A module
 # is to take 1.5 s and 100 bytes an item beyond the input at most; where one takes more, the status is 1.
 set -eu
@@ -32,6 +32,7 @@ def modules(n):
     few = min(n, 100_000)
     return [
         ("imports of globals", n - 2, section(2, n - 2, b"\0\0\3\x7f\0" * (n - 2))),
+        ("exports of a memory", n - 2, section(5, 1, b"\0\1") + section(7, n - 2, b"".join(b"\6%06d\2\0" % i for i in range(n - 2)))),
         ("globals of i32", n, section(6, n, b"\x7f\0\x41\0\x0b" * n)),
         ("globals, each of the one before", n, section(6, n, b"\x7f\0\x41\0\x0b" + others(n))),
         ("functions in an element segment", n, types + function + table + section(9, 1, b"\0\x41\0\x0b" + number(n) + bytes(n)) + body),

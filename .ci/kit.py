@@ -5,8 +5,28 @@ import os
 import shutil
 import sys
 import tempfile
+import threading
 
 sys.dont_write_bytecode = True
+
+
+def asked_once(stamp):
+    """Returns the kit's sum of what a crate is made from, which goes down every path to the crates below (31,361 paths for one of the tests), as one
+    that goes to each of them once a call."""
+    calls = threading.local()
+
+    def asked(crate):
+        if getattr(calls, "found", None) is not None:
+            if id(crate) not in calls.found:
+                calls.found[id(crate)] = stamp(crate)
+            return calls.found[id(crate)]
+        calls.found = {}
+        try:
+            return stamp(crate)
+        finally:
+            calls.found = None
+
+    return asked
 
 
 def load():
@@ -14,6 +34,10 @@ def load():
     loader = importlib.machinery.SourceFileLoader("rt", path)
     module = importlib.util.module_from_spec(importlib.util.spec_from_loader("rt", loader))
     loader.exec_module(module)
+    crate = module.rtlib.Crate
+    # (another kit may have no such sum)
+    if hasattr(crate, "stamp"):
+        crate.stamp = asked_once(crate.stamp)
     return module
 
 

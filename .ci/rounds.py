@@ -28,6 +28,8 @@ from kit import rt, rtlib
 
 # A function: its file, its name and its impl's, the cycle that it shares a proof with, its first and last line, and where its body lies.
 Function = collections.namedtuple("Function", "file owner name cycle first last opens closes")
+# What the kit says of an edit that is refused: some kits have names for it, others say True.
+ARE_REFUSALS = [getattr(rt, it, True) for it in ("REFUSED", "AT_LIMIT")]
 # Errors that say nothing of a contract: a proof file names what the edit took away, or what it cites has no proof.
 LOST_NAME = re.compile(r"has no field|is not in scope|has no `|was not admitted")
 
@@ -226,11 +228,11 @@ def over(kept, call, *given):
 def try_alone(crate, path, kept):
     """Tries one edit as `rt must-fail` does: over a copy of what is kept, and where it is not refused so, from nothing. Returns whether it is refused, and
     what was seen."""
-    flags, are_refusals = ["--jobs", "1"], (rt.REFUSED, rt.AT_LIMIT)
+    flags = ["--jobs", "1"]
     verdict, text = over(kept, rt.must_fail, crate, path, flags)
-    if verdict not in are_refusals:
+    if verdict not in ARE_REFUSALS:
         verdict, text = rt.must_fail(crate, path, flags)
-    return verdict in are_refusals, text
+    return verdict in ARE_REFUSALS, text
 
 
 class Trial:

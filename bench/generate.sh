@@ -5,7 +5,7 @@
 set -eu
 . "$(dirname "$0")/setup.sh"
 driver=$(pwd)/crates/wasm_gen_bench
-(cd "$driver" && rt run -- /dev/null 1 > /dev/null 2>&1) || true
+(cd "$driver" && ../../.ci/rt run -- /dev/null 1 > /dev/null 2>&1) || true
 python3 - "$driver/out/wasm_gen_bench" "$folder" <<'PYTHON'
 import os, random, shutil, subprocess, sys, time
 driver, folder = sys.argv[1:]

@@ -7,6 +7,6 @@ cd "$(dirname "$0")/.."
 folder=$(mktemp -d)
 trap 'rm -rf "$folder"' EXIT
 library=$(pwd)/crates/wasm_core_bench
-(cd "$library" && rt lib > /dev/null 2>&1)
+(cd "$library" && ../../.ci/rt lib > /dev/null 2>&1)
 rustc --edition 2024 -O bench/leb128/main.rs -o "$folder/leb128" -L "$library/out" -l static=wasm_core_bench
 "$folder/leb128"

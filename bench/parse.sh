@@ -8,7 +8,7 @@ folder=$(mktemp -d)
 trap 'rm -rf "$folder"' EXIT
 .ci/build wasmparser_parse_bench > /dev/null
 driver=$(pwd)/crates/wasmparser_parse_bench
-(cd "$driver" && rt run -- /dev/null 0 > /dev/null 2>&1) || true
+(cd "$driver" && ../../.ci/rt run -- /dev/null 0 > /dev/null 2>&1) || true
 python3 - "$driver/out/wasmparser_parse_bench" "$folder" <<'PYTHON'
 import subprocess, sys, time
 driver, folder = sys.argv[1:]

@@ -44,7 +44,7 @@ dearest() {
 prove() {
     local flags=(--jobs 1)
     grep -rqs '#\[test\]' src && flags+=(--test)
-    timed rt check "${flags[@]}" > "$room/log" 2>&1 || true
+    timed ../../.ci/rt check "${flags[@]}" > "$room/log" 2>&1 || true
     tail -n 1 "$room/log" | grep -q '^logic=proved ' || { tail -n 20 "$room/log"; echo "$1: not proved"; exit 1; }
     awk -v name="$1" '{ printf "%s: %.0f s of processor, %.0f s\n", name, $2 + $3, $1 }' <(tail -n 1 "$room/seconds")
     dearest

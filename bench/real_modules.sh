@@ -11,7 +11,7 @@ folder=$(mktemp -d)
 trap 'rm -rf "$folder"' EXIT
 .ci/build wasmparser_parse_bench > /dev/null
 driver=$(pwd)/crates/wasmparser_parse_bench
-(cd "$driver" && rt run -- /dev/null 0 > /dev/null 2>&1) || true
+(cd "$driver" && ../../.ci/rt run -- /dev/null 0 > /dev/null 2>&1) || true
 cat > "$folder/small.c" <<'SOURCE'
 __attribute__((import_module("env"), import_name("log"))) void print(int);
 static int table[64];

@@ -10,7 +10,7 @@ set -eu
 cd "$(dirname "$0")/.."
 .ci/build wasmparser_interning_bench > /dev/null
 driver=$(pwd)/crates/wasmparser_interning_bench
-(cd "$driver" && rt run -- functions 0 > /dev/null 2>&1) || true
+(cd "$driver" && ../../.ci/rt run -- functions 0 > /dev/null 2>&1) || true
 python3 - "$driver/out/wasmparser_interning_bench" <<'PYTHON'
 import os, subprocess, sys, time
 driver = sys.argv[1]

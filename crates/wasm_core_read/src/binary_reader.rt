@@ -11,6 +11,7 @@ ghost use Rattle.wasm_core_read.specs.Reading.{Gives, byte_at, unsigned_at, sign
 use crate::malformed::Malformed;
 use crate::signed::signed_front;
 use crate::unsigned::unsigned_front;
+use crate::utf8::utf8;
 use std::marker::Model;
 use wasm_core_base::features::WasmFeatures;
 
@@ -337,14 +338,12 @@ impl<'a> BinaryReader<'a> {
         if rest.len() < len {
             return Err(malformed);
         }
-        let (text, rest) = rest.split_at(len);
-        match str::from_utf8(text) {
-            Err(_) => Err(malformed),
-            Ok(text) => {
-                self.position += (self.rest.len() - rest.len()) as u64;
-                self.rest = rest;
-                Ok(text)
-            }
-        }
+        let (name, rest) = rest.split_at(len);
+        let Some(name) = utf8(name) else {
+            return Err(malformed);
+        };
+        self.position += (self.rest.len() - rest.len()) as u64;
+        self.rest = rest;
+        Ok(name)
     }
 }

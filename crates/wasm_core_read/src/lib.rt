@@ -6,3 +6,4 @@ pub mod laws;
 pub mod malformed;
 mod signed;
 mod unsigned;
+mod utf8;

@@ -1,29 +1,23 @@
 -- What a session answers.
-use Rattle.std.specs.Prelude.{◌≡◌, ℕ, List, Bool, true, false, not, Result, Ok, Err, IsErrAnd}
-use Rattle.wasm_core.specs.LimitCases.{Locals}
-use Rattle.wasm_spec.specs.Spaces.{Sizes}
+use Rattle.std.specs.Prelude.{◌≡◌, ℕ, List, Bool, true, false, not, Result, Ok, Err, IfOk, IsErrAnd}
 use Rattle.wasmparser_validator.specs.Validation.{IsValidated}
 use Rattle.wasmparser_error.specs.declared.error.Error.{Error}
-use Rattle.wasmparser_error.specs.declared.error.ErrorKind.{ErrorKind}
-use Rattle.wasmparser_error.specs.declared.error.ErrorKind.TheVariants.{Operator, Body, Limit, Failed}
+use Rattle.wasmparser_error.specs.declared.error.ErrorKind.TheVariants.{Failed}
+use Rattle.wasmparser_validator.specs.Judges.{is_in_body}
+use Rattle.wasmparser_validator.specs.KnownSpaces.{KnownModule}
 use Rattle.wasm_gen.specs.History.{History}
 
--- a refusal of this kind is one of a body
-abbrev pub is_in_body : ErrorKind → Bool
-is_in_body Operator = true
-is_in_body Body = true
-is_in_body (Limit Locals) = true
-is_in_body _ = false
-
 -- the answer ends the validator: a refusal does, unless it is one of a body
-abbrev pub fails : Result Sizes Error → Bool
-fails (Ok sizes) = false
+abbrev pub fails : Result KnownModule Error → Bool
+fails (Ok known) = false
 fails (Err e) = not (is_in_body e.kind)
 
 -- what a session answers to the bytes of a module, and how it goes on
-pub record Checks (old : History) (bytes : List ℕ) (verdict : Result Sizes Error) (new : History) : Type 0 where
+pub record Checks (old : History) (bytes : List ℕ) (verdict : Result KnownModule Error) (new : History) : Type 0 where
   -- a validator that has not failed validates the bytes under the session's features
   pub validated : old.has_failed ≡ false → IsValidated old.features bytes verdict
+  -- what is shown bears the validator's name
+  pub named : IfOk verdict (λ known. known.id ≡ old.id)
   -- a validator that has failed refuses whatever comes
   pub refused : old.has_failed ≡ true → IsErrAnd verdict (λ e. (e.kind ≡ Failed) × (e.offset ≡ 0))
   -- a validator that has not failed fails by some answers

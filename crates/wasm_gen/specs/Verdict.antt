@@ -1,8 +1,10 @@
 -- The line that tells the verdict on a module.
 use Rattle.std.specs.Prelude.{ℕ, List, ◌++◌, codes, decimal, Result, Ok, Err}
 use Rattle.wasm_spec.specs.Spaces.{Sizes}
+use Rattle.wasm_validity.specs.IndexSpaces.{sizes_in}
 use Rattle.wasmparser_error.specs.Error.{kind_name}
 use Rattle.wasmparser_error.specs.declared.error.Error.{Error}
+use Rattle.wasmparser_validator.specs.KnownSpaces.{KnownModule, spaces_known}
 
 -- a label and the number under it
 abbrev pub counted : List ℕ → ℕ → List ℕ
@@ -15,6 +17,6 @@ yes_line s = codes "yes" ++ counted (codes " types=") s.types ++ counted (codes 
     ++ counted (codes " tags=") s.tags ++ counted (codes " elements=") s.elements ++ counted (codes " exports=") s.exports ++ codes "\n"
 
 -- the line for a verdict
-abbrev pub verdict_line : Result Sizes Error → List ℕ
-verdict_line (Ok sizes) = yes_line sizes
+abbrev pub verdict_line : Result KnownModule Error → List ℕ
+verdict_line (Ok known) = yes_line (sizes_in (spaces_known known))
 verdict_line (Err e) = codes "no " ++ kind_name e.kind ++ codes "\n"

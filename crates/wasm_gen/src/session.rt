@@ -2,14 +2,13 @@
 
 ghost use Rattle.std.specs.Prelude.{◌≡◌};
 ghost use Rattle.wasm_core.specs.Features.{feature_set};
-ghost use Rattle.wasm_gen.specs.Session.{is_in_body};
 
 use crate::judge::{Error, ErrorKind, Types, ValidatorId};
 use std::alloc::Global;
 use std::marker::Model;
 use wasm_core::features::WasmFeatures;
-use wasm_core::limits::Limit;
-use wasmparser_validator::validator::validate_module;
+use wasmparser_validator::modules::validate_module;
+use wasmparser_validator::validator::is_in_body;
 
 /// Validates modules under one set of features. After a module with a refused body the next one is validated. Any other
 /// refusal ends the validator: from then on each module is refused as `Failed`, and
@@ -30,16 +29,6 @@ impl Model for Session {
     ghost Value = { History };
 
     ghost view = { λ s. record { features = feature_set s.features; id = s.id; has_failed = s.has_failed } };
-}
-
-// Whether a refusal of this kind is one of a body.
-fn is_in_body(kind: ErrorKind) -> bool
-    ensures { result ≡ is_in_body kind }
-{
-    matches!(
-        kind,
-        ErrorKind::Operator | ErrorKind::Body | ErrorKind::Limit(Limit::Locals)
-    )
 }
 
 impl Session {
@@ -72,7 +61,7 @@ impl Session {
                 kind: ErrorKind::Failed,
             });
         }
-        let verdict = validate_module(alloc, bytes, self.features);
+        let verdict = validate_module(alloc, bytes, self.features, self.id);
         if let Err(e) = &verdict {
             self.has_failed = !is_in_body(e.kind);
         }

@@ -2,7 +2,8 @@
 
 ghost use Rattle.std.specs.Prelude.{◌≡◌, ◌≤◌, ◌+◌, ◌++◌, [], length, vec_len, vec_capacity, Err, IfOk};
 ghost use Rattle.wasm_gen.specs.Verdict.{counted, yes_line, verdict_line};
-ghost use Rattle.wasmparser_validator.specs.Shown.{shown};
+ghost use Rattle.wasm_validity.specs.IndexSpaces.{sizes_in};
+ghost use Rattle.wasmparser_validator.specs.Shown.{spaces};
 
 use crate::judge::{Error, Types, TypesRef};
 use itoa::Buffer;
@@ -14,7 +15,7 @@ const ROOM: usize = 300;
 
 // How many exports a module has.
 fn export_count(types: TypesRef<'_>) -> u64
-    ensures { result ≡ (shown types.entry).exports }
+    ensures { result ≡ length (spaces types.entry).exports }
 {
     match types.core_exports() {
         Some(exports) => exports.count() as u64,
@@ -38,7 +39,7 @@ fn put_count(line: &mut Vec<u8>, label: &str, count: u64)
 fn put_yes(line: &mut Vec<u8>, types: TypesRef<'_>)
     requires empty { line.old.items ≡ [] }
     requires room { 300 ≤ vec_capacity line.old }
-    ensures { line.new.items ≡ yes_line (shown types.entry) }
+    ensures { line.new.items ≡ yes_line (sizes_in (spaces types.entry)) }
 {
     put_bytes(b"yes", line);
     put_count(

@@ -1,6 +1,6 @@
-//! The lines that are written of modules, and the names that they export.
+//! The lines that are written of modules, and what they export.
 
-/// Sections, and the line on their module.
+/// Sections, and the line on their module, or what it exports.
 pub const ROWS: &str = "
     line |                                | yes types=0 functions=0 tables=0 memories=0 globals=0 tags=0 elements=0 exports=0
     line | types functions code           | yes types=1 functions=1 tables=0 memories=0 globals=0 tags=0 elements=0 exports=0
@@ -10,8 +10,8 @@ pub const ROWS: &str = "
     line | types 02 1b 05 00 00 01 70 00 00 00 00 02 00 00 00 00 03 7f 00 00 00 03 7f 00 00 00 04 00 00 | yes types=1 functions=0 tables=1 memories=1 globals=2 tags=1 elements=0 exports=0
     line | types functions 04 07 02 70 00 00 70 00 00 06 06 01 7f 00 41 00 0b 09 0b 03 01 00 00 03 00 01 00 01 00 00 code | yes types=1 functions=1 tables=2 memories=0 globals=1 tags=0 elements=3 exports=0
     line | 05 03 01 00 01 07 0a 02 01 61 02 00 02 62 63 02 00 | yes types=0 functions=0 tables=0 memories=1 globals=0 tags=0 elements=0 exports=2
-    names | 05 03 01 00 01 07 0a 02 01 61 02 00 02 62 63 02 00 | a bc
-    names | 05 03 01 00 01 07 0d 03 01 63 02 00 01 62 02 00 01 61 02 00 | c b a
+    exports | 05 03 01 00 01 07 0a 02 01 61 02 00 02 62 63 02 00 | a Memory 0, bc Memory 0
+    exports | 04 04 01 70 00 00 05 03 01 00 01 06 0b 02 7f 00 41 00 0b 7f 00 41 00 0b 07 0d 03 01 63 02 00 01 62 01 00 01 61 03 01 | c Memory 0, b Table 0, a Global 1
     line | types functions 0a 03 01 01 00 | no body
     line | types 03 02 01 01 code         | no invalid
 ";

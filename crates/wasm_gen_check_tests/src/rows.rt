@@ -120,7 +120,7 @@ fn holds(alloc: Global, row: &str) -> Option<bool> {
         "cuts" => Some(is_cut_at(alloc, &bytes, expected)),
         "ids" => has_ids(alloc, &mut bytes, expected),
         "line" => Some(has_line(alloc, &bytes, expected)),
-        "names" => Some(has_exports(alloc, &bytes, expected)),
+        "exports" => Some(has_exports(alloc, &bytes, expected)),
         _ => Some(answers_under(alloc, features_of(way)?, &bytes, answer_in(expected))),
     }
 }

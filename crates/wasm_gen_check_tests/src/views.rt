@@ -18,23 +18,27 @@ fn export_count(view: TypesRef<'_>) -> usize {
     view.core_exports().map_or(0, |it| it.count())
 }
 
-// Whether these are the names of a view's exports, in order.
-fn are_exported(view: TypesRef<'_>, names: &str) -> bool {
+// Whether these are a view's exports, in order: the name of each, its kind and its index.
+fn are_exported(alloc: Global, view: TypesRef<'_>, expected: &str) -> bool {
     let Some(mut exports) = view.core_exports() else {
         return false;
     };
-    for name in names.split_whitespace() {
-        if !exports.next().is_some_and(|it| it.name == name) {
+    for export in expected.split(", ") {
+        let shown = exports.next().and_then(|it| format!(in alloc;
+            "{} {:?} {}",
+            it.name, it.kind, it.index
+        ).ok());
+        if !shown.is_some_and(|it| it.as_str() == export) {
             return false;
         }
     }
     exports.next().is_none()
 }
 
-/// Whether the module is valid and exports items by these names.
-pub fn has_exports(alloc: Global, bytes: &[u8], names: &str) -> bool {
+/// Whether the module is valid and exports these: names, kinds and indexes.
+pub fn has_exports(alloc: Global, bytes: &[u8], expected: &str) -> bool {
     match new_session().check(alloc, bytes) {
-        Ok(view) => are_exported(view.as_ref(), names),
+        Ok(view) => are_exported(alloc, view.as_ref(), expected),
         Err(_) => false,
     }
 }

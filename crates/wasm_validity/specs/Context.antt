@@ -1,14 +1,14 @@
 -- What is known after some entries of a module. Core Specification 3.0, Validation, "Conventions" (contexts) and "Modules". Types of items are
 -- kept as they are written, over type indexes; what an index stands for is in the context too.
-use Rattle.std.specs.Prelude.{ℕ, suc, ◌+◌, List, [], ◌∷◌, ◌++◌, length, Option, Some, None, map, slice_get}
-use Rattle.wasm_spec.specs.Syntax.{imported_by}
+use Rattle.std.specs.Prelude.{ℕ, suc, false, ◌+◌, List, [], ◌∷◌, ◌++◌, length, Option, Some, None, map, slice_get}
+use Rattle.wasm_spec.specs.Syntax.{Export, ElementItems, FunctionItems, ExpressionItems, imported_by}
 use Rattle.wasm_spec.specs.Trees.{DefType, types_after}
-use Rattle.wasm_spec.specs.Types.{MemoryType, TableType, GlobalType, ExternalType, FuncExternal, TableExternal, MemoryExternal, GlobalExternal, TagExternal, ExternalKind, FuncKind, TableKind, MemoryKind, GlobalKind, TagKind, FuncType}
+use Rattle.wasm_spec.specs.Types.{Func, Abstract, RefType, MemoryType, TableType, GlobalType, ExternalType, FuncExternal, TableExternal, MemoryExternal, GlobalExternal, TagExternal, ExternalKind, FuncKind, TableKind, MemoryKind, GlobalKind, TagKind, FuncType}
 use Rattle.wasm_validity.specs.DefinedTypes.{func_type_at}
 use Rattle.wasm_validity.specs.Entries.{Entry, OfCustom, OfType, OfImport, OfFunction, OfTable, OfMemory, OfTags, OfTag, OfGlobal, OfExport, OfStart, OfElement, OfDataCount, OfBody, OfData}
 
--- The index spaces, in which imported items stand first, and what else limits count: the entries of type and import sections, exports by their
--- names, segments, and the size of the types of all imports and exports.
+-- The index spaces, in which imported items stand first, the exports, and what else limits count: the entries of type and import sections, data
+-- segments, and the size of the types of all imports and exports.
 pub record Context : Type 0 where
   pub types : List DefType
   pub groups : ℕ
@@ -22,8 +22,9 @@ pub record Context : Type 0 where
   pub tags : List ℕ
   pub imported_globals : List (GlobalType ℕ)
   pub own_globals : List (GlobalType ℕ)
-  pub exports : List (List ℕ)
-  pub elements : ℕ
+  pub exports : List Export
+  -- the type of each element segment
+  pub elements : List (RefType ℕ)
   pub segments : ℕ
   pub type_size : ℕ
 
@@ -40,7 +41,7 @@ at_first = record {
   imported_globals = [];
   own_globals = [];
   exports = [];
-  elements = 0;
+  elements = [];
   segments = 0;
   type_size = 1;
 }
@@ -67,7 +68,15 @@ size_of cx (MemoryExternal type) = 1
 size_of cx (GlobalExternal type) = 1
 size_of cx (TagExternal function) = size_of_func (func_type_at cx.types function)
 
+-- what the items of a segment are: functions as references that aren't null
+abbrev pub element_type : ElementItems → RefType ℕ
+element_type (FunctionItems functions) = record { nullable = false; heap_type = Abstract Func }
+element_type (ExpressionItems type expressions) = type
+
 -- ---- what is exported
+
+abbrev pub names_of : List Export → List (List ℕ)
+names_of exports = map (λ export. export.name) exports
 
 -- the item of a kind with an index, if there is one
 abbrev pub item_at : Context → ExternalKind → ℕ → Option (ExternalType ℕ)
@@ -110,9 +119,9 @@ after cx (OfMemory type) = record cx { memories = cx.memories ++ type ∷ [] }
 after cx OfTags = cx
 after cx (OfTag index) = record cx { tags = cx.tags ++ index ∷ [] }
 after cx (OfGlobal global) = record cx { own_globals = cx.own_globals ++ global.type ∷ [] }
-after cx (OfExport export) = record cx { exports = cx.exports ++ export.name ∷ []; type_size = cx.type_size + size_of_export cx (item_at cx export.kind export.index) }
+after cx (OfExport export) = record cx { exports = cx.exports ++ export ∷ []; type_size = cx.type_size + size_of_export cx (item_at cx export.kind export.index) }
 after cx (OfStart function) = cx
-after cx (OfElement segment) = record cx { elements = suc cx.elements }
+after cx (OfElement segment) = record cx { elements = cx.elements ++ element_type segment.items ∷ [] }
 after cx (OfDataCount count) = cx
 after cx (OfBody body) = cx
 after cx (OfData segment) = record cx { segments = suc cx.segments }

@@ -4,11 +4,11 @@ use Rattle.std.specs.List.{list_all}
 use Rattle.wasm_spec.specs.Examples.{at_least}
 use Rattle.wasm_spec.specs.Features.{Flag, Features, has}
 use Rattle.wasm_spec.specs.Limits.{Limit}
-use Rattle.wasm_spec.specs.Syntax.{Export, Import, Table}
+use Rattle.wasm_spec.specs.Syntax.{ElementItems, ElementSegment, Export, ExpressionItems, FunctionItems, Import, PassiveElement, Table}
 use Rattle.wasm_spec.specs.TypeExamples.{empty_structure, final_type, gives, takes}
-use Rattle.wasm_spec.specs.Types.{HeapType, I32, I64, RefType, ValType, FuncComposite, Single, Limits, TableType, GlobalType, ExternalType, ExternalKind, funcref}
+use Rattle.wasm_spec.specs.Types.{HeapType, Concrete, F32, I32, I64, RefType, ValType, FuncComposite, Single, Limits, TableType, GlobalType, ExternalType, ExternalKind, FuncExternal, FuncKind, GlobalExternal, TagKind, funcref}
 use Rattle.wasm_validity.specs.Context.{Context, after_all, at_first}
-use Rattle.wasm_validity.specs.Entries.{Entry, OfExport, OfImport, OfTable, OfType}
+use Rattle.wasm_validity.specs.Entries.{Entry, OfElement, OfExport, OfFunction, OfGlobal, OfImport, OfMemory, OfTable, OfTag, OfType}
 use Rattle.wasm_validity.specs.Rules.{Keeps, Passes, measures}
 
 -- ---- what is said
@@ -93,3 +93,14 @@ four_types =
 -- what is known after these types and further entries
 abbrev pub with_types : List Entry → Context
 with_types entries = after_all at_first (four_types ++ entries)
+
+-- what is known after items of each space, and two exports
+abbrev pub one_of_each : Context
+one_of_each = with_types (
+    imports (FuncExternal 2) ∷ OfFunction 0 ∷ OfFunction 1 ∷ own_table funcref (at_least 1) ∷ OfMemory (at_least 1) ∷ OfMemory (at_least 2) ∷ imports (GlobalExternal (constant F32))
+    ∷ OfGlobal (record { type = variable I32; initialiser = [] }) ∷ OfTag 1 ∷ exports (97 ∷ []) TagKind 0 ∷ exports (98 ∷ []) FuncKind 2 ∷ OfElement (passive (FunctionItems (0 ∷ 0 ∷ [])))
+    ∷ OfElement (passive (ExpressionItems (reference false (Concrete 1)) [])) ∷ OfElement (passive (ExpressionItems funcref [])) ∷ []
+    )
+  where
+    passive : ElementItems → ElementSegment
+    passive items = record { mode = PassiveElement; items = items }

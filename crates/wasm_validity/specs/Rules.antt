@@ -11,9 +11,9 @@ use Rattle.wasm_spec.specs.Subtyping.{ValBelow}
 use Rattle.wasm_spec.specs.Syntax.{ImportEntry, Import, CompactItems, CompactNames, Table, Global, Export, ElementMode, ActiveElement, PassiveElement, DeclaredElement, ElementItems, FunctionItems, ExpressionItems, ElementSegment, DataMode, ActiveData, PassiveData, imported_by}
 use Rattle.wasm_spec.specs.Trees.{DefType, types_after, unrolled}
 use Rattle.wasm_spec.specs.TypeReferences.{global_refs, group_refs, table_refs}
-use Rattle.wasm_spec.specs.Types.{Func, Abstract, RefType, ValType, I32, I64, Ref, FuncType, MemoryType, TableType, GlobalType, ExternalType, FuncExternal, TableExternal, MemoryExternal, GlobalExternal, TagExternal, RecGroup}
+use Rattle.wasm_spec.specs.Types.{RefType, ValType, I32, I64, Ref, FuncType, MemoryType, TableType, GlobalType, ExternalType, FuncExternal, TableExternal, MemoryExternal, GlobalExternal, TagExternal, RecGroup}
 use Rattle.wasm_validity.specs.ConstantTyping.{IsConstantFor, IsConstantOf, meant}
-use Rattle.wasm_validity.specs.Context.{Context, functions_in, after, size_of, after_item, item_at, size_of_export}
+use Rattle.wasm_validity.specs.Context.{Context, functions_in, after, size_of, after_item, element_type, item_at, names_of, size_of_export}
 use Rattle.wasm_validity.specs.DefinedTypes.{func_type_at, PassesGroupLimit}
 use Rattle.wasm_validity.specs.Entries.{Entry, OfCustom, OfType, OfImport, OfFunction, OfTable, OfMemory, OfTags, OfTag, OfGlobal, OfExport, OfStart, OfElement, OfDataCount, OfBody, OfData}
 use Rattle.wasm_validity.specs.TypeRules.{implies, is_value, is_memory_type, is_table_type, is_tag_type}
@@ -92,11 +92,6 @@ IsBelow cx a b = below (meant cx a) (meant cx b)
     below (Some c) (Some d) = ValBelow unrolled c d
     below _ _ = ⊥
 
--- what the items of a segment are: functions as references that aren't null
-abbrev pub items_type : ElementItems → ValType ℕ
-items_type (FunctionItems functions) = Ref false (Abstract Func)
-items_type (ExpressionItems type expressions) = value_of type
-
 -- the functions are there, or the type may be written and the expressions give values of it
 abbrev pub KeepsItems : Features → Context → ElementItems → Type 0
 KeepsItems features cx (FunctionItems functions) = AllByRecursion (λ function. function < length (functions_in cx)) functions
@@ -117,7 +112,7 @@ KeepsElementMode features cx type DeclaredElement = has features BulkMemory ≡ 
 -- (Modules, "Element Segments")
 pub record KeepsElement (features : Features) (cx : Context) (segment : ElementSegment) : Type 0 where
   pub items : KeepsItems features cx segment.items
-  pub mode : KeepsElementMode features cx (items_type segment.items) segment.mode
+  pub mode : KeepsElementMode features cx (value_of (element_type segment.items)) segment.mode
 
 -- a segment may be put into a memory of this type from the start on, if there is one
 abbrev pub FitsMemory : Features → Context → ConstantExpression → Option MemoryType → Type 0
@@ -138,7 +133,7 @@ may_leave features (Some _) = true
 
 -- (Modules, "Exports"): names are distinct
 abbrev pub keeps_export : Features → Context → Export → Bool
-keeps_export features cx export = may_leave features (item_at cx export.kind export.index) && not (list_any (bytes_eq export.name) cx.exports)
+keeps_export features cx export = may_leave features (item_at cx export.kind export.index) && not (list_any (bytes_eq export.name) (names_of cx.exports))
 
 -- a function type that takes nothing and gives nothing, if there is one
 abbrev pub is_unit : Option (FuncType DefType) → Bool
@@ -226,7 +221,7 @@ measures cx (OfGlobal global) = (Globals, suc (length cx.imported_globals + leng
 measures cx (OfExport export) =
     (Exports, suc (length cx.exports)) ∷ (Name, length export.name) ∷ (TypeSize, cx.type_size + size_of_export cx (item_at cx export.kind export.index)) ∷ []
 measures cx (OfStart function) = []
-measures cx (OfElement segment) = (ElementSegments, suc cx.elements) ∷ (SegmentEntries, count_of segment.items) ∷ []
+measures cx (OfElement segment) = (ElementSegments, suc (length cx.elements)) ∷ (SegmentEntries, count_of segment.items) ∷ []
 measures cx (OfDataCount count) = []
 measures cx (OfBody body) = (BodySize, length body) ∷ []
 measures cx (OfData segment) = (DataSegments, suc cx.segments) ∷ []

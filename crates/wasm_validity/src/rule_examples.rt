@@ -1,19 +1,20 @@
 //! Worked examples of the rules and limits on what sections say: each kept beside one that is broken.
 
-ghost use Rattle.std.specs.Prelude.{◌≡◌, ◌+◌, ◌++◌, ◌-◌, ◌^◌, ℕ, Bool, List, [], ◌∷◌, Some, None, false, length, suc, true};
+ghost use Rattle.std.specs.Prelude.{◌≡◌, ◌+◌, ◌++◌, ◌-◌, ◌^◌, ℕ, Bool, List, [], ◌∷◌, Some, None, false, length, replicate, suc, true};
 ghost use Rattle.wasm_spec.specs.Constants.{ConstantExpression};
 ghost use Rattle.wasm_spec.specs.Examples.{at_least};
 ghost use Rattle.wasm_spec.specs.Features.{BulkMemory, CustomPageSizes, Exceptions, Features, Floats, FunctionReferences, Gc, GcTypes, Memory64, MultiMemory, MutableGlobal, ReferenceTypes, Simd, StackSwitching, Threads, has};
 ghost use Rattle.wasm_spec.specs.Grammar.{AreOrdered, header};
 ghost use Rattle.wasm_spec.specs.Groups.{IsWithinGroupLimits, KeepsGroupRules};
 ghost use Rattle.wasm_spec.specs.Limits.{BodySize, DataSegments, ElementSegments, Exports, Functions, Globals, Groups, Imports, Limit, Memories, Name, SegmentEntries, Tables, Tags, TypeSize, Types, total_of_types};
-ghost use Rattle.wasm_spec.specs.Syntax.{CompactItems, CompactNames, Custom, DataSegment, ElementMode, ElementSegment, Export, ExpressionItems, FunctionItems, Global, Import, MemorySection, StartSection, TagSection};
+ghost use Rattle.wasm_spec.specs.Syntax.{CompactItems, CompactNames, Custom, DataSegment, ElementMode, ElementSegment, Export, ExportSection, ExpressionItems, FunctionItems, Global, Import, MemorySection, StartSection, TagSection};
 ghost use Rattle.wasm_spec.specs.TypeExamples.{empty_structure, final_type, function_to};
 ghost use Rattle.wasm_spec.specs.Types.{Abstract, Concrete, Extern, F32, Func, FuncExternal, ExternalKind, FuncKind, GlobalExternal, GlobalKind, GlobalType, Group, I32, MemoryExternal, MemoryKind, MemoryType, RecGroup, Ref, Single, TableExternal, TableKind, TableType, TagExternal, TagKind, V128, funcref};
 ghost use Rattle.wasm_validity.specs.Context.{Context, after, after_all, at_first, functions_in, globals_in};
 ghost use Rattle.wasm_validity.specs.Entries.{Entry, OfBody, OfCustom, OfData, OfDataCount, OfElement, OfExport, OfFunction, OfGlobal, OfImport, OfMemory, OfStart, OfTable, OfTag, OfTags, OfType, entries_in, entries_of};
-ghost use Rattle.wasm_validity.specs.Examples.{IsBroken, IsFullAt, IsKept, IsLongestAt, KeptWith, between, constant, exports, imports, own_table, paged, reference, shared, table_of, variable, wide, with_types};
+ghost use Rattle.wasm_validity.specs.Examples.{IsBroken, IsFullAt, IsKept, IsLongestAt, KeptWith, between, constant, export_of, exports, imports, one_of_each, own_table, paged, reference, shared, table_of, variable, wide, with_types};
 ghost use Rattle.wasm_validity.specs.Fronts.{BeginsWithItems, HasItems};
+ghost use Rattle.wasm_validity.specs.IndexSpaces.{sizes_in, spaces_in, spaces_of};
 ghost use Rattle.wasm_validity.specs.Rules.{KeepLimits, KeepRules, Keeps, PassLimit, Passes, PassesByTypes, measures};
 
 /// Bounds of memories, in pages of 2^16 bytes.
@@ -212,6 +213,21 @@ pub fn sizes_of_types()
     ensures group { (after at_first (OfImport (CompactNames [] (MemoryExternal (at_least 1)) ([] ∷ [] ∷ [] ∷ [])))).type_size ≡ 4 }
 {}
 
+/// What is shown of a module: each space in order, imported items first, and what is exported; and how many items each has.
+pub fn spaces()
+    ensures types { (spaces_in one_of_each).types ≡ (with_types []).types }
+    ensures functions { (spaces_in one_of_each).functions ≡ 2 ∷ 0 ∷ 1 ∷ [] }
+    ensures tables { (spaces_in one_of_each).tables ≡ table_of funcref (at_least 1) ∷ [] }
+    ensures memories { (spaces_in one_of_each).memories ≡ at_least 1 ∷ at_least 2 ∷ [] }
+    ensures globals { (spaces_in one_of_each).globals ≡ constant F32 ∷ variable I32 ∷ [] }
+    ensures tags { (spaces_in one_of_each).tags ≡ 1 ∷ [] }
+    ensures elements { (spaces_in one_of_each).elements ≡ reference false (Abstract Func) ∷ reference false (Concrete 1) ∷ funcref ∷ [] }
+    ensures exports { (spaces_in one_of_each).exports ≡ export_of (97 ∷ []) TagKind 0 ∷ export_of (98 ∷ []) FuncKind 2 ∷ [] }
+    ensures of_sections { (spaces_of (MemorySection (at_least 1 ∷ []) ∷ ExportSection (export_of (97 ∷ []) MemoryKind 0 ∷ []) ∷ [])).exports ≡ export_of (97 ∷ []) MemoryKind 0 ∷ [] }
+    ensures sizes { sizes_in (record { types = (with_types []).types; functions = 0 ∷ []; tables = []; memories = replicate 2 (at_least 1); globals = replicate 3 (constant I32); tags = replicate 5 0; elements = replicate 6 funcref; exports = replicate 7 (export_of [] FuncKind 0) })
+        ≡ record { types = 4; functions = 1; tables = 0; memories = 2; globals = 3; tags = 5; elements = 6; exports = 7 } }
+{}
+
 /// Items of each space and entries of each section: how many there may be.
 pub fn limits_of_spaces()
     ensures function { (index : ℕ) → IsFullAt 1000000 Functions (λ cx. length cx.imported_functions + length cx.own_functions) (OfFunction index) }
@@ -225,7 +241,7 @@ pub fn limits_of_spaces()
     ensures global { (global : Global) → IsFullAt 1000000 Globals (λ cx. length cx.imported_globals + length cx.own_globals) (OfGlobal global) }
     ensures imported_global { (type : GlobalType ℕ) → IsFullAt 1000000 Globals (λ cx. length cx.imported_globals + length cx.own_globals) (imports (GlobalExternal type)) }
     ensures export { (export : Export) → IsFullAt 1000000 Exports (λ cx. length cx.exports) (OfExport export) }
-    ensures element { (segment : ElementSegment) → IsFullAt 100000 ElementSegments (λ cx. cx.elements) (OfElement segment) }
+    ensures element { (segment : ElementSegment) → IsFullAt 100000 ElementSegments (λ cx. length cx.elements) (OfElement segment) }
     ensures data { (segment : DataSegment) → IsFullAt 100000 DataSegments (λ cx. cx.segments) (OfData segment) }
     ensures group { (group : RecGroup ℕ) → IsFullAt 1000000 Groups (λ cx. cx.groups) (OfType group) }
     ensures import { (type : MemoryType) → IsFullAt 1000000 Imports (λ cx. cx.imports) (imports (MemoryExternal type)) }
@@ -236,9 +252,9 @@ pub fn limits_of_spaces()
 pub fn counts()
     ensures groups { (cx : Context) (group : RecGroup ℕ) → (after cx (OfType group)).groups ≡ suc cx.groups }
     ensures imports { (cx : Context) → (after cx (OfImport (CompactItems [] []))).imports ≡ suc cx.imports }
-    ensures elements { (cx : Context) (segment : ElementSegment) → (after cx (OfElement segment)).elements ≡ suc cx.elements }
+    ensures elements { (cx : Context) (segment : ElementSegment) → length (after cx (OfElement segment)).elements ≡ length cx.elements + 1 }
     ensures segments { (cx : Context) (segment : DataSegment) → (after cx (OfData segment)).segments ≡ suc cx.segments }
-    ensures exports { (after_all at_first (exports (97 ∷ []) MemoryKind 0 ∷ exports (98 ∷ []) MemoryKind 0 ∷ [])).exports ≡ (97 ∷ []) ∷ (98 ∷ []) ∷ [] }
+    ensures exports { (after_all at_first (exports (97 ∷ []) MemoryKind 0 ∷ exports (98 ∷ []) MemoryKind 0 ∷ [])).exports ≡ export_of (97 ∷ []) MemoryKind 0 ∷ export_of (98 ∷ []) MemoryKind 0 ∷ [] }
     ensures types { length (after_all at_first (OfType (Group (final_type empty_structure ∷ final_type empty_structure ∷ [])) ∷ OfType (Single (final_type empty_structure)) ∷ [])).types ≡ 3 }
     ensures type_groups { (after_all at_first (OfType (Group (final_type empty_structure ∷ final_type empty_structure ∷ [])) ∷ OfType (Single (final_type empty_structure)) ∷ [])).groups ≡ 2 }
     ensures measured { measures at_first (OfType (Group (final_type empty_structure ∷ final_type empty_structure ∷ []))) ≡ (Groups, 1) ∷ (Types, 2) ∷ [] }

@@ -1,3 +1,4 @@
 pub mod InTurn
 pub mod Named
+pub mod NamedTypes
 pub mod Spaces

@@ -6,12 +6,12 @@ use Rattle.wasm_spec.proofs.GroupTrees.{length-types_after}
 use Rattle.wasm_spec.specs.Spaces.{Sizes, no_items, together, imported, one_of, added_by, sizes_of}
 use Rattle.wasm_spec.specs.Syntax.{Section, Custom, TypeSection, ImportSection, FunctionSection, TableSection, MemorySection, TagSection, GlobalSection, ExportSection, StartSection, ElementSection, DataCountSection, CodeSection, DataSection, ImportEntry, imported_by, members, functions_of, functions_in}
 use Rattle.wasm_spec.specs.Types.{RecGroup, ExternalType, FuncExternal, TableExternal, MemoryExternal, GlobalExternal, TagExternal, FuncKind, TableKind, MemoryKind, GlobalKind, TagKind, kind_of}
-use Rattle.wasm_validity.specs.Context.{Context, after, after_all, after_item, after_items, at_first}
+use Rattle.wasm_validity.specs.Context.{Context, after, after_all, after_item, after_items, at_first, element_type}
 use Rattle.wasm_validity.specs.Entries.{Entry, OfCustom, OfType, OfImport, OfFunction, OfTable, OfMemory, OfTags, OfTag, OfGlobal, OfExport, OfStart, OfElement, OfDataCount, OfBody, OfData, entries_in, entries_of}
+use Rattle.wasm_validity.specs.IndexSpaces.{sizes_in, spaces_in, spaces_of}
 use Rattle.wasm_validity.specs.Validity.{context_of}
 use Rattle.wasm_validity_laws.proofs.InTurn.{known}
 use Rattle.wasm_validity_laws.proofs.Named.{items_leave}
-use Rattle.wasm_validity_laws.specs.SpaceSizes.{sizes_in}
 
 -- ---- own functions
 
@@ -82,6 +82,19 @@ own_are_functions sections = after_sections at_first sections
 
 -- ---- sizes
 
+-- how many items are known of each space
+abbrev known_sizes : Context → Sizes
+known_sizes cx = record {
+  types = length cx.types;
+  functions = length cx.imported_functions + length cx.own_functions;
+  tables = length cx.tables;
+  memories = length cx.memories;
+  globals = length cx.imported_globals + length cx.own_globals;
+  tags = length cx.tags;
+  elements = length cx.elements;
+  exports = length cx.exports;
+}
+
 abbrev sized_as : ℕ → ℕ → ℕ → ℕ → ℕ → ℕ → ℕ → ℕ → Sizes
 sized_as t f ta m g tg e x = record { types = t; functions = f; tables = ta; memories = m; globals = g; tags = tg; elements = e; exports = x }
 
@@ -121,47 +134,47 @@ all_added (entry ∷ entries) = together (added entry) (all_added entries)
 -- a context that is larger than another by so much
 sized : (new old : Context) (more : Sizes) → length new.types ≡ length old.types + more.types → length new.imported_functions + length new.own_functions ≡ length old.imported_functions + length old.own_functions + more.functions
     → length new.tables ≡ length old.tables + more.tables → length new.memories ≡ length old.memories + more.memories → length new.imported_globals + length new.own_globals ≡ length old.imported_globals + length old.own_globals + more.globals → length new.tags ≡ length old.tags + more.tags
-    → new.elements ≡ old.elements + more.elements → length new.exports ≡ length old.exports + more.exports → sizes_in new ≡ together (sizes_in old) more
-sized new old more e1 e2 e3 e4 e5 e6 e7 e8 = same_sizes (sizes_in new) (together (sizes_in old) more) e1 e2 e3 e4 e5 e6 e7 e8
+    → length new.elements ≡ length old.elements + more.elements → length new.exports ≡ length old.exports + more.exports → known_sizes new ≡ together (known_sizes old) more
+sized new old more e1 e2 e3 e4 e5 e6 e7 e8 = same_sizes (known_sizes new) (together (known_sizes old) more) e1 e2 e3 e4 e5 e6 e7 e8
 
 last : {A : Type 0} (xs : List A) (x : A) → length (xs ++ x ∷ []) ≡ length xs + 1
 last xs x = length-append xs (x ∷ [])
 
-one_item : (cx : Context) (type : ExternalType ℕ) → sizes_in (after_item cx type) ≡ together (sizes_in cx) (one_of (kind_of type))
+one_item : (cx : Context) (type : ExternalType ℕ) → known_sizes (after_item cx type) ≡ together (known_sizes cx) (one_of (kind_of type))
 one_item cx (FuncExternal function) = sized (after_item cx (FuncExternal function)) cx (one_of FuncKind) (omega arith) (omega (arith, last cx.imported_functions function)) (omega arith) (omega arith) (omega arith) (omega arith) (omega arith) (omega arith)
 one_item cx (TableExternal type) = sized (after_item cx (TableExternal type)) cx (one_of TableKind) (omega arith) (omega arith) (omega (arith, last cx.tables type)) (omega arith) (omega arith) (omega arith) (omega arith) (omega arith)
 one_item cx (MemoryExternal type) = sized (after_item cx (MemoryExternal type)) cx (one_of MemoryKind) (omega arith) (omega arith) (omega arith) (omega (arith, last cx.memories type)) (omega arith) (omega arith) (omega arith) (omega arith)
 one_item cx (GlobalExternal type) = sized (after_item cx (GlobalExternal type)) cx (one_of GlobalKind) (omega arith) (omega arith) (omega arith) (omega arith) (omega (arith, last cx.imported_globals type)) (omega arith) (omega arith) (omega arith)
 one_item cx (TagExternal function) = sized (after_item cx (TagExternal function)) cx (one_of TagKind) (omega arith) (omega arith) (omega arith) (omega arith) (omega arith) (omega (arith, last cx.tags function)) (omega arith) (omega arith)
 
-items_add : (cx : Context) (types : List (ExternalType ℕ)) → sizes_in (after_items cx types) ≡ together (sizes_in cx) (imported types)
-items_add cx [] = sym (nothing_after (sizes_in cx))
+items_add : (cx : Context) (types : List (ExternalType ℕ)) → known_sizes (after_items cx types) ≡ together (known_sizes cx) (imported types)
+items_add cx [] = sym (nothing_after (known_sizes cx))
 items_add cx (type ∷ types) =
-    items_add (after_item cx type) types ∙ ap (λ s. together s (imported types)) (one_item cx type) ∙ together_assoc (sizes_in cx) (one_of (kind_of type)) (imported types)
+    items_add (after_item cx type) types ∙ ap (λ s. together s (imported types)) (one_item cx type) ∙ together_assoc (known_sizes cx) (one_of (kind_of type)) (imported types)
 
 -- ---- entries
 
-one_entry : (cx : Context) (entry : Entry) → sizes_in (after cx entry) ≡ together (sizes_in cx) (added entry)
-one_entry cx (OfCustom name) = sym (nothing_after (sizes_in cx))
+one_entry : (cx : Context) (entry : Entry) → known_sizes (after cx entry) ≡ together (known_sizes cx) (added entry)
+one_entry cx (OfCustom name) = sym (nothing_after (known_sizes cx))
 one_entry cx (OfType group) = sized (after cx (OfType group)) cx (record no_items { types = length (members group) }) (length-types_after cx.types group) (omega arith) (omega arith) (omega arith) (omega arith) (omega arith) (omega arith) (omega arith)
 one_entry cx (OfImport entry) = items_add (record cx { imports = suc cx.imports }) (imported_by entry)
 one_entry cx (OfFunction index) = sized (after cx (OfFunction index)) cx (record no_items { functions = 1 }) (omega arith) (omega (arith, last cx.own_functions index)) (omega arith) (omega arith) (omega arith) (omega arith) (omega arith) (omega arith)
 one_entry cx (OfTable table) = sized (after cx (OfTable table)) cx (record no_items { tables = 1 }) (omega arith) (omega arith) (last cx.tables table.type) (omega arith) (omega arith) (omega arith) (omega arith) (omega arith)
 one_entry cx (OfMemory type) = sized (after cx (OfMemory type)) cx (record no_items { memories = 1 }) (omega arith) (omega arith) (omega arith) (last cx.memories type) (omega arith) (omega arith) (omega arith) (omega arith)
-one_entry cx OfTags = sym (nothing_after (sizes_in cx))
+one_entry cx OfTags = sym (nothing_after (known_sizes cx))
 one_entry cx (OfTag index) = sized (after cx (OfTag index)) cx (record no_items { tags = 1 }) (omega arith) (omega arith) (omega arith) (omega arith) (omega arith) (last cx.tags index) (omega arith) (omega arith)
 one_entry cx (OfGlobal global) = sized (after cx (OfGlobal global)) cx (record no_items { globals = 1 }) (omega arith) (omega arith) (omega arith) (omega arith) (omega (arith, last cx.own_globals global.type)) (omega arith) (omega arith) (omega arith)
-one_entry cx (OfExport export) = sized (after cx (OfExport export)) cx (record no_items { exports = 1 }) (omega arith) (omega arith) (omega arith) (omega arith) (omega arith) (omega arith) (omega arith) (last cx.exports export.name)
-one_entry cx (OfStart function) = sym (nothing_after (sizes_in cx))
-one_entry cx (OfElement segment) = sized (after cx (OfElement segment)) cx (record no_items { elements = 1 }) (omega arith) (omega arith) (omega arith) (omega arith) (omega arith) (omega arith) (omega arith) (omega arith)
-one_entry cx (OfDataCount count) = sym (nothing_after (sizes_in cx))
-one_entry cx (OfBody body) = sym (nothing_after (sizes_in cx))
-one_entry cx (OfData segment) = sym (nothing_after (sizes_in cx))
+one_entry cx (OfExport export) = sized (after cx (OfExport export)) cx (record no_items { exports = 1 }) (omega arith) (omega arith) (omega arith) (omega arith) (omega arith) (omega arith) (omega arith) (last cx.exports export)
+one_entry cx (OfStart function) = sym (nothing_after (known_sizes cx))
+one_entry cx (OfElement segment) = sized (after cx (OfElement segment)) cx (record no_items { elements = 1 }) (omega arith) (omega arith) (omega arith) (omega arith) (omega arith) (omega arith) (last cx.elements (element_type segment.items)) (omega arith)
+one_entry cx (OfDataCount count) = sym (nothing_after (known_sizes cx))
+one_entry cx (OfBody body) = sym (nothing_after (known_sizes cx))
+one_entry cx (OfData segment) = sym (nothing_after (known_sizes cx))
 
-entries_add : (cx : Context) (entries : List Entry) → sizes_in (after_all cx entries) ≡ together (sizes_in cx) (all_added entries)
-entries_add cx [] = sym (nothing_after (sizes_in cx))
+entries_add : (cx : Context) (entries : List Entry) → known_sizes (after_all cx entries) ≡ together (known_sizes cx) (all_added entries)
+entries_add cx [] = sym (nothing_after (known_sizes cx))
 entries_add cx (entry ∷ entries) =
-    entries_add (after cx entry) entries ∙ ap (λ s. together s (all_added entries)) (one_entry cx entry) ∙ together_assoc (sizes_in cx) (added entry) (all_added entries)
+    entries_add (after cx entry) entries ∙ ap (λ s. together s (all_added entries)) (one_entry cx entry) ∙ together_assoc (known_sizes cx) (added entry) (all_added entries)
 
 -- ---- sections
 
@@ -203,15 +216,23 @@ section_adds (DataCountSection count) = nothing_after no_items
 section_adds (CodeSection bodies) = none_added (λ x. OfBody x) (λ x. refl) bodies
 section_adds (DataSection segments) = none_added (λ x. OfData x) (λ x. refl) segments
 
-sections_add : (cx : Context) (sections : List Section) → sizes_in (after_all cx (entries_of sections)) ≡ together (sizes_in cx) (sizes_of sections)
-sections_add cx [] = sym (nothing_after (sizes_in cx))
+sections_add : (cx : Context) (sections : List Section) → known_sizes (after_all cx (entries_of sections)) ≡ together (known_sizes cx) (sizes_of sections)
+sections_add cx [] = sym (nothing_after (known_sizes cx))
 sections_add cx (section ∷ sections) =
-    let first : sizes_in (after_all cx (entries_in section)) ≡ together (sizes_in cx) (added_by section) =
-    entries_add cx (entries_in section) ∙ ap (together (sizes_in cx)) (section_adds section) in
-    ap sizes_in (known cx (entries_in section) (entries_of sections))
+    let first : known_sizes (after_all cx (entries_in section)) ≡ together (known_sizes cx) (added_by section) =
+    entries_add cx (entries_in section) ∙ ap (together (known_sizes cx)) (section_adds section) in
+    ap known_sizes (known cx (entries_in section) (entries_of sections))
     ∙ sections_add (after_all cx (entries_in section)) sections
     ∙ ap (λ s. together s (sizes_of sections)) first
-    ∙ together_assoc (sizes_in cx) (added_by section) (sizes_of sections)
+    ∙ together_assoc (known_sizes cx) (added_by section) (sizes_of sections)
 
-pub sizes_are : (sections : List Section) → sizes_in (context_of sections) ≡ sizes_of sections
-sizes_are sections = sections_add at_first sections ∙ nothing_before (sizes_of sections)
+all_known : (sections : List Section) → known_sizes (context_of sections) ≡ sizes_of sections
+all_known sections = sections_add at_first sections ∙ nothing_before (sizes_of sections)
+
+-- imported items and the module's own are one list
+as_one : (cx : Context) → sizes_in (spaces_in cx) ≡ known_sizes cx
+as_one cx =
+    same_sizes (sizes_in (spaces_in cx)) (known_sizes cx) refl (length-append cx.imported_functions cx.own_functions) refl refl (length-append cx.imported_globals cx.own_globals) refl refl refl
+
+pub sizes_are : (sections : List Section) → sizes_in (spaces_of sections) ≡ sizes_of sections
+sizes_are sections = as_one (context_of sections) ∙ all_known sections

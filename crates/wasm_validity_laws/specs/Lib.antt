@@ -1,1 +1,1 @@
-pub mod SpaceSizes
+pub mod NamedTypes

@@ -8,9 +8,10 @@ ghost use Rattle.wasm_spec.specs.Syntax.{Section, functions_of};
 ghost use Rattle.wasm_validity.specs.Context.{Context, after_all, at_first};
 ghost use Rattle.wasm_validity.specs.DefinedTypes.{func_type_at};
 ghost use Rattle.wasm_validity.specs.Entries.{Entry};
+ghost use Rattle.wasm_validity.specs.IndexSpaces.{sizes_in, spaces_in, spaces_of};
 ghost use Rattle.wasm_validity.specs.Rules.{KeepLimits, KeepRules, PassLimit};
 ghost use Rattle.wasm_validity.specs.Validity.{context_of};
-ghost use Rattle.wasm_validity_laws.specs.SpaceSizes.{sizes_in};
+ghost use Rattle.wasm_validity_laws.specs.NamedTypes.{NamesTypes};
 
 /// Entries keep the rules and limits one after the other: those at the front do, and then those after them in their
 /// context.
@@ -29,9 +30,14 @@ pub fn named_functions()
         → slice_get (after_all at_first entries).own_functions place ≡ Some index → is_some (func_type_at (after_all at_first entries).types index) ≡ true }
 {}
 
+/// Whatever types come after it, what stands in the index spaces names types of the module.
+pub fn named_types()
+    ensures { (features : Features) (entries : List Entry) → KeepRules features at_first entries → NamesTypes (spaces_in (after_all at_first entries)) }
+{}
+
 /// What is known after all sections of a module: its own functions are those that the sections have, and the spaces have
 /// the sizes that are shown of them.
 pub fn known_spaces()
     ensures own_functions { (sections : List Section) → (context_of sections).own_functions ≡ functions_of sections }
-    ensures sizes { (sections : List Section) → sizes_in (context_of sections) ≡ sizes_of sections }
+    ensures sizes { (sections : List Section) → sizes_in (spaces_of sections) ≡ sizes_of sections }
 {}

@@ -1,7 +1,6 @@
 -- What is exported, and how large its type counts.
-use Rattle.std.proofs.Common.{inl, inr, ◌≡◌, ◌≤◌, ◌<◌, ◌+◌, ℕ, Bool, true, false, List, [], ◌∷◌, ◌++◌, Option, Some, None, map, option_map, slice_get, refl, sym, ap, subst, ◌∙◌, arith}
-use Rattle.std.specs.Prelude.{bytes_eq, ◌&&◌}
-use Rattle.std.specs.List.{list_any}
+use Rattle.std.proofs.Common.{inl, inr, ◌≡◌, ◌≤◌, ◌<◌, ◌+◌, ℕ, Bool, true, false, List, [], ◌∷◌, ◌++◌, Option, Some, None, map, option_map, slice_get, refl, sym, ap, ◌∙◌, arith}
+use Rattle.std.specs.Prelude.{◌&&◌}
 use Rattle.std.specs.Option.{unwrap_or}
 use Rattle.wasm_core_read.proofs.Forms.{ltb_tells}
 use Rattle.wasm_spec.specs.Features.{Features}
@@ -10,12 +9,12 @@ use Rattle.wasm_spec.specs.Trees.{DefType}
 use Rattle.wasm_spec.specs.Types as spec
 use Rattle.wasm_validity.specs.Context.{Context, item_at, size_of, size_of_func, size_of_export}
 use Rattle.wasm_validity.specs.Rules.{keeps_export, may_leave}
-use Rattle.wasmparser_items.specs.declared.global_type.GlobalType.{GlobalType}
+use Rattle.wasmparser_export_names.specs.ExportNames.{is_exported}
 use Rattle.wasmparser_items.specs.declared.type_ref.TypeRef.{TypeRef}
 use Rattle.wasmparser_module_state.proofs.SegmentLaws.{mapped_item}
 use Rattle.wasmparser_module_state.specs.Exports.{CountsAs}
-use Rattle.wasmparser_module_state.specs.Items.{IsSizeUpTo, IsTypeSize}
-use Rattle.wasmparser_module_state.specs.State.{global, item}
+use Rattle.wasmparser_module_state.specs.Items.{IsTypeSize}
+use Rattle.wasmparser_module_state.specs.State.{item}
 
 -- ---- what is exported
 
@@ -31,22 +30,16 @@ no_kept g f xs i found is none = ap (option_map f) (sym (ap (option_map g) none)
 pub some_kept : {A B C : Type 0} (g : C → A) (f : A → B) (xs : List A) (i : ℕ) (found : Option C) (x : C) → option_map g found ≡ slice_get xs i → found ≡ Some x → Some (f (g x)) ≡ slice_get (map f xs) i
 some_kept g f xs i found x is some = ap (option_map f) (sym (ap (option_map g) some) ∙ is) ∙ mapped_item f xs i
 
-both_mapped : {A B : Type 0} (f : A → B) (xs ys : List A) (i : ℕ) → option_map f (slice_get (xs ++ ys) i) ≡ slice_get (map f xs ++ map f ys) i
+pub both_mapped : {A B : Type 0} (f : A → B) (xs ys : List A) (i : ℕ) → option_map f (slice_get (xs ++ ys) i) ≡ slice_get (map f xs ++ map f ys) i
 both_mapped f xs ys i = mapped_item f (xs ++ ys) i ∙ ap (λ l. slice_get l i) (together xs)
   where
     together : (l : List _) → map f (l ++ ys) ≡ map f l ++ map f ys
     together [] = refl
     together (x ∷ l) = ap (λ r. f x ∷ r) (together l)
 
-pub no_global : (imported own : List GlobalType) (i : ℕ) (found : Option GlobalType) → found ≡ slice_get (imported ++ own) i → found ≡ None
-    → None ≡ slice_get (map (λ x. spec.GlobalExternal x) (map global imported ++ map global own)) i
-no_global imported own i found is none = no_kept global (λ x. spec.GlobalExternal x) (map global imported ++ map global own) i found (ap (option_map global) is ∙ both_mapped global imported own i) none
+pub ruleset global_steps = (both_mapped)
 
-pub some_global : (imported own : List GlobalType) (i : ℕ) (found : Option GlobalType) (x : GlobalType) → found ≡ slice_get (imported ++ own) i → found ≡ Some x
-    → Some (spec.GlobalExternal (global x)) ≡ slice_get (map (λ x. spec.GlobalExternal x) (map global imported ++ map global own)) i
-some_global imported own i found x is some = some_kept global (λ x. spec.GlobalExternal x) (map global imported ++ map global own) i found x (ap (option_map global) is ∙ both_mapped global imported own i) some
-
-pub ruleset item_steps = (no_item, some_item, no_kept, some_kept, no_global, some_global)
+pub ruleset item_steps = (no_item, some_item, no_kept, some_kept)
 
 -- ---- sizes
 
@@ -71,7 +64,7 @@ module _ (features : Features) (cx : Context) (export : Export) where
   pub stays : (found : Option TypeRef) (type : TypeRef) → option_map item found ≡ item_at cx export.kind export.index → found ≡ Some type → may_leave features (Some (item type)) ≡ false → ¬ (keeps_export features cx export ≡ true)
   stays found type is some may keeps = let k = rw (← is, some, may) at keeps in absurd cc
 
-  pub taken : list_any (bytes_eq export.name) cx.exports ≡ true → ¬ (keeps_export features cx export ≡ true)
+  pub taken : is_exported export.name cx.exports ≡ true → ¬ (keeps_export features cx export ≡ true)
   taken has keeps = no_both (may_leave features (item_at cx export.kind export.index)) (rw has at keeps)
     where
       no_both : (b : Bool) → (b && false) ≡ true → ⊥
@@ -79,7 +72,7 @@ module _ (features : Features) (cx : Context) (export : Export) where
       no_both false e = absurd cc
 
   pub keeps : (found : Option TypeRef) (type : TypeRef) → option_map item found ≡ item_at cx export.kind export.index → found ≡ Some type → may_leave features (Some (item type)) ≡ true
-      → list_any (bytes_eq export.name) cx.exports ≡ false → keeps_export features cx export ≡ true
+      → is_exported export.name cx.exports ≡ false → keeps_export features cx export ≡ true
   keeps found type is some may none = rw (← is, some, may, none) refl
 
   -- a sum within the limit has the exact size

@@ -2,6 +2,7 @@ mod EntryLaws
 mod ExportLaws
 mod FuncTypes
 mod GroupLaws
+mod IdLaws
 mod ImportLaws
 mod ItemTypes
 mod Judged

@@ -1,3 +1,4 @@
+pub mod Entities
 pub mod Exports
 pub mod Initialisers
 pub mod Items

@@ -3,9 +3,8 @@ use Rattle.std.specs.Prelude.{◌≡◌, ℕ, Option, option_map, map, slice_get
 use Rattle.std.specs.Option.{option_and_then}
 use Rattle.wasm_spec.specs.Features.{Features}
 use Rattle.wasm_spec.specs.Trees.{DefType}
-use Rattle.wasm_spec.specs.TypeReferences.{func_map, table_map, global_map, external_map}
+use Rattle.wasm_spec.specs.TypeReferences.{func_map, ref_map, table_map, global_map, external_map}
 use Rattle.wasm_spec.specs.Types as spec
-use Rattle.wasmparser_export_names.specs.ExportNames.{names_of}
 use Rattle.wasmparser_items.specs.ItemTypes.{memory_type, table_type, global_type, type_ref}
 use Rattle.wasmparser_items.specs.declared.global_type.GlobalType.{GlobalType}
 use Rattle.wasmparser_items.specs.declared.table_type.TableType.{TableType}
@@ -20,6 +19,9 @@ abbrev pub features_of : ModuleState → Features
 features_of s = s.types.features
 
 -- types of items, over type indexes
+abbrev pub reference : spec.RefType Index → spec.RefType ℕ
+reference type = ref_map number_of type
+
 abbrev pub table : TableType → spec.TableType ℕ
 table type = table_map number_of (table_type type)
 
@@ -41,8 +43,8 @@ context s = record {
   tags = s.tags.items;
   imported_globals = map global s.imported_globals.items;
   own_globals = map global s.own_globals.items;
-  exports = names_of s.exports;
-  elements = s.elements;
+  exports = s.exports;
+  elements = map reference s.elements.items;
   segments = s.segments;
   type_size = s.type_size;
 }

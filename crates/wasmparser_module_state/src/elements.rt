@@ -1,20 +1,21 @@
 //! Element segments (Core Specification 3.0, Validation, "Element Segments").
 
-ghost use Rattle.std.specs.Prelude.{◌≡◌, ◌<◌, refl, Some, slice_get};
+ghost use Rattle.std.specs.Prelude.{◌≡◌, ◌<◌, refl, Some, option_map, slice_get};
 ghost use Rattle.std.specs.List.{AllByRecursion};
 ghost use Rattle.wasm_core_read.specs.ConstantReading.{expression_at};
 ghost use Rattle.wasm_core_read.specs.Reading.{unsigned_at};
-ghost use Rattle.wasm_spec.specs.TypeReferences.{val_map};
+ghost use Rattle.wasm_spec.specs.TypeReferences.{ref_map, val_map};
 ghost use Rattle.wasm_validity.specs.ConstantTyping.{IsConstantFor};
+ghost use Rattle.wasm_validity.specs.Context.{element_type};
 ghost use Rattle.wasm_validity.specs.Entries.{OfElement};
-ghost use Rattle.wasm_validity.specs.Rules.{FitsTable, KeepsElementMode, KeepsItems, count_of, items_type};
+ghost use Rattle.wasm_validity.specs.Rules.{FitsTable, KeepsElementMode, KeepsItems, count_of};
 ghost use Rattle.wasmparser_const_exprs.specs.ConstExprs.{expression_of};
 ghost use Rattle.wasmparser_constants.specs.Steps.{CanBeWanted, Judges};
 ghost use Rattle.wasmparser_entries.specs.Entries.{AreItemsRead, element_mode, element_of, items_of, packed_element, packed_items};
 ghost use Rattle.wasmparser_entries.specs.Lists.{expressions_of, functions_of};
 ghost use Rattle.wasmparser_module_entries.specs.EntryReading.{element_entry_at};
 ghost use Rattle.wasmparser_module_state.specs.LargeIndexes.{large_element};
-ghost use Rattle.wasmparser_module_state.specs.State.{context, features_of};
+ghost use Rattle.wasmparser_module_state.specs.State.{context, features_of, reference};
 ghost use Rattle.wasmparser_readers.specs.Sections.{left_items};
 ghost use Rattle.wasmparser_types.specs.Index.{number_of};
 ghost use Rattle.wasmparser_types.specs.ValTypes.{val_type};
@@ -44,12 +45,12 @@ fn count_of(items: &ElementItems<'_>) -> u32
 }
 
 // What the items of a segment are: functions as references that aren't null.
-fn items_type(items: &ElementItems<'_>) -> ValType
-    ensures { val_map number_of (val_type result) ≡ items_type (items_of (packed_items items.now)) }
+fn element_type(items: &ElementItems<'_>) -> RefType
+    ensures { reference result ≡ element_type (items_of (packed_items items.now)) }
 {
     match items {
-        ElementItems::Functions(_) => ValType::Ref(RefType::FUNC),
-        ElementItems::Expressions(ty, _) => ValType::Ref(*ty),
+        ElementItems::Functions(_) => RefType::FUNC,
+        ElementItems::Expressions(ty, _) => *ty,
     }
 }
 
@@ -74,6 +75,15 @@ fn check_functions<'a>(
 }
 
 impl ModuleState {
+    /// The type of the element segment with this index, if there is one.
+    #[tactic(auto, using(crate::proofs::ExportLaws::item_steps))]
+    pub fn element_type_at(&self, index: u32) -> Option<RefType>
+        ensures { option_map reference result ≡ slice_get (context self.now).elements index }
+    {
+        let ty = self.elements.get(index as usize)?;
+        Some(*ty)
+    }
+
     // Judges that each of some expressions gives a value of this type.
     fn check_expressions<'a>(
         &mut self,
@@ -169,16 +179,16 @@ impl<'a> Entry for Element<'a> {
     ghost is_made = { record { made = λ x. OfElement x; is = λ x. refl; reads = λ _ bytes. refl; breaks = large_element } };
 
     fn add(self, state: &mut ModuleState, offset: u64) -> Result<(), Error> {
-        if u64::from(state.elements) >= MAX_WASM_ELEMENT_SEGMENTS {
+        if state.element_count() as u64 >= MAX_WASM_ELEMENT_SEGMENTS {
             return Err(refusal(offset, ErrorKind::Limit(Limit::ElementSegments)));
         }
         if u64::from(count_of(&self.items)) > MAX_WASM_SEGMENT_ENTRIES {
             return Err(refusal(offset, ErrorKind::Limit(Limit::SegmentEntries)));
         }
-        let ty = items_type(&self.items);
+        let ty = element_type(&self.items);
         state.check_items(self.items, offset)?;
-        state.check_element_kind(&self.kind, &ty, offset)?;
-        state.elements += 1;
+        state.check_element_kind(&self.kind, &ValType::Ref(ty), offset)?;
+        state.elements.push(ty)?;
         Ok(())
     }
 }

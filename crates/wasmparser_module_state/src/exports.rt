@@ -1,12 +1,11 @@
 //! Exports (Core Specification 3.0, Validation, "Exports").
 
-ghost use Rattle.std.specs.List.{list_any};
-ghost use Rattle.std.specs.Prelude.{◌≡◌, ◌++◌, ◌∷◌, [], Some, bytes_eq, false, length, option_map, refl, IfErr, IfOk};
+ghost use Rattle.std.specs.Prelude.{◌≡◌, ◌++◌, ◌∷◌, [], Some, false, length, option_map, refl, IfErr, IfOk};
 ghost use Rattle.wasm_core_base.specs.Features.{feature_set};
 ghost use Rattle.wasm_validity.specs.Context.{item_at, size_of};
 ghost use Rattle.wasm_validity.specs.Entries.{OfExport};
 ghost use Rattle.wasm_validity.specs.Rules.{may_leave};
-ghost use Rattle.wasmparser_export_names.specs.ExportNames.{names_of};
+ghost use Rattle.wasmparser_export_names.specs.ExportNames.{is_exported};
 ghost use Rattle.wasmparser_items.specs.Exports.{export_item, external_kind};
 ghost use Rattle.wasmparser_module_entries.specs.EntryReading.{export_entry_at};
 ghost use Rattle.wasmparser_module_state.specs.Exports.{CountsAs, IsNameRefusal};
@@ -18,7 +17,6 @@ use crate::module_state::{ModuleState, refusal};
 use crate::names::check_name;
 use wasm_core_base::features::WasmFeatures;
 use wasm_core_base::limits::{Limit, MAX_WASM_EXPORTS};
-use wasmparser_constants::scope::item_at;
 use wasmparser_error::error::{Error, ErrorKind};
 use wasmparser_export_names::export_names::ExportNames;
 use wasmparser_items::export::{Export, ExternalKind};
@@ -27,22 +25,14 @@ use wasmparser_items::type_ref::TypeRef;
 use wasmparser_readers::section_limited::SectionLimited;
 
 impl ModuleState {
-    /// The number of exports.
-    pub fn export_count(&self) -> usize
-        ensures { result ≡ length (context self.now).exports }
+    /// The exports in order.
+    pub fn exports(&self) -> &ExportNames
+        ensures { result.now ≡ (context self.now).exports }
     {
-        self.exports.len()
+        &self.exports
     }
 
-    /// The exports alone.
-    pub fn into_exports(self) -> ExportNames
-        ensures names { names_of result ≡ (context self).exports }
-        ensures count { length result ≡ length (context self).exports }
-    {
-        self.exports
-    }
-
-    /// Makes ready for the exports of a section where there are none: finding their names takes no longer where they were chosen to make it slow.
+    /// Makes ready for the exports of a section, where there are none yet, so that names can hardly be chosen that collide.
     pub fn start_exports<'a>(&mut self, section: SectionLimited<'a, Export<'a>>)
         ensures same { context self.new ≡ context self.old }
         ensures features { features_of self.new ≡ features_of self.old }
@@ -57,22 +47,15 @@ impl ModuleState {
     pub(crate) fn exported_type(&self, kind: ExternalKind, index: u32) -> Option<TypeRef>
         ensures { option_map item result ≡ item_at (context self.now) (external_kind kind) index }
     {
-        let place = index as usize;
         match kind {
             ExternalKind::Func => Some(TypeRef::Func(self.type_of_function(index)?)),
             ExternalKind::Table => Some(TypeRef::Table(self.table_at(index)?)),
             ExternalKind::Memory => Some(TypeRef::Memory(self.memory_at(index)?)),
-            ExternalKind::Global => {
-                let ty = item_at(&self.imported_globals, &self.own_globals, place)?;
-                Some(TypeRef::Global(ty))
-            }
-            ExternalKind::Tag => {
-                let func_type_idx = self.tags.get(place).copied()?;
-                Some(TypeRef::Tag(TagType {
-                    kind: TagKind::Exception,
-                    func_type_idx,
-                }))
-            }
+            ExternalKind::Global => Some(TypeRef::Global(self.global_at(index)?)),
+            ExternalKind::Tag => Some(TypeRef::Tag(TagType {
+                kind: TagKind::Exception,
+                func_type_idx: self.type_of_tag(index)?,
+            })),
         }
     }
 
@@ -90,8 +73,8 @@ impl ModuleState {
 
     // Adds an export, where its name is new and it may be exported.
     fn push_export(&mut self, export: &Export<'_>, offset: u64) -> Result<(), Error>
-        ensures pushed { IfOk result (λ _. (list_any (bytes_eq export.now.name.now) (context self.old).exports ≡ false) × (context self.new ≡ record (context self.old) { exports = (context self.old).exports ++ export.now.name.now ∷ [] })) }
-        ensures refused { IfErr result (λ e. IsNameRefusal offset (list_any (bytes_eq export.now.name.now) (context self.old).exports) e × (context self.new ≡ context self.old)) }
+        ensures pushed { IfOk result (λ _. (is_exported export.now.name.now (context self.old).exports ≡ false) × (context self.new ≡ record (context self.old) { exports = (context self.old).exports ++ export_item export.now ∷ [] })) }
+        ensures refused { IfErr result (λ e. IsNameRefusal offset (is_exported export.now.name.now (context self.old).exports) e × (context self.new ≡ context self.old)) }
         ensures features { features_of self.new ≡ features_of self.old }
     {
         if !self.exports.insert(export)? {
@@ -125,7 +108,7 @@ impl<'a> Entry for Export<'a> {
             _ => return Err(refusal(offset, ErrorKind::Invalid)),
         };
         check_name(self.name, offset)?;
-        if state.export_count() as u64 >= MAX_WASM_EXPORTS {
+        if state.exports.len() as u64 >= MAX_WASM_EXPORTS {
             return Err(refusal(offset, ErrorKind::Limit(Limit::Exports)));
         }
         let size = state.size_of_item(&ty);

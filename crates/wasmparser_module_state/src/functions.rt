@@ -1,6 +1,6 @@
 //! Functions of a module's own (Core Specification 3.0, Validation, "Functions").
 
-ghost use Rattle.std.specs.Prelude.{◌≡◌, ◌+◌, refl, IfSome, is_some, length, nat_le, option_map};
+ghost use Rattle.std.specs.Prelude.{◌≡◌, ◌+◌, refl, IfSome, is_some, length, nat_le, option_map, slice_get};
 ghost use Rattle.std.specs.Option.{option_copied};
 ghost use Rattle.wasm_spec.specs.TypeReferences.{func_refs};
 ghost use Rattle.wasm_validity.specs.DefinedTypes.{func_type_at};
@@ -22,6 +22,13 @@ impl ModuleState {
         ensures { result ≡ length (context self.now).own_functions }
     {
         self.own_functions.len()
+    }
+
+    /// The type index of a function of the module's own, by its place among these, if there is that function.
+    pub fn type_of_own_function(&self, place: usize) -> Option<u32>
+        ensures { result ≡ slice_get (context self.now).own_functions place }
+    {
+        self.own_functions.get(place).copied()
     }
 
     /// The type of a function of the module's own, by its place among these, as the module's list of types keeps it: by ids. There is none

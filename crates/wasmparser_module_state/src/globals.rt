@@ -1,6 +1,7 @@
 //! The space of globals (Core Specification 3.0, Validation, "Globals").
 
-ghost use Rattle.std.specs.Prelude.{◌≡◌, ◌+◌, ◌++◌, ◌∷◌, [], refl, IfErr, IfOk, length, nat_le};
+ghost use Rattle.std.specs.Prelude.{◌≡◌, ◌+◌, ◌++◌, ◌∷◌, [], refl, IfErr, IfOk, length, nat_le, option_map, slice_get};
+ghost use Rattle.wasm_validity.specs.Context.{globals_in};
 ghost use Rattle.wasm_validity.specs.Entries.{OfGlobal};
 ghost use Rattle.wasmparser_entries.specs.Entries.{global_of, packed_global};
 ghost use Rattle.wasmparser_error.specs.declared.error.ErrorKind.TheVariants as kinds;
@@ -11,12 +12,21 @@ ghost use Rattle.wasmparser_module_state.specs.State.{context, features_of, glob
 use crate::entry::Entry;
 use crate::module_state::{ModuleState, refusal};
 use wasm_core_base::limits::{Limit, MAX_WASM_GLOBALS};
+use wasmparser_constants::scope::item_at;
 use wasmparser_entries::global::Global;
 use wasmparser_error::error::{Error, ErrorKind};
 use wasmparser_items::global_type::GlobalType;
 use wasmparser_types::val_type::ValType;
 
 impl ModuleState {
+    /// The type of the global with this index, if there is one.
+    #[tactic(auto, using(crate::proofs::ExportLaws::global_steps))]
+    pub fn global_at(&self, index: u32) -> Option<GlobalType>
+        ensures { option_map global result ≡ slice_get (globals_in (context self.now)) index }
+    {
+        item_at(&self.imported_globals, &self.own_globals, index as usize)
+    }
+
     /// Whether there are as many globals as there may be.
     pub(crate) fn has_all_globals(&self) -> bool
         ensures { result ≡ nat_le 1000000 (length (context self.now).imported_globals + length (context self.now).own_globals) }

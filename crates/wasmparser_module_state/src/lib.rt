@@ -2,10 +2,12 @@
 #![tactic(auto)]
 
 pub mod body;
+pub mod by_ids;
 pub mod custom_section;
 pub mod data;
 pub mod data_count;
 pub mod elements;
+pub mod entity_type;
 pub mod entry;
 pub mod exports;
 pub mod functions;

@@ -50,7 +50,7 @@ fn is_memory_type(features: WasmFeatures, ty: MemoryType) -> bool
 impl ModuleState {
     /// The type of the memory with this index, if there is one.
     #[tactic(auto, using(crate::proofs::SegmentLaws::space_steps))]
-    pub(crate) fn memory_at(&self, index: u32) -> Option<MemoryType>
+    pub fn memory_at(&self, index: u32) -> Option<MemoryType>
         ensures { option_map memory_type result ≡ slice_get (context self.now).memories index }
     {
         self.memories.get(index as usize).copied()

@@ -15,6 +15,7 @@ use wasmparser_items::global_type::GlobalType;
 use wasmparser_items::memory_type::MemoryType;
 use wasmparser_items::table_type::TableType;
 use wasmparser_module_types::module_types::ModuleTypes;
+use wasmparser_types::ref_type::RefType;
 
 /// The index spaces after the entries so far.
 #[derive(Drop)]
@@ -29,7 +30,7 @@ pub struct ModuleState {
     pub(crate) imported_globals: Vec<GlobalType>,
     pub(crate) own_globals: Vec<GlobalType>,
     pub(crate) exports: ExportNames,
-    pub(crate) elements: u32,
+    pub(crate) elements: Vec<RefType>,
     pub(crate) segments: u32,
     pub(crate) type_size: u32,
     // (kept for its room alone: contracts don't see it)
@@ -60,7 +61,7 @@ impl ModuleState {
             imported_globals: Vec::new(alloc),
             own_globals: Vec::new(alloc),
             exports: ExportNames::new(alloc),
-            elements: 0,
+            elements: Vec::new(alloc),
             segments: 0,
             type_size: 1,
             operands: Operands::new(alloc),
@@ -72,6 +73,13 @@ impl ModuleState {
         ensures { feature_set result ≡ features_of self.now }
     {
         self.types.features()
+    }
+
+    /// The types, and the list that knows them.
+    pub fn types(&self) -> &ModuleTypes
+        ensures { result.now ≡ self.now.types }
+    {
+        &self.types
     }
 
     /// The number of types, which is within its limit.
@@ -118,10 +126,10 @@ impl ModuleState {
     }
 
     /// The number of element segments.
-    pub fn element_count(&self) -> u32
-        ensures { result ≡ (context self.now).elements }
+    pub fn element_count(&self) -> usize
+        ensures { result ≡ length (context self.now).elements }
     {
-        self.elements
+        self.elements.len()
     }
 
     /// The number of data segments.

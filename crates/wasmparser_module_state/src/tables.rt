@@ -21,7 +21,7 @@ use wasmparser_types::val_type::ValType;
 impl ModuleState {
     /// The type of the table with this index, if there is one.
     #[tactic(auto, using(crate::proofs::SegmentLaws::space_steps))]
-    pub(crate) fn table_at(&self, index: u32) -> Option<TableType>
+    pub fn table_at(&self, index: u32) -> Option<TableType>
         ensures { option_map table result ≡ slice_get (context self.now).tables index }
     {
         self.tables.get(index as usize).copied()

@@ -1,6 +1,6 @@
 //! Tags of a module's own (Core Specification 3.0, Validation, "Tags").
 
-ghost use Rattle.std.specs.Prelude.{◌≡◌, ◌≢◌, refl, IfErr};
+ghost use Rattle.std.specs.Prelude.{◌≡◌, ◌≢◌, refl, IfErr, slice_get};
 ghost use Rattle.wasm_validity.specs.Entries.{OfTag, OfTags};
 ghost use Rattle.wasmparser_items.specs.ItemTypes.{tag_type};
 ghost use Rattle.wasmparser_module_entries.specs.EntryReading.{tag_entry_at};
@@ -15,6 +15,13 @@ use wasmparser_error::error::{Error, ErrorKind};
 use wasmparser_items::tag_type::TagType;
 
 impl ModuleState {
+    /// The type index of a tag, if there is that tag.
+    pub fn type_of_tag(&self, tag: u32) -> Option<u32>
+        ensures { result ≡ slice_get (context self.now).tags tag }
+    {
+        self.tags.get(tag as usize).copied()
+    }
+
     /// Judges that there is a tag section, which may be empty.
     ///
     /// # Errors

@@ -1,5 +1,5 @@
 -- The ids of a list of types: which indexes are ids, and what they stand for.
-use Rattle.std.proofs.Common.{◌≡◌, ℕ, ◌<◌, List, length, Option, Some, None, IfSome, sym, arith, slice_get}
+use Rattle.std.proofs.Common.{◌≡◌, ℕ, ◌<◌, ◌↔◌, true, List, length, Option, Some, None, IfSome, is_some, refl, sym, ◌∙◌, arith, slice_get}
 use Rattle.std.proofs.lemmas.List.{length-map}
 use Rattle.std.proofs.lemmas.Option.{slice_get-map, slice_get_within}
 use Rattle.std.specs.List.{AllByRecursion}
@@ -55,3 +55,8 @@ module _ (list : TypeTables) (agree : TablesAgree list) where
 
 pub types_named : (list : TypeTables) (ids : List ℕ) (index : ℕ) → slice_get (module_types list ids) index ≡ option_map (type_at (interned_types list)) (slice_get ids index)
 types_named list ids index = slice_get-map (type_at (interned_types list)) ids index
+
+-- an id is found exactly where there are more items than its number
+pub is_found : {A B : Type 0} (f : A → B) (items : List B) (id count : ℕ) (found : Option A) → count ≡ length items → option_map f found ≡ slice_get items id → (is_some found ≡ true) ↔ (id < count)
+is_found f items id count None all is = (λ some. absurd cc, λ lt. absurd (let at = is ∙ (get_some items id (omega (arith, lt, all))).1 in cc))
+is_found f items id count (Some item) all is = (λ some. omega (arith, slice_get_within items id (f item) (sym is), all), λ lt. refl)

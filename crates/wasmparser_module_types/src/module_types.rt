@@ -135,7 +135,7 @@ impl Model for ModuleTypes {
 }
 
 impl ModuleTypes {
-    ghost use Rattle.std.specs.Prelude.{◌≡◌, ◌<◌, ◌≤◌, [], IfErr, IfOk, IfSome, IsTrue, Some, is_some, length, option_map, slice_get};
+    ghost use Rattle.std.specs.Prelude.{◌≡◌, ◌<◌, ◌≤◌, ◌↔◌, [], IfErr, IfOk, IfSome, IsSome, IsTrue, Some, is_some, length, option_map, slice_get};
     ghost use Rattle.std.specs.Option.{option_copied};
     ghost use Rattle.wasm_core_base.specs.Features.{feature_set};
     ghost use Rattle.wasm_spec.specs.Limits.{Types, most};
@@ -207,6 +207,26 @@ impl ModuleTypes {
         ensures ids { AreIds self.now (sub_refs (sub_type result.now)) }
     {
         sub_type_in(&self.list, id)
+    }
+
+    // Whether the list knows an id.
+    fn knows(&self, id: CoreTypeId) -> bool
+        ensures { IsTrue result ↔ (id < length self.now.interned) }
+    {
+        self.list.get(id).is_some()
+    }
+
+    /// The same of any id, or None where the list doesn't know it.
+    pub fn get(&self, id: CoreTypeId) -> Option<&SubType>
+        ensures all { id < length self.now.interned → IsSome result }
+        ensures known { IfSome result (λ _. id < length self.now.interned) }
+        ensures unrolled { IfSome result (λ ty. unrolled (type_at self.now.interned id) ≡ Some (sub_map (stands_for self.now) (sub_type ty.now))) }
+        ensures ids { IfSome result (λ ty. AreIds self.now (sub_refs (sub_type ty.now))) }
+    {
+        if !self.knows(id) {
+            return None;
+        }
+        Some(self.sub_type(id))
     }
 
     /// A heap type with an id in place of the type index that it has, or None where the module has no type of that index. An index of any kind counts as a type

@@ -6,7 +6,8 @@ ghost use Rattle.wasm_core_read.specs.Reading.{AnswersAll};
 ghost use Rattle.wasmparser_readers.specs.Sections.{ReadsNextItem, IsEmpty, limited_of};
 
 use crate::from_reader::FromReader;
-use std::alloc::Global;
+use crate::passing::fork;
+use std::alloc::{AllocError, Global};
 use std::iter::Iterator;
 use std::marker::{Model, PhantomData};
 use std::ops::Range;
@@ -17,7 +18,7 @@ use wasmparser_error::error::{Error, ErrorKind};
 
 /// A section of items of one kind, which are read one by one. Contracts see it as where its content begins, and what
 /// follows the number of its items.
-#[derive(Clone, Debug, Drop)]
+#[derive(Debug, Drop)]
 pub struct SectionLimited<'a, T> {
     start: u64,
     count: u32,
@@ -34,6 +35,24 @@ impl<'a, T> Model for SectionLimited<'a, T> {
     ghost view = { λ s. record { start = s.start; left = record { count = s.count; input = s.reader } } };
 
     ghost invariant = { λ s. s.start ≤ s.reader.position };
+}
+
+// (by hand, since an item need not be `Clone`)
+impl<'a, T> Clone for SectionLimited<'a, T> {
+    ghost use Rattle.std.specs.Prelude.{◌≡◌, ⊤};
+
+    ghost is_clone = { λ s r. r ≡ s };
+
+    ghost is_infallible = { λ _. ⊤ };
+
+    fn clone(&self) -> Result<SectionLimited<'a, T>, AllocError> {
+        Ok(SectionLimited {
+            start: self.start,
+            count: self.count,
+            reader: fork(&self.reader),
+            kind: PhantomData,
+        })
+    }
 }
 
 impl<'a, T> SectionLimited<'a, T> {

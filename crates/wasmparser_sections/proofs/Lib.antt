@@ -1,5 +1,5 @@
 mod CountLaws
-mod EntryLists
+pub mod EntryLists
 mod PieceItems
 mod PieceLaws
 mod PiecePlaces

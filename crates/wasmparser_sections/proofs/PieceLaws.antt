@@ -1,5 +1,5 @@
 -- Judging what a piece says, kind by kind.
-use Rattle.std.proofs.Common.{◌≡◌, ◌⊎◌, inl, inr, ℕ, List, [], ◌∷◌, ◌++◌, Some, None, refl, sym, ap, subst, ◌∙◌, Ok, Err, Result}
+use Rattle.std.proofs.Common.{◌≡◌, ◌≢◌, ◌⊎◌, inl, inr, ℕ, List, [], ◌∷◌, ◌++◌, Some, None, IsSome, is_some, IfErr, refl, sym, ap, subst, ◌∙◌, Ok, Err, Result}
 use Rattle.wasm_core_base.specs.Limits as core
 use Rattle.wasm_core_read.specs.Input.{Input, IsWithin}
 use Rattle.wasm_core_read.specs.PartReading.{import_at, table_at, global_at, export_at, element_at, data_at}
@@ -25,56 +25,55 @@ use Rattle.wasmparser_sections.proofs.PieceItems.{as_entries}
 
 -- a refusal of the entry refuses the piece
 refused_first : (features : Features) (old : Context) (p : Piece) (entry : Entry) (place : ℕ) (kind : ErrorKind) (offset : ℕ) → said_first p ≡ entry ∷ [] → IsFirstOf p place
-    → NamesEntry features old entry kind × IsAt place kind offset → NamesPiece features old p kind × IsPlaced p kind offset
-refused_first features old p entry place kind offset said first h = by_kind kind h
+    → (kind ≡ kinds.Memory → IsSome (items_of p)) → NamesEntry features old entry kind × IsAt place kind offset → NamesPiece features old p kind × IsPlaced p kind offset
+refused_first features old p entry place kind offset said first takes h = by_kind kind takes h
   where
     placed : offset ≡ place → IsInPiece p offset
     placed e = inl (subst (IsFirstOf p) (sym e) first)
 
-    by_kind : (kind : ErrorKind) → NamesEntry features old entry kind × IsAt place kind offset → NamesPiece features old p kind × IsPlaced p kind offset
-    by_kind kinds.Invalid h = (record { front = entry ∷ []; is = by_itself (sym said); holds = λ k. h.0 k.0 }, placed h.1)
-    by_kind (kinds.Limit l) h = (record { front = entry ∷ []; is = by_itself (sym said); holds = of_entry h.0 }, placed h.1)
+    by_kind : (kind : ErrorKind) → (kind ≡ kinds.Memory → IsSome (items_of p)) → NamesEntry features old entry kind × IsAt place kind offset → NamesPiece features old p kind × IsPlaced p kind offset
+    by_kind kinds.Invalid t h = (record { front = entry ∷ []; is = by_itself (sym said); holds = λ k. h.0 k.0 }, placed h.1)
+    by_kind (kinds.Limit l) t h = (record { front = entry ∷ []; is = by_itself (sym said); holds = of_entry h.0 }, placed h.1)
       where
         of_entry : Passes (core.limit l) (measures old entry) ⊎ PassesByTypes (core.limit l) old entry → PassLimit (core.limit l) old (entry ∷ [])
         of_entry (inl q) = inl q
         of_entry (inr q) = inr (inl q)
-    by_kind kinds.Memory h = (tt, h.1)
-    by_kind kinds.Malformed h = absurd h.0
-    by_kind kinds.Operator h = absurd h.0
-    by_kind kinds.Body h = absurd h.0
-    by_kind kinds.Total h = absurd h.0
-    by_kind kinds.Order h = absurd h.0
-    by_kind kinds.Failed h = absurd h.0
+    by_kind kinds.Memory t h = (t refl, h.1)
+    by_kind kinds.Malformed t h = absurd h.0
+    by_kind kinds.Operator t h = absurd h.0
+    by_kind kinds.Body t h = absurd h.0
+    by_kind kinds.Total t h = absurd h.0
+    by_kind kinds.Order t h = absurd h.0
+    by_kind kinds.Failed t h = absurd h.0
+
+-- a call that takes no memory
+abbrev TakesNone : Result (Unit {0}) Error → Type 0
+TakesNone result = IfErr result (λ e. e.kind ≢ kinds.Memory)
 
 says_one : (features : Features) (old : Context) (p : Piece) (entry : Entry) (new : Context) → entries_said p ≡ Some (entry ∷ []) → Accepts features old entry new → Says features old p new
 says_one features old p entry new said h =
     record { entries = entry ∷ []; said = said; rules = (h.rule, tt); limits = (h.limits, tt); known = h.known }
 
 adds_one : (features : Features) (old : Context) (p : Piece) (entry : Entry) (place : ℕ) (result : Result (Unit {0}) Error) (new : Context) → said_first p ≡ entry ∷ [] → entries_said p ≡ Some (entry ∷ [])
-    → IsFirstOf p place → Adds features old entry place result new → AddsPiece features old p result new
-adds_one features old p entry place (Ok x) new first said placed h = says_one features old p entry new said h
-adds_one features old p entry place (Err e) new first said placed h = refused_first features old p entry place e.kind e.offset first placed (h.0, h.1)
+    → IsFirstOf p place → TakesNone result → Adds features old entry place result new → AddsPiece features old p result new
+adds_one features old p entry place (Ok x) new first said placed none h = says_one features old p entry new said h
+adds_one features old p entry place (Err e) new first said placed none h = refused_first features old p entry place e.kind e.offset first placed (λ is. absurd (none is)) (h.0, h.1)
 
-pub adds_start : (features : Features) (old : Context) (function : ℕ) (place : Place) (result : Result (Unit {0}) Error) → Adds features old (OfStart function) place.start result old → AddsPiece features old (Start function place) result old
+pub adds_start : (features : Features) (old : Context) (function : ℕ) (place : Place) (result : Result (Unit {0}) Error) → TakesNone result → Adds features old (OfStart function) place.start result old → AddsPiece features old (Start function place) result old
 unfolding said_first entries_said items_of IsFirstOf
-adds_start features old function place result h = adds_one features old (Start function place) (OfStart function) place.start result old refl refl refl h
+adds_start features old function place result none h = adds_one features old (Start function place) (OfStart function) place.start result old refl refl refl none h
 
-pub adds_custom : (features : Features) (old : Context) (section : Named) (result : Result (Unit {0}) Error) → Adds features old (OfCustom section.name) section.start result old → AddsPiece features old (Custom section) result old
+pub adds_custom : (features : Features) (old : Context) (section : Named) (result : Result (Unit {0}) Error) → TakesNone result → Adds features old (OfCustom section.name) section.start result old → AddsPiece features old (Custom section) result old
 unfolding said_first entries_said items_of IsFirstOf
-adds_custom features old section result h = adds_one features old (Custom section) (OfCustom section.name) section.start result old refl refl refl h
+adds_custom features old section result none h = adds_one features old (Custom section) (OfCustom section.name) section.start result old refl refl refl none h
 
-pub adds_body : (features : Features) (old : Context) (body : Input) (result : Result (Unit {0}) Error) → Adds features old (OfBody body.rest) body.position result old → AddsPiece features old (Body body) result old
+pub adds_body : (features : Features) (old : Context) (body : Input) (result : Result (Unit {0}) Error) → TakesNone result → Adds features old (OfBody body.rest) body.position result old → AddsPiece features old (Body body) result old
 unfolding said_first entries_said items_of IsFirstOf
-adds_body features old body result h = adds_one features old (Body body) (OfBody body.rest) body.position result old refl refl refl h
+adds_body features old body result none h = adds_one features old (Body body) (OfBody body.rest) body.position result old refl refl refl none h
 
-pub adds_data_count : (features : Features) (old : Context) (count : ℕ) (place : Place) (result : Result (Unit {0}) Error) → Adds features old (OfDataCount count) place.start result old → AddsPiece features old (DataCount count place) result old
+pub adds_data_count : (features : Features) (old : Context) (count : ℕ) (place : Place) (result : Result (Unit {0}) Error) → TakesNone result → Adds features old (OfDataCount count) place.start result old → AddsPiece features old (DataCount count place) result old
 unfolding said_first entries_said items_of IsFirstOf
-adds_data_count features old count place result h = adds_one features old (DataCount count place) (OfDataCount count) place.start result old refl refl refl h
-
--- a data count that was judged, and kept afterwards
-pub says_data_count : (features : Features) (old : Context) (count start after : ℕ) → Accepts features old (OfDataCount count) old → Says features old (DataCount count (record { start = start; after = after })) old
-unfolding entries_said said_first items_of
-says_data_count features old count start after h = says_one features old (DataCount count (record { start = start; after = after })) (OfDataCount count) old refl h
+adds_data_count features old count place result none h = adds_one features old (DataCount count place) (OfDataCount count) place.start result old refl refl refl none h
 
 -- ---- pieces that say nothing
 
@@ -133,7 +132,7 @@ adds_items features old mid p first made form_at left (Err e) new its rules limi
         (begun _ (λ es. ¬ (KeepRules features old es)) h.0 (λ k. h.0.holds (subst (λ cx. KeepRules features cx h.0.front) (sym known) (keep_others features old first h.0.front k))), placed h.1)
     by_kind (kinds.Limit l) h =
         (begun _ (PassLimit (core.limit l) old) h.0 (past_others (core.limit l) old first h.0.front (subst (λ cx. PassLimit (core.limit l) cx h.0.front) known h.0.holds)), placed h.1)
-    by_kind kinds.Memory h = (tt, h.1)
+    by_kind kinds.Memory h = (ap is_some its.items, h.1)
     by_kind kinds.Operator h = absurd h.0
     by_kind kinds.Body h = absurd h.0
     by_kind kinds.Total h = absurd h.0
@@ -194,7 +193,7 @@ adds_tags features old mid items result new begins h =
 
 pub tags_refused : (features : Features) (old : Context) (items : Limited) (kind : ErrorKind) (offset : ℕ) → NamesEntry features old OfTags kind × IsAt items.start kind offset → NamesPiece features old (Tags items) kind × IsPlaced (Tags items) kind offset
 unfolding said_first entries_said items_of IsFirstOf
-tags_refused features old items kind offset h = refused_first features old (Tags items) OfTags items.start kind offset refl refl h
+tags_refused features old items kind offset h = refused_first features old (Tags items) OfTags items.start kind offset refl refl (λ _. refl) h
 
 -- ---- unknown sections
 
@@ -203,10 +202,6 @@ unfolding said_first entries_said items_of IsFirstOf
 refuses_unknown features old id contents place (Ok x) h = absurd h
 refuses_unknown features old id contents place (Err e) h = rw h (refl, inl refl)
 
-pub ruleset body_steps = (adds_body)
-
 pub ruleset tag_steps = (adds_tags, tags_refused)
 
-pub ruleset count_steps = (adds_data_count, says_data_count)
-
-pub ruleset piece_steps = (header_says_nothing, code_start_says_nothing, end_says_nothing, adds_start, adds_custom, adds_types, adds_imports, adds_functions, adds_tables, adds_memories, adds_globals, adds_exports, adds_elements, adds_segments, refuses_unknown)
+pub ruleset piece_steps = (header_says_nothing, code_start_says_nothing, end_says_nothing, adds_start, adds_custom, adds_body, adds_data_count, adds_types, adds_imports, adds_functions, adds_tables, adds_memories, adds_globals, adds_exports, adds_elements, adds_segments, refuses_unknown)

@@ -1,5 +1,5 @@
 -- Judging the pieces of a module.
-use Rattle.std.specs.Prelude.{◌≡◌, ◌⊎◌, ⊤, ℕ, List, [], ◌∷◌, ◌++◌, Option, Some, None, Result, Ok, Err}
+use Rattle.std.specs.Prelude.{◌≡◌, ◌⊎◌, ℕ, List, [], ◌∷◌, ◌++◌, Option, Some, None, IsSome, Result, Ok, Err}
 use Rattle.wasm_core_base.specs.Limits as core
 use Rattle.wasm_core_read.specs.Input.{Input, IsWithin}
 use Rattle.wasm_spec.specs.Features.{Features}
@@ -81,12 +81,12 @@ IsPlaced piece _ offset = IsInPiece piece offset
 
 -- ---- answers
 
--- what a refusal of a piece names
+-- what a refusal of a piece names; items alone take memory
 abbrev pub NamesPiece : Features → Context → Piece → ErrorKind → Type 0
 NamesPiece features old piece kinds.Malformed = entries_said piece ≡ None
 NamesPiece features old piece kinds.Invalid = PieceBegins piece (λ entries. ¬ (KeepRules features old entries))
 NamesPiece features old piece (kinds.Limit l) = PieceBegins piece (λ entries. PassLimit (core.limit l) old entries)
-NamesPiece features old piece kinds.Memory = ⊤
+NamesPiece features old piece kinds.Memory = IsSome (items_of piece)
 NamesPiece features old piece _ = ⊥
 
 -- What a call returned that judges a piece and adds what it says.

@@ -1,10 +1,13 @@
 //! The sections of a module, judged one after the other.
 
 ghost use Rattle.std.specs.List.{list_all};
-ghost use Rattle.std.specs.Prelude.{◌≡◌, ◌==◌, ◌↔◌, [], IfOk, IfErr, IsTrue};
+ghost use Rattle.std.specs.Prelude.{◌≡◌, ◌==◌, ◌↔◌, ◌++◌, [], IfOk, IfErr, IsTrue};
 ghost use Rattle.wasm_core_base.specs.Features.{feature_set};
 ghost use Rattle.wasm_validity.specs.Context.{at_first};
+ghost use Rattle.wasmparser_error.specs.declared.error.ErrorKind.TheVariants as kinds;
 ghost use Rattle.wasmparser_module_state.specs.State.{context, features_of};
+ghost use Rattle.wasmparser_payloads.specs.Parsing.{piece};
+ghost use Rattle.wasmparser_sections.specs.PieceJudging.{body_in, count_in};
 ghost use Rattle.wasmparser_sections.specs.Sections.{AreAccepted, CountsAgree, JudgesSections, ReadsSections, RefusesSections};
 
 use crate::payload::add_payload;
@@ -15,6 +18,7 @@ use wasmparser_error::error::{Error, ErrorKind};
 use wasmparser_module_state::module_state::ModuleState;
 use wasmparser_payloads::function_body::FunctionBody;
 use wasmparser_payloads::parser::Parser;
+use wasmparser_payloads::payload::Payload;
 
 /// The sections of a module that keep all rules but those on bodies.
 #[derive(Drop)]
@@ -25,6 +29,25 @@ pub struct ValidSections<'a> {
     pub bodies: Vec<FunctionBody<'a>>,
     /// The data counts that are stated: one at most, by the order of sections.
     pub data_counts: Vec<u32>,
+}
+
+// Keeps the body that a payload is, and the data count that it states.
+#[tactic(auto, unfolding(wasmparser_payloads::specs::Parsing::piece, crate::specs::PieceJudging::body_in, crate::specs::PieceJudging::count_in))]
+fn keep<'a>(
+    bodies: &mut Vec<FunctionBody<'a>>,
+    data_counts: &mut Vec<u32>,
+    payload: Payload<'a>,
+) -> Result<(), Error>
+    ensures bodies { IfOk result (λ _. bodies.new.items ≡ bodies.old.items ++ body_in (piece payload.entry)) }
+    ensures counts { IfOk result (λ _. data_counts.new.items ≡ data_counts.old.items ++ count_in (piece payload.entry)) }
+    ensures memory { IfErr result (λ e. e ≡ record { offset = 0; kind = kinds.Memory }) }
+{
+    match payload {
+        Payload::CodeSectionEntry(body) => bodies.push(body)?,
+        Payload::DataCountSection { count, .. } => data_counts.push(count)?,
+        _ => {}
+    }
+    Ok(())
 }
 
 // Reads all payloads, and adds what they say to what is known of nothing.
@@ -46,7 +69,8 @@ fn add_payloads<'a>(
     let mut payloads = parser.parse_all(bytes);
     'payloads: while let Some(payload) = payloads.next() {
         let payload = payload?;
-        add_payload(alloc, state, bodies, data_counts, payload)?;
+        add_payload(alloc, state, &payload)?;
+        keep(bodies, data_counts, payload)?;
     }
     Ok(())
 }

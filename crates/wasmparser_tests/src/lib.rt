@@ -6,4 +6,8 @@ mod bodies;
 #[cfg(test)]
 mod errors;
 #[cfg(test)]
+mod judging;
+#[cfg(test)]
 mod readme;
+#[cfg(test)]
+mod spaces;

@@ -6,3 +6,6 @@ pub mod LocalTypeLaws
 pub mod LocalsLimit
 pub mod VerdictLaws
 pub mod BodiesLaws
+mod SpaceLaws
+mod ReachedLaws
+mod JudgeLaws

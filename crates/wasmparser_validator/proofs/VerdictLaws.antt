@@ -10,7 +10,6 @@ use Rattle.wasm_core_read.proofs.ReadingLaws.{module_one, some_is}
 use Rattle.wasm_spec.specs.Features.{Features, CompactImports, has}
 use Rattle.wasm_spec.specs.Grammar.{IsModule}
 use Rattle.wasm_spec.specs.Limits.{Limit}
-use Rattle.wasm_spec.specs.Spaces.{Sizes, sizes_of}
 use Rattle.wasm_spec.specs.Syntax.{Section, functions_of, bodies_of}
 use Rattle.wasm_spec.specs.Trees.{DefType}
 use Rattle.wasm_spec.specs.Types.{FuncType}
@@ -18,19 +17,19 @@ use Rattle.wasm_validity.specs.Context.{Context, after_all, at_first}
 use Rattle.wasm_validity.specs.DefinedTypes.{func_type_at}
 use Rattle.wasm_validity.specs.Entries.{Entry, entries_of}
 use Rattle.wasm_validity.specs.Fronts.{BeginsWith}
+use Rattle.wasm_validity.specs.IndexSpaces.{spaces_in}
 use Rattle.wasm_validity.specs.Rules.{KeepLimits, KeepRules, PassLimit}
 use Rattle.wasm_validity.specs.Validity.{BodyAt, IsTypedBody, IsBodyPast, IsOtherBody, IsBrokenBody, HasBody, context_of}
-use Rattle.wasm_validity_laws.specs.SpaceSizes.{sizes_in}
 use Rattle.wasmparser_error.specs.declared.error.Error.{Error}
 use Rattle.wasmparser_error.specs.declared.error.ErrorKind.{ErrorKind}
 use Rattle.wasmparser_error.specs.declared.error.ErrorKind.TheVariants as kinds
 use Rattle.wasmparser_module_state.specs.State.{context}
+use Rattle.wasmparser_module_state.specs.declared.module_state.ModuleState.{ModuleState}
 use Rattle.wasmparser_sections.specs.Sections.{AreAccepted, EndBy, NamesSections}
 use Rattle.wasmparser_sections.specs.declared.sections.ValidSections.{ValidSections}
 use Rattle.wasmparser_validator.specs.Bodies.{AreNamed, HasBodyAt, ValidatesBodies}
-use Rattle.wasmparser_validator.specs.Shown.{AreFew}
+use Rattle.wasmparser_validator.specs.KnownSpaces.{KnownModule}
 use Rattle.wasmparser_validator.specs.Validation.{IsAccepted, IsNamed, IsValidated}
-use Rattle.wasmparser_validator.proofs.Counts.{are_few}
 use Rattle.wasmparser_validator.proofs.LocalsLimit.{no_locals}
 
 -- ---- laws that are cited
@@ -126,9 +125,9 @@ own_count sections cx own known = ap (λ (c : Context). length c.own_functions) 
 
 -- ---- a module of which all is fine
 
-pub accepted_module : (features : Features) (bytes : List ℕ) (m : ValidSections) (shown : Sizes) → OwnFunctions → ((sections : List Section) → sizes_in (context_of sections) ≡ sizes_of sections)
-    → AreAccepted features bytes m → ValidatesBodies features (context m.state) m.bodies.items (Ok tt) → shown ≡ sizes_in (context m.state) → IsValidated features bytes (Ok shown)
-accepted_module features bytes m shown own sizes w validated shows =
+pub accepted_module : (features : Features) (bytes : List ℕ) (m : ValidSections) (shown : KnownModule) → OwnFunctions → AreAccepted features bytes m
+    → ValidatesBodies features (context m.state) m.bodies.items (Ok tt) → shown.state ≡ m.state → IsValidated features bytes (Ok shown)
+accepted_module features bytes m shown own w validated shows =
     let n : length (context m.state).own_functions ≡ length (functions_of w.sections) = own_count w.sections (context m.state) own w.known in
     record {
       right = (
@@ -142,7 +141,7 @@ accepted_module features bytes m shown own sizes w validated shows =
                 in_sections (IsTypedBody features) w.sections (context m.state) m.bodies.items place j.0 j.1 own w.known w.bodies j.2 j.3.right;
           };
         },
-        shows ∙ ap sizes_in w.known ∙ sizes w.sections,
+        ap (λ (s : ModuleState). spaces_in (context s)) shows ∙ ap spaces_in w.known,
       );
       complete = λ sections h. tt;
       malformed = tt;
@@ -235,6 +234,3 @@ are_named features bytes m law w = subst AreNamed (sym w.known) (λ place index 
 pub are_paired : (features : Features) (bytes : List ℕ) (m : ValidSections) → OwnFunctions → AreAccepted features bytes m → length (context m.state).own_functions ≡ length m.bodies.items
 are_paired features bytes m own w =
     own_count w.sections (context m.state) own w.known ∙ w.reads.agreeing ∙ ap length (sym w.bodies) ∙ length-map m.bodies.items (λ (b : Input). b.rest)
-
-pub few_items : (features : Features) (bytes : List ℕ) (m : ValidSections) → AreAccepted features bytes m → AreFew (context m.state)
-few_items features bytes m w = subst AreFew (sym w.known) (are_few (entries_of w.sections) w.fine.limits)

@@ -1,24 +1,44 @@
 -- What is shown of a module.
-use Rattle.std.specs.Prelude.{ℕ, ◌+◌, ◌≤◌, List, drop, length}
-use Rattle.wasm_spec.specs.Limits.{Functions, Globals, Memories, Tables, Tags, most}
-use Rattle.wasm_spec.specs.Spaces.{Sizes}
+use Rattle.std.specs.Prelude.{◌≡◌, ◌<◌, ℕ, List, Option, Some, None, drop, length, slice_get}
 use Rattle.wasm_spec.specs.Syntax.{Export}
-use Rattle.wasm_validity.specs.Context.{Context}
+use Rattle.wasm_spec.specs.Trees.{type_at}
+use Rattle.wasm_spec.specs.Types.{ExternalType}
+use Rattle.wasm_validity.specs.Context.{item_at}
+use Rattle.wasm_validity.specs.IndexSpaces.{Spaces, spaces_in}
+use Rattle.wasmparser_items.specs.declared.type_ref.TypeRef.{TypeRef}
+use Rattle.wasmparser_items.specs.declared.type_ref.TypeRef.TheVariants as refs
+use Rattle.wasmparser_module_state.specs.State.{context}
+use Rattle.wasmparser_module_state.specs.declared.entity_type.EntityType.{EntityType}
+use Rattle.wasmparser_module_state.specs.declared.entity_type.EntityType.TheVariants as entities
+use Rattle.wasmparser_module_types.specs.ModuleTypes.{KnownTypes}
 use Rattle.wasmparser_validator.specs.declared.types.CoreExports.{CoreExports}
 use Rattle.wasmparser_validator.specs.declared.types.TypesRef.{TypesRef}
 
--- what a borrowed view shows
-abbrev pub shown : TypesRef → Sizes
-shown types = types.types.now
+-- the index spaces that a borrowed view shows
+abbrev pub spaces : TypesRef → Spaces
+spaces types = spaces_in (context types.types.now.state)
+
+-- its types, and what ids stand for
+abbrev pub known : TypesRef → KnownTypes
+known types = types.types.now.state.types
+
+-- the item that is exported, if there is one
+abbrev pub exported : TypesRef → Export → Option (ExternalType ℕ)
+exported types export = item_at (context types.types.now.state) export.kind export.index
+
+-- what is made of the id of the type with an index, if there is that type
+abbrev pub IsOfType : KnownTypes → ℕ → (ℕ → EntityType) → Option EntityType → Type 0
+IsOfType known index make None = slice_get known.types index ≡ None
+IsOfType known index make (Some entity) = (id : ℕ) × (entity ≡ make id) × (id < length known.interned) × (slice_get known.types index ≡ Some (type_at known.interned id))
+
+-- The entity of an import: the types of tables and globals stay as they are written.
+abbrev pub IsImported : KnownTypes → TypeRef → Option EntityType → Type 0
+IsImported known (refs.Func index) found = IsOfType known index (λ id. entities.Func id) found
+IsImported known (refs.Table type) found = found ≡ Some (entities.Table type)
+IsImported known (refs.Memory type) found = found ≡ Some (entities.Memory type)
+IsImported known (refs.Global type) found = found ≡ Some (entities.Global type)
+IsImported known (refs.Tag type) found = IsOfType known type.func_type_idx (λ id. entities.Tag id) found
 
 -- the exports that are still to come
 abbrev pub exports_left : CoreExports → List Export
 exports_left it = drop it.place it.exports.now
-
--- no index space has more items than its limit lets through
-pub record AreFew (cx : Context) : Type 0 where
-  pub functions : length cx.imported_functions + length cx.own_functions ≤ most Functions
-  pub tables : length cx.tables ≤ most Tables
-  pub memories : length cx.memories ≤ most Memories
-  pub globals : length cx.imported_globals + length cx.own_globals ≤ most Globals
-  pub tags : length cx.tags ≤ most Tags

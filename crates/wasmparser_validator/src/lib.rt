@@ -2,7 +2,12 @@
 #![tactic(auto)]
 
 pub mod body;
+pub mod func;
 mod local_type;
+pub mod modules;
+pub mod spaces;
 pub mod types;
+pub mod valid_payload;
+mod valid_state;
 pub mod validator;
 pub mod validator_id;

@@ -1,144 +1,172 @@
-//! What a validator shows of a valid module.
+//! What a validator shows of a valid module, or of one so far.
 
-ghost use Rattle.std.specs.Prelude.{◌≡◌, ◌<◌, ◌^◌, length, IsSomeAnd};
+ghost use Rattle.std.specs.Prelude.{◌≡◌, ◌<◌, ◌^◌, IfErr, IsSomeAnd, length};
 ghost use Rattle.std.specs.Iterator.{YieldsFirstBy, item_count};
-ghost use Rattle.wasm_validity_laws.specs.SpaceSizes.{sizes_in};
+ghost use Rattle.wasm_core_base.specs.Features.{feature_set};
+ghost use Rattle.wasm_validity.specs.Context.{at_first};
 ghost use Rattle.wasmparser_items.specs.Exports.{export_item};
-ghost use Rattle.wasmparser_module_state.specs.State.{context};
-ghost use Rattle.wasmparser_validator.specs.Shown.{AreFew, shown, exports_left};
+ghost use Rattle.wasmparser_module_state.specs.State.{context, features_of};
+ghost use Rattle.wasmparser_payloads.specs.Parsing.{piece};
+ghost use Rattle.wasmparser_sections.specs.PieceJudging.{AddsPiece};
+ghost use Rattle.wasmparser_validator.specs.Bodies.{AreNamed};
+ghost use Rattle.wasmparser_validator.specs.KnownSpaces.{CanBeShown};
+ghost use Rattle.wasmparser_validator.specs.Shown.{exports_left, spaces};
 
+use crate::valid_state::ValidState;
+use crate::validator_id::ValidatorId;
+use std::alloc::Global;
 use std::marker::Model;
+use wasm_core_base::features::WasmFeatures;
+use wasmparser_error::error::Error;
 use wasmparser_export_names::export_names::ExportNames;
 use wasmparser_items::export::Export;
 use wasmparser_module_state::module_state::ModuleState;
+use wasmparser_payloads::payload::Payload;
 
-/// The index spaces of a valid module. Contracts see it as the sizes of these spaces.
-#[derive(Debug, Drop)]
+/// The index spaces of a valid module. Contracts see who made them, and what is known of the module.
+#[derive(Drop)]
 pub struct Types {
-    types: u32,
-    functions: u32,
-    tables: u32,
-    memories: u32,
-    globals: u32,
-    tags: u32,
-    elements: u32,
-    exports: ExportNames,
+    id: ValidatorId,
+    state: ValidState,
 }
 
 impl Model for Types {
-    ghost use Rattle.std.specs.Prelude.{length};
-    ghost use Rattle.wasm_spec.specs.Spaces.{Sizes};
+    ghost use Rattle.wasmparser_module_state.specs.contracts.module_state.ModuleState as kept;
+    ghost use Rattle.wasmparser_validator.specs.KnownSpaces.{KnownModule, known_module_code};
 
-    ghost Value = { Sizes };
+    ghost Value = { KnownModule };
 
-    ghost view = { λ t. record {
-      types = t.types;
-      functions = t.functions;
-      tables = t.tables;
-      memories = t.memories;
-      globals = t.globals;
-      tags = t.tags;
-      elements = t.elements;
-      exports = length t.exports;
-    } };
+    ghost coded = { known_module_code kept.the_row.coded };
+
+    ghost view = { λ t. record { id = t.id; state = t.state } };
 }
 
 impl Types {
-    /// The index spaces of a module of which this is known at its end.
-    pub(crate) fn new(state: ModuleState) -> Types
-        requires { AreFew (context state) }
-        ensures { result ≡ sizes_in (context state) }
+    // The index spaces of a module of which this is known at its end, by the validator of this name.
+    pub(crate) fn new(id: ValidatorId, state: ValidState) -> Types
+        ensures { result ≡ record { id = id; state = state } }
+    {
+        Types { id, state }
+    }
+
+    // What is known before the first entry, under these features, by the validator of this name.
+    pub(crate) fn without_entries(alloc: Global, features: WasmFeatures, id: ValidatorId) -> Types
+        ensures nothing { context result.state ≡ at_first }
+        ensures features { features_of result.state ≡ feature_set features }
+        ensures id { result.id ≡ id }
     {
         Types {
-            types: state.type_count() as u32,
-            functions: state.function_count() as u32,
-            tables: state.table_count() as u32,
-            memories: state.memory_count() as u32,
-            globals: state.global_count() as u32,
-            tags: state.tag_count() as u32,
-            elements: state.element_count(),
-            exports: state.into_exports(),
+            id,
+            state: ValidState::new(alloc, features),
         }
     }
 
-    /// The same, borrowed.
+    // What is known of the module.
+    pub(crate) fn state(&self) -> &ModuleState
+        ensures same { result.now ≡ self.now.state }
+        ensures shown { CanBeShown result.now }
+        ensures named { AreNamed (context result.now) }
+    {
+        self.state.state()
+    }
+
+    // Judges a payload, and adds what it says. After a refusal nothing is known.
+    pub(crate) fn add(&mut self, alloc: Global, payload: &Payload<'_>) -> Result<(), Error>
+        ensures added { AddsPiece (features_of self.old.state) (context self.old.state) (piece payload.now) result (context self.new.state) }
+        ensures lost { IfErr result (λ _. context self.new.state ≡ at_first) }
+        ensures features { features_of self.new.state ≡ features_of self.old.state }
+        ensures id { self.new.id ≡ self.old.id }
+    {
+        self.state.add(alloc, payload)
+    }
+
+    /// The index spaces, borrowed.
     pub fn as_ref(&self) -> TypesRef<'_>
-        ensures { shown result ≡ self.now }
+        ensures { result.types.now ≡ self.now }
     {
         TypesRef { types: self }
     }
 }
 
-/// The index spaces of a valid module, borrowed.
-#[derive(Clone, Copy, Debug)]
+/// The index spaces of a valid module, or of a module so far, borrowed.
+#[derive(Clone, Copy)]
 pub struct TypesRef<'a> {
     types: &'a Types,
 }
 
 impl<'a> TypesRef<'a> {
-    /// The number of types.
-    pub fn core_type_count_in_module(&self) -> u32
-        ensures { result ≡ (shown self.now).types }
+    // What is known of the module.
+    pub(crate) fn state(&self) -> &'a ModuleState
+        ensures same { result.now ≡ self.now.types.now.state }
+        ensures shown { CanBeShown result.now }
     {
         let types = self.types;
-        types.types
+        types.state.state()
+    }
+
+    /// The name of the validator that made this.
+    pub fn id(&self) -> ValidatorId
+        ensures { result ≡ self.now.types.now.id }
+    {
+        let types = self.types;
+        types.id
+    }
+
+    /// The number of types.
+    pub fn core_type_count_in_module(&self) -> u32
+        ensures { result ≡ length (spaces self.now).types }
+    {
+        self.state().type_count() as u32
     }
 
     /// The number of functions, imported ones counted.
     pub fn function_count(&self) -> u32
-        ensures { result ≡ (shown self.now).functions }
+        ensures { result ≡ length (spaces self.now).functions }
     {
-        let types = self.types;
-        types.functions
+        self.state().function_count() as u32
     }
 
     /// The number of tables, imported ones counted.
     pub fn table_count(&self) -> u32
-        ensures { result ≡ (shown self.now).tables }
+        ensures { result ≡ length (spaces self.now).tables }
     {
-        let types = self.types;
-        types.tables
+        self.state().table_count() as u32
     }
 
     /// The number of memories, imported ones counted.
     pub fn memory_count(&self) -> u32
-        ensures { result ≡ (shown self.now).memories }
+        ensures { result ≡ length (spaces self.now).memories }
     {
-        let types = self.types;
-        types.memories
+        self.state().memory_count() as u32
     }
 
     /// The number of globals, imported ones counted.
     pub fn global_count(&self) -> u32
-        ensures { result ≡ (shown self.now).globals }
+        ensures { result ≡ length (spaces self.now).globals }
     {
-        let types = self.types;
-        types.globals
+        self.state().global_count() as u32
     }
 
     /// The number of tags, imported ones counted.
     pub fn tag_count(&self) -> u32
-        ensures { result ≡ (shown self.now).tags }
+        ensures { result ≡ length (spaces self.now).tags }
     {
-        let types = self.types;
-        types.tags
+        self.state().tag_count() as u32
     }
 
     /// The number of element segments.
     pub fn element_count(&self) -> u32
-        ensures { result ≡ (shown self.now).elements }
+        ensures { result ≡ length (spaces self.now).elements }
     {
-        let types = self.types;
-        types.elements
+        self.state().element_count() as u32
     }
 
     /// The exports in order. Always `Some`, since there are no components.
     pub fn core_exports(&self) -> Option<CoreExports<'a>>
-        ensures all { IsSomeAnd result (λ exports. length (exports_left exports) ≡ (shown self.now).exports) }
+        ensures all { IsSomeAnd result (λ exports. exports_left exports ≡ (spaces self.now).exports) }
         ensures fits { IsSomeAnd result (λ exports. length (exports_left exports) < 2 ^ 64) }
     {
-        let types = self.types;
-        let exports = &types.exports;
+        let exports = self.state().exports();
         // A proof knows by this call that their number is a machine's.
         let _ = exports.len();
         Some(CoreExports { exports, place: 0 })

@@ -1,69 +1,620 @@
-//! Validation of the bytes of a module.
+//! Validators, which are handed a module piece by piece.
 
-ghost use Rattle.std.specs.Prelude.{◌≡◌, ℕ, List, length};
+ghost use Rattle.std.specs.Prelude.{◌≡◌, ◌<◌, ◌==◌, ◌&&◌, [], IfErr, IfOk, IfSome, None, is_ok, is_some, length, true};
 ghost use Rattle.wasm_core_base.specs.Features.{feature_set};
-ghost use Rattle.wasmparser_module_state.specs.State.{context};
-ghost use Rattle.wasmparser_sections.specs.Sections.{AreAccepted};
-ghost use Rattle.wasmparser_validator.specs.Bodies.{AreNamed, ValidatesBodies};
+ghost use Rattle.wasm_spec.specs.Features.{default_features};
+ghost use Rattle.wasm_validity.specs.Context.{at_first};
+ghost use Rattle.wasmparser_payloads.specs.Parsing.{piece};
+ghost use Rattle.wasmparser_payloads.specs.Pieces as pieces;
+ghost use Rattle.wasmparser_validator.specs.Functions.{HasFunction};
+ghost use Rattle.wasmparser_validator.specs.Judges.{EndsModule, GivesFunction, IsOutOfOrder, JudgesAll, JudgesPayload, JudgesPiece, Opens, ShowsAll, after_piece, agrees, follows_bodies, is_in_body, is_middle, agrees_with_stated, judge, may_begin, place_of, stage_after_all, waiting, waits_for};
 ghost use Rattle.wasmparser_validator.specs.Validation.{IsValidated};
+ghost use Rattle.wasmparser_validator.specs.declared.validator.Stage.TheVariants as stages;
 
-use crate::body::validate_body;
-use crate::types::Types;
+use crate::func::{FuncToValidate, ValidatorResources};
+use crate::modules::validate_module;
+use crate::types::{Types, TypesRef};
+use crate::valid_payload::ValidPayload;
+use crate::validator_id::ValidatorId;
 use std::alloc::Global;
+use std::mem;
+use std::ops::Range;
+use thiserror::Error as ThisError;
 use wasm_core_base::features::WasmFeatures;
-use wasm_validity_laws::laws::{entries_in_turn, known_spaces, named_functions};
-use wasmparser_error::error::Error;
-use wasmparser_module_entries::laws::fronts_of_modules;
-use wasmparser_module_state::module_state::ModuleState;
+use wasm_core_base::limits::Limit;
+use wasmparser_entries::data::Data;
+use wasmparser_entries::element::Element;
+use wasmparser_entries::global::Global as GlobalItem;
+use wasmparser_entries::table::Table;
+use wasmparser_error::error::{Error, ErrorKind};
+use wasmparser_imports::imports::Imports;
+use wasmparser_items::export::Export;
+use wasmparser_items::memory_type::MemoryType;
+use wasmparser_items::tag_type::TagType;
 use wasmparser_payloads::function_body::FunctionBody;
-use wasmparser_sections::sections::{ValidSections, validate_sections};
+use wasmparser_payloads::payload::Payload;
+use wasmparser_readers::section_limited::SectionLimited;
+use wasmparser_types::sub_type::RecGroup;
 
-/// Validates the bytes of a module under these features, and shows the index spaces of a valid one. Bodies are validated
-/// after all sections.
+// What a validator waits for.
+#[derive(Clone, Copy, PartialEq, Eq)]
+enum Stage {
+    // The header of a module.
+    Header,
+    // Sections.
+    Sections,
+    // Bodies of functions, and the sections that may follow them.
+    Code,
+    // Nothing: the module has ended.
+    End,
+    // Nothing: a call was refused.
+    Failed,
+}
+
+/// Why a validator can't go on with another module: the last one is unfinished, or was refused.
+#[derive(Clone, Copy, Debug, PartialEq, Eq, ThisError)]
+#[error("the last module is unfinished, or was refused")]
+pub struct NotEnded;
+
+/// Judges a module that it is handed piece by piece. The order of sections is the parser's matter, but for bodies and what may follow them. After a refusal
+/// up to a module's end it answers `Failed` to every call; after the end, `Order`, until it is made ready for another module by [`reset`](Validator::reset).
+///
+/// A section call answers `Order` where no section is waited for, `Failed` after a refusal, `Malformed` where the items don't read, `Invalid` and `Limit` where
+/// they break a rule or pass a limit, each at a place of the section, and `Memory` where memory runs out.
+#[derive(Drop)]
+pub struct Validator {
+    alloc: Global,
+    types: Types,
+    stage: Stage,
+    bodies: usize,
+    data_count: Option<u32>,
+}
+
+// The place at which a payload is refused that isn't waited for.
+#[tactic(auto, unfolding(wasmparser_payloads::specs::Parsing::piece, crate::specs::Judges::place_of))]
+fn place_of(payload: &Payload<'_>) -> u64
+    ensures { result ≡ place_of (piece payload.now) }
+{
+    match payload {
+        Payload::Version { range, .. }
+        | Payload::StartSection { range, .. }
+        | Payload::DataCountSection { range, .. }
+        | Payload::UnknownSection { range, .. } => range.start,
+        Payload::CodeSectionStart {
+            unchecked_range,
+            ..
+        } => unchecked_range.start,
+        Payload::TypeSection(section) => section.range().start,
+        Payload::ImportSection(section) => section.range().start,
+        Payload::FunctionSection(section) => section.range().start,
+        Payload::TableSection(section) => section.range().start,
+        Payload::MemorySection(section) => section.range().start,
+        Payload::TagSection(section) => section.range().start,
+        Payload::GlobalSection(section) => section.range().start,
+        Payload::ExportSection(section) => section.range().start,
+        Payload::ElementSection(section) => section.range().start,
+        Payload::DataSection(section) => section.range().start,
+        Payload::CustomSection(section) => section.range().start,
+        Payload::CodeSectionEntry(body) => body.range().start,
+        Payload::End(position) => *position,
+    }
+}
+
+// What is waited for after a whole module.
+fn stage_after(verdict: &Result<Types, Error>) -> Stage
+    ensures { result ≡ stage_after_all verdict.now }
+{
+    match verdict {
+        Err(e) if !is_in_body(e.kind) => Stage::Failed,
+        _ => Stage::End,
+    }
+}
+
+/// Validates the bytes of a module under the default features, by a validator whose name is the number 0.
 ///
 /// # Errors
-/// `Malformed` where the bytes are no module. `Invalid` and `Limit` where what stands at their front breaks a
-/// rule or passes a limit. `Operator`, `Body` and the limit on locals, where all else is fine, for a body. `Memory` where memory runs out.
-pub fn validate_module(alloc: Global, bytes: &[u8], features: WasmFeatures) -> Result<Types, Error>
-    ensures { IsValidated (feature_set features) bytes.now result }
+/// Those of [`validate_module`].
+pub fn validate(alloc: Global, bytes: &[u8]) -> Result<Types, Error>
+    ensures validated { IsValidated default_features bytes.now result }
+    ensures id { IfOk result (λ types. types.id ≡ 0) }
 {
-    // The laws that the clause follows from, which do nothing.
-    entries_in_turn();
-    fronts_of_modules();
-    let sections = validate_sections(alloc, bytes, features)?;
-    show_types(sections, features)
+    validate_module(alloc, bytes, WasmFeatures::default(), ValidatorId::new(0))
 }
 
-// Validates the bodies of a module of which all else is fine, and shows its index spaces.
-fn show_types(sections: ValidSections<'_>, features: WasmFeatures) -> Result<Types, Error>
-    requires fine { (bytes : List ℕ) × AreAccepted (feature_set features) bytes sections }
-    ensures { (bytes : List ℕ) → AreAccepted (feature_set features) bytes sections.entry → IsValidated (feature_set features) bytes result }
+/// Whether a refusal of this kind is one of a body, of a module that is fine otherwise.
+pub fn is_in_body(kind: ErrorKind) -> bool
+    ensures { result ≡ is_in_body kind }
 {
-    // The laws that the clause follows from, which do nothing.
-    known_spaces();
-    named_functions();
-    validate_bodies(&sections.state, &sections.bodies, features)?;
-    Ok(Types::new(sections.state))
+    matches!(
+        kind,
+        ErrorKind::Operator | ErrorKind::Body | ErrorKind::Limit(Limit::Locals)
+    )
 }
 
-// Validates the body of each function of the module's own.
-fn validate_bodies(
-    state: &ModuleState,
-    bodies: &[FunctionBody<'_>],
-    features: WasmFeatures,
-) -> Result<(), Error>
-    requires named { AreNamed (context state.now) }
-    requires paired { length (context state.now).own_functions ≡ length bodies.now }
-    ensures { ValidatesBodies (feature_set features) (context state.now) bodies.now result }
+// Whether a stated number, if there is one, is that one.
+fn agrees_with_stated(number: u32, stated: Option<u32>) -> bool
+    ensures { result ≡ agrees_with_stated number stated }
 {
-    for i in 0..bodies.len() {
-        let ty = state.own_func_type(i).unwrap();
-        validate_body(
-            ty.params().len(),
-            ty.results().is_empty(),
-            &bodies[i],
-            features,
-        )?;
+    match stated {
+        None => true,
+        Some(count) => count == number,
     }
-    Ok(())
+}
+
+impl Validator {
+    /// A validator of this name, under the default features.
+    pub fn new(alloc: Global, id: ValidatorId) -> Validator
+        ensures { judge result ≡ record { id = id; stage = stages.Header; features = default_features; known = at_first; bodies = 0; stated = None } }
+    {
+        Validator::new_with_features(alloc, WasmFeatures::default(), id)
+    }
+
+    /// A validator of this name, under these features.
+    pub fn new_with_features(alloc: Global, features: WasmFeatures, id: ValidatorId) -> Validator
+        ensures { judge result ≡ record { id = id; stage = stages.Header; features = feature_set features; known = at_first; bodies = 0; stated = None } }
+    {
+        Validator {
+            alloc,
+            types: Types::without_entries(alloc, features, id),
+            stage: Stage::Header,
+            bodies: 0,
+            data_count: None,
+        }
+    }
+
+    /// The features by which modules are judged.
+    pub fn features(&self) -> WasmFeatures
+        ensures { feature_set result ≡ (judge self.now).features }
+    {
+        self.types.state().features()
+    }
+
+    /// The validator's name.
+    pub fn id(&self) -> ValidatorId
+        ensures { result ≡ (judge self.now).id }
+    {
+        self.types.as_ref().id()
+    }
+
+    // Waits for something, and knows of no module.
+    fn wait_for(&mut self, stage: Stage)
+        ensures { judge self.new ≡ waiting (judge self.old) stage }
+    {
+        let features = self.features();
+        let id = self.id();
+        self.types = Types::without_entries(self.alloc, features, id);
+        self.stage = stage;
+        self.bodies = 0;
+        self.data_count = None;
+    }
+
+    // Whether a payload is waited for.
+    #[tactic(auto, unfolding(wasmparser_payloads::specs::Parsing::piece, crate::specs::Judges::waits_in, crate::specs::Judges::may_stand_between, crate::specs::Judges::is_version))]
+    fn waits_for(&self, payload: &Payload<'_>) -> bool
+        ensures { result ≡ waits_for (judge self.now) (piece payload.now) }
+    {
+        match self.stage {
+            Stage::Header => matches!(payload, Payload::Version { .. }),
+            Stage::Sections => !matches!(
+                payload,
+                Payload::Version { .. } | Payload::CodeSectionEntry(_)
+            ),
+            Stage::Code => self.follows_bodies(payload),
+            Stage::End | Stage::Failed => false,
+        }
+    }
+
+    // Whether a payload may come among bodies and after them.
+    #[tactic(auto, unfolding(wasmparser_payloads::specs::Parsing::piece, crate::specs::Judges::follows_bodies))]
+    fn follows_bodies(&self, payload: &Payload<'_>) -> bool
+        ensures { result ≡ follows_bodies (judge self.now) (piece payload.now) }
+    {
+        match payload {
+            Payload::CodeSectionEntry(_) => {
+                self.bodies < self.types.state().own_function_count()
+            }
+            Payload::DataSection(_) | Payload::CustomSection(_) | Payload::End(_) => true,
+            _ => false,
+        }
+    }
+
+    // Whether the numbers agree that a payload states.
+    #[tactic(auto, unfolding(wasmparser_payloads::specs::Parsing::piece, crate::specs::Judges::agrees))]
+    fn agrees(&self, payload: &Payload<'_>) -> bool
+        ensures { result ≡ agrees (judge self.now) (piece payload.now) }
+    {
+        let state = self.types.state();
+        match payload {
+            Payload::Version { num, .. } => *num == 1,
+            Payload::CodeSectionStart { count, .. } => {
+                *count as usize == state.own_function_count()
+            }
+            Payload::DataCountSection { count, .. } => agrees_with_stated(*count, self.data_count),
+            Payload::End(_) => {
+                state.own_function_count() == self.bodies
+                    && agrees_with_stated(state.data_count(), self.data_count)
+            }
+            _ => true,
+        }
+    }
+
+    // Refuses what isn't waited for.
+    fn refuse_order(&mut self, offset: u64) -> Error
+        ensures { IsOutOfOrder (judge self.old).stage offset (judge self.old) result (judge self.new) }
+    {
+        match self.stage {
+            Stage::Failed => Error {
+                offset,
+                kind: ErrorKind::Failed,
+            },
+            Stage::End => Error {
+                offset,
+                kind: ErrorKind::Order,
+            },
+            _ => {
+                self.wait_for(Stage::Failed);
+                Error {
+                    offset,
+                    kind: ErrorKind::Order,
+                }
+            }
+        }
+    }
+
+    // Notes that a payload came that is waited for.
+    #[tactic(auto, using(crate::proofs::JudgeLaws::body_waited), unfolding(wasmparser_payloads::specs::Parsing::piece, crate::specs::Judges::bodies_with, crate::specs::Judges::stated_with, crate::specs::Judges::stage_after))]
+    fn go_on(&mut self, payload: &Payload<'_>)
+        requires { waits_for (judge self.old) (piece payload.now) ≡ true }
+        ensures { judge self.new ≡ after_piece (judge self.old) (piece payload.now) (judge self.old).known }
+    {
+        match payload {
+            Payload::Version { .. } => self.stage = Stage::Sections,
+            Payload::CodeSectionStart { .. } => self.stage = Stage::Code,
+            Payload::CodeSectionEntry(_) => {
+                // (so one more is a number too)
+                let _ = self.types.state().own_function_count();
+                self.bodies += 1;
+            }
+            Payload::DataCountSection { count, .. } => self.data_count = Some(*count),
+            _ => {}
+        }
+    }
+
+    // Whether a payload is waited for, and its numbers agree; else why not.
+    #[tactic(auto, using(crate::proofs::JudgeLaws::open_steps))]
+    fn open(&mut self, payload: &Payload<'_>) -> Result<(), Error>
+        ensures open { Opens (judge self.old) (piece payload.now) result (judge self.new) }
+        ensures same { IfOk result (λ _. self.new ≡ self.old) }
+    {
+        let offset = place_of(payload);
+        if !self.waits_for(payload) {
+            return Err(self.refuse_order(offset));
+        }
+        if !self.agrees(payload) {
+            self.wait_for(Stage::Failed);
+            return Err(Error {
+                offset,
+                kind: ErrorKind::Malformed,
+            });
+        }
+        Ok(())
+    }
+
+    // Judges a payload that is waited for, and adds what it says. The end adds nothing.
+    #[tactic(auto, using(crate::proofs::JudgeLaws::judge_steps))]
+    fn judge(&mut self, payload: &Payload<'_>) -> Result<(), Error>
+        ensures { JudgesPiece (judge self.old) (piece payload.now) result (judge self.new) }
+    {
+        self.open(payload)?;
+        self.go_on(payload);
+        match self.types.add(self.alloc, payload) {
+            Ok(()) => Ok(()),
+            Err(error) => {
+                self.wait_for(Stage::Failed);
+                Err(error)
+            }
+        }
+    }
+
+    // The function of the module's own at a place among these, whose body is to be validated.
+    fn function_at(&self, place: usize) -> FuncToValidate<ValidatorResources>
+        requires { place < length (judge self.now).known.own_functions }
+        ensures { HasFunction (judge self.now).features (judge self.now).known place result }
+    {
+        let state = self.types.state();
+        let imported = state.function_count() - state.own_function_count();
+        let ty = state.own_func_type(place).unwrap();
+        FuncToValidate {
+            resources: ValidatorResources {
+                params: ty.params().len(),
+                gives_nothing: ty.results().is_empty(),
+            },
+            index: (imported + place) as u32,
+            ty: state.type_of_own_function(place).unwrap(),
+            features: state.features(),
+        }
+    }
+
+    // Hands on what is known of a module that has ended, and waits for another one.
+    fn take_types(&mut self) -> Types
+        ensures all { result ≡ self.old.types }
+        ensures after { judge self.new ≡ waiting (judge self.old) stages.End }
+    {
+        let features = self.features();
+        let id = self.id();
+        let ended = mem::replace(
+            &mut self.types,
+            Types::without_entries(self.alloc, features, id),
+        );
+        self.wait_for(Stage::End);
+        ended
+    }
+
+    /// Begins a module, of this version of the format.
+    ///
+    /// # Errors
+    /// `Malformed` where the version isn't 1; `Order` where a module has begun or ended, `Failed` after a refusal.
+    #[tactic(auto, unfolding(wasmparser_payloads::specs::Parsing::piece))]
+    pub fn version(&mut self, num: u16, range: &Range<u64>) -> Result<(), Error>
+        ensures { JudgesPiece (judge self.old) (pieces.Version num (record { start = range.now.start; after = range.now.end })) result (judge self.new) }
+    {
+        let range = range.start..range.end;
+        self.judge(&Payload::Version { num, range })
+    }
+
+    /// Judges a type section, item by item.
+    #[tactic(auto, unfolding(wasmparser_payloads::specs::Parsing::piece))]
+    pub fn type_section(&mut self, section: &SectionLimited<'_, RecGroup>) -> Result<(), Error>
+        ensures { JudgesPiece (judge self.old) (pieces.Types section.now) result (judge self.new) }
+    {
+        self.judge(&Payload::TypeSection(section.clone()?))
+    }
+
+    /// Judges an import section, item by item.
+    #[tactic(auto, unfolding(wasmparser_payloads::specs::Parsing::piece))]
+    pub fn import_section<'a>(
+        &mut self,
+        section: &SectionLimited<'a, Imports<'a>>,
+    ) -> Result<(), Error>
+        ensures { JudgesPiece (judge self.old) (pieces.Imports section.now) result (judge self.new) }
+    {
+        self.judge(&Payload::ImportSection(section.clone()?))
+    }
+
+    /// Judges a function section, item by item.
+    #[tactic(auto, unfolding(wasmparser_payloads::specs::Parsing::piece))]
+    pub fn function_section(&mut self, section: &SectionLimited<'_, u32>) -> Result<(), Error>
+        ensures { JudgesPiece (judge self.old) (pieces.Functions section.now) result (judge self.new) }
+    {
+        self.judge(&Payload::FunctionSection(section.clone()?))
+    }
+
+    /// Judges a table section, item by item.
+    #[tactic(auto, unfolding(wasmparser_payloads::specs::Parsing::piece))]
+    pub fn table_section<'a>(
+        &mut self,
+        section: &SectionLimited<'a, Table<'a>>,
+    ) -> Result<(), Error>
+        ensures { JudgesPiece (judge self.old) (pieces.Tables section.now) result (judge self.new) }
+    {
+        self.judge(&Payload::TableSection(section.clone()?))
+    }
+
+    /// Judges a memory section, item by item.
+    #[tactic(auto, unfolding(wasmparser_payloads::specs::Parsing::piece))]
+    pub fn memory_section(&mut self, section: &SectionLimited<'_, MemoryType>) -> Result<(), Error>
+        ensures { JudgesPiece (judge self.old) (pieces.Memories section.now) result (judge self.new) }
+    {
+        self.judge(&Payload::MemorySection(section.clone()?))
+    }
+
+    /// Judges a tag section, item by item.
+    #[tactic(auto, unfolding(wasmparser_payloads::specs::Parsing::piece))]
+    pub fn tag_section(&mut self, section: &SectionLimited<'_, TagType>) -> Result<(), Error>
+        ensures { JudgesPiece (judge self.old) (pieces.Tags section.now) result (judge self.new) }
+    {
+        self.judge(&Payload::TagSection(section.clone()?))
+    }
+
+    /// Judges a global section, item by item.
+    #[tactic(auto, unfolding(wasmparser_payloads::specs::Parsing::piece))]
+    pub fn global_section<'a>(
+        &mut self,
+        section: &SectionLimited<'a, GlobalItem<'a>>,
+    ) -> Result<(), Error>
+        ensures { JudgesPiece (judge self.old) (pieces.Globals section.now) result (judge self.new) }
+    {
+        self.judge(&Payload::GlobalSection(section.clone()?))
+    }
+
+    /// Judges an export section, item by item.
+    #[tactic(auto, unfolding(wasmparser_payloads::specs::Parsing::piece))]
+    pub fn export_section<'a>(
+        &mut self,
+        section: &SectionLimited<'a, Export<'a>>,
+    ) -> Result<(), Error>
+        ensures { JudgesPiece (judge self.old) (pieces.Exports section.now) result (judge self.new) }
+    {
+        self.judge(&Payload::ExportSection(section.clone()?))
+    }
+
+    /// Judges an element section, item by item.
+    #[tactic(auto, unfolding(wasmparser_payloads::specs::Parsing::piece))]
+    pub fn element_section<'a>(
+        &mut self,
+        section: &SectionLimited<'a, Element<'a>>,
+    ) -> Result<(), Error>
+        ensures { JudgesPiece (judge self.old) (pieces.Elements section.now) result (judge self.new) }
+    {
+        self.judge(&Payload::ElementSection(section.clone()?))
+    }
+
+    /// Judges a data section, item by item.
+    #[tactic(auto, unfolding(wasmparser_payloads::specs::Parsing::piece))]
+    pub fn data_section<'a>(&mut self, section: &SectionLimited<'a, Data<'a>>) -> Result<(), Error>
+        ensures { JudgesPiece (judge self.old) (pieces.Segments section.now) result (judge self.new) }
+    {
+        self.judge(&Payload::DataSection(section.clone()?))
+    }
+
+    /// Judges a start section.
+    ///
+    /// # Errors
+    /// `Invalid` where there is no such function, or it takes or gives something; `Order` and `Failed` as for all sections.
+    #[tactic(auto, unfolding(wasmparser_payloads::specs::Parsing::piece))]
+    pub fn start_section(&mut self, func: u32, range: &Range<u64>) -> Result<(), Error>
+        ensures { JudgesPiece (judge self.old) (pieces.Start func (record { start = range.now.start; after = range.now.end })) result (judge self.new) }
+    {
+        let range = range.start..range.end;
+        self.judge(&Payload::StartSection { func, range })
+    }
+
+    /// Judges a data count section.
+    ///
+    /// # Errors
+    /// `Invalid` where bulk memory is off, `Malformed` where another number was stated before; `Order` and `Failed` as for all sections.
+    #[tactic(auto, unfolding(wasmparser_payloads::specs::Parsing::piece))]
+    pub fn data_count_section(&mut self, count: u32, range: &Range<u64>) -> Result<(), Error>
+        ensures { JudgesPiece (judge self.old) (pieces.DataCount count (record { start = range.now.start; after = range.now.end })) result (judge self.new) }
+    {
+        let range = range.start..range.end;
+        self.judge(&Payload::DataCountSection { count, range })
+    }
+
+    /// Begins a code section, in which each function of the module's own has a body.
+    ///
+    /// # Errors
+    /// `Order` and `Failed` as for all sections.
+    #[tactic(auto, unfolding(wasmparser_payloads::specs::Parsing::piece))]
+    pub fn code_section_start(&mut self, range: &Range<u64>) -> Result<(), Error>
+        ensures { JudgesPiece (judge self.old) (pieces.CodeStart (length (judge self.old).known.own_functions) (record { start = range.now.start; after = range.now.end }) 0) result (judge self.new) }
+    {
+        let unchecked_range = range.start..range.end;
+        let count = self.types.state().own_function_count() as u32;
+        self.judge(&Payload::CodeSectionStart {
+            count,
+            unchecked_range,
+            size: 0,
+        })
+    }
+
+    /// Judges the size of a body, and gives its function, by which it is to be validated.
+    ///
+    /// # Errors
+    /// `Limit` where the body has more bytes than its limit; `Order` before the code section begins and past the functions, `Failed` after a refusal.
+    #[tactic(auto, using(crate::proofs::JudgeLaws::body_steps), unfolding(wasmparser_payloads::specs::Parsing::piece))]
+    pub fn code_section_entry(
+        &mut self,
+        body: &FunctionBody<'_>,
+    ) -> Result<FuncToValidate<ValidatorResources>, Error>
+        ensures { GivesFunction (judge self.old) body.now result (judge self.new) }
+    {
+        let payload = Payload::CodeSectionEntry(body.clone()?);
+        self.open(&payload)?;
+        let function = self.function_at(self.bodies);
+        self.judge(&payload)?;
+        Ok(function)
+    }
+
+    /// Refuses a section of an id that the format doesn't have.
+    ///
+    /// # Errors
+    /// `Malformed`, where neither `Order` nor `Failed` comes.
+    #[tactic(auto, unfolding(wasmparser_payloads::specs::Parsing::piece))]
+    pub fn unknown_section(&mut self, id: u8, range: &Range<u64>) -> Result<(), Error>
+        ensures { JudgesPiece (judge self.old) (pieces.Unknown id [] (record { start = range.now.start; after = range.now.end })) result (judge self.new) }
+    {
+        let range = range.start..range.end;
+        self.judge(&Payload::UnknownSection {
+            id,
+            contents: &[],
+            range,
+        })
+    }
+
+    /// Ends a module, at this place of the input, and shows its index spaces. Then [`reset`](Validator::reset) makes ready for another one.
+    ///
+    /// # Errors
+    /// `Malformed` where there are more functions than bodies, or another number of data segments than was stated; `Order` where no module has begun or
+    /// it has ended, `Failed` after a refusal.
+    #[tactic(auto, unfolding(wasmparser_payloads::specs::Parsing::piece))]
+    pub fn end(&mut self, offset: u64) -> Result<Types, Error>
+        ensures ended { EndsModule (judge self.old) offset result (judge self.new) }
+        ensures shown { IfOk result (λ shown. shown ≡ self.old.types) }
+    {
+        self.open(&Payload::End(offset))?;
+        Ok(self.take_types())
+    }
+
+    /// Judges a payload: its section, or that it may come. It gives the function of a body, which is still to be validated, and at the end what is shown
+    /// of the module.
+    ///
+    /// # Errors
+    /// Those of the calls for each kind of payload. `Malformed` where a code section states another number of bodies than there are functions. `Order` where a
+    /// payload isn't waited for, and `Failed` after a refusal.
+    #[tactic(auto, unfolding(wasmparser_payloads::specs::Parsing::piece, wasmparser_sections::specs::PieceJudging::body_in, crate::specs::Judges::is_end))]
+    pub fn payload<'a>(&mut self, payload: &Payload<'a>) -> Result<ValidPayload<'a>, Error>
+        ensures judged { JudgesPayload (judge self.old) (piece payload.now) result (judge self.new) }
+        ensures shown { IfOk result (ShowsAll self.old.types) }
+    {
+        match payload {
+            Payload::End(position) => {
+                let types = self.end(*position)?;
+                Ok(ValidPayload::End(types))
+            }
+            Payload::CodeSectionEntry(body) => {
+                let function = self.code_section_entry(body)?;
+                Ok(ValidPayload::Func(function, body.clone()?))
+            }
+            _ => {
+                self.judge(payload)?;
+                Ok(ValidPayload::Ok)
+            }
+        }
+    }
+
+    /// What is known of the module so far, in the middle of one. There are no components, so no other level than 0.
+    pub fn types(&self, level: usize) -> Option<TypesRef<'_>>
+        ensures middle { is_some result ≡ ((level == 0) && is_middle (judge self.now).stage) }
+        ensures shown { IfSome result (λ shown. shown.types.now ≡ self.now.types) }
+    {
+        match self.stage {
+            Stage::Sections | Stage::Code if level == 0 => Some(self.types.as_ref()),
+            _ => None,
+        }
+    }
+
+    /// Makes ready for another module, with the same name and features.
+    ///
+    /// # Errors
+    /// In the middle of a module, and after any refusal up to its end: then nothing changes.
+    pub fn reset(&mut self) -> Result<(), NotEnded>
+        ensures when { is_ok result ≡ may_begin (judge self.old).stage }
+        ensures ready { IfOk result (λ _. judge self.new ≡ record (judge self.old) { stage = stages.Header }) }
+        ensures refused { IfErr result (λ _. self.new ≡ self.old) }
+    {
+        match self.stage {
+            Stage::Header | Stage::End => {
+                self.stage = Stage::Header;
+                Ok(())
+            }
+            _ => Err(NotEnded),
+        }
+    }
+
+    /// Validates the bytes of a module, bodies after all sections, and shows the index spaces of a valid one. After a refusal of a body the validator can be
+    /// made ready for another module.
+    ///
+    /// # Errors
+    /// Those of [`validate_module`]; `Order` at 0 where a module has begun or the last one has ended, `Failed` at 0 after another refusal.
+    pub fn validate_all(&mut self, bytes: &[u8]) -> Result<Types, Error>
+        ensures { JudgesAll (judge self.old).stage (judge self.old) bytes.now result (judge self.new) }
+    {
+        if self.stage != Stage::Header {
+            return Err(self.refuse_order(0));
+        }
+        let verdict = validate_module(self.alloc, bytes, self.features(), self.id());
+        self.wait_for(stage_after(&verdict));
+        verdict
+    }
 }

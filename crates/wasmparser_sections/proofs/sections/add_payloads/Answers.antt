@@ -1,4 +1,4 @@
-use Rattle.std.proofs.Common.{refl, subst, ◌∙◌, Err}
+use Rattle.std.proofs.Common.{refl, subst, ◌∙◌, Err, arith}
 use Rattle.std.proofs.lemmas.Result.{err_from_is_err_and}
 use Rattle.wasm_core_read.proofs.FrontLaws.{slice_bytes}
 use Rattle.wasmparser_module_state.specs.State.{context}
@@ -21,7 +21,7 @@ pub payloads-preserved : goal.payloads-preserved
 payloads-preserved c =
     let n = rw c.in_ok-payload.was at c.in-Some.ensures.steps in
     let says = subst (λ f. Says f (context c.payloads.state) (piece c.in_ok-payload.payload) (context c.add_payload.new.state)) c.payloads.invariant.1 c.in_ok-add_payload.ensures.added in (
-      goes_on _ _ _ _ _ _ _ _ _ _ _ c.payloads.invariant.0 n says c.in_ok-add_payload.ensures.bodies c.in_ok-add_payload.ensures.counts,
+      goes_on _ _ _ _ _ _ _ _ _ _ _ c.payloads.invariant.0 n says c.in_ok-keep.ensures.bodies c.in_ok-keep.ensures.counts,
       c.in_ok-add_payload.ensures.features ∙ c.payloads.invariant.1,
     )
 
@@ -31,6 +31,11 @@ returns-in_err-add_payload-clause-read c =
     let p = err_from_is_err_and c.from_residual-in_err-add_payload.result c.from_residual-in_err-add_payload.ensures.1 in
     let h = subst (λ f. AddsPiece f (context c.payloads.state) (piece c.in_ok-payload.payload) (Err c.in_err-add_payload.field-0.0) (context c.add_payload.new.state)) c.payloads.invariant.1 c.in_err-add_payload.ensures.added in
     rw (p.1, p.2) (refused _ _ _ (context c.add_payload.new.state) _ _ _ _ _ _ (slice_bytes _ c.type_inv.bytes) c.payloads.invariant.0 n h)
+
+pub returns-in_err-keep-clause-read : goal.returns-in_err-keep-clause-read
+returns-in_err-keep-clause-read c =
+    let p = err_from_is_err_and c.from_residual-in_err-keep.result c.from_residual-in_err-keep.ensures.1 in
+    rw (p.1, p.2, c.in_err-keep.ensures.memory) (tt, omega arith, λ is. refl)
 
 pub returns-clause-read : goal.returns-clause-read
 returns-clause-read c = all_read _ _ _ _ _ _ (slice_bytes _ c.type_inv.bytes) c.payloads.invariant.0 c.in_default.ensures.steps.0

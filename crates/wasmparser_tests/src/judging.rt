@@ -1,0 +1,269 @@
+//! Validators that are handed modules piece by piece.
+
+use std::alloc::Global;
+use std::iter::Iterator;
+use std::test::Fail;
+use wasm_core::binary_reader::BinaryReader;
+use wasm_core::features::{Flags, WasmFeatures};
+use wasm_test_rows::fields::two_fields;
+use wasm_test_rows::rows::check_rows;
+use wasm_test_rows::values::bytes_of;
+use wasmparser::error::Error;
+use wasmparser::func::FuncValidatorAllocations;
+use wasmparser::function_body::FunctionBody;
+use wasmparser::parser::Parser;
+use wasmparser::payload::Payload;
+use wasmparser::section_limited::SectionLimited;
+use wasmparser::valid_payload::ValidPayload;
+use wasmparser::validator::Validator;
+use wasmparser::validator_id::ValidatorId;
+
+// Calls one after the other, each with its answer. The sections have one item each: a type of functions that take and give nothing, a function of it, a
+// memory, a data segment.
+const CALLS: &str = "
+    reset=ok types=none version=ok types=some reset=notended types=some end=ok types=none reset=ok version=ok
+    type=order types=none version=failed reset=notended types=none
+    version2=malformed version=failed
+    version=ok version=order type=failed end=failed reset=notended
+    version=ok type=ok function=ok code=ok memory=order code=failed
+    version=ok type=ok function=ok code=ok type=order
+    version=ok type=ok function=ok code=ok code=order
+    version=ok memory=ok type=ok function=ok code=ok body=ok data=ok end=ok type=order end=order version=order reset=ok version=ok type=ok
+    version=ok type=ok function=ok code=ok body=ok body=order body=failed
+    version=ok body=order
+    version=ok type=ok function=ok code=ok end=malformed reset=notended
+    version=ok type=ok function=ok end=malformed
+    version=ok function=invalid type=failed
+    version=ok type=ok function=ok code=ok unknown=order
+    version=ok unknown=malformed unknown=failed
+    unknown=order
+    end=order end=failed
+    code=order
+    version=ok count0=ok end=ok
+    version=ok count1=ok end=malformed
+    version=ok count1=ok data=invalid data=failed
+    version=ok memory=ok count1=ok data=ok end=ok
+    version=ok memory=ok count0=ok data=ok end=malformed
+    version=ok count1=ok count0=malformed
+    version=ok start=invalid
+    version=ok type=ok function=ok start=ok code=ok body=ok end=ok
+    version=ok code=ok end=ok
+    all=ok types=none type=order reset=ok all=ok
+    version=ok all=order all=failed
+    allbad=malformed all=failed reset=notended
+    allbody=body reset=ok all=ok all=order
+";
+
+fn section<'a, T>(bytes: &'a [u8]) -> Result<SectionLimited<'a, T>, Error> {
+    Ok(SectionLimited::new(BinaryReader::new(bytes, 8))?)
+}
+
+fn is_answer<T>(given: &Result<T, Error>, expected: &str) -> bool {
+    match given {
+        Ok(_) => expected == "ok",
+        Err(e) => e.kind.name() == expected,
+    }
+}
+
+fn type_section(validator: &mut Validator) -> Result<(), Error> {
+    validator.type_section(&section(&[1, 0x60, 0, 0])?)
+}
+
+fn function_section(validator: &mut Validator) -> Result<(), Error> {
+    validator.function_section(&section(&[1, 0])?)
+}
+
+fn memory_section(validator: &mut Validator) -> Result<(), Error> {
+    validator.memory_section(&section(&[1, 0, 1])?)
+}
+
+fn data_section(validator: &mut Validator) -> Result<(), Error> {
+    validator.data_section(&section(&[1, 0, 0x41, 0, 0x0b, 0])?)
+}
+
+// Calls for sections.
+fn section_is(validator: &mut Validator, call: &str, expected: &str) -> Option<bool> {
+    let range = 8..16;
+    let given = match call {
+        "type" => type_section(validator),
+        "function" => function_section(validator),
+        "memory" => memory_section(validator),
+        "data" => data_section(validator),
+        "start" => validator.start_section(0, &range),
+        "count0" => validator.data_count_section(0, &range),
+        "count1" => validator.data_count_section(1, &range),
+        "unknown" => validator.unknown_section(14, &range),
+        "version" => validator.version(1, &range),
+        "version2" => validator.version(2, &range),
+        "code" => validator.code_section_start(&range),
+        _ => return None,
+    };
+    Some(is_answer(&given, expected))
+}
+
+const MODULE: &[u8] = &[0, 0x61, 0x73, 0x6d, 1, 0, 0, 0];
+
+// A module of one function, whose body has no end.
+const BROKEN_BODY: &[u8] = &[
+    0, 0x61, 0x73, 0x6d, 1, 0, 0, 0, 1, 4, 1, 0x60, 0, 0, 3, 2, 1, 0, 10, 3, 1, 1, 0,
+];
+
+fn body_is(validator: &mut Validator, expected: &str) -> bool {
+    let body = FunctionBody::new(BinaryReader::new(&[0, 0x0b], 20));
+    is_answer(&validator.code_section_entry(&body), expected)
+}
+
+fn end_is(validator: &mut Validator, expected: &str) -> bool {
+    is_answer(&validator.end(30), expected)
+}
+
+fn all_is(validator: &mut Validator, bytes: &[u8], expected: &str) -> bool {
+    is_answer(&validator.validate_all(bytes), expected)
+}
+
+// Other calls.
+fn other_is(validator: &mut Validator, call: &str, expected: &str) -> bool {
+    match call {
+        "body" => body_is(validator, expected),
+        "end" => end_is(validator, expected),
+        "all" => all_is(validator, MODULE, expected),
+        "allbad" => all_is(validator, &[0], expected),
+        "allbody" => all_is(validator, BROKEN_BODY, expected),
+        "types" => validator.types(0).is_some() == (expected == "some"),
+        "reset" => validator.reset().is_ok() == (expected == "ok"),
+        _ => false,
+    }
+}
+
+fn answers(validator: &mut Validator, row: &str) -> bool {
+    for step in row.split_whitespace() {
+        let Some((call, expected)) = step.split_once('=') else {
+            return false;
+        };
+        let holds = match section_is(validator, call, expected) {
+            Some(holds) => holds,
+            None => other_is(validator, call, expected),
+        };
+        if !holds {
+            return false;
+        }
+    }
+    validator.types(1).is_none() && validator.id() == ValidatorId::new(5)
+}
+
+fn answers_in_turn(alloc: Global, row: &str) -> Option<bool> {
+    let mut validator = Validator::new_with_features(
+        alloc,
+        WasmFeatures::all(),
+        ValidatorId::new(5),
+    );
+    Some(answers(&mut validator, row))
+}
+
+#[test]
+fn calls_are_answered_in_turn(rt: HostRuntime) -> Result<(), Fail> {
+    Ok(check_rows(rt.alloc(), CALLS, 31, answers_in_turn)?)
+}
+
+// A module of empty sections, each by its own call.
+fn judge_each(validator: &mut Validator) -> Result<u32, Error> {
+    validator.version(1, &(0..8))?;
+    validator.type_section(&section(&[0])?)?;
+    validator.import_section(&section(&[0])?)?;
+    validator.function_section(&section(&[0])?)?;
+    validator.table_section(&section(&[0])?)?;
+    validator.memory_section(&section(&[0])?)?;
+    validator.tag_section(&section(&[0])?)?;
+    validator.global_section(&section(&[0])?)?;
+    validator.export_section(&section(&[0])?)?;
+    validator.element_section(&section(&[0])?)?;
+    validator.data_section(&section(&[0])?)?;
+    Ok(validator.end(30)?.as_ref().core_type_count_in_module())
+}
+
+#[test]
+fn each_section_has_a_call(rt: HostRuntime) -> Result<(), Fail> {
+    let mut validator = Validator::new_with_features(
+        rt.alloc(),
+        WasmFeatures::all(),
+        ValidatorId::new(5),
+    );
+    assert!(rt; judge_each(&mut validator).is_ok());
+    Ok(())
+}
+
+// Modules, and what is answered to their payloads: how many functions and types there are, or what is refused.
+const MODULES: &str = "
+    0061736d01000000 | 0 0
+    0061736d01000000 01 04 01 60 00 00 03 02 01 00 0a 04 01 02 00 0b | 1 1
+    0061736d01000000 01 04 01 60 00 00 03 03 02 00 00 0a 07 02 02 00 0b 02 00 0b | 2 1
+    0061736d01000000 01 04 01 60 00 00 03 03 02 00 00 0a 07 02 02 00 0b 02 00 6a | operator
+    0061736d01000000 01 08 02 60 00 00 60 00 01 7f 03 03 02 00 01 0a 07 02 02 00 0b 02 00 0b | body
+    0061736d01000000 01 04 01 60 00 00 03 02 01 00 0a 07 02 02 00 0b 02 00 0b | malformed
+    0061736d01000000 0a 04 01 02 00 0b | malformed
+    0061736d01000000 01 04 01 60 00 00 03 02 01 00 | malformed
+    0061736d01000000 01 04 01 60 00 00 03 02 01 01 0a 04 01 02 00 0b | invalid
+    0061736d01000000 00 03 01 63 07 01 04 01 60 00 00 0e 00 | malformed
+    0061736d01000000 05 03 01 00 01 0c 01 01 0b 06 01 00 41 00 0b 00 | 0 0
+    0061736d01000000 05 03 01 00 01 0c 01 02 0b 06 01 00 41 00 0b 00 | malformed
+";
+
+// Validates a body by the function that was given for it.
+fn is_fine(alloc: Global, given: &ValidPayload<'_>) -> Result<(), Error> {
+    match given {
+        ValidPayload::Func(function, body) => {
+            let mut validator = function.into_validator(FuncValidatorAllocations::new(alloc));
+            validator.validate(body)
+        }
+        _ => Ok(()),
+    }
+}
+
+fn sizes_of(given: &ValidPayload<'_>) -> Option<(u32, u32)> {
+    match given {
+        ValidPayload::End(types) => {
+            let view = types.as_ref();
+            Some((view.function_count(), view.core_type_count_in_module()))
+        }
+        _ => None,
+    }
+}
+
+// Judges a payload, and the body that it is.
+fn judge(
+    alloc: Global,
+    validator: &mut Validator,
+    payload: &Payload<'_>,
+) -> Result<Option<(u32, u32)>, Error> {
+    let given = validator.payload(payload)?;
+    is_fine(alloc, &given)?;
+    Ok(sizes_of(&given))
+}
+
+fn is_answered(alloc: Global, validator: &mut Validator, row: &str) -> Option<bool> {
+    let (bytes, expected) = two_fields(row)?;
+    let bytes = bytes_of(alloc, bytes)?;
+    let mut sizes = None;
+    for payload in Parser::new(0).parse_all(&bytes) {
+        let payload = match payload {
+            Ok(payload) => payload,
+            Err(e) => return Some(e.kind.name() == expected),
+        };
+        match judge(alloc, validator, &payload) {
+            Ok(given) => sizes = given,
+            Err(e) => return Some(e.kind.name() == expected),
+        }
+    }
+    let (functions, types) = sizes?;
+    Some(format!(in alloc; "{functions} {types}").ok()?.as_str() == expected)
+}
+
+fn payloads_are_answered(alloc: Global, row: &str) -> Option<bool> {
+    let mut validator = Validator::new(alloc, ValidatorId::new(5));
+    is_answered(alloc, &mut validator, row)
+}
+
+#[test]
+fn payloads_are_judged_in_turn(rt: HostRuntime) -> Result<(), Fail> {
+    Ok(check_rows(rt.alloc(), MODULES, 12, payloads_are_answered)?)
+}

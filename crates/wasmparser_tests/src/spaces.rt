@@ -1,0 +1,174 @@
+//! What a valid module shows.
+
+use std::alloc::Global;
+use std::test::Fail;
+use wasm_core::features::{Flags, WasmFeatures};
+use wasm_test_rows::fields::three_fields;
+use wasm_test_rows::rows::check_rows;
+use wasm_test_rows::values::bytes_of;
+use wasmparser::composite_type::CompositeType;
+use wasmparser::entity_type::EntityType;
+use wasmparser::export::{Export, ExternalKind};
+use wasmparser::imports::Imports;
+use wasmparser::index::CoreTypeId;
+use wasmparser::modules::validate_module;
+use wasmparser::parser::Parser;
+use wasmparser::payload::Payload;
+use wasmparser::types::TypesRef;
+use wasmparser::validator_id::ValidatorId;
+
+// What is shown of a module: the kinds of its types, whether the items of its element segments may be null, or what it exports and imports. A function and
+// a tag show how many parameters and results they have.
+const SHOWN: &str = "
+    types | 0061736d01000000 01 0b 03 60 00 00 5f 01 7f 00 5e 7f 00 | func struct array
+    types | 0061736d01000000 | 
+    elements | 0061736d01000000 01 04 01 60 00 00 03 02 01 00 09 0b 02 01 00 01 00 05 70 01 d0 70 0b 0a 05 01 03 00 00 0b | ref refnull
+    elements | 0061736d01000000 01 04 01 60 00 00 09 08 01 05 63 00 01 d0 00 0b | refnull
+    exports | 0061736d01000000 05 03 01 00 01 07 09 02 01 61 02 00 01 62 02 00 | a memory 1 None; b memory 1 None
+    exports | 0061736d01000000 01 0b 02 60 02 7f 7e 01 7d 60 01 7f 00 02 07 01 01 6d 01 66 00 01 03 02 01 00 04 05 01 70 01 02 05 05 04 01 01 01 03 0d 03 01 00 01 06 06 01 7e 01 42 00 0b 07 19 06 01 61 00 00 01 62 00 01 01 74 01 00 01 6d 02 00 01 67 03 00 01 65 04 00 0a 05 01 03 00 00 0b | a func 1 0; b func 2 1; t table 2 Some(5) true; m memory 1 Some(3); g global false true; e tag 1 0
+    exports | 0061736d01000000 01 03 01 5f 00 06 07 01 63 00 00 d0 00 0b 07 05 01 01 67 03 00 | g global true false
+    imports | 0061736d01000000 01 0b 02 60 02 7f 7e 01 7d 60 01 7f 00 02 24 05 01 6d 01 66 00 01 01 6d 01 74 01 6f 00 04 01 6d 01 6d 02 00 03 01 6d 01 67 03 7f 00 01 6d 01 65 04 00 01 | func 1 0; table 4 None true; memory 3 None; global false false; tag 1 0
+";
+
+fn type_text(alloc: Global, view: TypesRef<'_>, word: &str, id: CoreTypeId) -> Option<String> {
+    let ty = view.get(id)?.composite_type.as_func()?;
+    format!(in alloc; "{word} {} {}", ty.params().len(), ty.results().len()).ok()
+}
+
+fn entity_text(alloc: Global, view: TypesRef<'_>, entity: EntityType) -> Option<String> {
+    let text = match entity {
+        EntityType::Func(id) => return type_text(alloc, view, "func", id),
+        EntityType::Tag(id) => return type_text(alloc, view, "tag", id),
+        EntityType::Table(ty) => {
+            let is_nullable = ty.element_type.is_nullable();
+            format!(in alloc; "table {} {:?} {}", ty.initial, ty.maximum, is_nullable)
+        }
+        EntityType::Memory(ty) => format!(in alloc; "memory {} {:?}", ty.initial, ty.maximum),
+        EntityType::Global(ty) => {
+            let is_reference = ty.content_type.is_reference_type();
+            format!(in alloc; "global {} {}", is_reference, ty.mutable)
+        }
+    };
+    text.ok()
+}
+
+// The item of a kind with an index, by the call for its kind.
+fn entity_at(view: TypesRef<'_>, kind: ExternalKind, index: u32) -> Option<EntityType> {
+    match kind {
+        ExternalKind::Func if index < view.function_count() => {
+            Some(EntityType::Func(view.core_function_at(index)))
+        }
+        ExternalKind::Table if index < view.table_count() => {
+            Some(EntityType::Table(view.table_at(index)))
+        }
+        ExternalKind::Memory if index < view.memory_count() => {
+            Some(EntityType::Memory(view.memory_at(index)))
+        }
+        ExternalKind::Global if index < view.global_count() => {
+            Some(EntityType::Global(view.global_at(index)))
+        }
+        ExternalKind::Tag if index < view.tag_count() => Some(EntityType::Tag(view.tag_at(index))),
+        _ => None,
+    }
+}
+
+// Whether an item is what the text says.
+fn is_shown(alloc: Global, view: TypesRef<'_>, entity: EntityType, text: &str) -> bool {
+    entity_text(alloc, view, entity).is_some_and(|shown| shown.as_str() == text)
+}
+
+// Whether an export is what the text says, a name and what it stands for.
+fn is_export(alloc: Global, view: TypesRef<'_>, export: &Export<'_>, expected: &str) -> bool {
+    let Some((name, text)) = expected.split_once(' ') else {
+        return false;
+    };
+    let Some(entity) = view.entity_type_from_export(export) else {
+        return false;
+    };
+    let Some(found) = entity_at(view, export.kind, export.index) else {
+        return false;
+    };
+    name == export.name && entity == found && is_shown(alloc, view, entity, text)
+}
+
+fn has_exports(alloc: Global, view: TypesRef<'_>, expected: &str) -> bool {
+    let Some(mut exports) = view.core_exports() else {
+        return false;
+    };
+    for text in expected.split("; ") {
+        let Some(export) = exports.next() else {
+            return false;
+        };
+        if !is_export(alloc, view, &export, text) {
+            return false;
+        }
+    }
+    exports.next().is_none()
+}
+
+// Whether the single imports of a module are what the text says.
+fn has_imports(alloc: Global, view: TypesRef<'_>, bytes: &[u8], expected: &str) -> Option<bool> {
+    let mut texts = expected.split("; ");
+    for payload in Parser::new(0).parse_all(bytes) {
+        let Ok(Payload::ImportSection(section)) = payload else {
+            continue;
+        };
+        for entry in section.into_iter(alloc) {
+            let Ok(Imports::Single(_, import)) = entry else {
+                return None;
+            };
+            let entity = view.entity_type_from_import(&import)?;
+            if entity_text(alloc, view, entity)?.as_str() != texts.next()? {
+                return Some(false);
+            }
+        }
+    }
+    Some(texts.next().is_none())
+}
+
+fn has_types(view: TypesRef<'_>, expected: &str) -> Option<bool> {
+    let mut words = expected.split_whitespace();
+    for index in 0..view.core_type_count_in_module() {
+        let ty = view.get(view.core_type_at_in_module(index))?;
+        let word = match &ty.composite_type {
+            CompositeType::Func(_) => "func",
+            CompositeType::Array(_) => "array",
+            CompositeType::Struct(_) => "struct",
+            CompositeType::Cont(_) => "cont",
+        };
+        if words.next() != Some(word) {
+            return Some(false);
+        }
+    }
+    Some(words.next().is_none())
+}
+
+fn has_elements(view: TypesRef<'_>, expected: &str) -> bool {
+    let mut words = expected.split_whitespace();
+    for index in 0..view.element_count() {
+        let is_nullable = view.element_at(index).is_nullable();
+        if words.next() != Some(if is_nullable { "refnull" } else { "ref" }) {
+            return false;
+        }
+    }
+    words.next().is_none()
+}
+
+fn holds(alloc: Global, row: &str) -> Option<bool> {
+    let (kind, bytes, expected) = three_fields(row)?;
+    let bytes = bytes_of(alloc, bytes)?;
+    let types = validate_module(alloc, &bytes, WasmFeatures::all(), ValidatorId::new(7)).ok()?;
+    let view = types.as_ref();
+    match kind {
+        "types" => has_types(view, expected),
+        "elements" => Some(has_elements(view, expected)),
+        "exports" => Some(has_exports(alloc, view, expected)),
+        "imports" => has_imports(alloc, view, &bytes, expected),
+        _ => None,
+    }
+}
+
+#[test]
+fn modules_show_what_they_have(rt: HostRuntime) -> Result<(), Fail> {
+    Ok(check_rows(rt.alloc(), SHOWN, 8, holds)?)
+}

@@ -1,0 +1,68 @@
+-- How a validator goes from piece to piece.
+use Rattle.std.proofs.Common.{◌≡◌, inl, inr, ◌<◌, ℕ, Bool, true, false, length, nat_lt, refl, subst, sym, tests, arith}
+use Rattle.std.proofs.lemmas.Bool.Decides.{nat_tests}
+use Rattle.wasm_core_read.specs.Input.{Input}
+use Rattle.wasm_validity.specs.Context.{Context}
+use Rattle.wasmparser_error.specs.declared.error.Error.{Error}
+use Rattle.wasmparser_error.specs.declared.error.ErrorKind.{ErrorKind}
+use Rattle.wasmparser_error.specs.declared.error.ErrorKind.TheVariants as kinds
+use Rattle.wasmparser_payloads.specs.Pieces.{Piece, Body}
+use Rattle.wasmparser_sections.specs.PieceJudging.{IsPlaced, NamesPiece, Says}
+use Rattle.wasmparser_validator.specs.Judges.{AcceptsPiece, IsOutOfOrder, IsWaitedAt, Judge, NamesWaited, RefusesPiece, after_piece, agrees, follows_bodies, may_stand_between, is_version, place_of, waiting, waits_for, waits_in}
+use Rattle.wasmparser_validator.specs.declared.validator.Stage.{Stage}
+use Rattle.wasmparser_validator.specs.declared.validator.Stage.TheVariants as stages
+
+-- a body comes only where there is a function without one
+pub body_waited : (j : Judge) (body : Input) → waits_for j (Body body) ≡ true → j.bodies < length j.known.own_functions
+unfolding waits_in follows_bodies is_version may_stand_between
+body_waited j body w = by_stage j.stage w
+  where
+    by_stage : (stage : Stage) → waits_in stage j (Body body) ≡ true → j.bodies < length j.known.own_functions
+    by_stage stages.Header w = absurd cc
+    by_stage stages.Sections w = absurd cc
+    by_stage stages.Code w = grind (arith, nat_tests)
+    by_stage stages.End w = absurd cc
+    by_stage stages.Failed w = absurd cc
+
+pub out_of_order : (old new : Judge) (piece : Piece) (e : Error) → waits_for old piece ≡ false → IsOutOfOrder old.stage (place_of piece) old e new → RefusesPiece (waits_for old piece) old piece e new
+out_of_order old new piece e not h = rw not h
+
+pub number_refused : (old : Judge) (piece : Piece) → waits_for old piece ≡ true → agrees old piece ≡ false
+    → RefusesPiece (waits_for old piece) old piece (record { offset = place_of piece; kind = kinds.Malformed }) (waiting old stages.Failed)
+number_refused old piece waited not = rw waited (inl not, inl refl, refl)
+
+pub ruleset open_steps = (out_of_order, number_refused)
+
+-- what refuses a piece after all that is known is said of it, as it is waited for
+pub piece_refused : (old : Judge) (piece : Piece) (e : Error) → waits_for old piece ≡ true → NamesPiece old.features old.known piece e.kind → IsPlaced piece e.kind e.offset
+    → RefusesPiece (waits_for old piece) old piece e (waiting old stages.Failed)
+piece_refused old piece e waited names placed = rw waited (by_kind e.kind names, at e.kind placed, refl)
+  where
+    by_kind : (kind : ErrorKind) → NamesPiece old.features old.known piece kind → NamesWaited old piece kind
+    by_kind kinds.Malformed h = inr h
+    by_kind kinds.Invalid h = h
+    by_kind (kinds.Limit l) h = h
+    by_kind kinds.Operator h = h
+    by_kind kinds.Body h = h
+    by_kind kinds.Total h = h
+    by_kind kinds.Order h = h
+    by_kind kinds.Failed h = h
+    by_kind kinds.Memory h = h
+
+    at : (kind : ErrorKind) → IsPlaced piece kind e.offset → IsWaitedAt piece kind e.offset
+    at kinds.Memory h = h
+    at kinds.Malformed h = inr h
+    at kinds.Invalid h = inr h
+    at (kinds.Limit l) h = inr h
+    at kinds.Operator h = inr h
+    at kinds.Body h = inr h
+    at kinds.Total h = inr h
+    at kinds.Order h = inr h
+    at kinds.Failed h = inr h
+
+pub piece_accepted : (old : Judge) (piece : Piece) (known : Context) → waits_for old piece ≡ true → agrees old piece ≡ true → Says old.features old.known piece known → AcceptsPiece old piece (after_piece old piece known)
+piece_accepted old piece known waited agreed says = record { waited = waited; agreed = agreed; known = known; says = says; after = refl }
+
+pub ruleset judge_steps = (piece_refused, piece_accepted)
+
+pub ruleset body_steps = (body_waited)

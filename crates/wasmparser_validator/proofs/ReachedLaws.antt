@@ -1,0 +1,56 @@
+-- What is known after entries that keep all rules and limits, and after others.
+use Rattle.std.proofs.Common.{◌≡◌, ℕ, true, List, [], ◌++◌, Some, is_some, slice_get, refl, sym, ap, subst, ◌∙◌}
+use Rattle.wasm_spec.specs.Features.{Features}
+use Rattle.wasm_validity.specs.Context.{Context, after_all, at_first}
+use Rattle.wasm_validity.specs.DefinedTypes.{func_type_at}
+use Rattle.wasm_validity.specs.Entries.{Entry, entries_of}
+use Rattle.wasm_validity.specs.IndexSpaces.{spaces_in}
+use Rattle.wasm_validity.specs.Rules.{KeepLimits, KeepRules}
+use Rattle.wasm_validity_laws.specs.NamedTypes.{NamesTypes}
+use Rattle.wasmparser_module_state.specs.State.{context, features_of}
+use Rattle.wasmparser_module_state.specs.declared.module_state.ModuleState.{ModuleState}
+use Rattle.wasmparser_payloads.specs.Pieces.{Piece}
+use Rattle.wasmparser_sections.specs.PieceJudging.{Says}
+use Rattle.wasmparser_sections.specs.Sections.{AreAccepted}
+use Rattle.wasmparser_sections.specs.declared.sections.ValidSections.{ValidSections}
+use Rattle.wasmparser_sections.proofs.EntryLists.{after_both, keep_both, within_both}
+use Rattle.wasmparser_validator.specs.Bodies.{AreNamed}
+use Rattle.wasmparser_validator.specs.KnownSpaces.{AreFew, CanBeShown, IsReached}
+use Rattle.wasmparser_validator.proofs.Counts.{are_few}
+
+pub reached_first : (state : ModuleState) → context state ≡ at_first → IsReached state
+reached_first state known = record { entries = []; rules = tt; limits = tt; known = known }
+
+-- what a piece says comes after the entries before it
+pub reached_next : (old new : ModuleState) (piece : Piece) → IsReached old → Says (features_of old) (context old) piece (context new) → features_of new ≡ features_of old → IsReached new
+reached_next old new piece before said same = record {
+  entries = before.entries ++ said.entries;
+  rules = subst (λ f. KeepRules f at_first (before.entries ++ said.entries)) (sym same)
+      (keep_both (features_of old) at_first before.entries said.entries before.rules (subst (λ cx. KeepRules (features_of old) cx said.entries) before.known said.rules));
+  limits = within_both at_first before.entries said.entries before.limits (subst (λ cx. KeepLimits cx said.entries) before.known said.limits);
+  known = said.known ∙ ap (λ cx. after_all cx said.entries) before.known ∙ sym (after_both at_first before.entries said.entries);
+}
+
+pub ruleset next_steps = (reached_first, reached_next)
+
+pub reached_end : (features : Features) (bytes : List ℕ) (m : ValidSections) → AreAccepted features bytes m → IsReached m.state
+reached_end features bytes m w = record {
+  entries = entries_of w.sections;
+  rules = subst (λ f. KeepRules f at_first (entries_of w.sections)) (sym w.same_features) w.fine.rules;
+  limits = w.fine.limits;
+  known = w.known;
+}
+
+pub can_be_shown : (state : ModuleState) → ((features : Features) (entries : List Entry) → KeepRules features at_first entries → NamesTypes (spaces_in (after_all at_first entries)))
+    → IsReached state → CanBeShown state
+can_be_shown state law reached = record {
+  few = subst AreFew (sym reached.known) (are_few reached.entries reached.limits);
+  named = subst (λ (cx : Context). NamesTypes (spaces_in cx)) (sym reached.known) (law (features_of state) reached.entries reached.rules);
+}
+
+pub are_named : (state : ModuleState) → ((features : Features) (entries : List Entry) (place index : ℕ) → KeepRules features at_first entries
+    → slice_get (after_all at_first entries).own_functions place ≡ Some index → is_some (func_type_at (after_all at_first entries).types index) ≡ true)
+    → IsReached state → AreNamed (context state)
+are_named state law reached = subst AreNamed (sym reached.known) (λ place index at. law (features_of state) reached.entries place index reached.rules at)
+
+pub ruleset shown_steps = (can_be_shown, are_named)

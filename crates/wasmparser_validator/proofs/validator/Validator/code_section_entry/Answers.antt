@@ -1,0 +1,11 @@
+use Rattle.std.proofs.Common.{◌<◌, length, sym, subst}
+use Rattle.wasmparser_payloads.specs.Parsing.{piece}
+use Rattle.wasmparser_validator.specs.Judges.{Judge, judge}
+use Rattle.wasmparser_validator.proofs.JudgeLaws.{body_waited}
+use Rattle.wasmparser_validator.proofs.validator.Validator.code_section_entry.Goals as goal
+
+pub function_at-function-requires : goal.function_at-function-requires
+unfolding piece
+function_at-function-requires c =
+    let fewer = body_waited (judge c.args.self.now) c.in_ok-clone.field-0 c.in_ok-open.ensures.open.0 in
+    subst (λ (j : Judge). j.bodies < length j.known.own_functions) (sym c.in_ok-open.ensures.open.2) fewer

@@ -1,0 +1,160 @@
+//! What stands in the index spaces of a valid module, with ids in place of type indexes.
+
+ghost use Rattle.std.specs.Prelude.{◌≡◌, ◌<◌, IfSome, IsSome, Some, length, option_map, slice_get};
+ghost use Rattle.std.specs.Option.{option_and_then};
+ghost use Rattle.wasm_spec.specs.Trees.{type_at, unrolled};
+ghost use Rattle.wasm_spec.specs.TypeReferences.{external_map, global_map, global_refs, ref_map, ref_refs, sub_map, sub_refs, table_map, table_refs};
+ghost use Rattle.wasmparser_items.specs.Exports.{export_item};
+ghost use Rattle.wasmparser_items.specs.ItemTypes.{global_type, memory_type, table_type};
+ghost use Rattle.wasmparser_module_state.specs.Entities.{entity_type};
+ghost use Rattle.wasmparser_module_types.specs.ModuleTypes.{AreIds, stands_for};
+ghost use Rattle.wasmparser_types.specs.SubTypes.{sub_type};
+ghost use Rattle.wasmparser_validator.specs.Shown.{IsImported, exported, known, spaces};
+
+use crate::types::TypesRef;
+use wasmparser_imports::imports::Import;
+use wasmparser_items::export::Export;
+use wasmparser_items::global_type::GlobalType;
+use wasmparser_items::memory_type::MemoryType;
+use wasmparser_items::table_type::TableType;
+use wasmparser_items::type_ref::TypeRef;
+use wasmparser_module_state::by_ids::{global_by_ids, ref_by_ids, table_by_ids};
+use wasmparser_module_state::entity_type::EntityType;
+use wasmparser_types::index::CoreTypeId;
+use wasmparser_types::ref_type::RefType;
+use wasmparser_types::sub_type::SubType;
+
+impl<'a> TypesRef<'a> {
+    /// The sub type that an id stands for, which names others by ids, or None where there is no such id.
+    pub fn get(&self, id: CoreTypeId) -> Option<&'a SubType>
+        ensures all { id < length (known self.now).interned → IsSome result }
+        ensures known { IfSome result (λ _. id < length (known self.now).interned) }
+        ensures unrolled { IfSome result (λ ty. unrolled (type_at (known self.now).interned id) ≡ Some (sub_map (stands_for (known self.now)) (sub_type ty.now))) }
+        ensures ids { IfSome result (λ ty. AreIds (known self.now) (sub_refs (sub_type ty.now))) }
+    {
+        self.state().types().get(id)
+    }
+
+    /// The id of the type with this index, which is below their number.
+    #[tactic(auto, using(crate::proofs::SpaceLaws::found_steps))]
+    pub fn core_type_at_in_module(&self, index: u32) -> CoreTypeId
+        requires { index < length (spaces self.now).types }
+        ensures same { slice_get (spaces self.now).types index ≡ Some (type_at (known self.now).interned result) }
+        ensures known { result < length (known self.now).interned }
+    {
+        self.state().types().type_id(index).unwrap()
+    }
+
+    /// The id of the type of the function with this index, which is below their number.
+    #[tactic(auto, using(crate::proofs::SpaceLaws::found_steps))]
+    pub fn core_function_at(&self, index: u32) -> CoreTypeId
+        requires { index < length (spaces self.now).functions }
+        ensures same { option_and_then (slice_get (spaces self.now).types) (slice_get (spaces self.now).functions index) ≡ Some (type_at (known self.now).interned result) }
+        ensures known { result < length (known self.now).interned }
+    {
+        let state = self.state();
+        let Some(ty) = state.type_of_function(index) else {
+            unreachable!()
+        };
+        let Some(id) = state.types().type_id(ty) else {
+            unreachable!()
+        };
+        id
+    }
+
+    /// The type of the table with this index, which is below their number.
+    pub fn table_at(&self, index: u32) -> TableType
+        requires { index < length (spaces self.now).tables }
+        ensures same { option_map (table_map (type_at (spaces self.now).types)) (slice_get (spaces self.now).tables index) ≡ Some (table_map (stands_for (known self.now)) (table_type result)) }
+        ensures ids { AreIds (known self.now) (table_refs (table_type result)) }
+    {
+        let state = self.state();
+        let Some(ty) = state.table_at(index) else {
+            unreachable!()
+        };
+        let Some(ty) = table_by_ids(state.types(), ty) else {
+            unreachable!()
+        };
+        ty
+    }
+
+    /// The type of the memory with this index, which is below their number.
+    #[tactic(auto, using(crate::proofs::SpaceLaws::found_steps))]
+    pub fn memory_at(&self, index: u32) -> MemoryType
+        requires { index < length (spaces self.now).memories }
+        ensures { slice_get (spaces self.now).memories index ≡ Some (memory_type result) }
+    {
+        self.state().memory_at(index).unwrap()
+    }
+
+    /// The type of the global with this index, which is below their number.
+    pub fn global_at(&self, index: u32) -> GlobalType
+        requires { index < length (spaces self.now).globals }
+        ensures same { option_map (global_map (type_at (spaces self.now).types)) (slice_get (spaces self.now).globals index) ≡ Some (global_map (stands_for (known self.now)) (global_type result)) }
+        ensures ids { AreIds (known self.now) (global_refs (global_type result)) }
+    {
+        let state = self.state();
+        let Some(ty) = state.global_at(index) else {
+            unreachable!()
+        };
+        let Some(ty) = global_by_ids(state.types(), ty) else {
+            unreachable!()
+        };
+        ty
+    }
+
+    /// The id of the function type of the tag with this index, which is below their number.
+    #[tactic(auto, using(crate::proofs::SpaceLaws::found_steps))]
+    pub fn tag_at(&self, index: u32) -> CoreTypeId
+        requires { index < length (spaces self.now).tags }
+        ensures same { option_and_then (slice_get (spaces self.now).types) (slice_get (spaces self.now).tags index) ≡ Some (type_at (known self.now).interned result) }
+        ensures known { result < length (known self.now).interned }
+    {
+        let state = self.state();
+        let Some(ty) = state.type_of_tag(index) else {
+            unreachable!()
+        };
+        let Some(id) = state.types().type_id(ty) else {
+            unreachable!()
+        };
+        id
+    }
+
+    /// The type of the items of the element segment with this index, which is below their number.
+    pub fn element_at(&self, index: u32) -> RefType
+        requires { index < length (spaces self.now).elements }
+        ensures same { option_map (ref_map (type_at (spaces self.now).types)) (slice_get (spaces self.now).elements index) ≡ Some (ref_map (stands_for (known self.now)) result) }
+        ensures ids { AreIds (known self.now) (ref_refs result) }
+    {
+        let state = self.state();
+        let Some(ty) = state.element_type_at(index) else {
+            unreachable!()
+        };
+        let Some(ty) = ref_by_ids(state.types(), ty) else {
+            unreachable!()
+        };
+        ty
+    }
+
+    /// What an export is, or None where the module has no item of its kind with its index.
+    pub fn entity_type_from_export(&self, export: &Export<'_>) -> Option<EntityType>
+        ensures { option_map (entity_type (known self.now)) result ≡ option_map (external_map (type_at (spaces self.now).types)) (exported self.now (export_item export.now)) }
+    {
+        self.state().entity_at(export.kind, export.index)
+    }
+
+    /// What an import is, or None where it is a function or a tag whose type index the module doesn't have. The types of tables and globals stay as the
+    /// import writes them.
+    pub fn entity_type_from_import(&self, import: &Import<'_>) -> Option<EntityType>
+        ensures { IsImported (known self.now) import.now.ty result }
+    {
+        let types = self.state().types();
+        match import.ty {
+            TypeRef::Func(index) => Some(EntityType::Func(types.type_id(index)?)),
+            TypeRef::Table(ty) => Some(EntityType::Table(ty)),
+            TypeRef::Memory(ty) => Some(EntityType::Memory(ty)),
+            TypeRef::Global(ty) => Some(EntityType::Global(ty)),
+            TypeRef::Tag(ty) => Some(EntityType::Tag(types.type_id(ty.func_type_idx)?)),
+        }
+    }
+}

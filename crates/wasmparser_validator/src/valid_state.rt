@@ -1,0 +1,89 @@
+//! What is known of a module after entries that keep all rules and limits.
+
+ghost use Rattle.std.specs.Prelude.{◌≡◌, IfErr};
+ghost use Rattle.wasm_core_base.specs.Features.{feature_set};
+ghost use Rattle.wasm_validity.specs.Context.{at_first};
+ghost use Rattle.wasmparser_module_state.specs.State.{context, features_of};
+ghost use Rattle.wasmparser_payloads.specs.Parsing.{piece};
+ghost use Rattle.wasmparser_sections.specs.PieceJudging.{AddsPiece};
+ghost use Rattle.wasmparser_validator.specs.Bodies.{AreNamed};
+ghost use Rattle.wasmparser_validator.specs.KnownSpaces.{CanBeShown, IsReached};
+
+use std::alloc::Global;
+use std::marker::Model;
+use wasm_core_base::features::WasmFeatures;
+use wasm_validity_laws::laws::{named_functions, named_types};
+use wasmparser_error::error::Error;
+use wasmparser_module_state::module_state::ModuleState;
+use wasmparser_payloads::payload::Payload;
+use wasmparser_sections::payload::add_payload;
+
+// What is known of a module after entries that keep all rules and limits.
+#[derive(Drop)]
+pub(crate) struct ValidState {
+    state: ModuleState,
+}
+
+impl Model for ValidState {
+    ghost use Rattle.wasmparser_module_state.specs.contracts.module_state.ModuleState as kept;
+    ghost use Rattle.wasmparser_module_state.specs.declared.module_state.ModuleState.{ModuleState};
+    ghost use Rattle.wasmparser_validator.specs.KnownSpaces.{IsReached};
+
+    ghost Value = { ModuleState };
+
+    ghost coded = { kept.the_row.coded };
+
+    ghost view = { λ it. it.state };
+
+    ghost invariant = { λ it. IsReached it.state };
+}
+
+impl ValidState {
+    // What is known before the first entry, under these features.
+    #[tactic(auto, using(crate::proofs::ReachedLaws::reached_first))]
+    pub(crate) fn new(alloc: Global, features: WasmFeatures) -> ValidState
+        ensures nothing { context result ≡ at_first }
+        ensures features { features_of result ≡ feature_set features }
+    {
+        ValidState {
+            state: ModuleState::new(alloc, features),
+        }
+    }
+
+    // What is known, which entries reach that keep all rules and limits.
+    pub(crate) fn of(state: ModuleState) -> ValidState
+        requires { IsReached state }
+        ensures { result ≡ state }
+    {
+        ValidState { state }
+    }
+
+    #[tactic(auto, using(crate::proofs::ReachedLaws::shown_steps))]
+    pub(crate) fn state(&self) -> &ModuleState
+        ensures same { result.now ≡ self.now }
+        ensures shown { CanBeShown result.now }
+        ensures named { AreNamed (context result.now) }
+    {
+        // The laws that the clauses follow from, which do nothing.
+        named_functions();
+        named_types();
+        &self.state
+    }
+
+    // Judges a payload, and adds what it says. After a refusal nothing is known.
+    #[tactic(auto, using(crate::proofs::ReachedLaws::next_steps))]
+    pub(crate) fn add(&mut self, alloc: Global, payload: &Payload<'_>) -> Result<(), Error>
+        ensures added { AddsPiece (features_of self.old) (context self.old) (piece payload.now) result (context self.new) }
+        ensures lost { IfErr result (λ _. context self.new ≡ at_first) }
+        ensures features { features_of self.new ≡ features_of self.old }
+    {
+        let features = self.state.features();
+        match add_payload(alloc, &mut self.state, payload) {
+            Ok(()) => Ok(()),
+            Err(error) => {
+                self.state = ModuleState::new(alloc, features);
+                Err(error)
+            }
+        }
+    }
+}

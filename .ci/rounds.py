@@ -1,5 +1,5 @@
-"""Wrong bodies, tried many at a time. Edits of different functions are made together in one copy of a crate, which is checked once: a round. The check
-reports every function that is not proved, so an edit counts as refused in a round only where
+"""Wrong bodies, tried many at a time. Edits of different functions are made together in one copy of a crate, and these functions are checked once: a round.
+The check reports each of them that is not proved, so an edit counts as refused in a round only where
 
   - all that it changes stands in the body of one function, of which, and of whose cycle, the round has no other edit;
   - that function, which is proved in the crate as it stands, is reported as not proved;
@@ -7,8 +7,8 @@ reports every function that is not proved, so an edit counts as refused in a rou
   - all that the function calls is proved, or else no function that the round left as it was has an error of its own: a callee that is not
     proved brings its callers none, and a round that shows otherwise is not believed.
 
-One that waits for a callee's proof is put off to a round without that callee. What is still open then, and each edit of a definition, a
-constant, a contract or several functions, is tried alone, just as `rt must-fail` does.
+One that waits for a callee's proof is put off to a round without that callee. What is still open then is tried alone: its function is checked, and nothing
+that calls it. What that leaves open, and each edit of a definition, a constant, a contract or several functions, is tried just as `rt must-fail` does.
 """
 import collections
 import concurrent.futures
@@ -30,6 +30,8 @@ from kit import rt, rtlib
 Function = collections.namedtuple("Function", "file owner name cycle first last opens closes")
 # What the kit says of an edit that is refused: some kits have names for it, others say True.
 ARE_REFUSALS = [getattr(rt, it, True) for it in ("REFUSED", "AT_LIMIT")]
+# An open goal, or an error in a proof's file.
+OWN_ERROR = re.compile(r"note: \S+:\d+:\d+: it is not proved|(?:\./)?proofs/\S+:\d+:\d+: error: ")
 # Errors that say nothing of a contract: a proof file names what the edit took away, or what it cites has no proof.
 LOST_NAME = re.compile(r"has no field|is not in scope|has no `|was not admitted")
 
@@ -114,10 +116,10 @@ def functions_of(crate, names):
 
 
 class Edit:
-    """A wrong body: the bytes of a file that it changes, and the function that they stand in, or None."""
+    """A wrong body: the bytes of a file that it changes, the function that they stand in, or None, and whether rounds may try it."""
 
     def __init__(self, crate, path, functions):
-        self.path, self.function, self.was_put_off = path, None, False
+        self.path, self.function, self.was_put_off, self.keeps_lines = path, None, False, False
         texts, why = rt.read_edit(path, crate.folder)
         if why or len(texts) != 1:
             return
@@ -127,10 +129,10 @@ class Edit:
         self.start = len(os.path.commonprefix([old, new]))
         same = len(os.path.commonprefix([old[self.start :][::-1], new[self.start :][::-1]]))
         self.end, self.new = len(old) - same, new[self.start : len(new) - same]
+        # (errors are told by line, so an edit that adds lines is tried alone)
+        self.keeps_lines = old.count(b"\n") == new.count(b"\n")
         for name, it in functions.items():
-            inside = it.file == self.file and it.opens <= self.start and self.end <= it.closes
-            # (errors are told by line, so an edit that adds lines is tried alone)
-            if inside and old.count(b"\n") == new.count(b"\n"):
+            if it.file == self.file and it.opens <= self.start and self.end <= it.closes:
                 self.function, self.shares = name, it.cycle or name
 
     @property
@@ -157,6 +159,16 @@ def next_round(left, waits):
         if edit.shares not in picked and not any(it.function in waits[edit.function] or edit.function in waits[it.function] for it in others):
             picked[edit.shares] = edit
     return [*picked.values()]
+
+
+def check_of(edits, jobs):
+    """Returns the flags of a check of the functions that these edits change, and of what those call."""
+    return ["--jobs", str(jobs), *(word for it in edits for word in ("--only", it.function))]
+
+
+def are_judged(ran, lines):
+    """Returns whether a check of some functions came to its end, and not all of them are proved."""
+    return ran.returncode == 1 and lines[-1].startswith("only=") and not rtlib.STALE.search(ran.stdout)
 
 
 def own_errors(lines, functions):
@@ -204,7 +216,7 @@ def judged(edits, ran, functions, waits):
     """Sorts a round's edits into those refused, with the error of each, those to put off and those to try alone."""
     lines = ran.stdout.rstrip("\n").split("\n")
     unread = [it for it in lines if rt.unread(it, {edit.file: "" for edit in edits})]
-    if unread or ran.returncode != 1 or not lines[-1].startswith("logic=not-proved") or rtlib.STALE.search(ran.stdout):
+    if unread or not are_judged(ran, lines):
         return spoiled(edits, lines, unread, functions)
     unproved, own, refused, later, alone = unproved_of(lines), own_errors(lines, functions), {}, [], []
     is_believed = {*own} <= {it.function for it in edits}
@@ -225,13 +237,30 @@ def over(kept, call, *given):
         return call(*given, shutil.copytree(kept, f"{room}/kept"))
 
 
-def try_alone(crate, path, kept):
-    """Tries one edit as `rt must-fail` does: over a copy of what is kept, and where it is not refused so, from nothing. Returns whether it is refused, and
-    what was seen."""
+def error_of(crate, edit, kept):
+    """Checks the function that an edit changes, and what it calls. Returns the function's own error, if all is proved that it calls, and else None."""
+    texts, why = rt.read_edit(edit.path, crate.folder)
+    if why or not edit.function:
+        return None
+    ran = over(kept, rt.checked, crate, texts, check_of([edit], 1))
+    lines = ran.stdout.rstrip("\n").split("\n")
+    unproved = unproved_of(lines)
+    if not are_judged(ran, lines) or any(rt.unread(it, texts) for it in lines) or [*unproved] != [edit.function] or unproved[edit.function]:
+        return None
+    told = [it for it in lines if OWN_ERROR.match(it) and not LOST_NAME.search(it)]
+    return told[0] if told else None
+
+
+def try_alone(crate, edit, kept):
+    """Tries one edit: by its function alone, then as `rt must-fail` does, over a copy of what is kept, and where it is not refused so, from nothing. Returns
+    whether it is refused, and what was seen."""
+    error = error_of(crate, edit, kept)
+    if error:
+        return True, f"{edit.name}: refused by its function: {error[:160]}"
     flags = ["--jobs", "1"]
-    verdict, text = over(kept, rt.must_fail, crate, path, flags)
+    verdict, text = over(kept, rt.must_fail, crate, edit.path, flags)
     if verdict not in ARE_REFUSALS:
-        verdict, text = rt.must_fail(crate, path, flags)
+        verdict, text = rt.must_fail(crate, edit.path, flags)
     return verdict in ARE_REFUSALS, text
 
 
@@ -259,9 +288,10 @@ class Trial:
         functions = functions_of(self.crate, re.findall(r"(?m)^fn (\S+): proved", whole.stdout))
         edits = [Edit(self.crate, it, functions) for it in self.paths]
         self.say(f"proved ({self.seconds()}); {len(edits)} wrong bodies")
-        alone = [it for it in edits if not it.function] + self.run_rounds([it for it in edits if it.function], functions)
+        in_rounds = [it for it in edits if it.function and it.keeps_lines]
+        alone = [it for it in edits if it not in in_rounds] + self.run_rounds(in_rounds, functions)
         with concurrent.futures.ThreadPoolExecutor(self.jobs) as pool:
-            for edit, (is_refused, text) in zip(alone, pool.map(lambda it: try_alone(self.crate, it.path, self.kept), alone)):
+            for edit, (is_refused, text) in zip(alone, pool.map(lambda it: try_alone(self.crate, it, self.kept), alone)):
                 self.say(text)
                 self.refused.update({edit.name: text} if is_refused else {})
                 self.let_through += [] if is_refused else [edit.name]
@@ -273,7 +303,7 @@ class Trial:
         waits, alone = collections.defaultdict(set), []
         while left:
             picked, since = next_round(left, waits), time.time()
-            ran = over(self.kept, rt.checked, self.crate, made(self.crate, picked), ["--jobs", str(self.jobs)])
+            ran = over(self.kept, rt.checked, self.crate, made(self.crate, picked), check_of(picked, self.jobs))
             done, later, still_open = judged(picked, ran, functions, waits)
             self.refused.update({edit.name: line for edit, line in done.items()})
             alone += still_open

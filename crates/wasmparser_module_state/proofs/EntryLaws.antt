@@ -19,6 +19,8 @@ use Rattle.wasmparser_readers.specs.Sections.{Left, left_items, IsUnread, IsEmpt
 use Rattle.wasmparser_readers.proofs.SectionLaws.{unread_left}
 use Rattle.wasmparser_types.specs.Index.{packable}
 use Rattle.wasmparser_module_entries.specs.EntryReading.{EntryReading}
+use Rattle.wasm_spec.specs.Trees.{DefType}
+use Rattle.wasmparser_module_state.specs.History.{EnterAll, EntersEntry}
 use Rattle.wasmparser_module_state.specs.Judging.{Accepts, Fills, Fronts, HasLarge, IsMadeOf, NamesEntry, NamesEntries, IsAt, IsIn}
 use Rattle.wasm_validity.specs.Context.{Context, after, after_all}
 use Rattle.wasm_validity.specs.Entries.{Entry}
@@ -114,6 +116,13 @@ pass_push limit cx [] e (inl h) = inl h
 pass_push limit cx [] e (inr h) = inr (inl h)
 pass_push limit cx (d ∷ es) e h = inr (inr (pass_push limit (after cx d) es e h))
 
+-- ---- what the list holds
+
+enters_push : (features : Features) (cx : Context) (held mid new : List DefType) (es : List Entry) (e : Entry) → EnterAll features cx held es mid → EntersEntry features (after_all cx es) mid e new
+    → EnterAll features cx held (es ++ e ∷ []) new
+enters_push features cx held mid new [] e enter enters = subst (λ h. EnterAll features cx h (e ∷ []) new) enter (new, enters, refl)
+enters_push features cx held mid new (d ∷ es) e enter enters = (enter.0, enter.1, enters_push features (after cx d) enter.0 mid new es e enter.2 enters)
+
 -- ---- the loop
 
 pub begins : (features : Features) (entry_at : EntryReading) (cx : Context) (left : Left) → Stands features entry_at cx left cx left
@@ -151,6 +160,21 @@ goes_on features entry_at old left cx now next new v s counted e g accepts =
       known = accepts.known ∙ ap (λ c. after c v) s.known ∙ sym (after_push old s.front v);
       goes_on = goes_further left.input now.input new.input s.goes_on g;
     }
+
+-- Entries that stand at the front of what is left, and what the list holds after them.
+abbrev pub StandsEntered : Features → EntryReading → Context → List DefType → Left → Context → List DefType → Left → Type 0
+StandsEntered features entry_at old held left new now_held now = (s : Stands features entry_at old left new now) × EnterAll features old held s.front now_held
+
+pub begins_entered : (features : Features) (entry_at : EntryReading) (cx : Context) (held : List DefType) (left : Left) → StandsEntered features entry_at cx held left cx held left
+unfolding begins
+begins_entered features entry_at cx held left = (begins features entry_at cx left, refl)
+
+pub goes_on_entered : (features : Features) (entry_at : EntryReading) (old : Context) (held : List DefType) (left : Left) (cx : Context) (now_held : List DefType) (now : Left) (next : Context) (next_held : List DefType)
+    (new : Left) (v : Entry) → StandsEntered features entry_at old held left cx now_held now → now.count ≡ suc new.count → entry_at now.input.features now.input.rest ≡ Some (v, new.input.rest)
+    → GoesOn now.input new.input → Accepts features cx v next → EntersEntry features cx now_held v next_held → StandsEntered features entry_at old held left next next_held new
+unfolding goes_on
+goes_on_entered features entry_at old held left cx now_held now next next_held new v s counted e g accepts enters =
+    (goes_on features entry_at old left cx now next new v s.0 counted e g accepts, enters_push features old held now_held next_held s.0.front v s.1 (subst (λ c. EntersEntry features c now_held v next_held) s.0.known enters))
 
 broken : (features : Features) (entry_at : EntryReading) (old : Context) (left : Left) (cx : Context) (now : Left) (v : Entry) (count : ℕ) (rest : List ℕ) → Stands features entry_at old left cx now
     → now.count ≡ suc count → entry_at now.input.features now.input.rest ≡ Some (v, rest) → ¬ (Keeps features cx v) → Fronts entry_at left (λ entries. ¬ (KeepRules features old entries))
@@ -194,15 +218,16 @@ unread features entry_at old left cx now s e = all_left features entry_at old le
     by_read (Some (x, [])) h = absurd cc
     by_read (Some (x, b ∷ rest)) h = refl
 
-pub fills : (features : Features) (entry_at : EntryReading) (old : Context) (left : Left) (cx : Context) (now : Left) → Stands features entry_at old left cx now
-    → IsEmpty now → Fills features entry_at old left cx
+pub fills : (features : Features) (entry_at : EntryReading) (old : Context) (held : List DefType) (left : Left) (cx : Context) (now_held : List DefType) (now : Left)
+    → StandsEntered features entry_at old held left cx now_held now → IsEmpty now → Fills features entry_at old held left cx now_held
 unfolding items_at
-fills features entry_at old left cx now s empty = record {
+fills features entry_at old held left cx now_held now (s, entered) empty = record {
   entries = s.front;
   reads = all_left features entry_at old left cx now s ∙ rw (empty.none, empty.ended) (ap (λ xs. Some xs) (append-nil s.front));
   rules = s.rules;
   limits = s.limits;
   known = s.known;
+  entered = entered;
 }
 
 -- ---- refusals

@@ -10,6 +10,7 @@ use Rattle.wasm_core_read.specs.TypeReading.{items_at}
 use Rattle.wasm_spec.specs.Features.{Features}
 use Rattle.wasm_spec.specs.Limits.{Types, most, total_of_types}
 use Rattle.wasm_spec.specs.Syntax.{CompactItems, CompactNames}
+use Rattle.wasm_spec.specs.Trees.{DefType}
 use Rattle.wasm_validity.specs.Context.{Context, after, after_all}
 use Rattle.wasm_validity.specs.Entries.{Entry, OfType, OfImport}
 use Rattle.wasm_validity.specs.Rules.{Keeps, KeepRules, measures, Passes, PassesByTypes, IsWithin as IsWithinLimits, KeepLimits, PassLimit}
@@ -17,6 +18,7 @@ use Rattle.wasmparser_error.specs.declared.error.Error.{Error}
 use Rattle.wasmparser_error.specs.declared.error.ErrorKind.{ErrorKind}
 use Rattle.wasmparser_error.specs.declared.error.ErrorKind.TheVariants as kinds
 use Rattle.wasmparser_module_entries.specs.EntryReading.{EntryReading}
+use Rattle.wasmparser_module_state.specs.History.{EnterAll}
 use Rattle.wasmparser_readers.specs.Sections.{Left, left_items}
 use Rattle.wasmparser_types.specs.Index.{packable}
 
@@ -81,13 +83,14 @@ pub record IsMadeOf {X A : Type 0} (form : X → A) (indexes : A → List ℕ) (
   pub reads : (features : Features) (bytes : List ℕ) → entry_at features bytes ≡ seen_at made (form_at features) bytes
   pub breaks : (features : Features) (cx : Context) (a : A) → length cx.types ≤ most Types → HasLarge (indexes a) → ¬ (Keeps features cx (made a))
 
--- What is left of a section reads as entries that keep the rules and limits, and what is known after them.
-pub record Fills (features : Features) (entry_at : EntryReading) (old : Context) (left : Left) (new : Context) : Type 0 where
+-- What is left of a section reads as entries that keep the rules and limits, and what is known, and held by the list of types, after them.
+pub record Fills (features : Features) (entry_at : EntryReading) (old : Context) (old_held : List DefType) (left : Left) (new : Context) (new_held : List DefType) : Type 0 where
   pub entries : List Entry
   pub reads : left_items entry_at left ≡ Some entries
   pub rules : KeepRules features old entries
   pub limits : KeepLimits old entries
   pub known : new ≡ after_all old entries
+  pub entered : EnterAll features old old_held entries new_held
 
 -- entries at the front of what is left of a section, of which something holds
 pub record Fronts (entry_at : EntryReading) (left : Left) (Holds : List Entry → Type 0) : Type 0 where
@@ -112,6 +115,6 @@ IsIn input kinds.Memory offset = offset ≡ 0
 IsIn input _ offset = IsWithin input offset
 
 -- What a call returned that judges the entries of a section one by one and adds them.
-abbrev pub AddsEntries : Features → EntryReading → Context → Left → Result (Unit {0}) Error → Context → Type 0
-AddsEntries features entry_at old left (Ok x) new = Fills features entry_at old left new
-AddsEntries features entry_at old left (Err e) new = NamesEntries features entry_at old left e.kind × IsIn left.input e.kind e.offset
+abbrev pub AddsEntries : Features → EntryReading → Context → List DefType → Left → Result (Unit {0}) Error → Context → List DefType → Type 0
+AddsEntries features entry_at old old_held left (Ok x) new new_held = Fills features entry_at old old_held left new new_held
+AddsEntries features entry_at old old_held left (Err e) new new_held = NamesEntries features entry_at old left e.kind × IsIn left.input e.kind e.offset

@@ -1,5 +1,6 @@
 pub mod Entities
 pub mod Exports
+pub mod History
 pub mod Initialisers
 pub mod Items
 pub mod Judging

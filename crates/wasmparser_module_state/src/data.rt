@@ -50,7 +50,7 @@ impl ModuleState {
     ) -> Result<(), Error>
         ensures judged { Judges offset (FitsMemory (features_of self.old) (context self.old) (expression_of address.now.rest) (slice_get (context self.old).memories memory)) result }
         ensures same { context self.new ≡ context self.old }
-        ensures features { features_of self.new ≡ features_of self.old }
+        ensures types { self.new.types ≡ self.old.types }
     {
         let Some(memory) = self.memory_at(memory) else {
             return Err(refusal(offset, ErrorKind::Invalid));
@@ -62,7 +62,7 @@ impl ModuleState {
     fn check_data_kind(&mut self, kind: &DataKind<'_>, offset: u64) -> Result<(), Error>
         ensures judged { Judges offset (KeepsData (features_of self.old) (context self.old) (data_mode kind.now)) result }
         ensures same { context self.new ≡ context self.old }
-        ensures features { features_of self.new ≡ features_of self.old }
+        ensures types { self.new.types ≡ self.old.types }
     {
         match kind {
             DataKind::Passive => self.check_bulk_memory(offset),

@@ -95,7 +95,7 @@ impl ModuleState {
         requires read { left_items (λ _. expression_at) expressions.left ≡ Some (expressions_of expressions.left) }
         ensures judged { Judges offset (AllByRecursion (IsConstantFor (features_of self.old) (context self.old) (val_map number_of (val_type ty.now))) (expressions_of expressions.entry.left)) result }
         ensures same { context self.new ≡ context self.old }
-        ensures features { features_of self.new ≡ features_of self.old }
+        ensures types { self.new.types ≡ self.old.types }
     {
         let mut items = expressions.into_iter(*self.tags.allocator());
         'items: while let Some(expression) = items.next() {
@@ -110,7 +110,7 @@ impl ModuleState {
         requires read { AreItemsRead items }
         ensures judged { Judges offset (KeepsItems (features_of self.old) (context self.old) (items_of (packed_items items.entry))) result }
         ensures same { context self.new ≡ context self.old }
-        ensures features { features_of self.new ≡ features_of self.old }
+        ensures types { self.new.types ≡ self.old.types }
     {
         match items {
             ElementItems::Functions(functions) => {
@@ -138,7 +138,7 @@ impl ModuleState {
         requires wanted { CanBeWanted (features_of self.old) (val_type items.now) }
         ensures judged { Judges offset (FitsTable (features_of self.old) (context self.old) (val_map number_of (val_type items.now)) (expression_of index.now.rest) (slice_get (context self.old).tables table)) result }
         ensures same { context self.new ≡ context self.old }
-        ensures features { features_of self.new ≡ features_of self.old }
+        ensures types { self.new.types ≡ self.old.types }
     {
         let Some(table) = self.table_at(table) else {
             return Err(refusal(offset, ErrorKind::Invalid));
@@ -159,7 +159,7 @@ impl ModuleState {
         requires wanted { CanBeWanted (features_of self.old) (val_type items.now) }
         ensures judged { Judges offset (KeepsElementMode (features_of self.old) (context self.old) (val_map number_of (val_type items.now)) (element_mode kind.now)) result }
         ensures same { context self.new ≡ context self.old }
-        ensures features { features_of self.new ≡ features_of self.old }
+        ensures types { self.new.types ≡ self.old.types }
     {
         match kind {
             ElementKind::Passive | ElementKind::Declared => self.check_bulk_memory(offset),

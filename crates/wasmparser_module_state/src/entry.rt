@@ -1,8 +1,9 @@
 //! Entries of sections, each of which is judged and added.
 
-ghost use Rattle.std.specs.Prelude.{◌≡◌};
+ghost use Rattle.std.specs.Prelude.{◌≡◌, IfOk};
 ghost use Rattle.wasm_validity.specs.Entries.{Entry};
 ghost use Rattle.wasmparser_module_entries.specs.EntryReading.{EntryReading};
+ghost use Rattle.wasmparser_module_state.specs.History.{EntersEntry, held};
 ghost use Rattle.wasmparser_module_state.specs.Judging.{Adds, AddsEntries, IsMadeOf};
 ghost use Rattle.wasmparser_module_state.specs.State.{context, features_of};
 
@@ -28,6 +29,7 @@ pub trait Entry: Item {
     fn add(self, state: &mut ModuleState, offset: u64) -> Result<(), Error>
         requires { Self.Item.IsOfModule self }
         ensures added { Adds (features_of state.old) (context state.old) (entry self) offset result (context state.new) }
+        ensures entered { IfOk result (λ _. EntersEntry (features_of state.old) (context state.old) (held state.old) (entry self) (held state.new)) }
         ensures features { features_of state.new ≡ features_of state.old };
 
     // The entry is made of what contracts see of the item, and so reads as the item does.
@@ -44,7 +46,7 @@ pub fn add_entries<'a, T: FromReader<'a> + Entry>(
     state: &mut ModuleState,
     section: SectionLimited<'a, T>,
 ) -> Result<(), Error>
-    ensures added { AddsEntries (features_of state.old) T.entry_at (context state.old) section.entry.left result (context state.new) }
+    ensures added { AddsEntries (features_of state.old) T.entry_at (context state.old) (held state.old) section.entry.left result (context state.new) (held state.new) }
     ensures features { features_of state.new ≡ features_of state.old }
 {
     // (what a proof knows of the number of types it knows by this call)

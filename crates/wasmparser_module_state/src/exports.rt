@@ -35,7 +35,7 @@ impl ModuleState {
     /// Makes ready for the exports of a section, where there are none yet, so that names can hardly be chosen that collide.
     pub fn start_exports<'a>(&mut self, section: SectionLimited<'a, Export<'a>>)
         ensures same { context self.new ≡ context self.old }
-        ensures features { features_of self.new ≡ features_of self.old }
+        ensures types { self.new.types ≡ self.old.types }
     {
         if self.exports.len() == 0 {
             self.exports = ExportNames::for_section(*self.tags.allocator(), section);
@@ -75,7 +75,7 @@ impl ModuleState {
     fn push_export(&mut self, export: &Export<'_>, offset: u64) -> Result<(), Error>
         ensures pushed { IfOk result (λ _. (is_exported export.now.name.now (context self.old).exports ≡ false) × (context self.new ≡ record (context self.old) { exports = (context self.old).exports ++ export_item export.now ∷ [] })) }
         ensures refused { IfErr result (λ e. IsNameRefusal offset (is_exported export.now.name.now (context self.old).exports) e × (context self.new ≡ context self.old)) }
-        ensures features { features_of self.new ≡ features_of self.old }
+        ensures types { self.new.types ≡ self.old.types }
     {
         if !self.exports.insert(export)? {
             return Err(refusal(offset, ErrorKind::Invalid));

@@ -39,7 +39,7 @@ impl ModuleState {
     fn push_own_global(&mut self, content_type: ValType, mutable: bool) -> Result<(), Error>
         ensures pushed { IfOk result (λ _. context self.new ≡ record (context self.old) { own_globals = (context self.old).own_globals ++ global (record { content_type = content_type; mutable = mutable }) ∷ [] }) }
         ensures refused { IfErr result (λ e. (e ≡ record { offset = 0; kind = kinds.Memory }) × (context self.new ≡ context self.old)) }
-        ensures features { features_of self.new ≡ features_of self.old }
+        ensures types { self.new.types ≡ self.old.types }
     {
         self.own_globals.push(GlobalType {
             content_type,

@@ -42,7 +42,7 @@ impl ModuleState {
     #[tactic(auto, using(crate::proofs::ImportLaws::named_steps))]
     fn import_named(&mut self, name: &str, ty: &TypeRef, offset: u64) -> Result<(), Error>
         ensures added { AddsNamed (features_of self.old) (context self.old) name.now (item ty.now) offset result (context self.new) }
-        ensures features { features_of self.new ≡ features_of self.old }
+        ensures types { self.new.types ≡ self.old.types }
     {
         check_name(name, offset)?;
         self.import_item(ty, offset)
@@ -57,7 +57,7 @@ impl ModuleState {
         requires read { AreRead import_item_at group }
         requires small { AllByRecursion (λ n. n < packable) (items_refs (items_of import_item_at group)) }
         ensures added { AddsGroup (features_of self.old) (context self.old) (map (λ item. item.name) (items_of import_item_at group.entry)) (map (λ item. item.type) (items_of import_item_at group.entry)) offset result (context self.new) }
-        ensures features { features_of self.new ≡ features_of self.old }
+        ensures types { self.new.types ≡ self.old.types }
     {
         let mut items = group.into_iter(*self.tags.allocator());
         'items: while let Some(item) = items.next() {
@@ -78,7 +78,7 @@ impl ModuleState {
     ) -> Result<(), Error>
         requires { AreRead name_at group }
         ensures added { AddsGroup (features_of self.old) (context self.old) (items_of name_at group.entry) (map (λ name. item ty.now) (items_of name_at group.entry)) offset result (context self.new) }
-        ensures features { features_of self.new ≡ features_of self.old }
+        ensures types { self.new.types ≡ self.old.types }
     {
         let mut names = group.into_iter(*self.tags.allocator());
         'names: while let Some(name) = names.next() {
@@ -93,7 +93,7 @@ impl ModuleState {
     fn add_imports<'a>(&mut self, entry: Imports<'a>, offset: u64) -> Result<(), Error>
         requires { IsEntryOfModule entry }
         ensures added { AddsImports (features_of self.old) (context self.old) (import_entry entry.entry) offset result (context self.new) }
-        ensures features { features_of self.new ≡ features_of self.old }
+        ensures types { self.new.types ≡ self.old.types }
     {
         match entry {
             Imports::Single(_, import) => {

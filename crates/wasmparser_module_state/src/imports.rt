@@ -53,7 +53,7 @@ impl ModuleState {
 
     fn import_table(&mut self, ty: &TableType, offset: u64) -> Result<(), Error>
         ensures added { AddsItem (features_of self.old) (context self.old) (spec.TableExternal (table ty.now)) offset result (context self.new) }
-        ensures features { features_of self.new ≡ features_of self.old }
+        ensures types { self.new.types ≡ self.old.types }
     {
         if !self.keeps_table(ty) {
             return Err(refusal(offset, ErrorKind::Invalid));
@@ -69,7 +69,7 @@ impl ModuleState {
 
     fn import_memory(&mut self, ty: MemoryType, offset: u64) -> Result<(), Error>
         ensures added { AddsItem (features_of self.old) (context self.old) (spec.MemoryExternal (memory_type ty)) offset result (context self.new) }
-        ensures features { features_of self.new ≡ features_of self.old }
+        ensures types { self.new.types ≡ self.old.types }
     {
         if !self.keeps_memory(ty) {
             return Err(refusal(offset, ErrorKind::Invalid));
@@ -85,7 +85,7 @@ impl ModuleState {
 
     fn import_global(&mut self, ty: &GlobalType, offset: u64) -> Result<(), Error>
         ensures added { AddsItem (features_of self.old) (context self.old) (spec.GlobalExternal (global ty.now)) offset result (context self.new) }
-        ensures features { features_of self.new ≡ features_of self.old }
+        ensures types { self.new.types ≡ self.old.types }
     {
         if !self.keeps_imported_global(ty) {
             return Err(refusal(offset, ErrorKind::Invalid));
@@ -102,7 +102,7 @@ impl ModuleState {
     fn push_imported_global(&mut self, content_type: ValType, mutable: bool) -> Result<(), Error>
         ensures pushed { IfOk result (λ _. context self.new ≡ record (context self.old) { imported_globals = (context self.old).imported_globals ++ global (record { content_type = content_type; mutable = mutable }) ∷ [] }) }
         ensures refused { IfErr result (λ e. (e ≡ record { offset = 0; kind = kinds.Memory }) × (context self.new ≡ context self.old)) }
-        ensures features { features_of self.new ≡ features_of self.old }
+        ensures types { self.new.types ≡ self.old.types }
     {
         self.imported_globals.push(GlobalType {
             content_type,
@@ -125,7 +125,7 @@ impl ModuleState {
     #[tactic(auto, using(crate::proofs::Sizes::sum_steps))]
     fn import_function(&mut self, index: u32, offset: u64) -> Result<(), Error>
         ensures added { AddsItem (features_of self.old) (context self.old) (spec.FuncExternal index) offset result (context self.new) }
-        ensures features { features_of self.new ≡ features_of self.old }
+        ensures types { self.new.types ≡ self.old.types }
     {
         let Some(size) = self.size_of_type(index) else {
             return Err(refusal(offset, ErrorKind::Invalid));
@@ -142,7 +142,7 @@ impl ModuleState {
     #[tactic(auto, using(crate::proofs::Sizes::sum_steps))]
     fn import_tag(&mut self, index: u32, offset: u64) -> Result<(), Error>
         ensures added { AddsItem (features_of self.old) (context self.old) (spec.TagExternal index) offset result (context self.new) }
-        ensures features { features_of self.new ≡ features_of self.old }
+        ensures types { self.new.types ≡ self.old.types }
     {
         let size = match self.size_of_type(index) {
             Some(size) if self.is_tag_type(index) => size,
@@ -164,7 +164,7 @@ impl ModuleState {
     /// then.
     pub fn import_item(&mut self, ty: &TypeRef, offset: u64) -> Result<(), Error>
         ensures added { AddsItem (features_of self.old) (context self.old) (item ty.now) offset result (context self.new) }
-        ensures features { features_of self.new ≡ features_of self.old }
+        ensures types { self.new.types ≡ self.old.types }
     {
         match ty {
             TypeRef::Func(index) => self.import_function(*index, offset),

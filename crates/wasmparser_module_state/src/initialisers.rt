@@ -28,7 +28,7 @@ impl ModuleState {
         requires wanted { CanBeWanted (features_of self.old) (val_type ty.now) }
         ensures judged { Judges offset (IsConstantFor (features_of self.old) (context self.old) (val_map number_of (val_type ty.now)) (expression_of expression.now.rest)) result }
         ensures same { context self.new ≡ context self.old }
-        ensures features { features_of self.new ≡ features_of self.old }
+        ensures types { self.new.types ≡ self.old.types }
     {
         let scope = Scope {
             types: &self.types,
@@ -52,7 +52,7 @@ impl ModuleState {
         requires wanted { CanBeWanted (features_of self.old) (val_type ty.now) }
         ensures judged { Judges offset (IsConstantFor (features_of self.old) (record (context self.old) { own_globals = [] }) (val_map number_of (val_type ty.now)) (expression_of expression.now.rest)) result }
         ensures same { context self.new ≡ context self.old }
-        ensures features { features_of self.new ≡ features_of self.old }
+        ensures types { self.new.types ≡ self.old.types }
     {
         let scope = Scope {
             types: &self.types,

@@ -1,9 +1,10 @@
 //! What a validator knows of a module after some of its entries.
 
-ghost use Rattle.std.specs.Prelude.{◌≡◌, ◌+◌, ◌≤◌, length};
+ghost use Rattle.std.specs.Prelude.{◌≡◌, ◌+◌, ◌≤◌, [], length};
 ghost use Rattle.wasm_core_base.specs.Features.{feature_set};
 ghost use Rattle.wasm_spec.specs.Limits.{Types, most};
 ghost use Rattle.wasm_validity.specs.Context.{at_first};
+ghost use Rattle.wasmparser_module_state.specs.History.{held};
 ghost use Rattle.wasmparser_module_state.specs.State.{context, features_of};
 
 use std::alloc::Global;
@@ -48,6 +49,7 @@ impl ModuleState {
     /// What is known before the first entry, under these features.
     pub fn new(alloc: Global, features: WasmFeatures) -> ModuleState
         ensures nothing { context result ≡ at_first }
+        ensures no_types { held result ≡ [] }
         ensures features { features_of result ≡ feature_set features }
     {
         ModuleState {

@@ -32,7 +32,7 @@ impl ModuleState {
         requires keeps { keeps_table (features_of self.old) (context self.old) (table item.now.ty) ≡ true }
         ensures judged { Judges offset (IsFilled (features_of self.old) (context self.old) (table_of (packed_table item.now))) result }
         ensures same { context self.new ≡ context self.old }
-        ensures features { features_of self.new ≡ features_of self.old }
+        ensures types { self.new.types ≡ self.old.types }
     {
         let element_type = item.ty.element_type;
         match &item.init {

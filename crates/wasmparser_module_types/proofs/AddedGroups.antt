@@ -1,5 +1,5 @@
 -- What a list that knows a module's types knows after a group was accepted.
-use Rattle.std.proofs.Common.{◌≡◌, ℕ, suc, ◌+◌, ◌≤◌, Bool, true, false, List, [], ◌∷◌, ◌++◌, length, IsSome, refl, sym, ap, ◌∙◌, arith, slice_get}
+use Rattle.std.proofs.Common.{◌≡◌, ℕ, suc, ◌+◌, ◌≤◌, Bool, true, false, List, length, IsSome, refl, sym, ap, ◌∙◌, arith, slice_get}
 use Rattle.std.proofs.lemmas.List.{length-append, length-map}
 use Rattle.wasm_spec.proofs.GroupTrees.{length-types_after}
 use Rattle.wasm_spec.proofs.Places.{all_get}
@@ -8,14 +8,14 @@ use Rattle.wasm_spec.specs.Groups.{IsWellFormedGroup, PassesLimit}
 use Rattle.wasm_spec.specs.Limits.{Limit, Types, Groups, most}
 use Rattle.wasm_spec.specs.Syntax as syntax
 use Rattle.wasm_spec.specs.TypeReferences.{sub_map, subs_map}
-use Rattle.wasm_spec.specs.Trees.{places_of, tree_of, type_at, types_after, types_of_group, unrolled}
+use Rattle.wasm_spec.specs.Trees.{type_at, types_after, types_of_group, unrolled}
 use Rattle.wasm_spec.specs.Types.{RecGroup, Single, Group, SubType}
 use Rattle.wasmparser_chains.specs.Chains.{AreBelowEarlier}
 use Rattle.wasmparser_group_rules.specs.Canonical.{canonical_index}
 use Rattle.wasmparser_interning.specs.TypeTables.{Interns, TablesAgree, TypeTables, absolute, sub_types}
-use Rattle.wasmparser_interning_laws.proofs.InternedGroups.{types_more}
-use Rattle.wasmparser_interning_laws.specs.IdTypes.{AreFoundByKey, RefersToNoModule, group_after, id_types, tree_as}
-use Rattle.wasmparser_module_types.specs.ModuleTypes.{AddsGroup, IsFront, KnowsModule, all_groups, interned_types, known_types, module_types}
+use Rattle.wasmparser_interning_laws.specs.IdTypes.{AreFoundByKey, RefersToNoModule, id_types}
+use Rattle.wasmparser_module_types.specs.History.{Enters}
+use Rattle.wasmparser_module_types.specs.ModuleTypes.{AddsGroup, KnowsModule, all_groups, interned_types, known_types, module_types}
 use Rattle.wasmparser_rec_group_laws.specs.Contexts.{IsGroupOfModule, in_section}
 use Rattle.wasmparser_rec_groups.proofs.CanonicalGroups.{members_mapped}
 use Rattle.wasmparser_rec_groups.specs.Interning.{Accepts, AreKnown, NamesModuleTypes, canonical_members}
@@ -47,20 +47,6 @@ grown old new canonical true group number interned =
     omega (arith, ap length interned.adds.types, length-append (sub_types old) added, length-map old.types sub_type, length-map new.types sub_type, length-map group (sub_map (absolute (length old.types))))
 grown old new canonical false group number interned = let same = ap (λ (t : TypeTables). length t.types) interned.1 in omega (arith, same)
 
--- ---- what ids stand for
-
-no_more : {X : Type 0} (xs : List X) → xs ≡ xs ++ []
-no_more [] = refl
-no_more (x ∷ xs) = ap (λ q. x ∷ q) (no_more xs)
-
-pub still_stand : (old new : TypeTables) (canonical is_new : Bool) (group : List (SubType Index)) (number : ℕ) → TablesAgree old → Interns old new canonical group is_new number
-    → IsFront (interned_types old) (interned_types new)
-still_stand old new canonical true group number agree interned =
-    let added = group_after (length old.types) group in
-    (places_of (tree_as true number (tree_of (interned_types old) added)) 0 (syntax.members added), types_more old new group number agree interned.adds all_groups)
-still_stand old new canonical false group number agree interned =
-    ([], ap interned_types interned.1 ∙ no_more (interned_types old))
-
 -- ---- what is known
 
 pub of_module : (features : Features) (ids : List ℕ) (old new : TypeTables) (group : RecGroup Index) → KnowsModule features old ids → NamesModuleTypes group → TablesAgree new
@@ -91,9 +77,9 @@ still_knows features ids new_ids old new group knows agree grows earlier known a
 
 pub adds_group : (features new_features : Features) (list new_list : TypeTables) (ids new_ids : List ℕ) (groups : ℕ) (group : RecGroup Index)
     → IsWellFormedGroup features (module_types list ids) (in_section group) → module_types new_list new_ids ≡ types_after (module_types list ids) (in_section group)
-    → IsFront (interned_types list) (interned_types new_list) → suc groups ≤ most Groups → length ids + length (members group) ≤ most Types
+    → Enters features (interned_types list) (types_of_group (module_types list ids) (in_section group)) (interned_types new_list) → suc groups ≤ most Groups → length ids + length (members group) ≤ most Types
     → AddsGroup (known_types features list ids groups) (known_types new_features new_list new_ids (groups + 1)) (in_section group)
-adds_group features new_features list new_list ids new_ids groups group well added kept few_groups room = record {
+adds_group features new_features list new_list ids new_ids groups group well added entered few_groups room = record {
   rules = well.rules;
   limits = λ l passes.
       all_get (λ type. (limit : Limit) → ¬ (PassesLimit unrolled type limit)) (types_of_group (module_types list ids) (in_section group)) well.within_limits passes.place passes.type passes.at l passes.passes;
@@ -101,5 +87,5 @@ adds_group features new_features list new_list ids new_ids groups group well add
   few_types = omega (arith, room, after_count list ids group);
   types = added;
   groups = omega arith;
-  interned = kept;
+  interned = entered;
 }

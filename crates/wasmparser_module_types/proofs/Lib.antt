@@ -1,5 +1,6 @@
 mod AddedGroups
 pub mod Comparisons
+mod EnteredGroups
 mod FuncTypes
 mod KnownIds
 mod Refusals

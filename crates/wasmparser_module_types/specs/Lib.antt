@@ -1,3 +1,4 @@
+pub mod History
 pub mod ModuleTypes
 pub mod ShapeCodes
 pub mod TreeCodes

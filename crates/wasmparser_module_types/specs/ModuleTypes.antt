@@ -1,5 +1,5 @@
 -- The types of a module that is read group by group, and the list that knows them.
-use Rattle.std.specs.Prelude.{◌≡◌, ℕ, suc, ◌<◌, ◌≤◌, ◌⊎◌, ◌++◌, Bool, true, List, length, slice_get, Option, option_map, IsSome, refl}
+use Rattle.std.specs.Prelude.{◌≡◌, ℕ, suc, ◌<◌, ◌≤◌, ◌⊎◌, Bool, true, List, length, slice_get, Option, option_map, IsSome, refl}
 use Rattle.std.specs.List.{AllByRecursion}
 use Rattle.std.specs.Coded.{Coded, code_by, coded×, coded_ℕ, coded_list}
 use Rattle.wasm_core_base.specs.Limits.{limit}
@@ -7,7 +7,7 @@ use Rattle.wasm_core_base.specs.declared.limits.Limit.TheVariants as limits
 use Rattle.wasm_spec.specs.Features.{Features, needs_type_canonicalization}
 use Rattle.wasm_spec.specs.Groups.{KeepsGroupRules}
 use Rattle.wasm_spec.specs.Limits.{Limit, Groups, Types, IsPassedBy, most}
-use Rattle.wasm_spec.specs.Trees.{DefType, type_at, types_after}
+use Rattle.wasm_spec.specs.Trees.{DefType, type_at, types_after, types_of_group}
 use Rattle.wasm_spec.specs.TypeReferences.{func_map}
 use Rattle.wasm_spec.specs.Types.{FuncType, RecGroup}
 use Rattle.wasm_validity.specs.DefinedTypes.{PassesGroupLimit, func_type_at}
@@ -17,6 +17,7 @@ use Rattle.wasmparser_error.specs.declared.error.ErrorKind.{ErrorKind}
 use Rattle.wasmparser_error.specs.declared.error.ErrorKind.TheVariants as kinds
 use Rattle.wasmparser_interning.specs.TypeTables.{TablesAgree, TypeTables, sub_types}
 use Rattle.wasmparser_interning_laws.specs.IdTypes.{AreFoundByKey, RefersToNoModule, id_types}
+use Rattle.wasmparser_module_types.specs.History.{Enters}
 use Rattle.wasmparser_module_types.specs.TreeCodes.{def_type_code}
 use Rattle.wasmparser_rec_group_laws.specs.Contexts.{types_of}
 use Rattle.wasmparser_rec_groups.specs.Interning.{AreKnown}
@@ -81,11 +82,7 @@ CanCompare features lower upper = (needs_type_canonicalization features ≡ true
 
 -- ---- adding a group
 
--- these types stand in front of those
-abbrev pub IsFront : List DefType → List DefType → Type 0
-IsFront types longer = (others : List DefType) × (longer ≡ types ++ others)
-
--- a group keeps all rules, passes no limit, and its types follow the others; ids stand for what they stood for
+-- a group keeps all rules, passes no limit, and its types follow the others; the list enters it, so ids stand for what they stood for
 pub record AddsGroup (old new : KnownTypes) (group : RecGroup ℕ) : Type 0 where
   pub rules : KeepsGroupRules old.features old.types group
   pub limits : (l : Limit) → ¬ (PassesGroupLimit old.types group l)
@@ -93,7 +90,7 @@ pub record AddsGroup (old new : KnownTypes) (group : RecGroup ℕ) : Type 0 wher
   pub few_types : length (types_after old.types group) ≤ most Types
   pub types : new.types ≡ types_after old.types group
   pub groups : new.groups ≡ suc old.groups
-  pub interned : IsFront old.interned new.interned
+  pub interned : Enters old.features old.interned (types_of_group old.types group) new.interned
 
 -- A group would be one too many of so many groups, or a module's types so many that they are too many: how the error at an offset tells which.
 abbrev pub IsTooMany : ℕ → ℕ → ℕ → Error → Type 0

@@ -4,9 +4,10 @@ ghost use Rattle.std.specs.Prelude.{◌≡◌, ◌≤◌, ◌+◌, ℕ, suc, IfE
 ghost use Rattle.wasm_core_base.specs.Features.{feature_set};
 ghost use Rattle.wasm_spec.specs.Groups.{IsWellFormedGroup};
 ghost use Rattle.wasm_spec.specs.Limits.{Groups, Types, most};
-ghost use Rattle.wasm_spec.specs.Trees.{types_after};
+ghost use Rattle.wasm_spec.specs.Trees.{types_after, types_of_group};
 ghost use Rattle.wasmparser_error.specs.declared.error.ErrorKind.TheVariants as kinds;
-ghost use Rattle.wasmparser_module_types.specs.ModuleTypes.{IsFront, IsTooMany, KnowsModule, RefusesGroup, interned_types, known_types, module_types};
+ghost use Rattle.wasmparser_module_types.specs.History.{Enters};
+ghost use Rattle.wasmparser_module_types.specs.ModuleTypes.{IsTooMany, KnowsModule, RefusesGroup, interned_types, known_types, module_types};
 ghost use Rattle.wasmparser_rec_group_laws.specs.Contexts.{in_section};
 ghost use Rattle.wasmparser_rec_groups.specs.Interning.{NamesModuleTypes};
 ghost use Rattle.wasmparser_types.specs.RecGroups as spec;
@@ -71,7 +72,7 @@ fn intern(
     ensures knows { IfOk result (λ _. KnowsModule (feature_set space.old.features) list.new space.new.ids.items) }
     ensures accepted { IfOk result (λ _. IsWellFormedGroup (feature_set space.old.features) (module_types list.old space.old.ids.items) (in_section (spec.rec_group group))) }
     ensures added { IfOk result (λ _. module_types list.new space.new.ids.items ≡ types_after (module_types list.old space.old.ids.items) (in_section (spec.rec_group group))) }
-    ensures kept { IfOk result (λ _. IsFront (interned_types list.old) (interned_types list.new)) }
+    ensures entered { IfOk result (λ _. Enters (feature_set space.old.features) (interned_types list.old) (types_of_group (module_types list.old space.old.ids.items) (in_section (spec.rec_group group))) (interned_types list.new)) }
     ensures refused { (groups : ℕ) → IfErr result (RefusesGroup (known_types (feature_set space.old.features) list.old space.old.ids.items groups) (in_section (spec.rec_group group)) offset) }
 {
     // The laws that the clauses follow from, which do nothing.
@@ -96,7 +97,7 @@ fn add(
     ensures knows { KnowsModule (feature_set space.new.features) list.new space.new.ids.items }
     ensures accepted { IfOk result (λ _. IsWellFormedGroup (feature_set space.old.features) (module_types list.old space.old.ids.items) (in_section (spec.rec_group group))) }
     ensures added { IfOk result (λ _. module_types list.new space.new.ids.items ≡ types_after (module_types list.old space.old.ids.items) (in_section (spec.rec_group group))) }
-    ensures kept { IfOk result (λ _. IsFront (interned_types list.old) (interned_types list.new)) }
+    ensures entered { IfOk result (λ _. Enters (feature_set space.old.features) (interned_types list.old) (types_of_group (module_types list.old space.old.ids.items) (in_section (spec.rec_group group))) (interned_types list.new)) }
     ensures refused { (groups : ℕ) → IfErr result (RefusesGroup (known_types (feature_set space.old.features) list.old space.old.ids.items groups) (in_section (spec.rec_group group)) offset) }
 {
     match intern(space, list, group, offset) {

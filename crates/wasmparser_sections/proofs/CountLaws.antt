@@ -7,9 +7,12 @@ use Rattle.wasm_core_read.specs.Input.{Input}
 use Rattle.wasm_spec.specs.Features.{Features, CompactImports, has}
 use Rattle.wasm_spec.specs.Grammar.{IsModule}
 use Rattle.wasm_spec.specs.Syntax.{Section, functions_of, bodies_of, data_of, data_counts_of}
-use Rattle.wasm_validity.specs.Context.{Context}
+use Rattle.wasm_validity.specs.Context.{Context, at_first}
+use Rattle.wasm_validity.specs.Entries.{entries_of}
 use Rattle.wasmparser_module_entries.proofs.ModuleFronts.{all_alike, module_is_whole, whole_is_module}
 use Rattle.wasmparser_error.specs.declared.error.ErrorKind.TheVariants as kinds
+use Rattle.wasm_spec.specs.Trees.{DefType}
+use Rattle.wasmparser_module_state.specs.History.{EnterAll, held}
 use Rattle.wasmparser_module_state.specs.State.{context, features_of}
 use Rattle.wasmparser_sections.specs.Sections.{AreRead, CountsAgree, AreAccepted, RefusesSections}
 use Rattle.wasmparser_sections.specs.declared.sections.ValidSections.{ValidSections}
@@ -29,7 +32,7 @@ all_counted segments (count ∷ counts) h = rw (eq-eqb count segments h.0) (all_
 
 -- ---- what was read, and what is known of it
 
-module _ (features : Features) (bytes : List ℕ) (cx : Context) (given : List Input) (stated : List ℕ) (r : AreRead features bytes cx given stated) where
+module _ (features : Features) (bytes : List ℕ) (first_held : List DefType) (cx : Context) (held : List DefType) (given : List Input) (stated : List ℕ) (r : AreRead features bytes first_held cx held given stated) where
   count_of_functions : length cx.own_functions ≡ length (functions_of r.sections)
   count_of_functions = ap (λ (c : Context). length c.own_functions) r.known ∙ ap (λ (l : List ℕ). length l) (functions_of_sections r.sections)
 
@@ -56,18 +59,20 @@ module _ (features : Features) (bytes : List ℕ) (cx : Context) (given : List I
 
 -- ---- what is answered
 
-pub accepted : (features : Features) (bytes : List ℕ) (m : ValidSections) → AreRead features bytes (context m.state) m.bodies.items m.data_counts.items → features_of m.state ≡ features
+pub accepted : (features : Features) (bytes : List ℕ) (first_held : List DefType) (m : ValidSections) → AreRead features bytes first_held (context m.state) (held m.state) m.bodies.items m.data_counts.items
+    → first_held ≡ [] → features_of m.state ≡ features
     → CountsAgree (context m.state) m.bodies.items m.data_counts.items → AreAccepted features bytes m
-accepted features bytes m r same agree = record {
+accepted features bytes first_held m r nothing same agree = record {
   sections = r.sections;
-  reads = counts_agree features bytes (context m.state) m.bodies.items m.data_counts.items r agree;
+  reads = counts_agree features bytes first_held (context m.state) (held m.state) m.bodies.items m.data_counts.items r agree;
   fine = r.fine;
   known = r.known;
+  entered = subst (λ first. EnterAll features at_first first (entries_of r.sections) (held m.state)) nothing r.entered;
   same_features = same;
   bodies = r.bodies;
   inside = r.inside;
 }
 
-pub not_counted : (features : Features) (bytes : List ℕ) (cx : Context) (given : List Input) (stated : List ℕ) → AreRead features bytes cx given stated → ¬ (CountsAgree cx given stated)
+pub not_counted : (features : Features) (bytes : List ℕ) (first_held : List DefType) (cx : Context) (held : List DefType) (given : List Input) (stated : List ℕ) → AreRead features bytes first_held cx held given stated → ¬ (CountsAgree cx given stated)
     → RefusesSections features bytes (record { offset = length bytes; kind = kinds.Malformed })
-not_counted features bytes cx given stated r other = (λ sections m. other (of_module features bytes cx given stated r sections m), omega arith, λ k. absurd cc)
+not_counted features bytes first_held cx held given stated r other = (λ sections m. other (of_module features bytes first_held cx held given stated r sections m), omega arith, λ k. absurd cc)

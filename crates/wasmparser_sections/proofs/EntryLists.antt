@@ -1,10 +1,12 @@
 -- Rules and limits of entries, where some stand before others.
-use Rattle.std.proofs.Common.{◌≡◌, inr, List, [], ◌∷◌, ◌++◌, refl}
+use Rattle.std.proofs.Common.{◌≡◌, inr, List, [], ◌∷◌, ◌++◌, refl, subst}
 use Rattle.wasm_spec.specs.Features.{Features}
 use Rattle.wasm_spec.specs.Limits.{Limit}
+use Rattle.wasm_spec.specs.Trees.{DefType}
 use Rattle.wasm_validity.specs.Context.{Context, after, after_all}
 use Rattle.wasm_validity.specs.Entries.{Entry}
 use Rattle.wasm_validity.specs.Rules.{KeepRules, KeepLimits, PassLimit}
+use Rattle.wasmparser_module_state.specs.History.{EnterAll}
 
 pub after_both : (cx : Context) (es fs : List Entry) → after_all cx (es ++ fs) ≡ after_all (after_all cx es) fs
 after_both cx [] fs = refl
@@ -25,3 +27,8 @@ within_both cx (e ∷ es) fs h k = (h.0, within_both (after cx e) es fs h.1 k)
 pub past_others : (limit : Limit) (cx : Context) (es fs : List Entry) → PassLimit limit (after_all cx es) fs → PassLimit limit cx (es ++ fs)
 past_others limit cx [] fs h = h
 past_others limit cx (e ∷ es) fs h = inr (inr (past_others limit (after cx e) es fs h))
+
+pub enter_both : (features : Features) (cx : Context) (held mid new : List DefType) (es fs : List Entry) → EnterAll features cx held es mid → EnterAll features (after_all cx es) mid fs new
+    → EnterAll features cx held (es ++ fs) new
+enter_both features cx held mid new [] fs h k = subst (λ q. EnterAll features cx q fs new) h k
+enter_both features cx held mid new (e ∷ es) fs h k = (h.0, h.1, enter_both features (after cx e) h.0 mid new es fs h.2 k)

@@ -14,11 +14,13 @@ use Rattle.wasmparser_error.specs.declared.error.ErrorKind.{ErrorKind}
 use Rattle.wasmparser_error.specs.declared.error.ErrorKind.TheVariants as kinds
 use Rattle.wasmparser_module_entries.specs.EntryReading.{type_entry_at, import_entry_at, function_entry_at, table_entry_at, memory_entry_at, tag_entry_at, global_entry_at, export_entry_at, element_entry_at, data_entry_at}
 use Rattle.wasmparser_module_entries.specs.PieceEntries.{items_of, said_first, with_items, entries_said}
+use Rattle.wasm_spec.specs.Trees.{DefType}
+use Rattle.wasmparser_module_state.specs.History.{EnterAll, EntersEntry}
 use Rattle.wasmparser_module_state.specs.Judging.{Accepts, Adds, NamesEntry, IsAt, Fronts, NamesEntries, IsIn, AddsEntries}
 use Rattle.wasmparser_payloads.specs.Pieces.{Piece, Place, Version, Types, Imports, Functions, Tables, Memories, Tags, Globals, Exports, Start, Elements, DataCount, CodeStart, Body, Segments, Custom, Unknown, End, Named}
 use Rattle.wasmparser_readers.specs.Sections.{Left, Limited, left_items}
 use Rattle.wasmparser_sections.specs.PieceJudging.{Says, by_itself, with_some, PieceBegins, IsFirstOf, IsAmong, IsInPiece, IsPlaced, NamesPiece, AddsPiece, RefusesAt}
-use Rattle.wasmparser_sections.proofs.EntryLists.{after_both, keep_both, keep_others, within_both, past_others}
+use Rattle.wasmparser_sections.proofs.EntryLists.{after_both, enter_both, keep_both, keep_others, within_both, past_others}
 use Rattle.wasmparser_sections.proofs.PieceItems.{as_entries}
 
 -- ---- pieces that say one entry by themselves
@@ -50,47 +52,48 @@ refused_first features old p entry place kind offset said first takes h = by_kin
 abbrev TakesNone : Result (Unit {0}) Error → Type 0
 TakesNone result = IfErr result (λ e. e.kind ≢ kinds.Memory)
 
-says_one : (features : Features) (old : Context) (p : Piece) (entry : Entry) (new : Context) → entries_said p ≡ Some (entry ∷ []) → Accepts features old entry new → Says features old p new
-says_one features old p entry new said h =
-    record { entries = entry ∷ []; said = said; rules = (h.rule, tt); limits = (h.limits, tt); known = h.known }
+says_one : (features : Features) (old : Context) (held : List DefType) (p : Piece) (entry : Entry) (new : Context) → entries_said p ≡ Some (entry ∷ []) → EntersEntry features old held entry held
+    → Accepts features old entry new → Says features old held p new held
+says_one features old held p entry new said enters h =
+    record { entries = entry ∷ []; said = said; rules = (h.rule, tt); limits = (h.limits, tt); known = h.known; entered = (held, enters, refl) }
 
-adds_one : (features : Features) (old : Context) (p : Piece) (entry : Entry) (place : ℕ) (result : Result (Unit {0}) Error) (new : Context) → said_first p ≡ entry ∷ [] → entries_said p ≡ Some (entry ∷ [])
-    → IsFirstOf p place → TakesNone result → Adds features old entry place result new → AddsPiece features old p result new
-adds_one features old p entry place (Ok x) new first said placed none h = says_one features old p entry new said h
-adds_one features old p entry place (Err e) new first said placed none h = refused_first features old p entry place e.kind e.offset first placed (λ is. absurd (none is)) (h.0, h.1)
+adds_one : (features : Features) (old : Context) (held : List DefType) (p : Piece) (entry : Entry) (place : ℕ) (result : Result (Unit {0}) Error) (new : Context) → said_first p ≡ entry ∷ []
+    → entries_said p ≡ Some (entry ∷ []) → IsFirstOf p place → EntersEntry features old held entry held → TakesNone result → Adds features old entry place result new → AddsPiece features old held p result new held
+adds_one features old held p entry place (Ok x) new first said placed enters none h = says_one features old held p entry new said enters h
+adds_one features old held p entry place (Err e) new first said placed enters none h = refused_first features old p entry place e.kind e.offset first placed (λ is. absurd (none is)) (h.0, h.1)
 
-pub adds_start : (features : Features) (old : Context) (function : ℕ) (place : Place) (result : Result (Unit {0}) Error) → TakesNone result → Adds features old (OfStart function) place.start result old → AddsPiece features old (Start function place) result old
+pub adds_start : (features : Features) (old : Context) (held : List DefType) (function : ℕ) (place : Place) (result : Result (Unit {0}) Error) → TakesNone result → Adds features old (OfStart function) place.start result old → AddsPiece features old held (Start function place) result old held
 unfolding said_first entries_said items_of IsFirstOf
-adds_start features old function place result none h = adds_one features old (Start function place) (OfStart function) place.start result old refl refl refl none h
+adds_start features old held function place result none h = adds_one features old held (Start function place) (OfStart function) place.start result old refl refl refl refl none h
 
-pub adds_custom : (features : Features) (old : Context) (section : Named) (result : Result (Unit {0}) Error) → TakesNone result → Adds features old (OfCustom section.name) section.start result old → AddsPiece features old (Custom section) result old
+pub adds_custom : (features : Features) (old : Context) (held : List DefType) (section : Named) (result : Result (Unit {0}) Error) → TakesNone result → Adds features old (OfCustom section.name) section.start result old → AddsPiece features old held (Custom section) result old held
 unfolding said_first entries_said items_of IsFirstOf
-adds_custom features old section result none h = adds_one features old (Custom section) (OfCustom section.name) section.start result old refl refl refl none h
+adds_custom features old held section result none h = adds_one features old held (Custom section) (OfCustom section.name) section.start result old refl refl refl refl none h
 
-pub adds_body : (features : Features) (old : Context) (body : Input) (result : Result (Unit {0}) Error) → TakesNone result → Adds features old (OfBody body.rest) body.position result old → AddsPiece features old (Body body) result old
+pub adds_body : (features : Features) (old : Context) (held : List DefType) (body : Input) (result : Result (Unit {0}) Error) → TakesNone result → Adds features old (OfBody body.rest) body.position result old → AddsPiece features old held (Body body) result old held
 unfolding said_first entries_said items_of IsFirstOf
-adds_body features old body result none h = adds_one features old (Body body) (OfBody body.rest) body.position result old refl refl refl none h
+adds_body features old held body result none h = adds_one features old held (Body body) (OfBody body.rest) body.position result old refl refl refl refl none h
 
-pub adds_data_count : (features : Features) (old : Context) (count : ℕ) (place : Place) (result : Result (Unit {0}) Error) → TakesNone result → Adds features old (OfDataCount count) place.start result old → AddsPiece features old (DataCount count place) result old
+pub adds_data_count : (features : Features) (old : Context) (held : List DefType) (count : ℕ) (place : Place) (result : Result (Unit {0}) Error) → TakesNone result → Adds features old (OfDataCount count) place.start result old → AddsPiece features old held (DataCount count place) result old held
 unfolding said_first entries_said items_of IsFirstOf
-adds_data_count features old count place result none h = adds_one features old (DataCount count place) (OfDataCount count) place.start result old refl refl refl none h
+adds_data_count features old held count place result none h = adds_one features old held (DataCount count place) (OfDataCount count) place.start result old refl refl refl refl none h
 
 -- ---- pieces that say nothing
 
-says_nothing : (features : Features) (old : Context) (p : Piece) → entries_said p ≡ Some [] → Says features old p old
-says_nothing features old p said = record { entries = []; said = said; rules = tt; limits = tt; known = refl }
+says_nothing : (features : Features) (old : Context) (held : List DefType) (p : Piece) → entries_said p ≡ Some [] → Says features old held p old held
+says_nothing features old held p said = record { entries = []; said = said; rules = tt; limits = tt; known = refl; entered = refl }
 
-pub header_says_nothing : (features : Features) (old : Context) (num : ℕ) (place : Place) → Says features old (Version num place) old
+pub header_says_nothing : (features : Features) (old : Context) (held : List DefType) (num : ℕ) (place : Place) → Says features old held (Version num place) old held
 unfolding said_first entries_said items_of
-header_says_nothing features old num place = says_nothing features old (Version num place) refl
+header_says_nothing features old held num place = says_nothing features old held (Version num place) refl
 
-pub code_start_says_nothing : (features : Features) (old : Context) (count : ℕ) (place : Place) (size : ℕ) → Says features old (CodeStart count place size) old
+pub code_start_says_nothing : (features : Features) (old : Context) (held : List DefType) (count : ℕ) (place : Place) (size : ℕ) → Says features old held (CodeStart count place size) old held
 unfolding said_first entries_said items_of
-code_start_says_nothing features old count place size = says_nothing features old (CodeStart count place size) refl
+code_start_says_nothing features old held count place size = says_nothing features old held (CodeStart count place size) refl
 
-pub end_says_nothing : (features : Features) (old : Context) (place : ℕ) → Says features old (End place) old
+pub end_says_nothing : (features : Features) (old : Context) (held : List DefType) (place : ℕ) → Says features old held (End place) old held
 unfolding said_first entries_said items_of
-end_says_nothing features old place = says_nothing features old (End place) refl
+end_says_nothing features old held place = says_nothing features old held (End place) refl
 
 -- ---- pieces with items of one kind
 
@@ -100,18 +103,19 @@ record HasItems {A : Type 0} (p : Piece) (first : List Entry) (made : A → Entr
   says_first : said_first p ≡ first
   said : entries_said p ≡ with_items first (Some (record { entry_at = as_entries made form_at; left = left }))
 
-adds_items : {A : Type 0} (features : Features) (old mid : Context) (p : Piece) (first : List Entry) (made : A → Entry) (form_at : Features → ReadingOf A) (left : Left) (result : Result (Unit {0}) Error) (new : Context)
-    → HasItems p first made form_at left → KeepRules features old first → KeepLimits old first → mid ≡ after_all old first
-    → AddsEntries features (as_entries made form_at) mid left result new → AddsPiece features old p result new
-adds_items features old mid p first made form_at left (Ok x) new its rules limits known h =
+adds_items : {A : Type 0} (features : Features) (old mid : Context) (held : List DefType) (p : Piece) (first : List Entry) (made : A → Entry) (form_at : Features → ReadingOf A) (left : Left)
+    (result : Result (Unit {0}) Error) (new : Context) (new_held : List DefType) → HasItems p first made form_at left → KeepRules features old first → KeepLimits old first → EnterAll features old held first held
+    → mid ≡ after_all old first → AddsEntries features (as_entries made form_at) mid held left result new new_held → AddsPiece features old held p result new new_held
+adds_items features old mid held p first made form_at left (Ok x) new new_held its rules limits enter known h =
     record {
       entries = first ++ h.entries;
       said = its.said ∙ rw h.reads refl;
       rules = keep_both features old first h.entries rules (subst (λ cx. KeepRules features cx h.entries) known h.rules);
       limits = within_both old first h.entries limits (subst (λ cx. KeepLimits cx h.entries) known h.limits);
       known = h.known ∙ ap (λ cx. after_all cx h.entries) known ∙ sym (after_both old first h.entries);
+      entered = enter_both features old held held new_held first h.entries enter (subst (λ cx. EnterAll features cx held h.entries new_held) known h.entered);
     }
-adds_items features old mid p first made form_at left (Err e) new its rules limits known h = by_kind e.kind h
+adds_items features old mid held p first made form_at left (Err e) new new_held its rules limits enter known h = by_kind e.kind h
   where
     unread : left_items (as_entries made form_at) left ≡ None → entries_said p ≡ None
     unread none = its.said ∙ rw none refl
@@ -139,57 +143,58 @@ adds_items features old mid p first made form_at left (Err e) new its rules limi
     by_kind kinds.Order h = absurd h.0
     by_kind kinds.Failed h = absurd h.0
 
-pub adds_types : (features : Features) (old : Context) (items : Limited) (result : Result (Unit {0}) Error) (new : Context) → AddsEntries features type_entry_at old items.left result new → AddsPiece features old (Types items) result new
+pub adds_types : (features : Features) (old : Context) (held : List DefType) (items : Limited) (result : Result (Unit {0}) Error) (new : Context) (new_held : List DefType) → AddsEntries features type_entry_at old held items.left result new new_held → AddsPiece features old held (Types items) result new new_held
 unfolding said_first entries_said items_of
-adds_types features old items result new h =
-    adds_items features old old (Types items) [] (λ x. OfType x) (λ _. rec_group_at) items.left result new (record { items = refl; says_first = refl; said = refl }) tt tt refl h
+adds_types features old held items result new new_held h =
+    adds_items features old old held (Types items) [] (λ x. OfType x) (λ _. rec_group_at) items.left result new new_held (record { items = refl; says_first = refl; said = refl }) tt tt refl refl h
 
-pub adds_imports : (features : Features) (old : Context) (items : Limited) (result : Result (Unit {0}) Error) (new : Context) → AddsEntries features import_entry_at old items.left result new → AddsPiece features old (Imports items) result new
+pub adds_imports : (features : Features) (old : Context) (held : List DefType) (items : Limited) (result : Result (Unit {0}) Error) (new : Context) (new_held : List DefType) → AddsEntries features import_entry_at old held items.left result new new_held → AddsPiece features old held (Imports items) result new new_held
 unfolding said_first entries_said items_of
-adds_imports features old items result new h =
-    adds_items features old old (Imports items) [] (λ x. OfImport x) (λ g. import_at (has g CompactImports)) items.left result new (record { items = refl; says_first = refl; said = refl }) tt tt refl h
+adds_imports features old held items result new new_held h =
+    adds_items features old old held (Imports items) [] (λ x. OfImport x) (λ g. import_at (has g CompactImports)) items.left result new new_held (record { items = refl; says_first = refl; said = refl }) tt tt refl refl h
 
-pub adds_functions : (features : Features) (old : Context) (items : Limited) (result : Result (Unit {0}) Error) (new : Context) → AddsEntries features function_entry_at old items.left result new → AddsPiece features old (Functions items) result new
+pub adds_functions : (features : Features) (old : Context) (held : List DefType) (items : Limited) (result : Result (Unit {0}) Error) (new : Context) (new_held : List DefType) → AddsEntries features function_entry_at old held items.left result new new_held → AddsPiece features old held (Functions items) result new new_held
 unfolding said_first entries_said items_of
-adds_functions features old items result new h =
-    adds_items features old old (Functions items) [] (λ x. OfFunction x) (λ _. unsigned_at 32) items.left result new (record { items = refl; says_first = refl; said = refl }) tt tt refl h
+adds_functions features old held items result new new_held h =
+    adds_items features old old held (Functions items) [] (λ x. OfFunction x) (λ _. unsigned_at 32) items.left result new new_held (record { items = refl; says_first = refl; said = refl }) tt tt refl refl h
 
-pub adds_tables : (features : Features) (old : Context) (items : Limited) (result : Result (Unit {0}) Error) (new : Context) → AddsEntries features table_entry_at old items.left result new → AddsPiece features old (Tables items) result new
+pub adds_tables : (features : Features) (old : Context) (held : List DefType) (items : Limited) (result : Result (Unit {0}) Error) (new : Context) (new_held : List DefType) → AddsEntries features table_entry_at old held items.left result new new_held → AddsPiece features old held (Tables items) result new new_held
 unfolding said_first entries_said items_of
-adds_tables features old items result new h =
-    adds_items features old old (Tables items) [] (λ x. OfTable x) (λ _. table_at) items.left result new (record { items = refl; says_first = refl; said = refl }) tt tt refl h
+adds_tables features old held items result new new_held h =
+    adds_items features old old held (Tables items) [] (λ x. OfTable x) (λ _. table_at) items.left result new new_held (record { items = refl; says_first = refl; said = refl }) tt tt refl refl h
 
-pub adds_memories : (features : Features) (old : Context) (items : Limited) (result : Result (Unit {0}) Error) (new : Context) → AddsEntries features memory_entry_at old items.left result new → AddsPiece features old (Memories items) result new
+pub adds_memories : (features : Features) (old : Context) (held : List DefType) (items : Limited) (result : Result (Unit {0}) Error) (new : Context) (new_held : List DefType) → AddsEntries features memory_entry_at old held items.left result new new_held → AddsPiece features old held (Memories items) result new new_held
 unfolding said_first entries_said items_of
-adds_memories features old items result new h =
-    adds_items features old old (Memories items) [] (λ x. OfMemory x) (λ _. limits_at) items.left result new (record { items = refl; says_first = refl; said = refl }) tt tt refl h
+adds_memories features old held items result new new_held h =
+    adds_items features old old held (Memories items) [] (λ x. OfMemory x) (λ _. limits_at) items.left result new new_held (record { items = refl; says_first = refl; said = refl }) tt tt refl refl h
 
-pub adds_globals : (features : Features) (old : Context) (items : Limited) (result : Result (Unit {0}) Error) (new : Context) → AddsEntries features global_entry_at old items.left result new → AddsPiece features old (Globals items) result new
+pub adds_globals : (features : Features) (old : Context) (held : List DefType) (items : Limited) (result : Result (Unit {0}) Error) (new : Context) (new_held : List DefType) → AddsEntries features global_entry_at old held items.left result new new_held → AddsPiece features old held (Globals items) result new new_held
 unfolding said_first entries_said items_of
-adds_globals features old items result new h =
-    adds_items features old old (Globals items) [] (λ x. OfGlobal x) (λ _. global_at) items.left result new (record { items = refl; says_first = refl; said = refl }) tt tt refl h
+adds_globals features old held items result new new_held h =
+    adds_items features old old held (Globals items) [] (λ x. OfGlobal x) (λ _. global_at) items.left result new new_held (record { items = refl; says_first = refl; said = refl }) tt tt refl refl h
 
-pub adds_exports : (features : Features) (old : Context) (items : Limited) (result : Result (Unit {0}) Error) (new : Context) → AddsEntries features export_entry_at old items.left result new → AddsPiece features old (Exports items) result new
+pub adds_exports : (features : Features) (old : Context) (held : List DefType) (items : Limited) (result : Result (Unit {0}) Error) (new : Context) (new_held : List DefType) → AddsEntries features export_entry_at old held items.left result new new_held → AddsPiece features old held (Exports items) result new new_held
 unfolding said_first entries_said items_of
-adds_exports features old items result new h =
-    adds_items features old old (Exports items) [] (λ x. OfExport x) (λ _. export_at) items.left result new (record { items = refl; says_first = refl; said = refl }) tt tt refl h
+adds_exports features old held items result new new_held h =
+    adds_items features old old held (Exports items) [] (λ x. OfExport x) (λ _. export_at) items.left result new new_held (record { items = refl; says_first = refl; said = refl }) tt tt refl refl h
 
-pub adds_elements : (features : Features) (old : Context) (items : Limited) (result : Result (Unit {0}) Error) (new : Context) → AddsEntries features element_entry_at old items.left result new → AddsPiece features old (Elements items) result new
+pub adds_elements : (features : Features) (old : Context) (held : List DefType) (items : Limited) (result : Result (Unit {0}) Error) (new : Context) (new_held : List DefType) → AddsEntries features element_entry_at old held items.left result new new_held → AddsPiece features old held (Elements items) result new new_held
 unfolding said_first entries_said items_of
-adds_elements features old items result new h =
-    adds_items features old old (Elements items) [] (λ x. OfElement x) (λ _. element_at) items.left result new (record { items = refl; says_first = refl; said = refl }) tt tt refl h
+adds_elements features old held items result new new_held h =
+    adds_items features old old held (Elements items) [] (λ x. OfElement x) (λ _. element_at) items.left result new new_held (record { items = refl; says_first = refl; said = refl }) tt tt refl refl h
 
-pub adds_segments : (features : Features) (old : Context) (items : Limited) (result : Result (Unit {0}) Error) (new : Context) → AddsEntries features data_entry_at old items.left result new → AddsPiece features old (Segments items) result new
+pub adds_segments : (features : Features) (old : Context) (held : List DefType) (items : Limited) (result : Result (Unit {0}) Error) (new : Context) (new_held : List DefType) → AddsEntries features data_entry_at old held items.left result new new_held → AddsPiece features old held (Segments items) result new new_held
 unfolding said_first entries_said items_of
-adds_segments features old items result new h =
-    adds_items features old old (Segments items) [] (λ x. OfData x) (λ _. data_at) items.left result new (record { items = refl; says_first = refl; said = refl }) tt tt refl h
+adds_segments features old held items result new new_held h =
+    adds_items features old old held (Segments items) [] (λ x. OfData x) (λ _. data_at) items.left result new new_held (record { items = refl; says_first = refl; said = refl }) tt tt refl refl h
 
 -- a tag section was judged by itself, and then its items
-pub adds_tags : (features : Features) (old mid : Context) (items : Limited) (result : Result (Unit {0}) Error) (new : Context) → Accepts features old OfTags mid → AddsEntries features tag_entry_at mid items.left result new
-    → AddsPiece features old (Tags items) result new
+pub adds_tags : (features : Features) (old mid : Context) (held : List DefType) (items : Limited) (result : Result (Unit {0}) Error) (new : Context) (new_held : List DefType) → Accepts features old OfTags mid
+    → AddsEntries features tag_entry_at mid held items.left result new new_held → AddsPiece features old held (Tags items) result new new_held
 unfolding said_first entries_said items_of
-adds_tags features old mid items result new begins h =
-    adds_items features old mid (Tags items) (OfTags ∷ []) (λ x. OfTag x) (λ _. tag_type_at) items.left result new (record { items = refl; says_first = refl; said = refl }) (begins.rule, tt) (begins.limits, tt) begins.known h
+adds_tags features old mid held items result new new_held begins h =
+    adds_items features old mid held (Tags items) (OfTags ∷ []) (λ x. OfTag x) (λ _. tag_type_at) items.left result new new_held (record { items = refl; says_first = refl; said = refl }) (begins.rule, tt) (begins.limits, tt)
+    (held, refl, refl) begins.known h
 
 pub tags_refused : (features : Features) (old : Context) (items : Limited) (kind : ErrorKind) (offset : ℕ) → NamesEntry features old OfTags kind × IsAt items.start kind offset → NamesPiece features old (Tags items) kind × IsPlaced (Tags items) kind offset
 unfolding said_first entries_said items_of IsFirstOf
@@ -197,10 +202,10 @@ tags_refused features old items kind offset h = refused_first features old (Tags
 
 -- ---- unknown sections
 
-pub refuses_unknown : (features : Features) (old : Context) (id : ℕ) (contents : List ℕ) (place : Place) (result : Result (Unit {0}) Error) → RefusesAt place.start result → AddsPiece features old (Unknown id contents place) result old
+pub refuses_unknown : (features : Features) (old : Context) (held new_held : List DefType) (id : ℕ) (contents : List ℕ) (place : Place) (result : Result (Unit {0}) Error) → RefusesAt place.start result → AddsPiece features old held (Unknown id contents place) result old new_held
 unfolding said_first entries_said items_of IsFirstOf
-refuses_unknown features old id contents place (Ok x) h = absurd h
-refuses_unknown features old id contents place (Err e) h = rw h (refl, inl refl)
+refuses_unknown features old held new_held id contents place (Ok x) h = absurd h
+refuses_unknown features old held new_held id contents place (Err e) h = rw h (refl, inl refl)
 
 pub ruleset tag_steps = (adds_tags, tags_refused)
 

@@ -23,9 +23,11 @@ use Rattle.wasmparser_payloads.specs.declared.payloads.Stage.{Stage}
 use Rattle.wasmparser_payloads.specs.declared.payloads.Stage.TheVariants.{Done}
 use Rattle.wasmparser_payloads.specs.Parsing.{Settings, whole_module, IsInside, LieBetween, at_most_remaining}
 use Rattle.wasmparser_payloads.specs.Pieces.{Piece, Version, Types, Imports, Functions, Tables, Memories, Tags, Globals, Exports, Start, Elements, DataCount, CodeStart, Body, Segments, Custom, Unknown, End, Remains, next_piece}
+use Rattle.wasm_spec.specs.Trees.{DefType}
+use Rattle.wasmparser_module_state.specs.History.{EnterAll}
 use Rattle.wasmparser_sections.specs.PieceJudging.{Says, IsFrontOf, by_itself, with_some, IsPlaced, NamesPiece, AddsPiece, body_in, count_in}
 use Rattle.wasmparser_sections.specs.Sections.{contents_of, EndBy, AreRead, NamesSections, RefusesSections}
-use Rattle.wasmparser_sections.proofs.EntryLists.{after_both, keep_both, keep_others, within_both, past_others}
+use Rattle.wasmparser_sections.proofs.EntryLists.{after_both, enter_both, keep_both, keep_others, within_both, past_others}
 use Rattle.wasmparser_sections.proofs.PieceItems.{body_of_piece, count_of_piece}
 use Rattle.wasmparser_sections.proofs.PiecePlaces.{PieceLies, piece_lies}
 use Rattle.wasmparser_sections.proofs.SectionEntries.{body_said, bodies_said, bodies_of_sections, count_said, data_counts_said, counts_of_sections}
@@ -34,26 +36,30 @@ use Rattle.wasmparser_sections.proofs.SectionEntries.{body_said, bodies_said, bo
 abbrev pub settings_of : Features → Settings
 settings_of features = record { offset = 0; features = features }
 
--- What is known after some pieces of a module, which say entries that keep the rules and limits, with these bodies and data counts; and what is left of it.
-pub record Progress (features : Features) (bytes : List ℕ) (cx : Context) (given : List Input) (stated : List ℕ) (now : Remains) : Type 0 where
+-- What is known, and held by the list of types, after some pieces of a module, which say entries that keep the rules and limits, with these bodies and data
+-- counts; and what is left of it.
+pub record Progress (features : Features) (bytes : List ℕ) (first_held : List DefType) (cx : Context) (held : List DefType) (given : List Input) (stated : List ℕ) (now : Remains) : Type 0 where
   pub entries : List Entry
   pub reached : Reaches (whole_module (settings_of features) bytes) entries now
   pub rules : KeepRules features at_first entries
   pub limits : KeepLimits at_first entries
   pub known : cx ≡ after_all at_first entries
+  pub entered : EnterAll features at_first first_held entries held
   pub bodies : contents_of given ≡ bodies_said entries
   pub counts : stated ≡ data_counts_said entries
   pub inside : EndBy (length bytes) given
   pub lie : LieBetween 0 (length bytes) now
   pub ended : now.stage ≡ Done → ReachesEnd (whole_module (settings_of features) bytes) entries
 
-pub begins : (features : Features) (bytes : List ℕ) (cx : Context) (given : List Input) (stated : List ℕ) → cx ≡ at_first → given ≡ [] → stated ≡ [] → Progress features bytes cx given stated (whole_module (settings_of features) bytes)
-begins features bytes cx given stated nothing none no_counts = record {
+pub begins : (features : Features) (bytes : List ℕ) (cx : Context) (held : List DefType) (given : List Input) (stated : List ℕ) → cx ≡ at_first → given ≡ [] → stated ≡ []
+    → Progress features bytes held cx held given stated (whole_module (settings_of features) bytes)
+begins features bytes cx held given stated nothing none no_counts = record {
   entries = [];
   reached = Begun;
   rules = tt;
   limits = tt;
   known = nothing;
+  entered = refl;
   bodies = ap contents_of none;
   counts = no_counts;
   inside = subst (EndBy (length bytes)) (sym none) tt;
@@ -109,15 +115,17 @@ end_reached start now new p before said reached e says done = by_end (end_in p) 
         let same : before ≡ before ++ said = sym (append-nil before) ∙ ap (λ (l : List Entry). before ++ l) (sym none) in
         subst (ReachesEnd start) same (record { now = now; reached = reached; place = place; next = new; ended = subst (λ q. next_piece now ≡ Some (q, new)) is e })
 
-pub goes_on : (features : Features) (bytes : List ℕ) (cx next : Context) (given more : List Input) (stated others : List ℕ) (now new : Remains) (p : Piece) → Progress features bytes cx given stated now → next_piece now ≡ Some (p, new)
-    → Says features cx p next → more ≡ given ++ body_in p → others ≡ stated ++ count_in p → Progress features bytes next more others new
-goes_on features bytes cx next given more stated others now new p s e says added counted =
+pub goes_on : (features : Features) (bytes : List ℕ) (first_held : List DefType) (cx next : Context) (held next_held : List DefType) (given more : List Input) (stated others : List ℕ) (now new : Remains) (p : Piece)
+    → Progress features bytes first_held cx held given stated now → next_piece now ≡ Some (p, new) → Says features cx held p next next_held → more ≡ given ++ body_in p → others ≡ stated ++ count_in p
+    → Progress features bytes first_held next next_held more others new
+goes_on features bytes first_held cx next held next_held given more stated others now new p s e says added counted =
     record {
       entries = s.entries ++ says.entries;
       reached = Further p says.entries s.reached e says.said;
       rules = keep_both features at_first s.entries says.entries s.rules (subst (λ c. KeepRules features c says.entries) s.known says.rules);
       limits = within_both at_first s.entries says.entries s.limits (subst (λ c. KeepLimits c says.entries) s.known says.limits);
       known = says.known ∙ ap (λ c. after_all c says.entries) s.known ∙ sym (after_both at_first s.entries says.entries);
+      entered = enter_both features at_first first_held held next_held s.entries says.entries s.entered (subst (λ c. EnterAll features c held says.entries next_held) s.known says.entered);
       bodies = ap contents_of added ∙ map-append (λ (b : Input). b.rest) given (body_in p) ∙ ap₂ (λ (a b : List (List ℕ)). a ++ b) s.bodies (sym (body_of_piece p says.entries says.said))
           ∙ sym (flat_map-append body_said s.entries says.entries);
       counts = counted ∙ ap₂ (λ (a b : List ℕ). a ++ b) s.counts (sym (count_of_piece p says.entries says.said)) ∙ sym (flat_map-append count_said s.entries says.entries);
@@ -129,9 +137,9 @@ goes_on features bytes cx next given more stated others now new p s e says added
 -- ---- refusals
 
 -- a refusal of a piece refuses the module
-pub refused : (features : Features) (bytes : List ℕ) (cx new-cx : Context) (given : List Input) (stated : List ℕ) (now new : Remains) (p : Piece) (error : Error) → AreBytes bytes → Progress features bytes cx given stated now → next_piece now ≡ Some (p, new)
-    → AddsPiece features cx p (Err error) new-cx → RefusesSections features bytes error
-refused features bytes cx new-cx given stated now new p error are s e h = by_kind error.kind h.0 h.1
+pub refused : (features : Features) (bytes : List ℕ) (first_held : List DefType) (cx new-cx : Context) (held new_held : List DefType) (given : List Input) (stated : List ℕ) (now new : Remains) (p : Piece) (error : Error)
+    → AreBytes bytes → Progress features bytes first_held cx held given stated now → next_piece now ≡ Some (p, new) → AddsPiece features cx held p (Err error) new-cx new_held → RefusesSections features bytes error
+refused features bytes first_held cx new-cx held new_held given stated now new p error are s e h = by_kind error.kind h.0 h.1
   where
     lies : PieceLies 0 (length bytes) p
     lies = piece_lies 0 (length bytes) now new p s.lie e
@@ -177,21 +185,24 @@ pub not_ended : (s new : Remains) → at_most_remaining new.stage new < at_most_
 not_ended s new less done = absurd (omega (arith, subst (λ (g : Stage). at_most_remaining new.stage new < at_most_remaining g s) done less))
 
 -- where the next piece isn't there before the end, the bytes are no module
-pub unread : (features : Features) (bytes : List ℕ) (cx : Context) (given : List Input) (stated : List ℕ) (now : Remains) (error : Error) → AreBytes bytes → Progress features bytes cx given stated now → ¬ (now.stage ≡ Done)
+pub unread : (features : Features) (bytes : List ℕ) (first_held : List DefType) (cx : Context) (held : List DefType) (given : List Input) (stated : List ℕ) (now : Remains) (error : Error) → AreBytes bytes
+    → Progress features bytes first_held cx held given stated now → ¬ (now.stage ≡ Done)
     → next_piece now ≡ None → error.kind ≡ kinds.Malformed → IsInside now error.offset → RefusesSections features bytes error
-unread features bytes cx given stated now error are s going none kind inside =
+unread features bytes first_held cx held given stated now error are s going none kind inside =
     rw kind (λ sections m. unread_is_none (settings_of features) bytes are (no_piece s.reached going none) sections m, (place_lies 0 (length bytes) now error.offset s.lie inside).1, λ k. absurd cc)
 
 -- ---- the end
 
-pub all_read : (features : Features) (bytes : List ℕ) (cx : Context) (given : List Input) (stated : List ℕ) (now : Remains) → AreBytes bytes → Progress features bytes cx given stated now → now.stage ≡ Done → AreRead features bytes cx given stated
-all_read features bytes cx given stated now are s done =
+pub all_read : (features : Features) (bytes : List ℕ) (first_held : List DefType) (cx : Context) (held : List DefType) (given : List Input) (stated : List ℕ) (now : Remains) → AreBytes bytes
+    → Progress features bytes first_held cx held given stated now → now.stage ≡ Done → AreRead features bytes first_held cx held given stated
+all_read features bytes first_held cx held given stated now are s done =
     let w = ended_is_whole (settings_of features) bytes s.entries are (s.ended done) in
     record {
       sections = w.0;
       reads = w.1;
       fine = record { rules = subst (λ es. KeepRules features at_first es) w.2 s.rules; limits = subst (λ es. KeepLimits at_first es) w.2 s.limits };
       known = s.known ∙ ap (after_all at_first) w.2;
+      entered = subst (λ es. EnterAll features at_first first_held es held) w.2 s.entered;
       bodies = s.bodies ∙ ap bodies_said w.2 ∙ bodies_of_sections w.0;
       counts = s.counts ∙ ap data_counts_said w.2 ∙ counts_of_sections w.0;
       inside = s.inside;

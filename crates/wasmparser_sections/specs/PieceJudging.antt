@@ -3,6 +3,7 @@ use Rattle.std.specs.Prelude.{◌≡◌, ◌⊎◌, ℕ, List, [], ◌∷◌, �
 use Rattle.wasm_core_base.specs.Limits as core
 use Rattle.wasm_core_read.specs.Input.{Input, IsWithin}
 use Rattle.wasm_spec.specs.Features.{Features}
+use Rattle.wasm_spec.specs.Trees.{DefType}
 use Rattle.wasm_validity.specs.Context.{Context, after_all}
 use Rattle.wasm_validity.specs.Entries.{Entry}
 use Rattle.wasm_validity.specs.Rules.{KeepRules, KeepLimits, PassLimit}
@@ -10,17 +11,19 @@ use Rattle.wasmparser_error.specs.declared.error.Error.{Error}
 use Rattle.wasmparser_error.specs.declared.error.ErrorKind.{ErrorKind}
 use Rattle.wasmparser_error.specs.declared.error.ErrorKind.TheVariants as kinds
 use Rattle.wasmparser_module_entries.specs.PieceEntries.{Items, items_of, said_first, entries_said, HasFront}
+use Rattle.wasmparser_module_state.specs.History.{EnterAll}
 use Rattle.wasmparser_payloads.specs.Pieces.{Piece, Version, Types, Imports, Functions, Tables, Memories, Tags, Globals, Exports, Start, Elements, DataCount, CodeStart, Body, Segments, Custom, Unknown, End}
 
 -- ---- what a piece says
 
--- what a piece says keeps the rules and passes no limit, and what is known after it
-pub record Says (features : Features) (old : Context) (piece : Piece) (new : Context) : Type 0 where
+-- what a piece says keeps the rules and passes no limit, and what is known, and held by the list of types, after it
+pub record Says (features : Features) (old : Context) (old_held : List DefType) (piece : Piece) (new : Context) (new_held : List DefType) : Type 0 where
   pub entries : List Entry
   pub said : entries_said piece ≡ Some entries
   pub rules : KeepRules features old entries
   pub limits : KeepLimits old entries
   pub known : new ≡ after_all old entries
+  pub entered : EnterAll features old old_held entries new_held
 
 -- entries at the front of a piece: what it says by itself, and maybe some of its items
 pub data IsFrontOf (piece : Piece) (entries : List Entry) : Type 0 where
@@ -90,9 +93,9 @@ NamesPiece features old piece kinds.Memory = IsSome (items_of piece)
 NamesPiece features old piece _ = ⊥
 
 -- What a call returned that judges a piece and adds what it says.
-abbrev pub AddsPiece : Features → Context → Piece → Result (Unit {0}) Error → Context → Type 0
-AddsPiece features old piece (Ok x) new = Says features old piece new
-AddsPiece features old piece (Err e) new = NamesPiece features old piece e.kind × IsPlaced piece e.kind e.offset
+abbrev pub AddsPiece : Features → Context → List DefType → Piece → Result (Unit {0}) Error → Context → List DefType → Type 0
+AddsPiece features old old_held piece (Ok x) new new_held = Says features old old_held piece new new_held
+AddsPiece features old old_held piece (Err e) new new_held = NamesPiece features old piece e.kind × IsPlaced piece e.kind e.offset
 
 -- What a call returned that refuses what begins at a place.
 abbrev pub RefusesAt : ℕ → Result (Unit {0}) Error → Type 0

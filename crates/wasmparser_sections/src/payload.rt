@@ -2,6 +2,7 @@
 
 ghost use Rattle.std.specs.Prelude.{◌≡◌};
 ghost use Rattle.wasmparser_module_entries.specs.EntryReading.{export_entry_at};
+ghost use Rattle.wasmparser_module_state.specs.History.{held};
 ghost use Rattle.wasmparser_module_state.specs.Judging.{AddsEntries};
 ghost use Rattle.wasmparser_module_state.specs.State.{context, features_of};
 ghost use Rattle.wasmparser_payloads.specs.Parsing.{piece};
@@ -25,7 +26,7 @@ fn add_section<'a, T: FromReader<'a> + Entry>(
     state: &mut ModuleState,
     section: &SectionLimited<'a, T>,
 ) -> Result<(), Error>
-    ensures added { AddsEntries (features_of state.old) T.entry_at (context state.old) section.now.left result (context state.new) }
+    ensures added { AddsEntries (features_of state.old) T.entry_at (context state.old) (held state.old) section.now.left result (context state.new) (held state.new) }
     ensures features { features_of state.new ≡ features_of state.old }
 {
     add_entries(alloc, state, section.clone()?)
@@ -38,7 +39,7 @@ fn add_tags<'a>(
     state: &mut ModuleState,
     section: &SectionLimited<'a, TagType>,
 ) -> Result<(), Error>
-    ensures added { AddsPiece (features_of state.old) (context state.old) (Tags section.now) result (context state.new) }
+    ensures added { AddsPiece (features_of state.old) (context state.old) (held state.old) (Tags section.now) result (context state.new) (held state.new) }
     ensures features { features_of state.new ≡ features_of state.old }
 {
     state.tag_section(section.range().start)?;
@@ -50,7 +51,7 @@ fn add_exports<'a>(
     state: &mut ModuleState,
     section: &SectionLimited<'a, Export<'a>>,
 ) -> Result<(), Error>
-    ensures added { AddsEntries (features_of state.old) export_entry_at (context state.old) section.now.left result (context state.new) }
+    ensures added { AddsEntries (features_of state.old) export_entry_at (context state.old) (held state.old) section.now.left result (context state.new) (held state.new) }
     ensures features { features_of state.new ≡ features_of state.old }
 {
     state.start_exports(section.clone()?);
@@ -68,7 +69,7 @@ pub fn add_payload<'a>(
     state: &mut ModuleState,
     payload: &Payload<'a>,
 ) -> Result<(), Error>
-    ensures added { AddsPiece (features_of state.old) (context state.old) (piece payload.now) result (context state.new) }
+    ensures added { AddsPiece (features_of state.old) (context state.old) (held state.old) (piece payload.now) result (context state.new) (held state.new) }
     ensures features { features_of state.new ≡ features_of state.old }
 {
     match payload {

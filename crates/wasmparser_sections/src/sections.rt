@@ -5,6 +5,7 @@ ghost use Rattle.std.specs.Prelude.{◌≡◌, ◌==◌, ◌↔◌, ◌++◌, []
 ghost use Rattle.wasm_core_base.specs.Features.{feature_set};
 ghost use Rattle.wasm_validity.specs.Context.{at_first};
 ghost use Rattle.wasmparser_error.specs.declared.error.ErrorKind.TheVariants as kinds;
+ghost use Rattle.wasmparser_module_state.specs.History.{held};
 ghost use Rattle.wasmparser_module_state.specs.State.{context, features_of};
 ghost use Rattle.wasmparser_payloads.specs.Parsing.{piece};
 ghost use Rattle.wasmparser_sections.specs.PieceJudging.{body_in, count_in};
@@ -61,7 +62,7 @@ fn add_payloads<'a>(
     requires nothing { context state.old ≡ at_first }
     requires none { bodies.old.items ≡ [] }
     requires no_counts { data_counts.old.items ≡ [] }
-    ensures read { ReadsSections (features_of state.old) bytes.now result (context state.new) bodies.new.items data_counts.new.items }
+    ensures read { ReadsSections (features_of state.old) bytes.now (held state.old) result (context state.new) (held state.new) bodies.new.items data_counts.new.items }
     ensures features { features_of state.new ≡ features_of state.old }
 {
     let mut parser = Parser::new(0);
@@ -79,6 +80,7 @@ impl<'a> ValidSections<'a> {
     // What is known of nothing.
     fn new(alloc: Global, features: WasmFeatures) -> ValidSections<'a>
         ensures nothing { context result.state ≡ at_first }
+        ensures no_types { held result.state ≡ [] }
         ensures none { result.bodies.items ≡ [] }
         ensures no_counts { result.data_counts.items ≡ [] }
         ensures features { features_of result.state ≡ feature_set features }
@@ -111,6 +113,7 @@ impl<'a> ValidSections<'a> {
     // Reads all sections, whose counts are to agree.
     fn read(&mut self, alloc: Global, bytes: &'a [u8]) -> Result<(), Error>
         requires nothing { context self.old.state ≡ at_first }
+        requires no_types { held self.old.state ≡ [] }
         requires none { self.old.bodies.items ≡ [] }
         requires no_counts { self.old.data_counts.items ≡ [] }
         ensures accepted { IfOk result (λ _. AreAccepted (features_of self.old.state) bytes.now self.new) }

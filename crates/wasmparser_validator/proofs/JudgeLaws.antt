@@ -1,7 +1,8 @@
 -- How a validator goes from piece to piece.
-use Rattle.std.proofs.Common.{◌≡◌, inl, inr, ◌<◌, ℕ, Bool, true, false, length, nat_lt, refl, subst, sym, tests, arith}
+use Rattle.std.proofs.Common.{◌≡◌, inl, inr, ◌<◌, ℕ, Bool, true, false, List, length, nat_lt, refl, subst, sym, tests, arith}
 use Rattle.std.proofs.lemmas.Bool.Decides.{nat_tests}
 use Rattle.wasm_core_read.specs.Input.{Input}
+use Rattle.wasm_spec.specs.Trees.{DefType}
 use Rattle.wasm_validity.specs.Context.{Context}
 use Rattle.wasmparser_error.specs.declared.error.Error.{Error}
 use Rattle.wasmparser_error.specs.declared.error.ErrorKind.{ErrorKind}
@@ -60,8 +61,9 @@ piece_refused old piece e waited names placed = rw waited (by_kind e.kind names,
     at kinds.Order h = inr h
     at kinds.Failed h = inr h
 
-pub piece_accepted : (old : Judge) (piece : Piece) (known : Context) → waits_for old piece ≡ true → agrees old piece ≡ true → Says old.features old.known piece known → AcceptsPiece old piece (after_piece old piece known)
-piece_accepted old piece known waited agreed says = record { waited = waited; agreed = agreed; known = known; says = says; after = refl }
+pub piece_accepted : (old : Judge) (piece : Piece) (known : Context) (held : List DefType) → waits_for old piece ≡ true → agrees old piece ≡ true → Says old.features old.known old.held piece known held
+    → AcceptsPiece old piece (after_piece old piece known held)
+piece_accepted old piece known held waited agreed says = record { waited = waited; agreed = agreed; known = known; held = held; says = says; after = refl }
 
 pub ruleset judge_steps = (piece_refused, piece_accepted)
 

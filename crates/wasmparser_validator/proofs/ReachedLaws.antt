@@ -7,28 +7,31 @@ use Rattle.wasm_validity.specs.Entries.{Entry, entries_of}
 use Rattle.wasm_validity.specs.IndexSpaces.{spaces_in}
 use Rattle.wasm_validity.specs.Rules.{KeepLimits, KeepRules}
 use Rattle.wasm_validity_laws.specs.NamedTypes.{NamesTypes}
+use Rattle.wasmparser_module_state.specs.History.{EnterAll, held}
 use Rattle.wasmparser_module_state.specs.State.{context, features_of}
 use Rattle.wasmparser_module_state.specs.declared.module_state.ModuleState.{ModuleState}
 use Rattle.wasmparser_payloads.specs.Pieces.{Piece}
 use Rattle.wasmparser_sections.specs.PieceJudging.{Says}
 use Rattle.wasmparser_sections.specs.Sections.{AreAccepted}
 use Rattle.wasmparser_sections.specs.declared.sections.ValidSections.{ValidSections}
-use Rattle.wasmparser_sections.proofs.EntryLists.{after_both, keep_both, within_both}
+use Rattle.wasmparser_sections.proofs.EntryLists.{after_both, enter_both, keep_both, within_both}
 use Rattle.wasmparser_validator.specs.Bodies.{AreNamed}
 use Rattle.wasmparser_validator.specs.KnownSpaces.{AreFew, CanBeShown, IsReached}
 use Rattle.wasmparser_validator.proofs.Counts.{are_few}
 
-pub reached_first : (state : ModuleState) → context state ≡ at_first → IsReached state
-reached_first state known = record { entries = []; rules = tt; limits = tt; known = known }
+pub reached_first : (state : ModuleState) → context state ≡ at_first → held state ≡ [] → IsReached state
+reached_first state known nothing = record { entries = []; rules = tt; limits = tt; known = known; entered = nothing }
 
 -- what a piece says comes after the entries before it
-pub reached_next : (old new : ModuleState) (piece : Piece) → IsReached old → Says (features_of old) (context old) piece (context new) → features_of new ≡ features_of old → IsReached new
+pub reached_next : (old new : ModuleState) (piece : Piece) → IsReached old → Says (features_of old) (context old) (held old) piece (context new) (held new) → features_of new ≡ features_of old → IsReached new
 reached_next old new piece before said same = record {
   entries = before.entries ++ said.entries;
   rules = subst (λ f. KeepRules f at_first (before.entries ++ said.entries)) (sym same)
       (keep_both (features_of old) at_first before.entries said.entries before.rules (subst (λ cx. KeepRules (features_of old) cx said.entries) before.known said.rules));
   limits = within_both at_first before.entries said.entries before.limits (subst (λ cx. KeepLimits cx said.entries) before.known said.limits);
   known = said.known ∙ ap (λ cx. after_all cx said.entries) before.known ∙ sym (after_both at_first before.entries said.entries);
+  entered = subst (λ f. EnterAll f at_first [] (before.entries ++ said.entries) (held new)) (sym same)
+      (enter_both (features_of old) at_first [] (held old) (held new) before.entries said.entries before.entered (subst (λ cx. EnterAll (features_of old) cx (held old) said.entries (held new)) before.known said.entered));
 }
 
 pub ruleset next_steps = (reached_first, reached_next)
@@ -39,6 +42,7 @@ reached_end features bytes m w = record {
   rules = subst (λ f. KeepRules f at_first (entries_of w.sections)) (sym w.same_features) w.fine.rules;
   limits = w.fine.limits;
   known = w.known;
+  entered = subst (λ f. EnterAll f at_first [] (entries_of w.sections) (held m.state)) (sym w.same_features) w.entered;
 }
 
 pub can_be_shown : (state : ModuleState) → ((features : Features) (entries : List Entry) → KeepRules features at_first entries → NamesTypes (spaces_in (after_all at_first entries)))

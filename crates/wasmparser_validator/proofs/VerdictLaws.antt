@@ -23,6 +23,7 @@ use Rattle.wasm_validity.specs.Validity.{BodyAt, IsTypedBody, IsBodyPast, IsOthe
 use Rattle.wasmparser_error.specs.declared.error.Error.{Error}
 use Rattle.wasmparser_error.specs.declared.error.ErrorKind.{ErrorKind}
 use Rattle.wasmparser_error.specs.declared.error.ErrorKind.TheVariants as kinds
+use Rattle.wasmparser_module_state.specs.History.{EnterAll, held}
 use Rattle.wasmparser_module_state.specs.State.{context}
 use Rattle.wasmparser_module_state.specs.declared.module_state.ModuleState.{ModuleState}
 use Rattle.wasmparser_sections.specs.Sections.{AreAccepted, EndBy, NamesSections}
@@ -142,6 +143,7 @@ accepted_module features bytes m shown own w validated shows =
           };
         },
         ap (λ (s : ModuleState). spaces_in (context s)) shows ∙ ap spaces_in w.known,
+        subst (λ (s : ModuleState). EnterAll features at_first [] (entries_of w.sections) (held s)) (sym shows) w.entered,
       );
       complete = λ sections h. tt;
       malformed = tt;

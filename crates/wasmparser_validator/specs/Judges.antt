@@ -3,11 +3,13 @@ use Rattle.std.specs.Prelude.{◌≡◌, ◌⊎◌, ◌+◌, ◌==◌, ◌&&◌,
 use Rattle.wasm_core_base.specs.declared.limits.Limit.TheVariants as limits
 use Rattle.wasm_core_read.specs.Input.{Input}
 use Rattle.wasm_spec.specs.Features.{Features}
+use Rattle.wasm_spec.specs.Trees.{DefType}
 use Rattle.wasm_validity.specs.Context.{Context, at_first}
 use Rattle.wasmparser_error.specs.declared.error.Error.{Error}
 use Rattle.wasmparser_error.specs.declared.error.ErrorKind.{ErrorKind}
 use Rattle.wasmparser_error.specs.declared.error.ErrorKind.TheVariants as kinds
 use Rattle.wasmparser_module_entries.specs.PieceEntries.{entries_said}
+use Rattle.wasmparser_module_state.specs.History.{held}
 use Rattle.wasmparser_module_state.specs.State.{context, features_of}
 use Rattle.wasmparser_payloads.specs.Pieces.{Piece, Version, Types, Imports, Functions, Tables, Memories, Tags, Globals, Exports, Start, Elements, DataCount, CodeStart, Body, Segments, Custom, Unknown, End}
 use Rattle.wasmparser_sections.specs.PieceJudging.{IsInPiece, NamesPiece, Says, body_in}
@@ -22,12 +24,14 @@ use Rattle.wasmparser_validator.specs.declared.validator.Stage.{Stage}
 use Rattle.wasmparser_validator.specs.declared.validator.Stage.TheVariants as stages
 use Rattle.wasmparser_validator.specs.declared.validator.Validator.{Validator}
 
--- A validator: its name, what it waits for, the features, what it knows of the module so far, how many bodies it was handed, and the data count that was stated.
+-- A validator: its name, what it waits for, the features, what it knows of the module so far, the types that it holds, how many bodies it was handed, and the
+-- data count that was stated.
 pub record Judge : Type 0 where
   pub id : ℕ
   pub stage : Stage
   pub features : Features
   pub known : Context
+  pub held : List DefType
   pub bodies : ℕ
   pub stated : Option ℕ
 
@@ -37,13 +41,14 @@ judge v = record {
   stage = v.stage;
   features = features_of v.types.state;
   known = context v.types.state;
+  held = held v.types.state;
   bodies = v.bodies;
   stated = v.data_count;
 }
 
--- a validator of this name that waits for something, and knows of no module
+-- a validator of this name that waits for something, knows of no module and holds no types
 abbrev pub waiting : Judge → Stage → Judge
-waiting j stage = record { id = j.id; stage = stage; features = j.features; known = at_first; bodies = 0; stated = None }
+waiting j stage = record { id = j.id; stage = stage; features = j.features; known = at_first; held = []; bodies = 0; stated = None }
 
 -- ---- when a piece may come
 
@@ -107,12 +112,13 @@ stage_after (CodeStart count place size) stage = stages.Code
 stage_after piece stage = stage
 
 -- after a piece that is accepted, this is known
-abbrev pub after_piece : Judge → Piece → Context → Judge
-after_piece j piece known = record {
+abbrev pub after_piece : Judge → Piece → Context → List DefType → Judge
+after_piece j piece known held = record {
   id = j.id;
   stage = stage_after piece j.stage;
   features = j.features;
   known = known;
+  held = held;
   bodies = bodies_with piece j.bodies;
   stated = stated_with piece j.stated;
 }
@@ -166,8 +172,9 @@ pub record AcceptsPiece (old : Judge) (piece : Piece) (new : Judge) : Type 0 whe
   pub waited : waits_for old piece ≡ true
   pub agreed : agrees old piece ≡ true
   pub known : Context
-  pub says : Says old.features old.known piece known
-  pub after : new ≡ after_piece old piece known
+  pub held : List DefType
+  pub says : Says old.features old.known old.held piece known held
+  pub after : new ≡ after_piece old piece known held
 
 -- What a call returned that is handed a piece of a module.
 abbrev pub JudgesPiece : {T : Type 0} → Judge → Piece → Result T Error → Judge → Type 0
@@ -198,6 +205,7 @@ pub record AcceptsEnd (old : Judge) (position : ℕ) (shown : KnownModule) (new 
   pub named : shown.id ≡ old.id
   pub features : features_of shown.state ≡ old.features
   pub all : context shown.state ≡ old.known
+  pub all_types : held shown.state ≡ old.held
   pub after : new ≡ waiting old stages.End
 
 -- What a call returned that ends a module.

@@ -1,12 +1,13 @@
 -- What holds of what is known of a valid module, or of the entries of one so far.
 use Rattle.std.specs.Coded.{Coded, code_by, coded×, coded_ℕ}
-use Rattle.std.specs.Prelude.{◌≡◌, ◌+◌, ◌≤◌, ℕ, List, length, refl}
+use Rattle.std.specs.Prelude.{◌≡◌, ◌+◌, ◌≤◌, ℕ, List, [], length, refl}
 use Rattle.wasm_spec.specs.Limits.{ElementSegments, Functions, Globals, Memories, Tables, Tags, most}
 use Rattle.wasm_validity.specs.Context.{Context, after_all, at_first}
 use Rattle.wasm_validity.specs.Entries.{Entry}
 use Rattle.wasm_validity.specs.IndexSpaces.{Spaces, spaces_in}
 use Rattle.wasm_validity.specs.Rules.{KeepLimits, KeepRules}
 use Rattle.wasm_validity_laws.specs.NamedTypes.{NamesTypes}
+use Rattle.wasmparser_module_state.specs.History.{EnterAll, held}
 use Rattle.wasmparser_module_state.specs.State.{context, features_of}
 use Rattle.wasmparser_module_state.specs.declared.module_state.ModuleState.{ModuleState}
 
@@ -19,12 +20,13 @@ pub record AreFew (cx : Context) : Type 0 where
   pub tags : length cx.tags ≤ most Tags
   pub elements : length cx.elements ≤ most ElementSegments
 
--- it is what is known after entries that keep all rules and limits
+-- it is what is known after entries that keep all rules and limits, and holds their types
 pub record IsReached (state : ModuleState) : Type 0 where
   pub entries : List Entry
   pub rules : KeepRules (features_of state) at_first entries
   pub limits : KeepLimits at_first entries
   pub known : context state ≡ after_all at_first entries
+  pub entered : EnterAll (features_of state) at_first [] entries (held state)
 
 -- what contracts see of `Types`: who made it, and what is known of the module
 pub record KnownModule : Type 0 where

@@ -1,16 +1,19 @@
 -- What a validator answers to any bytes.
-use Rattle.std.specs.Prelude.{◌≡◌, ◌≢◌, ◌≤◌, ⊤, ℕ, List, length, Result, IfOk, IfErr}
+use Rattle.std.specs.Prelude.{◌≡◌, ◌≢◌, ◌≤◌, ⊤, ℕ, List, [], length, Result, IfOk, IfErr}
 use Rattle.wasm_core_base.specs.declared.limits.Limit.TheVariants as limits
 use Rattle.wasm_core_base.specs.Limits as core
 use Rattle.wasm_core_base.specs.declared.limits.Limit.{Limit}
 use Rattle.wasm_spec.specs.Features.{Features, CompactImports, has}
 use Rattle.wasm_spec.specs.Grammar.{IsModule}
 use Rattle.wasm_spec.specs.Syntax.{Section}
+use Rattle.wasm_validity.specs.Context.{at_first}
+use Rattle.wasm_validity.specs.Entries.{entries_of}
 use Rattle.wasm_validity.specs.IndexSpaces.{spaces_of}
 use Rattle.wasm_validity.specs.Validity.{IsValid, BeginsPast, BeginsInvalid, HasBody, IsBodyPast, IsOtherBody, IsBrokenBody}
 use Rattle.wasmparser_error.specs.declared.error.Error.{Error}
 use Rattle.wasmparser_error.specs.declared.error.ErrorKind.{ErrorKind}
 use Rattle.wasmparser_error.specs.declared.error.ErrorKind.TheVariants as kinds
+use Rattle.wasmparser_module_state.specs.History.{EnterAll, held}
 use Rattle.wasmparser_validator.specs.KnownSpaces.{KnownModule, spaces_known}
 
 -- the bytes read as a module that is valid under the features
@@ -30,8 +33,8 @@ IsNamed _ = ⊥
 
 -- A validator that has not failed answers so to any bytes.
 pub record IsValidated (features : Features) (bytes : List ℕ) (verdict : Result KnownModule Error) : Type 0 where
-  -- a yes is right, and shows the index spaces of the module and its exports
-  pub right : IfOk verdict (λ known. (sections : List Section) × IsAccepted features bytes sections × (spaces_known known ≡ spaces_of sections))
+  -- a yes is right, and shows the index spaces of the module and its exports; its ids stand for the types that the module's groups enter
+  pub right : IfOk verdict (λ known. (sections : List Section) × IsAccepted features bytes sections × (spaces_known known ≡ spaces_of sections) × EnterAll features at_first [] (entries_of sections) (held known.state))
   -- a module that is to be accepted is refused only when out of memory; that memory did run out is left to tests
   pub complete : (sections : List Section) → IsAccepted features bytes sections → IfErr verdict (λ e. e.kind ≡ kinds.Memory)
   -- bytes are malformed only where no module reads

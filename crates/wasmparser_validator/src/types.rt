@@ -1,10 +1,11 @@
 //! What a validator shows of a valid module, or of one so far.
 
-ghost use Rattle.std.specs.Prelude.{◌≡◌, ◌<◌, ◌^◌, IfErr, IsSomeAnd, length};
+ghost use Rattle.std.specs.Prelude.{◌≡◌, [], ◌<◌, ◌^◌, IfErr, IsSomeAnd, length};
 ghost use Rattle.std.specs.Iterator.{YieldsFirstBy, item_count};
 ghost use Rattle.wasm_core_base.specs.Features.{feature_set};
 ghost use Rattle.wasm_validity.specs.Context.{at_first};
 ghost use Rattle.wasmparser_items.specs.Exports.{export_item};
+ghost use Rattle.wasmparser_module_state.specs.History.{held};
 ghost use Rattle.wasmparser_module_state.specs.State.{context, features_of};
 ghost use Rattle.wasmparser_payloads.specs.Parsing.{piece};
 ghost use Rattle.wasmparser_sections.specs.PieceJudging.{AddsPiece};
@@ -52,6 +53,7 @@ impl Types {
     // What is known before the first entry, under these features, by the validator of this name.
     pub(crate) fn without_entries(alloc: Global, features: WasmFeatures, id: ValidatorId) -> Types
         ensures nothing { context result.state ≡ at_first }
+        ensures no_types { held result.state ≡ [] }
         ensures features { features_of result.state ≡ feature_set features }
         ensures id { result.id ≡ id }
     {
@@ -72,8 +74,8 @@ impl Types {
 
     // Judges a payload, and adds what it says. After a refusal nothing is known.
     pub(crate) fn add(&mut self, alloc: Global, payload: &Payload<'_>) -> Result<(), Error>
-        ensures added { AddsPiece (features_of self.old.state) (context self.old.state) (piece payload.now) result (context self.new.state) }
-        ensures lost { IfErr result (λ _. context self.new.state ≡ at_first) }
+        ensures added { AddsPiece (features_of self.old.state) (context self.old.state) (held self.old.state) (piece payload.now) result (context self.new.state) (held self.new.state) }
+        ensures lost { IfErr result (λ _. (context self.new.state ≡ at_first) × (held self.new.state ≡ [])) }
         ensures features { features_of self.new.state ≡ features_of self.old.state }
         ensures id { self.new.id ≡ self.old.id }
     {

@@ -1,8 +1,9 @@
 //! What is known of a module after entries that keep all rules and limits.
 
-ghost use Rattle.std.specs.Prelude.{◌≡◌, IfErr};
+ghost use Rattle.std.specs.Prelude.{◌≡◌, [], IfErr};
 ghost use Rattle.wasm_core_base.specs.Features.{feature_set};
 ghost use Rattle.wasm_validity.specs.Context.{at_first};
+ghost use Rattle.wasmparser_module_state.specs.History.{held};
 ghost use Rattle.wasmparser_module_state.specs.State.{context, features_of};
 ghost use Rattle.wasmparser_payloads.specs.Parsing.{piece};
 ghost use Rattle.wasmparser_sections.specs.PieceJudging.{AddsPiece};
@@ -43,6 +44,7 @@ impl ValidState {
     #[tactic(auto, using(crate::proofs::ReachedLaws::reached_first))]
     pub(crate) fn new(alloc: Global, features: WasmFeatures) -> ValidState
         ensures nothing { context result ≡ at_first }
+        ensures no_types { held result ≡ [] }
         ensures features { features_of result ≡ feature_set features }
     {
         ValidState {
@@ -73,8 +75,8 @@ impl ValidState {
     // Judges a payload, and adds what it says. After a refusal nothing is known.
     #[tactic(auto, using(crate::proofs::ReachedLaws::next_steps))]
     pub(crate) fn add(&mut self, alloc: Global, payload: &Payload<'_>) -> Result<(), Error>
-        ensures added { AddsPiece (features_of self.old) (context self.old) (piece payload.now) result (context self.new) }
-        ensures lost { IfErr result (λ _. context self.new ≡ at_first) }
+        ensures added { AddsPiece (features_of self.old) (context self.old) (held self.old) (piece payload.now) result (context self.new) (held self.new) }
+        ensures lost { IfErr result (λ _. (context self.new ≡ at_first) × (held self.new ≡ [])) }
         ensures features { features_of self.new ≡ features_of self.old }
     {
         let features = self.state.features();

@@ -144,14 +144,14 @@ fn agrees_with_stated(number: u32, stated: Option<u32>) -> bool
 impl Validator {
     /// A validator of this name, under the default features.
     pub fn new(alloc: Global, id: ValidatorId) -> Validator
-        ensures { judge result ≡ record { id = id; stage = stages.Header; features = default_features; known = at_first; bodies = 0; stated = None } }
+        ensures { judge result ≡ record { id = id; stage = stages.Header; features = default_features; known = at_first; held = []; bodies = 0; stated = None } }
     {
         Validator::new_with_features(alloc, WasmFeatures::default(), id)
     }
 
     /// A validator of this name, under these features.
     pub fn new_with_features(alloc: Global, features: WasmFeatures, id: ValidatorId) -> Validator
-        ensures { judge result ≡ record { id = id; stage = stages.Header; features = feature_set features; known = at_first; bodies = 0; stated = None } }
+        ensures { judge result ≡ record { id = id; stage = stages.Header; features = feature_set features; known = at_first; held = []; bodies = 0; stated = None } }
     {
         Validator {
             alloc,
@@ -265,7 +265,7 @@ impl Validator {
     #[tactic(auto, using(crate::proofs::JudgeLaws::body_waited), unfolding(wasmparser_payloads::specs::Parsing::piece, crate::specs::Judges::bodies_with, crate::specs::Judges::stated_with, crate::specs::Judges::stage_after))]
     fn go_on(&mut self, payload: &Payload<'_>)
         requires { waits_for (judge self.old) (piece payload.now) ≡ true }
-        ensures { judge self.new ≡ after_piece (judge self.old) (piece payload.now) (judge self.old).known }
+        ensures { judge self.new ≡ after_piece (judge self.old) (piece payload.now) (judge self.old).known (judge self.old).held }
     {
         match payload {
             Payload::Version { .. } => self.stage = Stage::Sections,

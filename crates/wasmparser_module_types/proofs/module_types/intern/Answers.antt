@@ -2,10 +2,13 @@ use Rattle.std.proofs.Common.{◌≡◌, true, refl}
 use Rattle.std.proofs.lemmas.Result.{IfErr-weaker, on_ok_weaker}
 use Rattle.wasm_core_base.specs.Features.{feature_set}
 use Rattle.wasm_spec.specs.Features.{needs_type_canonicalization}
+use Rattle.wasm_spec.specs.Trees.{types_of_group}
 use Rattle.wasmparser_interning_laws.specs.IdTypes.{AreFoundByKey}
-use Rattle.wasmparser_module_types.proofs.AddedGroups.{of_module, still_knows, still_stand}
+use Rattle.wasmparser_module_types.proofs.AddedGroups.{of_module, still_knows}
+use Rattle.wasmparser_module_types.proofs.EnteredGroups.{enters}
 use Rattle.wasmparser_module_types.proofs.Refusals.{refuses}
-use Rattle.wasmparser_module_types.specs.ModuleTypes.{all_groups}
+use Rattle.wasmparser_module_types.specs.ModuleTypes.{all_groups, module_types}
+use Rattle.wasmparser_rec_group_laws.specs.Contexts.{in_section}
 use Rattle.wasmparser_rec_groups.specs.Interning.{canonical_members}
 use Rattle.wasmparser_types.specs.RecGroups.{rec_group}
 use Rattle.wasmparser_module_types.proofs.module_types.intern.Goals as goal
@@ -52,16 +55,28 @@ returns-clause-knows c =
     (c.accepted_groups_are_well_formed.ensures.types all_groups features ids new_ids old new group it accepts refl) c.requires.room)
     told.accepted
 
-pub returns-clause-kept : goal.returns-clause-kept
-returns-clause-kept c =
+pub returns-clause-entered : goal.returns-clause-entered
+returns-clause-entered c =
     let call = c.canonicalize_and_intern_rec_group in
     let features = feature_set c.args.space.now.features in
     let ids = c.args.space.now.ids.items in
+    let new_ids = call.new.self.ids.items in
+    let old = c.args.list.now in
+    let new = call.new.types in
+    let group = rec_group c.args.group in
+    let told = call.ensures in
+    let knows = c.requires.knows in
+    let it = of_module features ids old new group knows c.requires.indexes told.agree in
     on_ok_weaker call.result
     (λ accepts.
-    still_stand c.args.list.now call.new.types (needs_type_canonicalization features) accepts.valid.is_new (canonical_members ids (rec_group c.args.group)) accepts.number c.requires.knows.agree
-    accepts.valid.interned)
-    call.ensures.accepted
+    let valid = accepts.valid in
+    let no_module = c.context_stays.ensures.no_module features ids old new group valid.is_new accepts.number it valid.interned in
+    let found : needs_type_canonicalization features ≡ true → AreFoundByKey all_groups new =
+    λ needs. c.context_stays.ensures.found all_groups features ids old new group valid.is_new accepts.number valid.interned (λ _. needs) (knows.found needs) in
+    enters features old new (canonical_members ids group) valid.is_new accepts.number (module_types old ids) (types_of_group (module_types old ids) (in_section group)) ids new_ids knows.agree told.agree
+    valid.interned no_module found told.known accepts.added (c.context_stays.ensures.types all_groups features ids ids old new group valid.is_new accepts.number it valid.interned knows.known)
+    (c.accepted_groups_are_well_formed.ensures.types all_groups features ids new_ids old new group it accepts refl))
+    told.accepted
 
 pub returns-clause-refused : goal.returns-clause-refused
 returns-clause-refused c groups =

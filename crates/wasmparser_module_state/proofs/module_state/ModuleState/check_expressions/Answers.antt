@@ -4,6 +4,7 @@ use Rattle.wasm_spec.specs.TypeReferences.{val_map}
 use Rattle.wasm_validity.specs.ConstantTyping.{IsConstantFor}
 use Rattle.wasmparser_const_exprs.specs.ConstExprs.{expression_of}
 use Rattle.wasmparser_constants.proofs.TakingLaws.{refuses_on}
+use Rattle.wasmparser_module_types.specs.ModuleTypes.{KnownTypes}
 use Rattle.wasmparser_module_state.specs.State.{context, features_of}
 use Rattle.wasmparser_types.specs.Index.{number_of}
 use Rattle.wasmparser_types.specs.ValTypes.{val_type}
@@ -21,8 +22,8 @@ returns-in_err-expression-clause-judged c =
 pub returns-in_err-expression-clause-same : goal.returns-in_err-expression-clause-same
 returns-in_err-expression-clause-same c = c.items.invariant.1
 
-pub returns-in_err-expression-clause-features : goal.returns-in_err-expression-clause-features
-returns-in_err-expression-clause-features c = c.items.invariant.2
+pub returns-in_err-expression-clause-types : goal.returns-in_err-expression-clause-types
+returns-in_err-expression-clause-types c = c.items.invariant.2
 
 pub returns-clause-judged : goal.returns-clause-judged
 returns-clause-judged c = all_judged _ _ _ _ c.items.invariant.0 c.in_default.ensures.steps.0
@@ -32,9 +33,9 @@ items-preserved c =
     let n = rw c.in_ok-expression.was at c.in-Some.ensures.steps in
     let was = c.in_ok-check_initialiser.ensures in
     let holds =
-    subst (λ f. IsConstantFor f (context c.args.self.now) (val_map number_of (val_type c.args.ty.now)) (expression_of c.in_ok-expression.expression.rest)) c.items.invariant.2
+    subst (λ (t : KnownTypes). IsConstantFor t.features (context c.args.self.now) (val_map number_of (val_type c.args.ty.now)) (expression_of c.in_ok-expression.expression.rest)) c.items.invariant.2
     (subst (λ cx. IsConstantFor (features_of c.items.self) cx (val_map number_of (val_type c.args.ty.now)) (expression_of c.in_ok-expression.expression.rest)) c.items.invariant.1 was.judged) in
-    (one_judged _ _ _ _ _ _ _ c.items.invariant.0 n.0 holds, was.same ∙ c.items.invariant.1, was.features ∙ c.items.invariant.2)
+    (one_judged _ _ _ _ _ _ _ c.items.invariant.0 n.0 holds, was.same ∙ c.items.invariant.1, was.types ∙ c.items.invariant.2)
 
 pub returns-in_err-check_initialiser-clause-judged : goal.returns-in_err-check_initialiser-clause-judged
 returns-in_err-check_initialiser-clause-judged c =
@@ -44,6 +45,6 @@ returns-in_err-check_initialiser-clause-judged c =
     rw (p.1, p.2)
     (refuses_on _ _ _
     (λ not. one_broken _ _ _ _ _ _ _ c.items.invariant.0 n.0
-    (λ holds. not (subst (λ f. IsConstantFor f (context c.items.self) (val_map number_of (val_type c.args.ty.now)) (expression_of c.in_ok-expression.expression.rest)) (sym c.items.invariant.2)
+    (λ holds. not (subst (λ (t : KnownTypes). IsConstantFor t.features (context c.items.self) (val_map number_of (val_type c.args.ty.now)) (expression_of c.in_ok-expression.expression.rest)) (sym c.items.invariant.2)
     (subst (λ cx. IsConstantFor (features_of c.args.self.now) cx (val_map number_of (val_type c.args.ty.now)) (expression_of c.in_ok-expression.expression.rest)) (sym c.items.invariant.1) holds))))
     refuses)

@@ -12,4 +12,4 @@ use Rattle.wasmparser_module_state.proofs.module_state.ModuleState.check_express
 abbrev pub invariant-items : goal.invariant-items
 invariant-items l =
     AreJudged expression_at (IsConstantFor (features_of l.fn.self) (context l.fn.self) (val_map number_of (val_type l.ty))) (expressions_of l.fn.expressions.left) l.items
-    × (context l.self ≡ context l.fn.self) × (features_of l.self ≡ features_of l.fn.self)
+    × (context l.self ≡ context l.fn.self) × (l.self.types ≡ l.fn.self.types)

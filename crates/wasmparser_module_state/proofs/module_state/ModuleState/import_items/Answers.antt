@@ -2,6 +2,7 @@ use Rattle.std.proofs.Common.{[], ◌∷◌, refl, subst, ◌∙◌}
 use Rattle.std.proofs.lemmas.Result.{err_from_is_err_and}
 use Rattle.wasmparser_imports.specs.ImportItems.{import_item}
 use Rattle.wasmparser_module_state.specs.Items.{AcceptsItems, NamesItems, named_measures}
+use Rattle.wasmparser_module_types.specs.ModuleTypes.{KnownTypes}
 use Rattle.wasmparser_module_state.specs.State.{context, item}
 use Rattle.wasmparser_module_state.proofs.GroupLaws.{begins, ended, goes_on, never_refused, refused, small_items, stays}
 use Rattle.wasmparser_module_state.proofs.module_state.ModuleState.import_items.Goals as goal
@@ -15,9 +16,9 @@ items-preserved c =
     let now = context c.items.self in
     let type = item c.in-Ok.item.ty in
     let accepts =
-    subst (λ f. AcceptsItems f now (type ∷ []) (named_measures now (c.in-Ok.item.name.now ∷ []) (type ∷ [])) (context c.import_named.new.self)) c.items.invariant.1
+    subst (λ (t : KnownTypes). AcceptsItems t.features now (type ∷ []) (named_measures now (c.in-Ok.item.name.now ∷ []) (type ∷ [])) (context c.import_named.new.self)) c.items.invariant.1
     c.in_ok-import_named-in-Ok.ensures.added in
-    (goes_on _ _ _ _ _ _ _ _ _ _ _ _ (import_item c.in-Ok.item) c.items.invariant.0 n.0 accepts, c.in_ok-import_named-in-Ok.ensures.features ∙ c.items.invariant.1)
+    (goes_on _ _ _ _ _ _ _ _ _ _ _ _ (import_item c.in-Ok.item) c.items.invariant.0 n.0 accepts, c.in_ok-import_named-in-Ok.ensures.types ∙ c.items.invariant.1)
 
 pub returns-in_err-import_named-in-Ok-clause-added : goal.returns-in_err-import_named-in-Ok-clause-added
 returns-in_err-import_named-in-Ok-clause-added c =
@@ -26,7 +27,7 @@ returns-in_err-import_named-in-Ok-clause-added c =
     let type = item c.in-Ok.item.ty in
     let h = c.in_err-import_named-in-Ok.ensures.added in
     let names =
-    subst (λ f. NamesItems f now (type ∷ []) (named_measures now (c.in-Ok.item.name.now ∷ []) (type ∷ [])) c.in_err-import_named-in-Ok.field-0.0.kind) c.items.invariant.1 h.0 in
+    subst (λ (t : KnownTypes). NamesItems t.features now (type ∷ []) (named_measures now (c.in-Ok.item.name.now ∷ []) (type ∷ [])) c.in_err-import_named-in-Ok.field-0.0.kind) c.items.invariant.1 h.0 in
     let p = err_from_is_err_and c.from_residual.result c.from_residual.ensures.1 in
     rw (p.1, p.2) (refused _ _ _ _ _ _ _ _ _ _ _ (import_item c.in-Ok.item) _ c.items.invariant.0 n.0 names, h.1, stays _ _ _ _ _ _ _ _ _ _ c.items.invariant.0 h.2)
 

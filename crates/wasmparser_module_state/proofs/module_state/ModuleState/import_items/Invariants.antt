@@ -9,4 +9,4 @@ use Rattle.wasmparser_module_state.proofs.module_state.ModuleState.import_items.
 abbrev pub invariant-items : goal.invariant-items
 invariant-items l =
     Standing (features_of l.fn.self) import_item_at (λ item. packed_refs item.type) (λ item. item.name) (λ item. item.type) (items_of import_item_at l.fn.group) (context l.fn.self) (context l.self) l.items
-    × (features_of l.self ≡ features_of l.fn.self)
+    × (l.self.types ≡ l.fn.self.types)

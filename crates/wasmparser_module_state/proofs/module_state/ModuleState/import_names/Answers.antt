@@ -1,6 +1,7 @@
 use Rattle.std.proofs.Common.{[], ◌∷◌, refl, subst, ◌∙◌}
 use Rattle.std.proofs.lemmas.Result.{err_from_is_err_and}
 use Rattle.wasmparser_module_state.specs.Items.{AcceptsItems, NamesItems, named_measures}
+use Rattle.wasmparser_module_types.specs.ModuleTypes.{KnownTypes}
 use Rattle.wasmparser_module_state.specs.State.{context, item}
 use Rattle.wasmparser_module_state.proofs.GroupLaws.{begins, goes_on, names_ended, names_refused, never_refused, small_names, stays}
 use Rattle.wasmparser_module_state.proofs.module_state.ModuleState.import_names.Goals as goal
@@ -19,9 +20,9 @@ names-preserved c =
     let now = context c.names.self in
     let type = item c.args.ty.now in
     let accepts =
-    subst (λ f. AcceptsItems f now (type ∷ []) (named_measures now (c.in_ok-name.name.now ∷ []) (type ∷ [])) (context c.import_named.new.self)) c.names.invariant.1
+    subst (λ (t : KnownTypes). AcceptsItems t.features now (type ∷ []) (named_measures now (c.in_ok-name.name.now ∷ []) (type ∷ [])) (context c.import_named.new.self)) c.names.invariant.1
     c.in_ok-import_named.ensures.added in
-    (goes_on _ _ _ _ _ _ _ _ _ _ _ _ c.in_ok-name.name.now c.names.invariant.0 n.0 accepts, c.in_ok-import_named.ensures.features ∙ c.names.invariant.1)
+    (goes_on _ _ _ _ _ _ _ _ _ _ _ _ c.in_ok-name.name.now c.names.invariant.0 n.0 accepts, c.in_ok-import_named.ensures.types ∙ c.names.invariant.1)
 
 pub returns-in_err-import_named-clause-added : goal.returns-in_err-import_named-clause-added
 returns-in_err-import_named-clause-added c =
@@ -29,7 +30,7 @@ returns-in_err-import_named-clause-added c =
     let now = context c.names.self in
     let type = item c.args.ty.now in
     let h = c.in_err-import_named.ensures.added in
-    let named = subst (λ f. NamesItems f now (type ∷ []) (named_measures now (c.in_ok-name.name.now ∷ []) (type ∷ [])) c.in_err-import_named.field-0.0.kind) c.names.invariant.1 h.0 in
+    let named = subst (λ (t : KnownTypes). NamesItems t.features now (type ∷ []) (named_measures now (c.in_ok-name.name.now ∷ []) (type ∷ [])) c.in_err-import_named.field-0.0.kind) c.names.invariant.1 h.0 in
     let p = err_from_is_err_and c.from_residual-in_err-import_named.result c.from_residual-in_err-import_named.ensures.1 in
     rw (p.1, p.2) (names_refused _ _ _ _ _ _ _ _ c.in_ok-name.name.now _ c.names.invariant.0 n.0 named, h.1, stays _ _ _ _ _ _ _ _ _ _ c.names.invariant.0 h.2)
 

@@ -8,4 +8,4 @@ use Rattle.wasmparser_module_state.proofs.module_state.ModuleState.import_names.
 abbrev pub invariant-names : goal.invariant-names
 invariant-names l =
     Standing (features_of l.fn.self) name_at (λ name. []) (λ name. name) (λ name. item l.ty) (items_of name_at l.fn.group) (context l.fn.self) (context l.self) l.names
-    × (features_of l.self ≡ features_of l.fn.self)
+    × (l.self.types ≡ l.fn.self.types)

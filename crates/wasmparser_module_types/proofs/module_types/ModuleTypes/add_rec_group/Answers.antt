@@ -36,4 +36,4 @@ returns-clause-added c =
     let members = ap length c.types.ensures in
     subst (λ known. AddsGroup known (known_types (feature_set c.add.new.space.features) c.add.new.list c.add.new.space.ids.items (it.groups + 1)) (in_section group)) c.self.view_is
     (adds_group (feature_set it.space.features) (feature_set c.add.new.space.features) it.list c.add.new.list it.space.ids.items c.add.new.space.ids.items it.groups group told.accepted
-    told.added told.kept counts.groups (omega (arith, counts.types, ids, members, length-map c.types.result.now sub_type)))
+    told.added told.entered counts.groups (omega (arith, counts.types, ids, members, length-map c.types.result.now sub_type)))

@@ -2,6 +2,7 @@ mod EntryLaws
 mod ExportLaws
 mod FuncTypes
 mod GroupLaws
+mod HeldTypes
 mod IdLaws
 mod ImportLaws
 mod ItemTypes

@@ -16,6 +16,7 @@ pub mod import_entries;
 pub mod imports;
 mod initialisers;
 pub mod item_types;
+pub mod laws;
 pub mod memories;
 pub mod module_state;
 mod names;

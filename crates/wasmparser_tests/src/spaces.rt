@@ -5,7 +5,7 @@ use std::test::Fail;
 use wasm_core::features::{Flags, WasmFeatures};
 use wasm_test_rows::fields::three_fields;
 use wasm_test_rows::rows::check_rows;
-use wasm_test_rows::values::bytes_of;
+use wasm_test_rows::values::{bytes_of, number_of};
 use wasmparser::composite_type::CompositeType;
 use wasmparser::entity_type::EntityType;
 use wasmparser::export::{Export, ExternalKind};
@@ -17,11 +17,20 @@ use wasmparser::payload::Payload;
 use wasmparser::types::TypesRef;
 use wasmparser::validator_id::ValidatorId;
 
-// What is shown of a module: the kinds of its types, whether the items of its element segments may be null, or what it exports and imports. A function and
-// a tag show how many parameters and results they have.
+// What is shown of a module: the kinds of its types, the ids of its types, whether the items of its element segments may be null, or what it exports and
+// imports. A function and a tag show how many parameters and results they have. In rows of own ids types aren't canonicalized.
 const SHOWN: &str = "
     types | 0061736d01000000 01 0b 03 60 00 00 5f 01 7f 00 5e 7f 00 | func struct array
     types | 0061736d01000000 | 
+    ids | 0061736d01000000 01 0b 03 60 00 00 60 01 7f 00 60 00 00 | 0 1 0
+    own ids | 0061736d01000000 01 0b 03 60 00 00 60 01 7f 00 60 00 00 | 0 1 2
+    ids | 0061736d01000000 01 11 02 4e 02 60 00 00 60 00 00 4e 02 60 00 00 60 00 00 | 0 1 0 1
+    ids | 0061736d01000000 01 0c 02 60 00 00 4e 02 60 00 00 60 00 00 | 0 1 2
+    ids | 0061736d01000000 01 09 02 60 00 00 4e 01 60 00 00 | 0 0
+    ids | 0061736d01000000 01 08 03 4e 00 60 00 00 4e 00 | 0
+    ids | 0061736d01000000 01 09 02 60 00 00 50 00 60 00 00 | 0 1
+    ids | 0061736d01000000 01 0b 02 5f 01 63 00 00 5f 01 63 01 00 | 0 0
+    ids | 0061736d01000000 01 0b 02 5f 01 63 00 00 5f 01 63 00 00 | 0 1
     elements | 0061736d01000000 01 04 01 60 00 00 03 02 01 00 09 0b 02 01 00 01 00 05 70 01 d0 70 0b 0a 05 01 03 00 00 0b | ref refnull
     elements | 0061736d01000000 01 04 01 60 00 00 09 08 01 05 63 00 01 d0 00 0b | refnull
     exports | 0061736d01000000 05 03 01 00 01 07 09 02 01 61 02 00 01 62 02 00 | a memory 1 None; b memory 1 None
@@ -143,6 +152,17 @@ fn has_types(view: TypesRef<'_>, expected: &str) -> Option<bool> {
     Some(words.next().is_none())
 }
 
+fn has_ids(view: TypesRef<'_>, expected: &str) -> Option<bool> {
+    let mut words = expected.split_whitespace();
+    for index in 0..view.core_type_count_in_module() {
+        let id = view.core_type_at_in_module(index).index() as u64;
+        if number_of(words.next()?)? != id {
+            return Some(false);
+        }
+    }
+    Some(words.next().is_none())
+}
+
 fn has_elements(view: TypesRef<'_>, expected: &str) -> bool {
     let mut words = expected.split_whitespace();
     for index in 0..view.element_count() {
@@ -154,13 +174,24 @@ fn has_elements(view: TypesRef<'_>, expected: &str) -> bool {
     words.next().is_none()
 }
 
+fn features_for(kind: &str) -> WasmFeatures {
+    if kind != "own ids" {
+        return WasmFeatures::all();
+    }
+    let canonical = WasmFeatures::GC
+        .union(WasmFeatures::FUNCTION_REFERENCES)
+        .union(WasmFeatures::STACK_SWITCHING);
+    WasmFeatures::all().difference(canonical)
+}
+
 fn holds(alloc: Global, row: &str) -> Option<bool> {
     let (kind, bytes, expected) = three_fields(row)?;
     let bytes = bytes_of(alloc, bytes)?;
-    let types = validate_module(alloc, &bytes, WasmFeatures::all(), ValidatorId::new(7)).ok()?;
+    let types = validate_module(alloc, &bytes, features_for(kind), ValidatorId::new(7)).ok()?;
     let view = types.as_ref();
     match kind {
         "types" => has_types(view, expected),
+        "ids" | "own ids" => has_ids(view, expected),
         "elements" => Some(has_elements(view, expected)),
         "exports" => Some(has_exports(alloc, view, expected)),
         "imports" => has_imports(alloc, view, &bytes, expected),
@@ -170,5 +201,5 @@ fn holds(alloc: Global, row: &str) -> Option<bool> {
 
 #[test]
 fn modules_show_what_they_have(rt: HostRuntime) -> Result<(), Fail> {
-    Ok(check_rows(rt.alloc(), SHOWN, 8, holds)?)
+    Ok(check_rows(rt.alloc(), SHOWN, 17, holds)?)
 }

@@ -1,5 +1,5 @@
 -- What a list of types holds has no type twice, where types are canonicalized.
-use Rattle.std.proofs.Common.{◌≡◌, ℕ, zero, suc, ◌+◌, true, List, [], ◌∷◌, ◌++◌, Some, inl, inr, refl, sym, ap, ◌∙◌, subst, arith}
+use Rattle.std.proofs.Common.{◌≡◌, ℕ, zero, suc, ◌+◌, true, List, [], ◌∷◌, ◌++◌, Some, inl, inr, sym, ap, subst, arith}
 use Rattle.std.specs.List.{slice_get}
 use Rattle.wasm_spec.proofs.Places.{all_get, get_cases}
 use Rattle.wasm_spec.specs.Features.{Features, needs_type_canonicalization}
@@ -9,7 +9,7 @@ use Rattle.wasm_spec.specs.Types.{RecGroup}
 use Rattle.wasm_validity.specs.Context.{Context, after}
 use Rattle.wasm_validity.specs.Entries.{Entry, OfBody, OfCustom, OfData, OfDataCount, OfElement, OfExport, OfFunction, OfGlobal, OfImport, OfMemory, OfStart, OfTable, OfTag, OfTags, OfType}
 use Rattle.wasmparser_module_state.specs.History.{EnterAll, EntersEntry}
-use Rattle.wasmparser_module_types.specs.History.{Enters, Holds, is_held, is_new}
+use Rattle.wasmparser_module_types.specs.History.{Enters, IsHeld, is_held, is_new}
 
 -- the types of a group differ by their places in it
 place_is : {X : Type 0} (tree : GroupTree) (first : ℕ) (xs : List X) (j : ℕ) (type : DefType) → slice_get (places_of tree first xs) j ≡ Some type → type.place ≡ first + j
@@ -23,7 +23,7 @@ own_distinct : (before : List DefType) (group : RecGroup ℕ) → AreDistinct (t
 own_distinct before group i j type at at' =
     omega (arith, place_is (tree_of before group) 0 (members group) i type at, place_is (tree_of before group) 0 (members group) j type at')
 
-both_distinct : (held own : List DefType) → AreDistinct held → AreDistinct own → ((j : ℕ) (type : DefType) → slice_get own j ≡ Some type → ¬ (Holds held type)) → AreDistinct (held ++ own)
+both_distinct : (held own : List DefType) → AreDistinct held → AreDistinct own → ((j : ℕ) (type : DefType) → slice_get own j ≡ Some type → ¬ (IsHeld held type)) → AreDistinct (held ++ own)
 both_distinct held own first second apart i j type at at' = elim (get_cases held own i type at) [
   | inl h ↦ elim (get_cases held own j type at') [
     | inl h' ↦ first i j type h h'
@@ -40,7 +40,7 @@ module _ (features : Features) (needs : needs_type_canonicalization features ≡
   after_group before held _ group distinct (is_held asked all) = distinct
   after_group before held _ group distinct (is_new apart) =
       both_distinct held (types_of_group before group) distinct (own_distinct before group)
-      (λ j type at. all_get (λ type. ¬ (Holds held type)) (types_of_group before group) (apart needs) j type at)
+      (λ j type at. all_get (λ type. ¬ (IsHeld held type)) (types_of_group before group) (apart needs) j type at)
 
   after_entry : (cx : Context) (held new : List DefType) (entry : Entry) → AreDistinct held → EntersEntry features cx held entry new → AreDistinct new
   after_entry cx held new (OfType group) distinct enters = after_group cx.types held new group distinct enters

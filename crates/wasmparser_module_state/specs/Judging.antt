@@ -83,7 +83,7 @@ pub record IsMadeOf {X A : Type 0} (form : X → A) (indexes : A → List ℕ) (
   pub reads : (features : Features) (bytes : List ℕ) → entry_at features bytes ≡ seen_at made (form_at features) bytes
   pub breaks : (features : Features) (cx : Context) (a : A) → length cx.types ≤ most Types → HasLarge (indexes a) → ¬ (Keeps features cx (made a))
 
--- What is left of a section reads as entries that keep the rules and limits, and what is known, and held by the list of types, after them.
+-- What is left of a section reads as entries that keep the rules and limits. new, new_held: what is known, and what the list of types holds, after them.
 pub record Fills (features : Features) (entry_at : EntryReading) (old : Context) (old_held : List DefType) (left : Left) (new : Context) (new_held : List DefType) : Type 0 where
   pub entries : List Entry
   pub reads : left_items entry_at left ≡ Some entries

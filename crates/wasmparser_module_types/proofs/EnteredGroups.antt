@@ -17,7 +17,7 @@ use Rattle.wasmparser_interning.specs.TypeTables.{Interns, TablesAgree, TypeTabl
 use Rattle.wasmparser_interning_laws.proofs.IdLaws.{id_count, ids_distinct}
 use Rattle.wasmparser_interning_laws.proofs.InternedGroups.{types_more}
 use Rattle.wasmparser_interning_laws.specs.IdTypes.{AreFoundByKey, RefersToNoModule, group_after, tree_as}
-use Rattle.wasmparser_module_types.specs.History.{Enters, Holds, is_held, is_new}
+use Rattle.wasmparser_module_types.specs.History.{Enters, IsHeld, is_held, is_new}
 use Rattle.wasmparser_module_types.specs.ModuleTypes.{all_groups, interned_types, module_types}
 use Rattle.wasmparser_rec_groups.specs.Interning.{AreKnown}
 use Rattle.wasmparser_types.specs.Index.{Index, number_of}
@@ -47,9 +47,9 @@ last_items front (type ∷ more) =
     ∙ ap (λ q. type ∷ q) (last_items (front ++ type ∷ []) more)
 
 -- no type is one of those before it
-apart : (held own : List DefType) → AreDistinct (held ++ own) → AllByRecursion (λ type. ¬ (Holds held type)) own
-apart held own distinct = all_by_place (λ type. ¬ (Holds held type)) own not_held where
-  not_held : (place : ℕ) (type : DefType) → slice_get own place ≡ Some type → ¬ (Holds held type)
+apart : (held own : List DefType) → AreDistinct (held ++ own) → AllByRecursion (λ type. ¬ (IsHeld held type)) own
+apart held own distinct = all_by_place (λ type. ¬ (IsHeld held type)) own not_held where
+  not_held : (place : ℕ) (type : DefType) → slice_get own place ≡ Some type → ¬ (IsHeld held type)
   not_held place type at (id, here) =
       let within : id < length held = slice_get_within held id type here in
       let first : slice_get (held ++ own) id ≡ Some type = get_left held own id within ∙ here in
@@ -94,7 +94,7 @@ module _ (old new : TypeTables) (agree : TablesAgree old) (now : TablesAgree new
     more_is : map (type_at (interned_types new)) ids ≡ more
     more_is = ap (map (type_at (interned_types new))) ranged ∙ ap (λ q. map (type_at q) (range_with_len (length held) (length more))) grown ∙ last_items held more
 
-  has : (id : ℕ) → id < length new.types → Holds (interned_types new) (type_at (interned_types new) id)
+  has : (id : ℕ) → id < length new.types → IsHeld (interned_types new) (type_at (interned_types new) id)
   has id less =
       let (type, here) = get_some (interned_types new) id (omega (arith, less, id_count all_groups new now)) in
       (id, here ∙ ap Some (sym (ap (λ q. unwrap_or q no_type) here)))
@@ -106,9 +106,9 @@ module _ (old new : TypeTables) (agree : TablesAgree old) (now : TablesAgree new
       subst (Enters features held own) (sym all) (is_new (λ needs. apart held own (subst AreDistinct all (ids_distinct new now no_module all_groups (found needs)))))
   entered features asked false interned no_module found known listed =
       let same : interned_types new ≡ held = ap interned_types interned.1 in
-      let are_held : AllByRecursion (Holds (interned_types new)) own =
-      subst (AllByRecursion (Holds (interned_types new))) listed (all_map (λ id. id < length new.types) (Holds (interned_types new)) (type_at (interned_types new)) has ids known) in
-      subst (Enters features held own) (sym same) (is_held (sym asked ∙ interned.0) (subst (λ q. AllByRecursion (Holds q) own) same are_held))
+      let are_held : AllByRecursion (IsHeld (interned_types new)) own =
+      subst (AllByRecursion (IsHeld (interned_types new))) listed (all_map (λ id. id < length new.types) (IsHeld (interned_types new)) (type_at (interned_types new)) has ids known) in
+      subst (Enters features held own) (sym same) (is_held (sym asked ∙ interned.0) (subst (λ q. AllByRecursion (IsHeld q) own) same are_held))
 
 -- A group was entered whose ids were added to those of a module.
 pub enters : (features : Features) (old new : TypeTables) (group : List (SubType Index)) (is_added : Bool) (number : ℕ) (before own : List DefType) (ids new_ids : List ℕ) → TablesAgree old → TablesAgree new

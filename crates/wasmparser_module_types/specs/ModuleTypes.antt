@@ -49,7 +49,7 @@ IsIdOf interned (Id id) = id < length interned
 abbrev pub AreIds : KnownTypes → List Index → Type 0
 AreIds known indexes = AllByRecursion (IsIdOf known.interned) indexes
 
--- a module of one list counts every group as canonical
+-- Every group counts as canonical, so no tree is marked, also where types aren't canonicalized: there equal definitions are equal types under several ids.
 abbrev pub all_groups : ℕ → Bool
 all_groups number = true
 

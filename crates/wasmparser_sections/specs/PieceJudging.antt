@@ -16,7 +16,7 @@ use Rattle.wasmparser_payloads.specs.Pieces.{Piece, Version, Types, Imports, Fun
 
 -- ---- what a piece says
 
--- what a piece says keeps the rules and passes no limit, and what is known, and held by the list of types, after it
+-- What a piece says keeps the rules and passes no limit. new, new_held: what is known, and what the list of types holds, after it.
 pub record Says (features : Features) (old : Context) (old_held : List DefType) (piece : Piece) (new : Context) (new_held : List DefType) : Type 0 where
   pub entries : List Entry
   pub said : entries_said piece ≡ Some entries

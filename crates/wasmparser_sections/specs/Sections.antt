@@ -26,8 +26,8 @@ contents_of bodies = map (λ (b : Input). b.rest) bodies
 abbrev pub EndBy : ℕ → List Input → Type 0
 EndBy last bodies = AllByRecursion (λ (b : Input). end b ≤ last) bodies
 
--- Sections were read to the end of the bytes, and what is known, and held by the list of types, after them, with these bodies and data counts. Whether there
--- are as many bodies as functions, and as many data segments as is stated, is still open.
+-- Sections were read to the end of the bytes, with these bodies and data counts. cx, new_held: what is known, and what the list of types holds, after them.
+-- Whether there are as many bodies as functions, and as many data segments as is stated, is still open.
 pub record AreRead (features : Features) (bytes : List ℕ) (old_held : List DefType) (cx : Context) (new_held : List DefType) (given : List Input) (stated : List ℕ) : Type 0 where
   pub sections : List Section
   pub reads : HasAllSections (has features CompactImports) bytes sections

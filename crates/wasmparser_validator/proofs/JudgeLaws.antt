@@ -63,7 +63,7 @@ piece_refused old piece e waited names placed = rw waited (by_kind e.kind names,
 
 pub piece_accepted : (old : Judge) (piece : Piece) (known : Context) (held : List DefType) → waits_for old piece ≡ true → agrees old piece ≡ true → Says old.features old.known old.held piece known held
     → AcceptsPiece old piece (after_piece old piece known held)
-piece_accepted old piece known held waited agreed says = record { waited = waited; agreed = agreed; known = known; held = held; says = says; after = refl }
+piece_accepted old piece known held waited agreed says = record { waited = waited; agreed = agreed; known = known; new_held = held; says = says; after = refl }
 
 pub ruleset judge_steps = (piece_refused, piece_accepted)
 

@@ -172,9 +172,9 @@ pub record AcceptsPiece (old : Judge) (piece : Piece) (new : Judge) : Type 0 whe
   pub waited : waits_for old piece ≡ true
   pub agreed : agrees old piece ≡ true
   pub known : Context
-  pub held : List DefType
-  pub says : Says old.features old.known old.held piece known held
-  pub after : new ≡ after_piece old piece known held
+  pub new_held : List DefType
+  pub says : Says old.features old.known old.held piece known new_held
+  pub after : new ≡ after_piece old piece known new_held
 
 -- What a call returned that is handed a piece of a module.
 abbrev pub JudgesPiece : {T : Type 0} → Judge → Piece → Result T Error → Judge → Type 0

@@ -20,7 +20,7 @@ pub record AreFew (cx : Context) : Type 0 where
   pub tags : length cx.tags ≤ most Tags
   pub elements : length cx.elements ≤ most ElementSegments
 
--- it is what is known after entries that keep all rules and limits, and holds their types
+-- It is what is known after entries that keep all rules and limits, and its list holds what these enter.
 pub record IsReached (state : ModuleState) : Type 0 where
   pub entries : List Entry
   pub rules : KeepRules (features_of state) at_first entries

@@ -33,7 +33,8 @@ IsNamed _ = ⊥
 
 -- A validator that has not failed answers so to any bytes.
 pub record IsValidated (features : Features) (bytes : List ℕ) (verdict : Result KnownModule Error) : Type 0 where
-  -- a yes is right, and shows the index spaces of the module and its exports; its ids stand for the types that the module's groups enter
+  -- a yes is right, and shows the index spaces of the module and its exports; its ids stand for the types that a list holds
+  -- after the module's groups
   pub right : IfOk verdict (λ known. (sections : List Section) × IsAccepted features bytes sections × (spaces_known known ≡ spaces_of sections) × EnterAll features at_first [] (entries_of sections) (held known.state))
   -- a module that is to be accepted is refused only when out of memory; that memory did run out is left to tests
   pub complete : (sections : List Section) → IsAccepted features bytes sections → IfErr verdict (λ e. e.kind ≡ kinds.Memory)

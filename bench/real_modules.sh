@@ -1,7 +1,8 @@
 #!/bin/sh
 # The payloads of modules that clang, rustc and Go make, beside what wasm-objdump prints of them: kinds of sections, their places, their counts, the names
-# of custom ones. The places join without a gap, those of bodies too, up to the end of the file. Needs Debian's clang, lld, rustc, libstd-rust-dev-wasm32,
-# golang-go and wabt, of which it says what is missing; the status is 1 where a module differs.
+# of custom ones. The places join without a gap, those of bodies too, up to the end of the file. `wasm_gen check` accepts all of their sections: it says `yes`, or
+# `no operator` of a body. Needs Debian's clang, lld, rustc, libstd-rust-dev-wasm32, golang-go and wabt, of which it says what is missing; the status is 1
+# where a module differs or is refused otherwise.
 set -eu
 cd "$(dirname "$0")/.."
 for tool in clang wasm-ld /usr/bin/rustc /usr/bin/go wasm-objdump; do
@@ -9,6 +10,8 @@ for tool in clang wasm-ld /usr/bin/rustc /usr/bin/go wasm-objdump; do
 done
 folder=$(mktemp -d)
 trap 'rm -rf "$folder"' EXIT
+./wasm_gen --help > /dev/null
+program=$(pwd)/crates/wasm_gen_cli/out/wasm_gen_cli
 .ci/build wasmparser_parse_bench > /dev/null
 driver=$(pwd)/crates/wasmparser_parse_bench
 (cd "$driver" && ../../.ci/rt run -- /dev/null 0 > /dev/null 2>&1) || true
@@ -54,10 +57,10 @@ SOURCE
     /usr/bin/rustc --target wasm32-unknown-unknown -O words.rs -o rustc.wasm
     HOME="$folder" GOOS=js GOARCH=wasm /usr/bin/go build -o go.wasm hello.go
 )
-python3 - "$driver/out/wasmparser_parse_bench" "$folder" small.o clang.wasm debug.o clang-debug.wasm rustc.wasm go.wasm <<'PYTHON'
+python3 - "$driver/out/wasmparser_parse_bench" "$program" "$folder" small.o clang.wasm debug.o clang-debug.wasm rustc.wasm go.wasm <<'PYTHON'
 import re, subprocess, sys
 
-driver, folder, *names = sys.argv[1:]
+driver, program, folder, *names = sys.argv[1:]
 
 
 def lines_of(*command):
@@ -95,6 +98,10 @@ def has_gap(data, payloads):
     return at != len(data)
 
 
+def verdict(path):
+    return subprocess.run([program, "check", path], capture_output=True, text=True).stdout.strip()
+
+
 failed = False
 for name in names:
     path = f"{folder}/{name}"
@@ -104,7 +111,9 @@ for name in names:
     sections = [it for it in payloads if it[0] not in ("Version", "body", "End")]
     is_same = sections == sections_told(path) and not has_gap(data, payloads)
     bodies = sum(it[0] == "body" for it in payloads)
-    failed |= not is_same
-    print(f"{name}: {len(data)} bytes, {len(sections)} sections, {bodies} bodies: {'as wasm-objdump prints them' if is_same else 'DIFFERENT'}")
+    answer = verdict(path)
+    failed |= not is_same or not answer.startswith(("yes", "no operator"))
+    said = "as wasm-objdump prints them" if is_same else "DIFFERENT"
+    print(f"{name}: {len(data)} bytes, {len(sections)} sections, {bodies} bodies: {said}; check: {answer}")
 sys.exit(failed)
 PYTHON

@@ -99,6 +99,18 @@ def functions_in(file, tokens):
     return found
 
 
+def names_of(crate, module, function, names):
+    """Returns the names that the prover may print for a function: a method's begins with the module of its type, which may be another one than its own."""
+    exact = "::".join([*module, *filter(None, [function.owner]), function.name])
+    if exact in names or not function.owner:
+        return [it for it in names if it == exact]
+    for path in ("::".join(module), rf"{crate.name}(::\w+)*"):
+        found = [it for it in names if re.fullmatch(rf"{path}::{function.owner}\w*::{function.name}", it)]
+        if found:
+            return found
+    return []
+
+
 def functions_of(crate, names):
     """Returns the crate's functions by the names that the prover prints, without those whose name can't be told."""
     files, found = [it for it in rtlib.files_of(crate.folder) if it.endswith(".rt")], {}
@@ -106,10 +118,7 @@ def functions_of(crate, names):
         file = os.path.relpath(path, crate.folder)
         module = [crate.name, *(it for it in file[len("src/") : -len(".rt")].split("/") if it not in ("lib", "main", "mod"))]
         for it in functions_in(file, tokens):
-            exact = "::".join([*module, *filter(None, [it.owner]), it.name])
-            fits = [name for name in names if name == exact] or [
-                name for name in names if it.owner and re.fullmatch(rf"{'::'.join([*module, it.owner])}\w*::{it.name}", name)
-            ]
+            fits = names_of(crate, module, it, names)
             if len(fits) == 1 and fits[0] not in found:
                 found[fits[0]] = it
     return found

@@ -1,8 +1,8 @@
 #!/bin/sh
 # The payloads of modules that clang, rustc and Go make, beside what wasm-objdump prints of them: kinds of sections, their places, their counts, the names
-# of custom ones. The places join without a gap, those of bodies too, up to the end of the file. `wasm_gen check` accepts all of their sections: it says `yes`, or
-# `no operator` of a body. Needs Debian's clang, lld, rustc, libstd-rust-dev-wasm32, golang-go and wabt, of which it says what is missing; the status is 1
-# where a module differs or is refused otherwise.
+# of custom ones. The places join without a gap, those of bodies too, up to the end of the file. `wasm_gen check` accepts all of their sections: it says
+# `yes`, or `no operator` of a body. Needs Debian's clang, lld, rustc, libstd-rust-dev-wasm32, golang-go and wabt, of which it says what is missing; the
+# status is 1 where a module differs or is refused otherwise.
 set -eu
 cd "$(dirname "$0")/.."
 for tool in clang wasm-ld /usr/bin/rustc /usr/bin/go wasm-objdump; do

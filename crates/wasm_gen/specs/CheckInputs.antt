@@ -5,13 +5,13 @@ use Rattle.wasm_gen.specs.History.{History}
 use Rattle.wasm_gen.specs.Run.{WritesFront, WritesVerdict}
 use Rattle.wasm_spec.specs.Features.{default_features}
 use Rattle.wasm_gen.specs.declared.error.RunError.{RunError}
-use Rattle.wasm_gen.specs.declared.error.RunError.TheVariants.{Write}
+use Rattle.wasm_gen.specs.declared.error.RunError.TheVariants.{Memory, Write}
 use Rattle.wasm_gen.specs.declared.status.Outcome.{Outcome}
 use Rattle.wasm_gen.specs.declared.status.Outcome.TheVariants.{Yes, No, Fault}
 
 -- the session that the program begins with: under the default features
 abbrev pub beginning : History
-beginning = record { features = default_features; id = 0; has_failed = false }
+beginning = record { features = default_features; id = 0; has_failed = false; held = [] }
 
 -- how a run on an input ended
 abbrev pub outcome : Result Bool RunError → Outcome
@@ -26,15 +26,16 @@ ends_run _ = false
 
 -- another validator of this name, under the same features
 abbrev pub restarted : History → ℕ → History
-restarted session next = record { features = session.features; id = next; has_failed = false }
+restarted session next = record { features = session.features; id = next; has_failed = false; held = [] }
 
 -- a validator that has failed is followed by another one
 abbrev pub going_on : History → ℕ → History
 going_on session next = if session.has_failed then restarted session next else session
 
--- the session validates on under its features, by the validator that it had or by one of the name that was handed in
-abbrev pub GoesOn : History → ℕ → History → Type 0
-GoesOn old next new = (new ≡ old) ⊎ (new ≡ restarted old next)
+-- after a fault the session goes on as it was, or, where memory ran out, by another validator of the name that was handed in
+abbrev pub GoesOn : RunError → History → ℕ → History → Type 0
+GoesOn Memory old next new = new ≡ restarted old next
+GoesOn fault old next new = new ≡ old
 
 -- the line of the session's verdict on what was read is written, and nothing else; then the session goes on
 abbrev pub WritesLine : History → ℕ → History → Option (List ℕ) → Option (List ℕ) → Option (List ℕ) → Option (List ℕ) → Bool → Type 0
@@ -44,7 +45,7 @@ WritesLine old next new unread left before after is_yes =
 -- what became of an input after which the run goes on: a verdict, whose line is written, or a fault, of which nothing is
 abbrev pub EndsInput : Result Bool RunError → History → ℕ → History → Option (List ℕ) → Option (List ℕ) → Type 0
 EndsInput (Ok is_yes) old next new before after = (unread : Option (List ℕ)) × (left : Option (List ℕ)) × WritesLine old next new unread left before after is_yes
-EndsInput (Err fault) old next new before after = GoesOn old next new × Keeps before after
+EndsInput (Err fault) old next new before after = GoesOn fault old next new × Keeps before after
 
 -- what became of an input that ends the run: a front of the line of its verdict is written
 abbrev pub EndsRun : History → Option (List ℕ) → Option (List ℕ) → Type 0

@@ -28,10 +28,10 @@ pub trait Inputs {
 }
 
 /// The session that the program begins with: under the default features.
-pub fn first_session() -> Session
+pub fn first_session(alloc: Global) -> Session
     ensures { result ≡ beginning }
 {
-    Session::new(WasmFeatures::default(), ValidatorId::new(0))
+    Session::new(alloc, WasmFeatures::default(), ValidatorId::new(0))
 }
 
 /// How the run on an input ended.
@@ -65,7 +65,7 @@ pub fn check_next<R: Source, W: Sink>(
     ensures validated { IfOk result (λ is_yes. WritesLine session.old next session.new
         (R.remaining reader.old) (R.remaining reader.new) (W.contents writer.old) (W.contents writer.new) is_yes) }
     ensures ready { result ≢ Err RunError.Write → session.new.has_failed ≡ false }
-    ensures goes_on { result ≢ Err RunError.Write → GoesOn session.old next session.new }
+    ensures goes_on { IfErr result (λ e. e ≢ RunError.Write → GoesOn e session.old next session.new) }
     ensures memory { IfErr result (λ e. e ≡ RunError.Memory → session.new ≡ restarted session.old next) }
     ensures unread { IfErr result (λ e. (e ≡ RunError.Read) ⊎ (e ≡ RunError.TooLong) → session.new ≡ session.old) }
 
@@ -114,6 +114,36 @@ fn check_opened<R: Source + Drop, W: Sink>(
     }
 }
 
+// Validates the inputs of these names in turn by a session.
+fn check_all<I: Inputs, W: Sink>(
+    alloc: Global,
+    session: &mut Session,
+    inputs: &mut I,
+    names: &[&str],
+    writer: &mut W,
+) -> Result<Vec<Outcome>, AllocError>
+    requires { session.old ≡ beginning }
+    ensures each { IfOk result (λ outcomes. length outcomes.items ≤ length names.now) }
+    ensures whole { IfOk result (λ outcomes.
+        (ValidatesAll beginning (length names.now) outcomes.items (W.contents writer.old) (W.contents writer.new) × WritesOn (W.faults writer.old) (W.faults writer.new))
+        ⊎ (ValidatesUntil beginning outcomes.items (W.contents writer.old) (W.contents writer.new) × FailsWrite (W.faults writer.old) (W.faults writer.new))) }
+{
+    let mut outcomes = Vec::with_capacity(alloc, names.len())?;
+    for (place, name) in names.iter().enumerate() {
+        let next = ValidatorId::new(place + 1);
+        let input = inputs.open(name);
+        let answer = check_opened(alloc, session, next, input, writer);
+        outcomes.push(outcome_of(answer))?;
+        if let Err(e) = answer {
+            inputs.tell(e, name);
+        }
+        if ends_run(answer) {
+            break;
+        }
+    }
+    Ok(outcomes)
+}
+
 /// Validates the inputs of these names in turn, tells each fault, and gives how each ended. A failed write ends the run; after any other fault the
 /// next input follows.
 pub fn check_inputs<I: Inputs, W: Sink>(
@@ -127,19 +157,8 @@ pub fn check_inputs<I: Inputs, W: Sink>(
         (ValidatesAll beginning (length names.now) outcomes.items (W.contents writer.old) (W.contents writer.new) × WritesOn (W.faults writer.old) (W.faults writer.new))
         ⊎ (ValidatesUntil beginning outcomes.items (W.contents writer.old) (W.contents writer.new) × FailsWrite (W.faults writer.old) (W.faults writer.new))) }
 {
-    let mut session = first_session();
-    let mut outcomes = Vec::with_capacity(alloc, names.len())?;
-    for (place, name) in names.iter().enumerate() {
-        let next = ValidatorId::new(place + 1);
-        let input = inputs.open(name);
-        let answer = check_opened(alloc, &mut session, next, input, writer);
-        outcomes.push(outcome_of(answer))?;
-        if let Err(e) = answer {
-            inputs.tell(e, name);
-        }
-        if ends_run(answer) {
-            break;
-        }
-    }
-    Ok(outcomes)
+    let mut session = first_session(alloc);
+    let outcomes = check_all(alloc, &mut session, inputs, names, writer);
+    drop(session);
+    outcomes
 }

@@ -63,8 +63,10 @@ pub fn run_check<R: Source, W: Sink>(
     };
     let verdict = check_input(alloc, session, reader)?;
     put_verdict(&mut line, &verdict);
+    let is_yes = verdict.is_ok();
+    drop(verdict);
     write_whole(writer, &line)?;
-    Ok(verdict.is_ok())
+    Ok(is_yes)
 }
 
 // Reads a module and validates it. Running out of memory is no verdict.
@@ -92,7 +94,7 @@ fn check_input<R: Source>(
     ensures id { session.new.id ≡ session.old.id }
 {
     let bytes = read_whole(alloc, reader, MAX_INPUT, MAX_TURNS)?;
-    let verdict = session.check(alloc, &bytes);
+    let verdict = session.check(&bytes);
     if let Err(e) = &verdict {
         if e.kind == ErrorKind::Memory {
             return Err(RunError::Memory);

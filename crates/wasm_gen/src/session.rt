@@ -1,47 +1,52 @@
 //! Validating many modules, one after the other.
 
-ghost use Rattle.std.specs.Prelude.{◌≡◌};
+ghost use Rattle.std.specs.Prelude.{◌≡◌, [], false};
 ghost use Rattle.wasm_core.specs.Features.{feature_set};
 
 use crate::judge::{Error, ErrorKind, Types, ValidatorId};
 use std::alloc::Global;
 use std::marker::Model;
+use std::{fmt, mem};
 use wasm_core::features::WasmFeatures;
-use wasmparser_validator::modules::validate_module;
-use wasmparser_validator::validator::is_in_body;
+use wasmparser_validator::validator::Validator;
 
-/// Validates modules under one set of features. After a module with a refused body the next one is validated. Any other
-/// refusal ends the validator: from then on each module is refused as `Failed`, and
-/// [`restart`](Session::restart) hands in another validator.
+/// Validates modules under one set of features. The types of those that are valid, or refused in a body, stay in the validator's list, so that equal types of
+/// all modules have one id where types are canonicalized. After a module with a refused body the next one is validated. After any other refusal the validator has
+/// failed: each module is refused as `Failed` then, until [`restart`](Session::restart) hands in another validator.
 ///
-/// Contracts see a session as its features, the validator's name, and whether the validator failed.
-#[derive(Debug, Drop)]
+/// Contracts see a session as its features, the validator's name, whether the validator failed, and the types that its list holds.
+#[derive(Drop)]
 pub struct Session {
-    features: WasmFeatures,
-    id: ValidatorId,
+    alloc: Global,
+    validator: Validator,
     has_failed: bool,
 }
 
 impl Model for Session {
-    ghost use Rattle.wasm_core.specs.Features.{feature_set};
-    ghost use Rattle.wasm_gen.specs.History.{History};
+    ghost use Rattle.std.specs.Prelude.{◌≡◌, false};
+    ghost use Rattle.wasm_gen.specs.History.{History, history_code};
+    ghost use Rattle.wasmparser_validator.specs.Judges.{judge};
+    ghost use Rattle.wasmparser_validator.specs.declared.validator.Stage.TheVariants as stages;
 
     ghost Value = { History };
 
-    ghost view = { λ s. record { features = feature_set s.features; id = s.id; has_failed = s.has_failed } };
+    ghost coded = { history_code };
+
+    ghost view = { λ s. record { features = (judge s.validator).features; id = (judge s.validator).id; has_failed = s.has_failed; held = (judge s.validator).held } };
+
+    ghost invariant = { λ s. s.has_failed ≡ false → (judge s.validator).stage ≡ stages.Header };
 }
 
 impl Session {
-    ghost use Rattle.std.specs.Prelude.{false};
     ghost use Rattle.wasm_gen.specs.Session.{Checks};
 
     /// A session with these features, whose first validator has this name.
-    pub fn new(features: WasmFeatures, id: ValidatorId) -> Session
-        ensures { result ≡ record { features = feature_set features; id = id; has_failed = false } }
+    pub fn new(alloc: Global, features: WasmFeatures, id: ValidatorId) -> Session
+        ensures { result ≡ record { features = feature_set features; id = id; has_failed = false; held = [] } }
     {
         Session {
-            features,
-            id,
+            alloc,
+            validator: Validator::new_with_features(alloc, features, id),
             has_failed: false,
         }
     }
@@ -51,8 +56,8 @@ impl Session {
     /// The kind of a refusal names a fault that is there, or running out of memory; which of several is named is open.
     ///
     /// # Errors
-    /// `Failed` at 0 where the validator has ended; else those of `validate_module`.
-    pub fn check(&mut self, alloc: Global, bytes: &[u8]) -> Result<Types, Error>
+    /// `Failed` at 0 where the validator has failed; else those of `Validator::validate_all` but `Order`.
+    pub fn check(&mut self, bytes: &[u8]) -> Result<Types, Error>
         ensures { Checks self.old bytes.now result self.new }
     {
         if self.has_failed {
@@ -61,22 +66,22 @@ impl Session {
                 kind: ErrorKind::Failed,
             });
         }
-        let verdict = validate_module(alloc, bytes, self.features, self.id);
-        if let Err(e) = &verdict {
-            self.has_failed = !is_in_body(e.kind);
-        }
+        let verdict = self.validator.validate_all(bytes);
+        self.has_failed = self.validator.reset().is_err();
         verdict
     }
 
-    /// Goes on with a new validator of this name, under the same features.
+    /// Goes on with a new validator of this name, under the same features, whose ids begin anew.
     pub fn restart(&mut self, id: ValidatorId)
-        ensures { self.new ≡ record { features = self.old.features; id = id; has_failed = false } }
+        ensures { self.new ≡ record { features = self.old.features; id = id; has_failed = false; held = [] } }
     {
-        self.id = id;
+        let next = Validator::new_with_features(self.alloc, self.features(), id);
+        // (dropped by a call, which is cheaper to prove)
+        drop(mem::replace(&mut self.validator, next));
         self.has_failed = false;
     }
 
-    /// Whether the validator has ended, and validates no more.
+    /// Whether the validator has failed, and validates no more.
     pub fn has_failed(&self) -> bool
         ensures { result ≡ self.now.has_failed }
     {
@@ -87,13 +92,23 @@ impl Session {
     pub fn id(&self) -> ValidatorId
         ensures { result ≡ self.now.id }
     {
-        self.id
+        self.validator.id()
     }
 
     /// The features under which modules are validated.
     pub fn features(&self) -> WasmFeatures
         ensures { feature_set result ≡ self.now.features }
     {
-        self.features
+        self.validator.features()
+    }
+}
+
+/// Shows the validator's name and whether it failed, and none of its types.
+impl fmt::Debug for Session {
+    fn fmt<W: fmt::Write>(&self, f: &mut fmt::Formatter<W>) -> fmt::Result {
+        f.debug_struct("Session")
+            .field("id", &self.id())
+            .field("has_failed", &self.has_failed)
+            .finish_non_exhaustive()
     }
 }

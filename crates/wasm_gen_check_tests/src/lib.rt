@@ -18,6 +18,8 @@ mod functions;
 #[cfg(test)]
 mod globals;
 #[cfg(test)]
+mod kept_types;
+#[cfg(test)]
 mod lines;
 pub mod modules;
 #[cfg(test)]

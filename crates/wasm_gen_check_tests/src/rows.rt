@@ -1,6 +1,6 @@
 //! Rows of a module, and what new sessions answer on it.
 
-use crate::modules::{answers, module_of, new_session};
+use crate::modules::{answers_under, module_of};
 use crate::views::{has_exports, has_line};
 use crate::{
     custom_sections, cuts, data_segments, elements, exports, function_limits, functions, globals,
@@ -9,8 +9,6 @@ use crate::{
 use std::alloc::Global;
 use std::test::Fail;
 use wasm_core::features::{Flags, WasmFeatures};
-use wasm_gen::judge::ValidatorId;
-use wasm_gen::session::Session;
 use wasm_test_rows::fields::{has_word, three_fields};
 use wasm_test_rows::rows::check_rows;
 use wasm_test_rows::values::number_of;
@@ -34,12 +32,6 @@ fn features_of(field: &str) -> Option<WasmFeatures> {
         "all" => Some(WasmFeatures::all()),
         _ => all_but(field.strip_prefix("all but ")?),
     }
-}
-
-// Whether a new session with these features gives the answer.
-fn answers_under(alloc: Global, features: WasmFeatures, bytes: &[u8], expected: &str) -> bool {
-    let mut session = Session::new(features, ValidatorId::new(0));
-    answers(alloc, &mut session, bytes, expected)
 }
 
 // Whether a module is valid under all features, and invalid without any of those that are asked for.
@@ -80,7 +72,7 @@ fn is_cut_at(alloc: Global, bytes: &[u8], ends: &str) -> bool {
     let mut holds = true;
     for end in 0..=bytes.len() {
         let expected = expected_at(ends, end);
-        holds = holds && answers(alloc, &mut new_session(), &bytes[..end], expected);
+        holds = holds && answers_under(alloc, WasmFeatures::default(), &bytes[..end], expected);
     }
     holds
 }
@@ -98,7 +90,7 @@ fn has_ids(alloc: Global, bytes: &mut [u8], field: &str) -> Option<bool> {
         } else {
             expected_at(ids, usize::from(id))
         };
-        holds = holds && answers(alloc, &mut new_session(), bytes, expected);
+        holds = holds && answers_under(alloc, WasmFeatures::default(), bytes, expected);
     }
     Some(holds)
 }

@@ -1,11 +1,12 @@
 //! What a session holds between modules.
 
-use crate::modules::{answers, new_session, parts_of};
+use crate::modules::{answers, new_session, parts_of, refusal_of};
 use std::alloc::Global;
+use std::mem;
 use wasm_core::features::{Flags, WasmFeatures};
 use wasm_gen::judge::ValidatorId;
 use wasm_gen::session::Session;
-use wasm_test_rows::fields::{count_of_rows, four_fields, is_row};
+use wasm_test_rows::fields::{four_fields, is_row};
 use wasm_test_rows::values::bool_of;
 
 // Before a row the session is `new` or `restarted`, or goes `on`; then its input, the answer, and whether the session has failed.
@@ -49,9 +50,9 @@ const ROWS: &str = "
 ";
 
 // Readies the session for a row.
-fn ready(session: &mut Session, state: &str) -> Option<()> {
+fn ready(alloc: Global, session: &mut Session, state: &str) -> Option<()> {
     match state {
-        "new" => *session = new_session(),
+        "new" => drop(mem::replace(session, new_session(alloc))),
         "restarted" => session.restart(ValidatorId::new(7)),
         "on" => {}
         _ => return None,
@@ -63,22 +64,34 @@ fn ready(session: &mut Session, state: &str) -> Option<()> {
 fn holds(alloc: Global, session: &mut Session, row: &str) -> Option<bool> {
     let (state, input, expected, has_failed) = four_fields(row)?;
     let has_failed = bool_of(has_failed)?;
-    ready(session, state)?;
+    ready(alloc, session, state)?;
     let bytes = parts_of(alloc, input)?;
     let is_answer = answers(alloc, session, &bytes, expected);
     Some(is_answer && session.has_failed() == has_failed)
 }
 
-#[test]
-fn session_goes_on_or_has_failed(rt: HostRuntime) {
-    let mut session = new_session();
+// How many rows hold, one after the other, before one that doesn't.
+fn count_of_true_rows(alloc: Global, session: &mut Session) -> usize {
+    let mut count = 0usize;
     let table = ROWS;
     for row in table.lines() {
-        if is_row(row) {
-            assert!(rt; holds(rt.alloc(), &mut session, row) == Some(true), "{row}");
+        if !is_row(row) {
+            continue;
         }
+        if holds(alloc, session, row) != Some(true) {
+            return count;
+        }
+        count = count.saturating_add(1);
     }
-    assert!(rt; count_of_rows(table) == 31);
+    count
+}
+
+#[test]
+fn session_goes_on_or_has_failed(rt: HostRuntime) {
+    let mut session = new_session(rt.alloc());
+    let count = count_of_true_rows(rt.alloc(), &mut session);
+    drop(session);
+    assert!(rt; count == 31, "{count} rows hold");
 }
 
 // Whether the session has these features, and the id of this number.
@@ -86,21 +99,31 @@ fn has(session: &Session, features: WasmFeatures, id: usize) -> bool {
     session.features() == features && session.id() == ValidatorId::new(id)
 }
 
+// Whether it keeps them, also after a refusal and a restart.
+fn keeps(alloc: Global, session: &mut Session, features: WasmFeatures) -> bool {
+    let is_kept = has(session, features, 3)
+        && answers(alloc, session, &[], "Malformed")
+        && has(session, features, 3);
+    session.restart(ValidatorId::new(4));
+    is_kept && has(session, features, 4)
+}
+
 #[test]
 fn session_keeps_what_it_was_handed(rt: HostRuntime) {
     let features = WasmFeatures::GC.union(WasmFeatures::THREADS);
-    let mut session = Session::new(features, ValidatorId::new(3));
-    assert!(rt; has(&session, features, 3));
-    let is_malformed = answers(rt.alloc(), &mut session, &[], "Malformed");
-    assert!(rt; is_malformed && has(&session, features, 3));
-    session.restart(ValidatorId::new(4));
-    assert!(rt; has(&session, features, 4));
+    let mut session = Session::new(rt.alloc(), features, ValidatorId::new(3));
+    let is_kept = keeps(rt.alloc(), &mut session, features);
+    drop(session);
+    assert!(rt; is_kept);
 }
 
 // Where a section that is cut is refused.
 fn offset_of_cut(alloc: Global) -> Option<u64> {
     let cut = parts_of(alloc, "header 00 05 01")?;
-    Some(new_session().check(alloc, &cut).err()?.offset)
+    let mut session = new_session(alloc);
+    let refusal = refusal_of(&mut session, &cut);
+    drop(session);
+    Some(refusal?.offset)
 }
 
 #[test]

@@ -9,7 +9,9 @@ use wasm_gen::run::run_check;
 fn writes(alloc: Global, bytes: &[u8], line: &str) -> bool {
     let mut reader = bytes;
     let mut written = Vec::new(alloc);
-    let answer = run_check(alloc, &mut new_session(), &mut reader, &mut written);
+    let mut session = new_session(alloc);
+    let answer = run_check(alloc, &mut session, &mut reader, &mut written);
+    drop(session);
     answer == Ok(line.starts_with("yes")) && written.strip_suffix(b"\n") == Some(line.as_bytes())
 }
 
@@ -37,10 +39,15 @@ fn are_exported(alloc: Global, view: TypesRef<'_>, expected: &str) -> bool {
 
 /// Whether the module is valid and exports these: names, kinds and indexes.
 pub fn has_exports(alloc: Global, bytes: &[u8], expected: &str) -> bool {
-    match new_session().check(alloc, bytes) {
-        Ok(view) => are_exported(alloc, view.as_ref(), expected),
+    let mut session = new_session(alloc);
+    let verdict = session.check(bytes);
+    drop(session);
+    let holds = match &verdict {
+        Ok(types) => are_exported(alloc, types.as_ref(), expected),
         Err(_) => false,
-    }
+    };
+    drop(verdict);
+    holds
 }
 
 // Whether a view counts what the line says.
@@ -61,9 +68,13 @@ fn is_line_of(alloc: Global, view: TypesRef<'_>, line: &str) -> bool {
 
 /// Whether the line is written of a module, and its view counts what the line says.
 pub fn has_line(alloc: Global, bytes: &[u8], line: &str) -> bool {
-    let is_shown = match new_session().check(alloc, bytes) {
-        Ok(view) => is_line_of(alloc, view.as_ref(), line),
+    let mut session = new_session(alloc);
+    let verdict = session.check(bytes);
+    drop(session);
+    let is_shown = match &verdict {
+        Ok(types) => is_line_of(alloc, types.as_ref(), line),
         Err(e) => line.strip_prefix("no ") == Some(e.kind.name()),
     };
+    drop(verdict);
     is_shown && writes(alloc, bytes, line)
 }

@@ -16,13 +16,13 @@ const CUT_HEADER: &[u8] = b"\0asm\x01\0\0";
 const YES: &str =
     "yes types=0 functions=0 tables=0 memories=0 globals=0 tags=0 elements=0 exports=0\n";
 
-fn new_session() -> Session {
-    Session::new(WasmFeatures::default(), ValidatorId::new(0))
+fn new_session(alloc: Global) -> Session {
+    Session::new(alloc, WasmFeatures::default(), ValidatorId::new(0))
 }
 
 // Whether so many of these inputs are a yes in one session, which writes these lines.
 fn writes(alloc: Global, inputs: &[&[u8]], count: u32, lines: &str) -> bool {
-    let mut session = new_session();
+    let mut session = new_session(alloc);
     let mut written = Vec::new(alloc);
     let mut found = 0u32;
     for input in inputs {
@@ -30,6 +30,7 @@ fn writes(alloc: Global, inputs: &[&[u8]], count: u32, lines: &str) -> bool {
         let answer = run_check(alloc, &mut session, &mut reader, &mut written);
         found = found.saturating_add(u32::from(answer == Ok(true)));
     }
+    drop(session);
     found == count && written.as_slice() == lines.as_bytes()
 }
 
@@ -44,7 +45,9 @@ fn writes_a_line_for_each_answer(rt: HostRuntime) {
 fn fills(alloc: Global, room: usize, when_full: WhenFull) -> bool {
     let mut reader = HEADER;
     let mut writer = NarrowWriter::new(alloc, room, when_full);
-    let answer = run_check(alloc, &mut new_session(), &mut reader, &mut writer);
+    let mut session = new_session(alloc);
+    let answer = run_check(alloc, &mut session, &mut reader, &mut writer);
+    drop(session);
     let expected = if room < YES.len() {
         Err(RunError::Write)
     } else {
@@ -64,11 +67,13 @@ fn writes_as_much_as_there_is_room(rt: HostRuntime) {
 
 // Whether a read that fails is told, where nothing is written, and the session is as it was.
 fn fails_after(alloc: Global, script: &str) -> bool {
-    let mut session = new_session();
+    let mut session = new_session(alloc);
     let mut reader = ScriptedReader::new(script);
     let mut written = Vec::new(alloc);
     let answer = run_check(alloc, &mut session, &mut reader, &mut written);
-    answer == Err(RunError::Read) && written.is_empty() && !session.has_failed()
+    let has_failed = session.has_failed();
+    drop(session);
+    answer == Err(RunError::Read) && written.is_empty() && !has_failed
 }
 
 #[test]

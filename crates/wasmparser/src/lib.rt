@@ -7,10 +7,8 @@ pub use wasmparser_entries::{data, element, global, table};
 pub use wasmparser_error::error;
 pub use wasmparser_imports::{import_item, imports};
 pub use wasmparser_items::{export, global_type, memory_type, table_type, tag_type, type_ref};
-pub use wasmparser_module_state::entity_type;
+pub use wasmparser_module_state::{entity_type, laws};
 pub use wasmparser_payloads::{custom_section, function_body, parser, payload, payloads};
 pub use wasmparser_readers::{from_reader, section_limited};
 pub use wasmparser_types::{composite_type, heap_type, index, ref_type, sub_type, val_type};
-pub use wasmparser_validator::{
-    body, func, modules, types, valid_payload, validator, validator_id,
-};
+pub use wasmparser_validator::{body, func, types, valid_payload, validator, validator_id};

@@ -52,16 +52,20 @@ module _ (tables : TypeTables) (agree : TablesAgree tables) (no_module : RefersT
     ids_distinct are_canonical =
         all_apart (known_group tables.known) canonical (groups_of tables) (all_forms tables agree no_module canonical are_canonical)
 
-    pub ids_one_to_one : AreFoundByKey canonical tables → IsOneToOne (type_of_index canonical tables) (type_by_id tables)
-    ids_one_to_one are_canonical (Module n) t h k e = absurd (let at = h.1 in cc)
-    ids_one_to_one are_canonical (RecGroup place) t h k e = absurd (let at = h.1 in cc)
-    ids_one_to_one are_canonical r (Module m) h k e = absurd (let at = k.1 in cc)
-    ids_one_to_one are_canonical r (RecGroup place) h k e = absurd (let at = k.1 in cc)
-    ids_one_to_one are_canonical (Id n) (Id m) h k e =
+    -- where no type has two ids, what an id stands for tells the id
+    pub distinct_one_to_one : AreDistinct (id_types canonical tables) → IsOneToOne (type_of_index canonical tables) (type_by_id tables)
+    distinct_one_to_one distinct (Module n) t h k e = absurd (let at = h.1 in cc)
+    distinct_one_to_one distinct (RecGroup place) t h k e = absurd (let at = h.1 in cc)
+    distinct_one_to_one distinct r (Module m) h k e = absurd (let at = k.1 in cc)
+    distinct_one_to_one distinct r (RecGroup place) h k e = absurd (let at = k.1 in cc)
+    distinct_one_to_one distinct (Id n) (Id m) h k e =
         let types = id_types canonical tables in
         let (a, at) = get_some types n (subst (λ c. n < c) (sym all_count) (slice_get_within (sub_types tables) n h.0 h.1)) in
         let (b, at') = get_some types m (subst (λ c. m < c) (sym all_count) (slice_get_within (sub_types tables) m k.0 k.1)) in
         let same : b ≡ a = sym (ap (λ q. unwrap_or q no_type) at') ∙ sym e ∙ ap (λ q. unwrap_or q no_type) at in
-        ap Id (ids_distinct are_canonical n m a at (at' ∙ ap Some same)) where
+        ap Id (distinct n m a at (at' ∙ ap Some same)) where
           all_count : length (id_types canonical tables) ≡ length (sub_types tables)
           all_count = omega (arith, id_count canonical tables agree, length-map tables.types sub_type)
+
+    pub ids_one_to_one : AreFoundByKey canonical tables → IsOneToOne (type_of_index canonical tables) (type_by_id tables)
+    ids_one_to_one are_canonical = distinct_one_to_one (ids_distinct are_canonical)

@@ -20,7 +20,7 @@ use Rattle.wasmparser_readers.proofs.SectionLaws.{unread_left}
 use Rattle.wasmparser_types.specs.Index.{packable}
 use Rattle.wasmparser_module_entries.specs.EntryReading.{EntryReading}
 use Rattle.wasm_spec.specs.Trees.{DefType}
-use Rattle.wasmparser_module_state.specs.History.{EnterAll, EntersEntry}
+use Rattle.wasmparser_module_state.specs.History.{EnterAll, EntersEntry, OneFindsNoRoom, FindsNoRoom}
 use Rattle.wasmparser_module_state.specs.Judging.{Accepts, Fills, Fronts, HasLarge, IsMadeOf, NamesEntry, NamesEntries, IsAt, IsIn}
 use Rattle.wasm_validity.specs.Context.{Context, after, after_all}
 use Rattle.wasm_validity.specs.Entries.{Entry}
@@ -188,6 +188,26 @@ broken features entry_at old left cx now v count rest s counted e breaks =
       holds = rules_broken features old s.front v (subst (λ c. ¬ (Keeps features c v)) s.known breaks);
     }
 
+-- there is no room for the next one
+no_room_push : (features : Features) (cx : Context) (held mid : List DefType) (es : List Entry) (e : Entry) → KeepRules features cx es → KeepLimits cx es → EnterAll features cx held es mid
+    → FindsNoRoom (after_all cx es) mid e → OneFindsNoRoom features cx held (es ++ e ∷ [])
+no_room_push features cx held mid [] e rules limits enter none = inl (subst (λ h. FindsNoRoom cx h e) enter none)
+no_room_push features cx held mid (d ∷ es) e rules limits enter none =
+    inr (rules.0, limits.0, enter.0, enter.1, no_room_push features (after cx d) enter.0 mid es e rules.1 limits.1 enter.2 none)
+
+full : (features : Features) (entry_at : EntryReading) (old : Context) (held : List DefType) (left : Left) (cx : Context) (now_held : List DefType) (now : Left) (v : Entry) (count : ℕ) (rest : List ℕ)
+    → StandsEntered features entry_at old held left cx now_held now → now.count ≡ suc count → entry_at now.input.features now.input.rest ≡ Some (v, rest) → FindsNoRoom cx now_held v
+    → Fronts entry_at left (λ entries. OneFindsNoRoom features old held entries)
+full features entry_at old held left cx now_held now v count rest (s, entered) counted e none =
+    record {
+      front = s.front ++ v ∷ [];
+      number = s.number + 1;
+      rest = rest;
+      among = omega (arith, s.counted, counted);
+      reads = read_more features entry_at old left cx now v rest s e;
+      holds = no_room_push features old held now_held s.front v s.rules s.limits entered (subst (λ c. FindsNoRoom c now_held v) s.known none);
+    }
+
 passed : (limit : Limit) (features : Features) (entry_at : EntryReading) (old : Context) (left : Left) (cx : Context) (now : Left) (v : Entry) (count : ℕ) (rest : List ℕ) → Stands features entry_at old left cx now
     → now.count ≡ suc count → entry_at now.input.features now.input.rest ≡ Some (v, rest) → Passes limit (measures cx v) ⊎ PassesByTypes limit cx v → Fronts entry_at left (λ entries. PassLimit limit old entries)
 passed limit features entry_at old left cx now v count rest s counted e passes =
@@ -239,9 +259,9 @@ at_place : (old now : Input) (offset : ℕ) → GoesOn old now → offset ≡ no
 at_place old now offset g e = record { from = omega (arith, g.forward, e); to = omega (arith, g.same_end, e) }
 
 pub refused_read : {X A : Type 0} (form : X → A) (TakesMemory : Type 0) (indexes : A → List ℕ) (form_at : Features → ReadingOf A) (entry : X → Entry) (features : Features) (entry_at : EntryReading) → IsMadeOf form indexes form_at entry entry_at
-    → (old : Context) (left : Left) (cx : Context) (now : Left) → Stands features entry_at old left cx now → length cx.types ≤ most Types → (e : Error) → IsNextRefusal TakesMemory indexes form_at now e
-    → NamesEntries features entry_at old left e.kind × IsIn left.input e.kind e.offset
-refused_read {X = X} {A = A} form TakesMemory indexes form_at entry features entry_at made old left cx now s few e h = by_kind e.kind h
+    → (old : Context) (held : List DefType) (left : Left) (cx : Context) (now : Left) → Stands features entry_at old left cx now → length cx.types ≤ most Types → (e : Error) → IsNextRefusal TakesMemory indexes form_at now e
+    → NamesEntries features entry_at old held left e.kind × IsIn left.input e.kind e.offset
+refused_read {X = X} {A = A} form TakesMemory indexes form_at entry features entry_at made old held left cx now s few e h = by_kind e.kind h
   where
     by_large : (count : ℕ) → now.count ≡ count → 0 < count → (read : Option (A × List ℕ)) → form_at now.input.features now.input.rest ≡ read → HasLargeIndex indexes read
         → Fronts entry_at left (λ entries. ¬ (KeepRules features old entries))
@@ -251,7 +271,7 @@ refused_read {X = X} {A = A} form TakesMemory indexes form_at entry features ent
         broken features entry_at old left cx now (made.made read.0) count read.1 s counted (made.reads now.input.features now.input.rest ∙ rw e refl) (made.breaks features cx read.0 few (has_large (indexes read.0) large))
 
     by_kind : (kind : ErrorKind) → IsItemRefusal kind e.offset TakesMemory (IsUnread form_at now × IsWithin now.input e.offset)
-        ((0 < now.count) × HasLargeIndex indexes (form_at now.input.features now.input.rest) × (e.offset ≡ now.input.position)) → NamesEntries features entry_at old left kind × IsIn left.input kind e.offset
+        ((0 < now.count) × HasLargeIndex indexes (form_at now.input.features now.input.rest) × (e.offset ≡ now.input.position)) → NamesEntries features entry_at old held left kind × IsIn left.input kind e.offset
     by_kind kinds.Malformed h = (unread features entry_at old left cx now s (unread_left entry_at now (entry_unread form indexes form_at entry entry_at made now h.0)), within_later left.input now.input e.offset s.goes_on h.1)
     by_kind kinds.Invalid h = (by_large now.count refl h.0 _ refl h.1, at_place left.input now.input e.offset s.goes_on h.2)
     by_kind kinds.Memory h = (tt, h.1)
@@ -262,15 +282,16 @@ refused_read {X = X} {A = A} form TakesMemory indexes form_at entry features ent
     by_kind kinds.Order h = absurd h
     by_kind kinds.Failed h = absurd h
 
-pub refused_entry : (features : Features) (entry_at : EntryReading) (old : Context) (left : Left) (cx : Context) (now : Left) (v : Entry) (count : ℕ) (rest : List ℕ) → Stands features entry_at old left cx now
-    → now.count ≡ suc count → entry_at now.input.features now.input.rest ≡ Some (v, rest) → (kind : ErrorKind) (place offset : ℕ) → place ≡ now.input.position → NamesEntry features cx v kind × IsAt place kind offset
-    → NamesEntries features entry_at old left kind × IsIn left.input kind offset
-refused_entry features entry_at old left cx now v count rest s counted e kinds.Invalid place offset p h = (broken features entry_at old left cx now v count rest s counted e h.0, at_place left.input now.input offset s.goes_on (h.1 ∙ p))
-refused_entry features entry_at old left cx now v count rest s counted e (kinds.Limit l) place offset p h = (passed (core.limit l) features entry_at old left cx now v count rest s counted e h.0, at_place left.input now.input offset s.goes_on (h.1 ∙ p))
-refused_entry features entry_at old left cx now v count rest s counted e kinds.Memory place offset p h = (tt, h.1)
-refused_entry features entry_at old left cx now v count rest s counted e kinds.Malformed place offset p h = absurd h.0
-refused_entry features entry_at old left cx now v count rest s counted e kinds.Operator place offset p h = absurd h.0
-refused_entry features entry_at old left cx now v count rest s counted e kinds.Body place offset p h = absurd h.0
-refused_entry features entry_at old left cx now v count rest s counted e kinds.Total place offset p h = absurd h.0
-refused_entry features entry_at old left cx now v count rest s counted e kinds.Order place offset p h = absurd h.0
-refused_entry features entry_at old left cx now v count rest s counted e kinds.Failed place offset p h = absurd h.0
+pub refused_entry : (features : Features) (entry_at : EntryReading) (old : Context) (held : List DefType) (left : Left) (cx : Context) (now_held : List DefType) (now : Left) (v : Entry) (count : ℕ) (rest : List ℕ)
+    → StandsEntered features entry_at old held left cx now_held now
+    → now.count ≡ suc count → entry_at now.input.features now.input.rest ≡ Some (v, rest) → (kind : ErrorKind) (place offset : ℕ) → place ≡ now.input.position → NamesEntry features cx now_held v kind × IsAt place kind offset
+    → NamesEntries features entry_at old held left kind × IsIn left.input kind offset
+refused_entry features entry_at old held left cx now_held now v count rest s counted e kinds.Invalid place offset p h = (broken features entry_at old left cx now v count rest s.0 counted e h.0, at_place left.input now.input offset s.0.goes_on (h.1 ∙ p))
+refused_entry features entry_at old held left cx now_held now v count rest s counted e (kinds.Limit l) place offset p h = (passed (core.limit l) features entry_at old left cx now v count rest s.0 counted e h.0, at_place left.input now.input offset s.0.goes_on (h.1 ∙ p))
+refused_entry features entry_at old held left cx now_held now v count rest s counted e kinds.Memory place offset p h = (tt, h.1)
+refused_entry features entry_at old held left cx now_held now v count rest s counted e kinds.Malformed place offset p h = absurd h.0
+refused_entry features entry_at old held left cx now_held now v count rest s counted e kinds.Operator place offset p h = absurd h.0
+refused_entry features entry_at old held left cx now_held now v count rest s counted e kinds.Body place offset p h = absurd h.0
+refused_entry features entry_at old held left cx now_held now v count rest s counted e kinds.Total place offset p h = (full features entry_at old held left cx now_held now v count rest s counted e h.0, at_place left.input now.input offset s.0.goes_on (h.1 ∙ p))
+refused_entry features entry_at old held left cx now_held now v count rest s counted e kinds.Order place offset p h = absurd h.0
+refused_entry features entry_at old held left cx now_held now v count rest s counted e kinds.Failed place offset p h = absurd h.0

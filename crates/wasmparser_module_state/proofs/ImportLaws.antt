@@ -8,6 +8,7 @@ use Rattle.wasm_core_base.specs.Limits as core
 use Rattle.wasm_spec.specs.Features.{Features}
 use Rattle.wasm_spec.specs.Limits.{Limit, Imports as TheImports, Name, most, total_of_types}
 use Rattle.wasm_spec.specs.Syntax.{ImportEntry, imported_by}
+use Rattle.wasm_spec.specs.Trees.{DefType}
 use Rattle.wasm_spec.specs.TypeReferences.{external_map, global_refs, table_refs}
 use Rattle.wasm_spec.specs.Types.{ExternalType, FuncExternal, TableExternal, MemoryExternal, GlobalExternal, TagExternal}
 use Rattle.wasm_validity.specs.Context.{Context, after_item, after_items}
@@ -144,18 +145,18 @@ accepted_entry features old mid entry n is counted few h =
     }
 
 -- what refuses its items refuses the entry
-pub refused_entry : (features : Features) (old : Context) (entry : ImportEntry) (kind : ErrorKind) → NamesItems features old (imported_by entry) (named_measures old (import_names entry) (imported_by entry)) kind → NamesEntry features old (OfImport entry) kind
-refused_entry features old entry kinds.Invalid h = by_shared (shares_small_index entry) h
+pub refused_entry : (features : Features) (old : Context) (held : List DefType) (entry : ImportEntry) (kind : ErrorKind) → NamesItems features old (imported_by entry) (named_measures old (import_names entry) (imported_by entry)) kind → NamesEntry features old held (OfImport entry) kind
+refused_entry features old held entry kinds.Invalid h = by_shared (shares_small_index entry) h
   where
     by_shared : (small : Bool) → keep_items features old (imported_by entry) ≡ false → (small && keep_items features old (imported_by entry)) ≡ true → ⊥
     by_shared true h k = let w = sym h ∙ k in absurd cc
     by_shared false h k = absurd cc
-refused_entry features old entry (kinds.Limit l) h =
+refused_entry features old held entry (kinds.Limit l) h =
     inl (inr (subst (λ ms. Passes (core.limit l) (name_measures (import_names entry) ++ ms)) (sym (counted_measures old (suc old.imports) (imported_by entry))) h))
-refused_entry features old entry kinds.Memory h = tt
-refused_entry features old entry kinds.Malformed h = absurd h
-refused_entry features old entry kinds.Operator h = absurd h
-refused_entry features old entry kinds.Body h = absurd h
-refused_entry features old entry kinds.Total h = absurd h
-refused_entry features old entry kinds.Order h = absurd h
-refused_entry features old entry kinds.Failed h = absurd h
+refused_entry features old held entry kinds.Memory h = tt
+refused_entry features old held entry kinds.Malformed h = absurd h
+refused_entry features old held entry kinds.Operator h = absurd h
+refused_entry features old held entry kinds.Body h = absurd h
+refused_entry features old held entry kinds.Total h = absurd h
+refused_entry features old held entry kinds.Order h = absurd h
+refused_entry features old held entry kinds.Failed h = absurd h

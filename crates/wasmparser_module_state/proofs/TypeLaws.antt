@@ -19,7 +19,8 @@ use Rattle.wasmparser_error.specs.declared.error.Error.{Error}
 use Rattle.wasmparser_error.specs.declared.error.ErrorKind.{ErrorKind}
 use Rattle.wasmparser_error.specs.declared.error.ErrorKind.TheVariants as kinds
 use Rattle.wasmparser_module_state.specs.Judging.{Accepts, Adds, NamesEntry, IsAt}
-use Rattle.wasmparser_module_types.specs.ModuleTypes.{KnownTypes, AddsGroup, RefusesGroup, IsCause, place_of, breaks_a_rule, passes_a_limit, out_of_memory}
+use Rattle.wasmparser_module_types.specs.ModuleTypes.{KnownTypes, AddsGroup, RefusesGroup, IsCause, place_of, breaks_a_rule, finds_no_room, passes_a_limit, out_of_memory}
+use Rattle.wasmparser_module_types.specs.History.{HasNoRoom}
 
 all_below : (bound n : ℕ) → bound ≤ n → (indexes : List ℕ) → AllByRecursion (λ index. index < bound) indexes → AllByRecursion (λ index. index < n) indexes
 all_below bound n le [] all = tt
@@ -58,11 +59,12 @@ accepted cx old new group types groups adds = record {
   known = rw (adds.types, adds.groups, types, groups) refl;
 }
 
-named : (cx : Context) (old : KnownTypes) (group : RecGroup ℕ) (kind : ErrorKind) → cx.types ≡ old.types → cx.groups ≡ old.groups → IsCause old group kind → NamesEntry old.features cx (OfType group) kind
+named : (cx : Context) (old : KnownTypes) (group : RecGroup ℕ) (kind : ErrorKind) → cx.types ≡ old.types → cx.groups ≡ old.groups → IsCause old group kind → NamesEntry old.features cx old.interned (OfType group) kind
 named cx old group _ types groups (breaks_a_rule breaks) = λ keeps. breaks (subst (λ ts. KeepsGroupRules old.features ts group) types keeps.rules)
 named cx old group _ types groups (passes_a_limit l (inl p)) = inl (inl (sym p.0, rw groups (past_limit Groups (suc old.groups) p.1)))
 named cx old group _ types groups (passes_a_limit l (inr (inl p))) = inl (inr (inl (sym p.0, rw types (past_limit Types (length (types_after old.types group)) p.1))))
 named cx old group _ types groups (passes_a_limit l (inr (inr p))) = inr (subst (λ ts. PassesGroupLimit ts group (core.limit l)) (sym types) p)
+named cx old group _ types groups (finds_no_room full) = subst (λ ts. HasNoRoom old.interned ts group) (sym types) full
 named cx old group _ types groups out_of_memory = tt
 
 placed : (kind : ErrorKind) (offset place : ℕ) → place ≡ place_of kind offset → IsAt offset kind place
@@ -77,6 +79,6 @@ placed kinds.Failed offset place e = e
 placed kinds.Memory offset place e = e
 
 pub adds_group : (cx : Context) (old new : KnownTypes) (group : RecGroup ℕ) (offset : ℕ) (result : Result (Unit {0}) Error) → cx.types ≡ old.types → cx.groups ≡ old.groups
-    → IfOk result (λ _. AddsGroup old new group) → IfErr result (RefusesGroup old group offset) → Adds old.features cx (OfType group) offset result (record cx { types = new.types; groups = new.groups })
+    → IfOk result (λ _. AddsGroup old new group) → IfErr result (RefusesGroup old group offset) → Adds old.features cx old.interned (OfType group) offset result (record cx { types = new.types; groups = new.groups })
 adds_group cx old new group offset (Ok x) types groups ok err = accepted cx old new group types groups ok
 adds_group cx old new group offset (Err e) types groups ok err = (named cx old group e.kind types groups err.cause, placed e.kind offset e.offset err.place, refl)

@@ -18,16 +18,17 @@ use Rattle.wasmparser_error.specs.declared.error.Error.{Error}
 use Rattle.wasmparser_error.specs.declared.error.ErrorKind.{ErrorKind}
 use Rattle.wasmparser_error.specs.declared.error.ErrorKind.TheVariants as kinds
 use Rattle.wasmparser_module_entries.specs.EntryReading.{EntryReading}
-use Rattle.wasmparser_module_state.specs.History.{EnterAll}
+use Rattle.wasmparser_module_state.specs.History.{EnterAll, OneFindsNoRoom, FindsNoRoom}
 use Rattle.wasmparser_readers.specs.Sections.{Left, left_items}
 use Rattle.wasmparser_types.specs.Index.{packable}
 
 -- what a refusal of an entry names
-abbrev pub NamesEntry : Features → Context → Entry → ErrorKind → Type 0
-NamesEntry features cx entry kinds.Invalid = ¬ (Keeps features cx entry)
-NamesEntry features cx entry (kinds.Limit l) = Passes (core.limit l) (measures cx entry) ⊎ PassesByTypes (core.limit l) cx entry
-NamesEntry features cx entry kinds.Memory = ⊤
-NamesEntry features cx entry _ = ⊥
+abbrev pub NamesEntry : Features → Context → List DefType → Entry → ErrorKind → Type 0
+NamesEntry features cx held entry kinds.Invalid = ¬ (Keeps features cx entry)
+NamesEntry features cx held entry (kinds.Limit l) = Passes (core.limit l) (measures cx entry) ⊎ PassesByTypes (core.limit l) cx entry
+NamesEntry features cx held entry kinds.Total = FindsNoRoom cx held entry
+NamesEntry features cx held entry kinds.Memory = ⊤
+NamesEntry features cx held entry _ = ⊥
 
 -- where a refusal is: at a place, or nowhere where memory ran out
 abbrev pub IsAt : ℕ → ErrorKind → ℕ → Type 0
@@ -59,10 +60,10 @@ IsLeft old (OfImport (CompactItems origin items)) new = HasItemsMore old new
 IsLeft old (OfImport (CompactNames origin type names)) new = HasItemsMore old new
 IsLeft old _ new = new ≡ old
 
--- What a call returned that judges an entry and adds it.
-abbrev pub Adds : Features → Context → Entry → ℕ → Result (Unit {0}) Error → Context → Type 0
-Adds features old entry place (Ok x) new = Accepts features old entry new
-Adds features old entry place (Err e) new = NamesEntry features old entry e.kind × IsAt place e.kind e.offset × IsLeft old entry new
+-- What a call returned that judges an entry and adds it. held: what the list of types held before.
+abbrev pub Adds : Features → Context → List DefType → Entry → ℕ → Result (Unit {0}) Error → Context → Type 0
+Adds features old held entry place (Ok x) new = Accepts features old entry new
+Adds features old held entry place (Err e) new = NamesEntry features old held entry e.kind × IsAt place e.kind e.offset × IsLeft old entry new
 
 -- one of these type indexes can't be packed
 abbrev pub HasLarge : List ℕ → Type 0
@@ -102,12 +103,13 @@ pub record Fronts (entry_at : EntryReading) (left : Left) (Holds : List Entry �
   pub holds : Holds front
 
 -- what a refusal of a section's entries names
-abbrev pub NamesEntries : Features → EntryReading → Context → Left → ErrorKind → Type 0
-NamesEntries features entry_at old left kinds.Malformed = left_items entry_at left ≡ None
-NamesEntries features entry_at old left kinds.Invalid = Fronts entry_at left (λ entries. ¬ (KeepRules features old entries))
-NamesEntries features entry_at old left (kinds.Limit l) = Fronts entry_at left (λ entries. PassLimit (core.limit l) old entries)
-NamesEntries features entry_at old left kinds.Memory = ⊤
-NamesEntries features entry_at old left _ = ⊥
+abbrev pub NamesEntries : Features → EntryReading → Context → List DefType → Left → ErrorKind → Type 0
+NamesEntries features entry_at old held left kinds.Malformed = left_items entry_at left ≡ None
+NamesEntries features entry_at old held left kinds.Invalid = Fronts entry_at left (λ entries. ¬ (KeepRules features old entries))
+NamesEntries features entry_at old held left (kinds.Limit l) = Fronts entry_at left (λ entries. PassLimit (core.limit l) old entries)
+NamesEntries features entry_at old held left kinds.Total = Fronts entry_at left (λ entries. OneFindsNoRoom features old held entries)
+NamesEntries features entry_at old held left kinds.Memory = ⊤
+NamesEntries features entry_at old held left _ = ⊥
 
 -- where it is: within what was left, or nowhere where memory ran out
 abbrev pub IsIn : Input → ErrorKind → ℕ → Type 0
@@ -117,4 +119,4 @@ IsIn input _ offset = IsWithin input offset
 -- What a call returned that judges the entries of a section one by one and adds them.
 abbrev pub AddsEntries : Features → EntryReading → Context → List DefType → Left → Result (Unit {0}) Error → Context → List DefType → Type 0
 AddsEntries features entry_at old old_held left (Ok x) new new_held = Fills features entry_at old old_held left new new_held
-AddsEntries features entry_at old old_held left (Err e) new new_held = NamesEntries features entry_at old left e.kind × IsIn left.input e.kind e.offset
+AddsEntries features entry_at old old_held left (Err e) new new_held = NamesEntries features entry_at old old_held left e.kind × IsIn left.input e.kind e.offset

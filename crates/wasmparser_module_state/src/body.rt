@@ -3,6 +3,7 @@
 ghost use Rattle.std.specs.Prelude.{◌≡◌, ◌≢◌, IfErr};
 ghost use Rattle.wasm_validity.specs.Entries.{OfBody};
 ghost use Rattle.wasmparser_error.specs.declared.error.ErrorKind.TheVariants as kinds;
+ghost use Rattle.wasmparser_module_state.specs.History.{held};
 ghost use Rattle.wasmparser_module_state.specs.Judging.{Adds};
 ghost use Rattle.wasmparser_module_state.specs.State.{context, features_of};
 
@@ -16,7 +17,7 @@ impl ModuleState {
     /// # Errors
     /// `Limit` where its bytes, without their number, are more than that limit.
     pub fn code_section_entry(&self, body: &[u8], offset: u64) -> Result<(), Error>
-        ensures judged { Adds (features_of self.now) (context self.now) (OfBody body.now) offset result (context self.now) }
+        ensures judged { Adds (features_of self.now) (context self.now) (held self.now) (OfBody body.now) offset result (context self.now) }
         ensures memory { IfErr result (λ e. e.kind ≢ kinds.Memory) }
     {
         if body.len() as u64 > MAX_WASM_FUNCTION_SIZE {

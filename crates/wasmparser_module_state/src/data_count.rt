@@ -3,6 +3,7 @@
 ghost use Rattle.std.specs.Prelude.{◌≡◌, ◌≢◌, IfErr};
 ghost use Rattle.wasm_validity.specs.Entries.{OfDataCount};
 ghost use Rattle.wasmparser_error.specs.declared.error.ErrorKind.TheVariants as kinds;
+ghost use Rattle.wasmparser_module_state.specs.History.{held};
 ghost use Rattle.wasmparser_module_state.specs.Judging.{Adds};
 ghost use Rattle.wasmparser_module_state.specs.State.{context, features_of};
 
@@ -15,7 +16,7 @@ impl ModuleState {
     /// # Errors
     /// `Invalid` where bulk memory is off.
     pub fn data_count_section(&self, count: u32, offset: u64) -> Result<(), Error>
-        ensures judged { Adds (features_of self.now) (context self.now) (OfDataCount count) offset result (context self.now) }
+        ensures judged { Adds (features_of self.now) (context self.now) (held self.now) (OfDataCount count) offset result (context self.now) }
         ensures memory { IfErr result (λ e. e.kind ≢ kinds.Memory) }
     {
         if !self.features().bulk_memory() {

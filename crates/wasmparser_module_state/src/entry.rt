@@ -1,9 +1,9 @@
 //! Entries of sections, each of which is judged and added.
 
-ghost use Rattle.std.specs.Prelude.{◌≡◌, IfOk};
+ghost use Rattle.std.specs.Prelude.{◌≡◌, IfOk, true};
 ghost use Rattle.wasm_validity.specs.Entries.{Entry};
 ghost use Rattle.wasmparser_module_entries.specs.EntryReading.{EntryReading};
-ghost use Rattle.wasmparser_module_state.specs.History.{EntersEntry, held};
+ghost use Rattle.wasmparser_module_state.specs.History.{EntersEntry, grows, held};
 ghost use Rattle.wasmparser_module_state.specs.Judging.{Adds, AddsEntries, IsMadeOf};
 ghost use Rattle.wasmparser_module_state.specs.State.{context, features_of};
 
@@ -24,13 +24,15 @@ pub trait Entry: Item {
     /// Judges the item, which stands at this offset, after the entries before it, and adds it to them.
     ///
     /// # Errors
-    /// `Invalid` where it breaks a rule, `Limit` where it passes that limit, at the offset; `Memory` where memory runs out. Then nothing is
-    /// added; but the types may be gone, where it was a recursive group, and where it was a group of imports, some of them may stand.
+    /// `Invalid` where it breaks a rule, `Limit` where it passes that limit, `Total` where the list of types has no room for it, at the offset; `Memory` where memory
+    /// runs out. Then nothing is added; but the types may be gone, where it was a recursive group, and where it was a group of imports, some of them may stand.
     fn add(self, state: &mut ModuleState, offset: u64) -> Result<(), Error>
-        requires { Self.Item.IsOfModule self }
-        ensures added { Adds (features_of state.old) (context state.old) (entry self) offset result (context state.new) }
+        requires of_module { Self.Item.IsOfModule self }
+        requires grows { grows state.old ≡ true }
+        ensures added { Adds (features_of state.old) (context state.old) (held state.old) (entry self) offset result (context state.new) }
         ensures entered { IfOk result (λ _. EntersEntry (features_of state.old) (context state.old) (held state.old) (entry self) (held state.new)) }
-        ensures features { features_of state.new ≡ features_of state.old };
+        ensures features { features_of state.new ≡ features_of state.old }
+        ensures grows { grows state.new ≡ true };
 
     // The entry is made of what contracts see of the item, and so reads as the item does.
     ghost is_made: { IsMadeOf Self.Item.form Self.Item.indexes Self.Item.form_at entry entry_at };
@@ -39,15 +41,17 @@ pub trait Entry: Item {
 /// Judges the items of a section one by one as they are read, and adds them (Core Specification 3.0, Validation, "Modules").
 ///
 /// # Errors
-/// `Malformed` where the items don't read or bytes are left after them, `Invalid` where an item breaks a rule, `Limit` where one passes that limit, each at a place of
-/// the section; `Memory` where memory runs out. Then it is open what the state holds.
+/// `Malformed` where the items don't read or bytes are left after them, `Invalid` where an item breaks a rule, `Limit` where one passes that limit, `Total` where the
+/// list of types has no room for one, each at a place of the section; `Memory` where memory runs out. Then it is open what the state holds.
 pub fn add_entries<'a, T: FromReader<'a> + Entry>(
     alloc: Global,
     state: &mut ModuleState,
     section: SectionLimited<'a, T>,
 ) -> Result<(), Error>
+    requires grows { grows state.old ≡ true }
     ensures added { AddsEntries (features_of state.old) T.entry_at (context state.old) (held state.old) section.entry.left result (context state.new) (held state.new) }
     ensures features { features_of state.new ≡ features_of state.old }
+    ensures grows { grows state.new ≡ true }
 {
     // (what a proof knows of the number of types it knows by this call)
     let _ = state.type_count();

@@ -1,13 +1,14 @@
 //! What a validator knows of a module after some of its entries.
 
-ghost use Rattle.std.specs.Prelude.{◌≡◌, ◌+◌, ◌≤◌, [], length};
+ghost use Rattle.std.specs.Prelude.{◌≡◌, ◌+◌, ◌≤◌, [], IfErr, IfOk, false, length, true};
 ghost use Rattle.wasm_core_base.specs.Features.{feature_set};
 ghost use Rattle.wasm_spec.specs.Limits.{Types, most};
 ghost use Rattle.wasm_validity.specs.Context.{at_first};
-ghost use Rattle.wasmparser_module_state.specs.History.{held};
+ghost use Rattle.wasmparser_module_state.specs.History.{grows, held};
 ghost use Rattle.wasmparser_module_state.specs.State.{context, features_of};
 
-use std::alloc::Global;
+use std::alloc::{AllocError, Global};
+use std::mem;
 use wasm_core_base::features::WasmFeatures;
 use wasmparser_constants::operands::Operands;
 use wasmparser_error::error::{Error, ErrorKind};
@@ -46,14 +47,24 @@ pub(crate) fn refusal(offset: u64, kind: ErrorKind) -> Error
 }
 
 impl ModuleState {
-    /// What is known before the first entry, under these features.
+    /// What is known before the first entry, under these features, with a list without types.
     pub fn new(alloc: Global, features: WasmFeatures) -> ModuleState
         ensures nothing { context result ≡ at_first }
         ensures no_types { held result ≡ [] }
         ensures features { features_of result ≡ feature_set features }
+        ensures grows { grows result ≡ true }
     {
+        ModuleState::with_list(alloc, ModuleTypes::new(alloc, features))
+    }
+
+    /// What is known before the first entry, with the list of types of earlier modules.
+    pub fn with_list(alloc: Global, mut types: ModuleTypes) -> ModuleState
+        ensures nothing { context result ≡ at_first }
+        ensures list { result.types ≡ record types { types = []; groups = 0 } }
+    {
+        types.forget_module();
         ModuleState {
-            types: ModuleTypes::new(alloc, features),
+            types,
             imports: 0,
             imported_functions: Vec::new(alloc),
             own_functions: Vec::new(alloc),
@@ -68,6 +79,29 @@ impl ModuleState {
             type_size: 1,
             operands: Operands::new(alloc),
         }
+    }
+
+    /// Gives what is known of a module that ends, with a copy of the list that doesn't grow, and goes on with the list and no module.
+    ///
+    /// # Errors
+    /// Where memory runs out, nothing changes.
+    pub fn end_module(&mut self) -> Result<ModuleState, AllocError>
+        ensures ended { IfOk result (λ ended. (context ended ≡ context self.old) × (ended.types ≡ record self.old.types { grows = false })) }
+        ensures next { IfOk result (λ _. context self.new ≡ at_first) }
+        ensures kept { IfOk result (λ _. self.new.types ≡ record self.old.types { types = []; groups = 0 }) }
+        ensures refused { IfErr result (λ _. self.new ≡ self.old) }
+    {
+        let ended = self.types.end_module()?;
+        let kept = mem::replace(&mut self.types, ended);
+        let next = ModuleState::with_list(*self.tags.allocator(), kept);
+        Ok(mem::replace(self, next))
+    }
+
+    /// The list of types, and the module's types.
+    pub fn into_types(self) -> ModuleTypes
+        ensures { result ≡ self.types }
+    {
+        self.types
     }
 
     /// The features by which entries are judged.

@@ -6,6 +6,7 @@ ghost use Rattle.wasm_validity.specs.Entries.{OfStart};
 ghost use Rattle.wasm_validity.specs.Rules.{is_unit, keeps_start};
 ghost use Rattle.wasm_validity.specs.DefinedTypes.{func_type_at};
 ghost use Rattle.wasmparser_error.specs.declared.error.ErrorKind.TheVariants as kinds;
+ghost use Rattle.wasmparser_module_state.specs.History.{held};
 ghost use Rattle.wasmparser_module_state.specs.Judging.{Adds};
 ghost use Rattle.wasmparser_module_state.specs.State.{context, features_of};
 
@@ -43,7 +44,7 @@ impl ModuleState {
     /// # Errors
     /// `Invalid` where there is no such function, or it takes or gives something.
     pub fn start_section(&self, function: u32, offset: u64) -> Result<(), Error>
-        ensures judged { Adds (features_of self.now) (context self.now) (OfStart function) offset result (context self.now) }
+        ensures judged { Adds (features_of self.now) (context self.now) (held self.now) (OfStart function) offset result (context self.now) }
         ensures memory { IfErr result (λ e. e.kind ≢ kinds.Memory) }
     {
         match self.type_of_function(function) {

@@ -5,6 +5,7 @@ ghost use Rattle.wasm_validity.specs.Entries.{OfTag, OfTags};
 ghost use Rattle.wasmparser_items.specs.ItemTypes.{tag_type};
 ghost use Rattle.wasmparser_module_entries.specs.EntryReading.{tag_entry_at};
 ghost use Rattle.wasmparser_error.specs.declared.error.ErrorKind.TheVariants as kinds;
+ghost use Rattle.wasmparser_module_state.specs.History.{held};
 ghost use Rattle.wasmparser_module_state.specs.Judging.{Adds};
 ghost use Rattle.wasmparser_module_state.specs.State.{context, features_of};
 
@@ -27,7 +28,7 @@ impl ModuleState {
     /// # Errors
     /// `Invalid` where exceptions are off.
     pub fn tag_section(&self, offset: u64) -> Result<(), Error>
-        ensures judged { Adds (features_of self.now) (context self.now) OfTags offset result (context self.now) }
+        ensures judged { Adds (features_of self.now) (context self.now) (held self.now) OfTags offset result (context self.now) }
         ensures memory { IfErr result (λ e. e.kind ≢ kinds.Memory) }
     {
         if !self.features().exceptions() {

@@ -1,6 +1,7 @@
 //! Sections in words, and what they are answered by a state.
 
 use std::alloc::Global;
+use std::marker::Model;
 use wasm_core_base::features::WasmFeatures;
 use wasm_core_read::binary_reader::BinaryReader;
 use wasm_test_rows::fields::word_and_rest;
@@ -24,8 +25,62 @@ use wasmparser_types::sub_type::RecGroup;
 /// The place of each section's content.
 pub const OFFSET: u64 = 1_000;
 
+/// A state to whose list groups can be added, which is all that its calls ask of their callers.
+#[derive(Drop)]
+pub struct JudgedState {
+    state: ModuleState,
+}
+
+impl Model for JudgedState {
+    ghost use Rattle.std.specs.Prelude.{◌≡◌, true};
+    ghost use Rattle.wasmparser_module_state.specs.History.{grows};
+    ghost use Rattle.wasmparser_module_state.specs.contracts.module_state.ModuleState as kept;
+    ghost use Rattle.wasmparser_module_state.specs.declared.module_state.ModuleState.{ModuleState};
+
+    ghost Value = { ModuleState };
+
+    ghost coded = { kept.the_row.coded };
+
+    ghost view = { λ it. it.state };
+
+    ghost invariant = { λ it. grows it.state ≡ true };
+}
+
+impl JudgedState {
+    /// A new state.
+    pub fn new(alloc: Global, features: WasmFeatures) -> JudgedState {
+        JudgedState {
+            state: ModuleState::new(alloc, features),
+        }
+    }
+
+    /// What is known.
+    pub fn known(&self) -> &ModuleState {
+        &self.state
+    }
+
+    fn add<'a, T: FromReader<'a> + Entry>(
+        &mut self,
+        alloc: Global,
+        content: &'a [u8],
+    ) -> Result<(), Error> {
+        let mut reader = BinaryReader::new(content, OFFSET);
+        reader.set_features(self.state.features());
+        let section: SectionLimited<'a, T> = SectionLimited::new(reader)?;
+        add_entries(alloc, &mut self.state, section)
+    }
+
+    fn import(&mut self, alloc: Global, reader: &mut BinaryReader<'_>) -> Result<(), Error> {
+        let offset = reader.original_position();
+        match TypeRef::from_reader(alloc, reader) {
+            Ok(ty) => self.state.import_item(&ty, offset),
+            Err(error) => Err(error),
+        }
+    }
+}
+
 /// What holds of a new state. Who owns a state proves how each of its parts is let go of, so the tests leave that to this call.
-pub fn on_new_state<F: Fn(Global, &mut ModuleState, &str) -> Option<bool>>(
+pub fn on_new_state<F: Fn(Global, &mut JudgedState, &str) -> Option<bool>>(
     alloc: Global,
     features: WasmFeatures,
     row: &str,
@@ -33,41 +88,18 @@ pub fn on_new_state<F: Fn(Global, &mut ModuleState, &str) -> Option<bool>>(
 ) -> Option<bool>
     requires { F.IsAlwaysCallable holds }
 {
-    let mut state = ModuleState::new(alloc, features);
+    let mut state = JudgedState::new(alloc, features);
     holds(alloc, &mut state, row)
 }
 
-fn adds<'a, T: FromReader<'a> + Entry>(
-    alloc: Global,
-    state: &mut ModuleState,
-    content: &'a [u8],
-) -> Result<(), Error> {
-    let mut reader = BinaryReader::new(content, OFFSET);
-    reader.set_features(state.features());
-    let section: SectionLimited<'a, T> = SectionLimited::new(reader)?;
-    add_entries(alloc, state, section)
-}
-
-fn import(
-    alloc: Global,
-    state: &mut ModuleState,
-    reader: &mut BinaryReader<'_>,
-) -> Result<(), Error> {
-    let offset = reader.original_position();
-    match TypeRef::from_reader(alloc, reader) {
-        Ok(ty) => state.import_item(&ty, offset),
-        Err(error) => Err(error),
-    }
-}
-
 // Imported items without their names, one after the other.
-fn imports(alloc: Global, state: &mut ModuleState, content: &[u8]) -> Result<(), Error> {
+fn imports(alloc: Global, state: &mut JudgedState, content: &[u8]) -> Result<(), Error> {
     let mut reader = BinaryReader::new(content, OFFSET);
     for _ in 0..content.len() {
         if reader.eof() {
             break;
         }
-        import(alloc, state, &mut reader)?;
+        state.import(alloc, &mut reader)?;
     }
     Ok(())
 }
@@ -85,35 +117,35 @@ fn index_of(field: &str) -> Option<u32> {
 
 fn answer_bytes(
     alloc: Global,
-    state: &mut ModuleState,
+    state: &mut JudgedState,
     name: &str,
     content: &[u8],
 ) -> Option<Result<(), Error>> {
     match name {
-        "types" => Some(adds::<RecGroup>(alloc, state, content)),
+        "types" => Some(state.add::<RecGroup>(alloc, content)),
         "imports" => Some(imports(alloc, state, content)),
-        "import_entries" => Some(adds::<Imports<'_>>(alloc, state, content)),
-        "functions" => Some(adds::<u32>(alloc, state, content)),
-        "memories" => Some(adds::<MemoryType>(alloc, state, content)),
-        "tables" => Some(adds::<Table<'_>>(alloc, state, content)),
-        "tags" => Some(adds::<TagType>(alloc, state, content)),
-        "globals" => Some(adds::<globals::Global<'_>>(alloc, state, content)),
-        "exports" => Some(adds::<Export<'_>>(alloc, state, content)),
-        "elements" => Some(adds::<Element<'_>>(alloc, state, content)),
-        "data" => Some(adds::<Data<'_>>(alloc, state, content)),
-        "body" => Some(state.code_section_entry(content, OFFSET)),
-        "custom" => Some(custom(state, content)),
+        "import_entries" => Some(state.add::<Imports<'_>>(alloc, content)),
+        "functions" => Some(state.add::<u32>(alloc, content)),
+        "memories" => Some(state.add::<MemoryType>(alloc, content)),
+        "tables" => Some(state.add::<Table<'_>>(alloc, content)),
+        "tags" => Some(state.add::<TagType>(alloc, content)),
+        "globals" => Some(state.add::<globals::Global<'_>>(alloc, content)),
+        "exports" => Some(state.add::<Export<'_>>(alloc, content)),
+        "elements" => Some(state.add::<Element<'_>>(alloc, content)),
+        "data" => Some(state.add::<Data<'_>>(alloc, content)),
+        "body" => Some(state.known().code_section_entry(content, OFFSET)),
+        "custom" => Some(custom(state.known(), content)),
         _ => None,
     }
 }
 
 /// What a section is answered, which is its name and its content; none where there is no such section.
-pub fn answer(alloc: Global, state: &mut ModuleState, section: &str) -> Option<Result<(), Error>> {
+pub fn answer(alloc: Global, state: &mut JudgedState, section: &str) -> Option<Result<(), Error>> {
     let (name, content) = word_and_rest(section);
     match name {
-        "tag_section" => Some(state.tag_section(OFFSET)),
-        "data_count" => Some(state.data_count_section(index_of(content)?, OFFSET)),
-        "start" => Some(state.start_section(index_of(content)?, OFFSET)),
+        "tag_section" => Some(state.known().tag_section(OFFSET)),
+        "data_count" => Some(state.known().data_count_section(index_of(content)?, OFFSET)),
+        "start" => Some(state.known().start_section(index_of(content)?, OFFSET)),
         _ => {
             let bytes = bytes_of(alloc, content)?;
             answer_bytes(alloc, state, name, &bytes)

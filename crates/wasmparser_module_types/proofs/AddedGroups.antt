@@ -1,31 +1,32 @@
 -- What a list that knows a module's types knows after a group was accepted.
-use Rattle.std.proofs.Common.{◌≡◌, ℕ, suc, ◌+◌, ◌≤◌, Bool, true, false, List, length, IsSome, refl, sym, ap, ◌∙◌, arith, slice_get}
-use Rattle.std.proofs.lemmas.List.{length-append, length-map}
+use Rattle.std.proofs.Common.{◌≡◌, ℕ, suc, ◌+◌, ◌≤◌, true, false, List, [], length, is_some, refl, sym, ap, ◌∙◌, subst, arith, slice_get}
+use Rattle.std.proofs.lemmas.Bool.{leb-true}
+use Rattle.std.proofs.lemmas.List.{length-map}
 use Rattle.wasm_spec.proofs.GroupTrees.{length-types_after}
 use Rattle.wasm_spec.proofs.Places.{all_get}
 use Rattle.wasm_spec.specs.Features.{Features, needs_type_canonicalization}
 use Rattle.wasm_spec.specs.Groups.{IsWellFormedGroup, PassesLimit}
 use Rattle.wasm_spec.specs.Limits.{Limit, Types, Groups, most}
 use Rattle.wasm_spec.specs.Syntax as syntax
-use Rattle.wasm_spec.specs.TypeReferences.{sub_map, subs_map}
-use Rattle.wasm_spec.specs.Trees.{type_at, types_after, types_of_group, unrolled}
-use Rattle.wasm_spec.specs.Types.{RecGroup, Single, Group, SubType}
+use Rattle.wasm_spec.specs.TypeReferences.{sub_map}
+use Rattle.wasm_spec.specs.Trees.{AreDistinct, DefType, type_at, types_after, types_of_group, unrolled}
+use Rattle.wasm_spec.specs.Types.{RecGroup, Single, Group}
 use Rattle.wasmparser_chains.specs.Chains.{AreBelowEarlier}
 use Rattle.wasmparser_group_rules.specs.Canonical.{canonical_index}
-use Rattle.wasmparser_interning.specs.TypeTables.{Interns, TablesAgree, TypeTables, absolute, sub_types}
+use Rattle.wasmparser_interning.specs.TypeTables.{TablesAgree, TypeTables, committed, has_room, no_types, sub_types}
+use Rattle.wasmparser_interning_laws.proofs.IdLaws.{id_count, ids_distinct}
 use Rattle.wasmparser_interning_laws.specs.IdTypes.{AreFoundByKey, RefersToNoModule, id_types}
-use Rattle.wasmparser_module_types.specs.History.{Enters}
+use Rattle.wasmparser_module_types.specs.History.{Enters, HasRoom}
 use Rattle.wasmparser_module_types.specs.ModuleTypes.{AddsGroup, KnowsModule, all_groups, interned_types, known_types, module_types}
 use Rattle.wasmparser_rec_group_laws.specs.Contexts.{IsGroupOfModule, in_section}
 use Rattle.wasmparser_rec_groups.proofs.CanonicalGroups.{members_mapped}
-use Rattle.wasmparser_rec_groups.specs.Interning.{Accepts, AreKnown, NamesModuleTypes, canonical_members}
+use Rattle.wasmparser_rec_groups.specs.Interning.{AreKnown, NamesModuleTypes, canonical_members}
 use Rattle.wasmparser_types.specs.Index.{Index, number_of}
 use Rattle.wasmparser_types.specs.RecGroups.{members}
-use Rattle.wasmparser_types.specs.SubTypes.{sub_type}
 
 -- ---- counts
 
-section_count : (group : RecGroup Index) → length (syntax.members (in_section group)) ≡ length (members group)
+pub section_count : (group : RecGroup Index) → length (syntax.members (in_section group)) ≡ length (members group)
 section_count (Single type) = refl
 section_count (Group types) = length-map types (sub_map number_of)
 
@@ -39,13 +40,12 @@ pub after_count : (list : TypeTables) (ids : List ℕ) (group : RecGroup Index) 
 after_count list ids group =
     omega (arith, length-types_after (module_types list ids) (in_section group), module_count list ids, section_count group)
 
--- a list grows by no more types than the group has
-grown : (old new : TypeTables) (canonical is_new : Bool) (group : List (SubType Index)) (number : ℕ) → Interns old new canonical group is_new number
-    → length new.types ≤ length old.types + length group
-grown old new canonical true group number interned =
-    let added = subs_map (absolute (length old.types)) group in
-    omega (arith, ap length interned.adds.types, length-append (sub_types old) added, length-map old.types sub_type, length-map new.types sub_type, length-map group (sub_map (absolute (length old.types))))
-grown old new canonical false group number interned = let same = ap (λ (t : TypeTables). length t.types) interned.1 in omega (arith, same)
+-- a list has room for a group where interning finds some
+pub has_room_for : (list : TypeTables) (ids : List ℕ) (group : RecGroup Index) (own : List DefType) → TablesAgree list → has_room list (canonical_members ids group) ≡ true
+    → length own ≡ length (syntax.members (in_section group)) → HasRoom (interned_types list) own
+has_room_for list ids group own agree room count =
+    let within = leb-true (length list.types + length (canonical_members ids group)) 1048576 room in
+    omega (arith, within, count, section_count group, canonical_count ids group, id_count all_groups list agree)
 
 -- ---- what is known
 
@@ -53,25 +53,63 @@ pub of_module : (features : Features) (ids : List ℕ) (old new : TypeTables) (g
     → IsGroupOfModule old new ids group
 of_module features ids old new group knows names now = record { agree = knows.agree; now = now; none = knows.no_module; known = knows.known; names = names }
 
-pub still_knows : (features : Features) (ids new_ids : List ℕ) (old new : TypeTables) (group : RecGroup Index) → KnowsModule features old ids
-    → TablesAgree new → IsSome new.known → AreBelowEarlier (slice_get (sub_types new)) → AreKnown new new_ids → Accepts features ids old new group new_ids → RefersToNoModule new
-    → (needs_type_canonicalization features ≡ true → AreFoundByKey all_groups new)
+pub still_knows : (features : Features) (ids new_ids : List ℕ) (old new : TypeTables) (group : RecGroup Index) → TablesAgree new → AreBelowEarlier (slice_get (sub_types new))
+    → AreKnown new new_ids → RefersToNoModule new → (needs_type_canonicalization features ≡ true → AreFoundByKey all_groups new)
     → module_types new new_ids ≡ types_after (module_types old ids) (in_section group) → length ids + length (members group) ≤ most Types
     → KnowsModule features new new_ids
-still_knows features ids new_ids old new group knows agree grows earlier known accepts none found types room =
+still_knows features ids new_ids old new group agree earlier known none found types room =
     let count : length new_ids ≡ length ids + length (members group) = sym (module_count new new_ids) ∙ ap length types ∙ after_count old ids group in
-    let valid = accepts.valid in
-    let more = grown old new (needs_type_canonicalization features) valid.is_new (canonical_members ids group) accepts.number valid.interned in
     record {
       agree = agree;
-      grows = grows;
       earlier = earlier;
       known = known;
       no_module = none;
-      found = found;
+      found = λ needs grows. found needs;
+      distinct = λ needs. ids_distinct new agree none all_groups (found needs);
       within = omega (arith, count, room);
-      no_others = omega (arith, count, more, canonical_count ids group, knows.no_others);
     }
+
+-- a list without types knows a module without types
+pub knows_nothing : (features : Features) (list : TypeTables) → list ≡ no_types → TablesAgree list → KnowsModule features list []
+knows_nothing features list empty agree = record {
+  agree = agree;
+  earlier = subst (λ (l : TypeTables). AreBelowEarlier (slice_get (sub_types l))) (sym empty) (λ i type at. absurd cc);
+  known = tt;
+  no_module = subst RefersToNoModule (sym empty) tt;
+  found = λ needs grows number within. absurd (omega (arith, within, ap (λ (l : TypeTables). length l.groups) empty));
+  distinct = λ needs. subst (λ (l : TypeTables). AreDistinct (interned_types l)) (sym empty) (λ i j type at at'. absurd cc);
+  within = omega arith;
+}
+
+-- what a list knows it knows without the module too, and so does a copy of it
+pub without_module : (features : Features) (list : TypeTables) (ids : List ℕ) → KnowsModule features list ids → KnowsModule features list []
+without_module features list ids knows = record {
+  agree = knows.agree;
+  earlier = knows.earlier;
+  known = tt;
+  no_module = knows.no_module;
+  found = knows.found;
+  distinct = knows.distinct;
+  within = omega arith;
+}
+
+pub committed_knows : (features : Features) (list copy : TypeTables) (ids : List ℕ) → KnowsModule features list ids → copy ≡ committed list → TablesAgree copy → KnowsModule features copy ids
+committed_knows features list copy ids knows is agree = record {
+  agree = agree;
+  earlier = subst (λ (l : TypeTables). AreBelowEarlier (slice_get (sub_types l))) (sym is) knows.earlier;
+  known = subst (λ (l : TypeTables). AreKnown l ids) (sym is) knows.known;
+  no_module = subst RefersToNoModule (sym is) knows.no_module;
+  found = λ needs grows. absurd (let no = ap (λ (l : TypeTables). is_some l.known) (sym is) ∙ grows in cc);
+  distinct = subst (λ (l : TypeTables). needs_type_canonicalization features ≡ true → AreDistinct (interned_types l)) (sym is) knows.distinct;
+  within = knows.within;
+}
+
+-- a copy shows the same, but that it doesn't grow
+pub committed_shows : (features : Features) (list copy : TypeTables) (ids : List ℕ) (groups : ℕ) → copy ≡ committed list
+    → known_types features copy ids groups ≡ record (known_types features list ids groups) { grows = false }
+committed_shows features list copy ids groups is = ap (λ (l : TypeTables). known_types features l ids groups) is
+
+pub ruleset copies = (committed_knows, committed_shows, without_module)
 
 -- ---- what callers are told
 

@@ -14,7 +14,7 @@ use Rattle.wasm_spec.specs.Trees.{unrolled}
 use Rattle.wasm_spec.specs.TypeReferences.{composite_map, heap_map, heap_refs, sub_map, val_map, val_refs}
 use Rattle.wasm_spec.specs.Types.{HeapType, Abstract, Concrete, CompositeType, ValType, I32, I64, F32, F64, V128, Ref}
 use Rattle.wasmparser_interning.specs.TypeTables.{TypeTables, type_by_id}
-use Rattle.wasmparser_interning_laws.proofs.IdLaws.{ids_closed, ids_one_to_one, ids_unroll}
+use Rattle.wasmparser_interning_laws.proofs.IdLaws.{distinct_one_to_one, ids_closed, ids_unroll}
 use Rattle.wasmparser_interning_laws.specs.IdTypes.{type_of_index}
 use Rattle.wasmparser_module_types.proofs.KnownIds.{are_types}
 use Rattle.wasmparser_module_types.specs.ModuleTypes.{CanCompare, IsIdOf, KnowsModule, all_groups, interned_types}
@@ -66,7 +66,7 @@ module _ (features : Features) (list : TypeTables) (ids : List ℕ) (knows : Kno
   below_back lower upper can h = elim can [
     | inl needs ↦
         val_below_back (type_of_index all_groups list) (type_by_id list) unrolled keeps (ids_closed list knows.agree knows.no_module)
-        (ids_one_to_one list knows.agree knows.no_module all_groups (knows.found needs)) a b (known (val_refs a) lower) (known (val_refs b) upper) h
+        (distinct_one_to_one list knows.agree knows.no_module all_groups (knows.distinct needs)) a b (known (val_refs a) lower) (known (val_refs b) upper) h
     | inr one ↦ one_back (type_of_index all_groups list) (type_by_id list) unrolled keeps a b (known (val_refs a) lower) (known (val_refs b) upper) one h
   ] where
     keeps : KeepsTypes (type_of_index all_groups list) (type_by_id list) unrolled

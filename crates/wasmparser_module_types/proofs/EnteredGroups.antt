@@ -17,7 +17,7 @@ use Rattle.wasmparser_interning.specs.TypeTables.{Interns, TablesAgree, TypeTabl
 use Rattle.wasmparser_interning_laws.proofs.IdLaws.{id_count, ids_distinct}
 use Rattle.wasmparser_interning_laws.proofs.InternedGroups.{types_more}
 use Rattle.wasmparser_interning_laws.specs.IdTypes.{AreFoundByKey, RefersToNoModule, group_after, tree_as}
-use Rattle.wasmparser_module_types.specs.History.{Enters, IsHeld, is_held, is_new}
+use Rattle.wasmparser_module_types.specs.History.{Enters, HasRoom, IsHeld, is_held, is_new}
 use Rattle.wasmparser_module_types.specs.ModuleTypes.{all_groups, interned_types, module_types}
 use Rattle.wasmparser_rec_groups.specs.Interning.{AreKnown}
 use Rattle.wasmparser_types.specs.Index.{Index, number_of}
@@ -99,23 +99,24 @@ module _ (old new : TypeTables) (agree : TablesAgree old) (now : TablesAgree new
       let (type, here) = get_some (interned_types new) id (omega (arith, less, id_count all_groups new now)) in
       (id, here ∙ ap Some (sym (ap (λ q. unwrap_or q no_type) here)))
 
-  entered : (features : Features) → canonical ≡ needs_type_canonicalization features → (is_added : Bool) → Interns old new canonical group is_added number → RefersToNoModule new
+  entered : (features : Features) → HasRoom held own → canonical ≡ needs_type_canonicalization features → (is_added : Bool) → Interns old new canonical group is_added number → RefersToNoModule new
       → (needs_type_canonicalization features ≡ true → AreFoundByKey all_groups new) → AreKnown new ids → map (type_at (interned_types new)) ids ≡ own → Enters features held own (interned_types new)
-  entered features asked true interned no_module found known listed =
+  entered features room asked true interned no_module found known listed =
       let all = added interned listed in
-      subst (Enters features held own) (sym all) (is_new (λ needs. apart held own (subst AreDistinct all (ids_distinct new now no_module all_groups (found needs)))))
-  entered features asked false interned no_module found known listed =
+      subst (Enters features held own) (sym all) (is_new room (λ needs. apart held own (subst AreDistinct all (ids_distinct new now no_module all_groups (found needs)))))
+  entered features room asked false interned no_module found known listed =
       let same : interned_types new ≡ held = ap interned_types interned.1 in
       let are_held : AllByRecursion (IsHeld (interned_types new)) own =
       subst (AllByRecursion (IsHeld (interned_types new))) listed (all_map (λ id. id < length new.types) (IsHeld (interned_types new)) (type_at (interned_types new)) has ids known) in
-      subst (Enters features held own) (sym same) (is_held (sym asked ∙ interned.0) (subst (λ q. AllByRecursion (IsHeld q) own) same are_held))
+      subst (Enters features held own) (sym same) (is_held room (sym asked ∙ interned.0) (subst (λ q. AllByRecursion (IsHeld q) own) same are_held))
 
 -- A group was entered whose ids were added to those of a module.
 pub enters : (features : Features) (old new : TypeTables) (group : List (SubType Index)) (is_added : Bool) (number : ℕ) (before own : List DefType) (ids new_ids : List ℕ) → TablesAgree old → TablesAgree new
     → Interns old new (needs_type_canonicalization features) group is_added number → RefersToNoModule new → (needs_type_canonicalization features ≡ true → AreFoundByKey all_groups new)
-    → AreKnown new new_ids → new_ids ≡ ids ++ group_ids new number → module_types new ids ≡ before → module_types new new_ids ≡ before ++ own → Enters features (interned_types old) own (interned_types new)
-enters features old new group is_added number before own ids new_ids agree now interned no_module found known more same all =
-    entered old new agree now (needs_type_canonicalization features) group number own features refl is_added interned no_module found
+    → AreKnown new new_ids → new_ids ≡ ids ++ group_ids new number → module_types new ids ≡ before → module_types new new_ids ≡ before ++ own → HasRoom (interned_types old) own
+    → Enters features (interned_types old) own (interned_types new)
+enters features old new group is_added number before own ids new_ids agree now interned no_module found known more same all room =
+    entered old new agree now (needs_type_canonicalization features) group number own features room refl is_added interned no_module found
     (right_part (λ id. id < length new.types) ids (group_ids new number) (subst (AreKnown new) more known))
     (same_rest (module_types new ids) before (module_types new (group_ids new number)) own same
     (sym (map-append (type_at (interned_types new)) ids (group_ids new number)) ∙ ap (module_types new) (sym more) ∙ all))

@@ -1,4 +1,4 @@
--- Why a module's group is refused by a list that knows the module's types and no others.
+-- Why a module's group is refused by a list that knows the module's types.
 use Rattle.std.proofs.Common.{◌≡◌, ℕ, ◌+◌, ◌<◌, ◌≤◌, Bool, List, length, inl, inr, refl, sym, subst, arith}
 use Rattle.std.proofs.lemmas.Bool.{leb-false}
 use Rattle.wasm_core_base.specs.Limits.{limit}
@@ -12,8 +12,9 @@ use Rattle.wasm_validity.specs.DefinedTypes as validity
 use Rattle.wasmparser_error.specs.declared.error.Error.{Error}
 use Rattle.wasmparser_error.specs.declared.error.ErrorKind.{ErrorKind}
 use Rattle.wasmparser_interning.specs.TypeTables.{Interns, TypeTables}
-use Rattle.wasmparser_module_types.proofs.AddedGroups.{after_count, canonical_count}
-use Rattle.wasmparser_module_types.specs.ModuleTypes.{IsTooMany, KnowsModule, RefusesGroup, breaks_a_rule, known_types, module_types, out_of_memory, passes_a_limit}
+use Rattle.wasmparser_interning_laws.proofs.IdLaws.{id_count}
+use Rattle.wasmparser_module_types.proofs.AddedGroups.{after_count, canonical_count, section_count}
+use Rattle.wasmparser_module_types.specs.ModuleTypes.{IsTooMany, KnowsModule, RefusesGroup, all_groups, breaks_a_rule, finds_no_room, known_types, module_types, out_of_memory, passes_a_limit}
 use Rattle.wasmparser_rec_group_laws.specs.Contexts.{JustifiesRefusal, PassesGroupLimit, in_section, breaks_a_rule as rule_broken, passes_a_limit as limit_passed}
 use Rattle.wasmparser_rec_groups.specs.Interning.{CanBeInterned, Refuses, breaks_a_rule as ill_formed, canonical_members, has_no_room, is_refused, out_of_memory as no_memory}
 use Rattle.wasmparser_rec_groups.specs.Rules.{IsRefusedGroup}
@@ -39,7 +40,14 @@ pub refuses : (features : Features) (ids : List ℕ) (old new : TypeTables) (gro
 refuses features ids old new group offset knows room before after groups e (ill_formed breaks same) = record { cause = breaks_a_rule (λ keeps. breaks (before keeps)); place = refl }
 refuses features ids old new group offset knows room before after groups e (has_no_room internable none same) =
     let full = leb-false (length old.types + length (canonical_members ids group)) 1048576 none in
-    absurd (omega (arith, full, room, canonical_count ids group, knows.no_others))
+    let count = section_count group in
+    record {
+      cause = finds_no_room (record {
+        within_limit = omega (arith, room, after_count old ids group);
+        past_total = omega (arith, full, canonical_count ids group, count, id_count all_groups old knows.agree);
+      });
+      place = refl;
+    }
 refuses features ids old new group offset knows room before after groups e (is_refused is_new number kind internable has interned refused) =
     justified features old ids groups group offset kind (after is_new number internable interned kind refused)
 refuses features ids old new group offset knows room before after groups e (no_memory same) = record { cause = out_of_memory; place = refl }

@@ -1,13 +1,13 @@
 -- The types of a module that is read group by group, and the list that knows them.
-use Rattle.std.specs.Prelude.{◌≡◌, ℕ, suc, ◌<◌, ◌≤◌, ◌⊎◌, Bool, true, List, length, slice_get, Option, option_map, IsSome, refl}
+use Rattle.std.specs.Prelude.{◌≡◌, ℕ, suc, ◌<◌, ◌≤◌, ◌⊎◌, Bool, true, List, length, slice_get, Option, option_map, IsSome, is_some, refl}
 use Rattle.std.specs.List.{AllByRecursion}
-use Rattle.std.specs.Coded.{Coded, code_by, coded×, coded_ℕ, coded_list}
+use Rattle.std.specs.Coded.{Coded, code_by, coded×, coded_ℕ, coded_bool, coded_list}
 use Rattle.wasm_core_base.specs.Limits.{limit}
 use Rattle.wasm_core_base.specs.declared.limits.Limit.TheVariants as limits
 use Rattle.wasm_spec.specs.Features.{Features, needs_type_canonicalization}
 use Rattle.wasm_spec.specs.Groups.{KeepsGroupRules}
 use Rattle.wasm_spec.specs.Limits.{Limit, Groups, Types, IsPassedBy, most}
-use Rattle.wasm_spec.specs.Trees.{DefType, type_at, types_after, types_of_group}
+use Rattle.wasm_spec.specs.Trees.{AreDistinct, DefType, type_at, types_after, types_of_group}
 use Rattle.wasm_spec.specs.TypeReferences.{func_map}
 use Rattle.wasm_spec.specs.Types.{FuncType, RecGroup}
 use Rattle.wasm_validity.specs.DefinedTypes.{PassesGroupLimit, func_type_at}
@@ -17,24 +17,26 @@ use Rattle.wasmparser_error.specs.declared.error.ErrorKind.{ErrorKind}
 use Rattle.wasmparser_error.specs.declared.error.ErrorKind.TheVariants as kinds
 use Rattle.wasmparser_interning.specs.TypeTables.{TablesAgree, TypeTables, sub_types}
 use Rattle.wasmparser_interning_laws.specs.IdTypes.{AreFoundByKey, RefersToNoModule, id_types}
-use Rattle.wasmparser_module_types.specs.History.{Enters}
+use Rattle.wasmparser_module_types.specs.History.{Enters, HasNoRoom}
 use Rattle.wasmparser_module_types.specs.TreeCodes.{def_type_code}
 use Rattle.wasmparser_rec_group_laws.specs.Contexts.{types_of}
 use Rattle.wasmparser_rec_groups.specs.Interning.{AreKnown}
 use Rattle.wasmparser_types.specs.Index.{Index, Module, RecGroup as Place, Id, number_of}
 
--- the types of a module, by type index, the features by which they were judged, how many groups they came in, and the types that ids stand for, by id
+-- the types of a module, by type index, the features by which they were judged, how many groups they came in, the types that ids stand for, by id, and
+-- whether groups can be added to these
 pub record KnownTypes : Type 0 where
   pub features : Features
   pub types : List DefType
   pub groups : ℕ
   pub interned : List DefType
+  pub grows : Bool
 
 abbrev pub known_types_code : Coded KnownTypes
 known_types_code =
-    code_by (ℕ × (List DefType × (ℕ × List DefType))) (coded× coded_ℕ (coded× (coded_list def_type_code) (coded× coded_ℕ (coded_list def_type_code))))
-    (λ known. (known.features, (known.types, (known.groups, known.interned))))
-    (λ p. record { features = p.0; types = p.1.0; groups = p.1.1.0; interned = p.1.1.1 }) (λ _. refl)
+    code_by (ℕ × (List DefType × (ℕ × (List DefType × Bool)))) (coded× coded_ℕ (coded× (coded_list def_type_code) (coded× coded_ℕ (coded× (coded_list def_type_code) coded_bool))))
+    (λ known. (known.features, (known.types, (known.groups, (known.interned, known.grows)))))
+    (λ p. record { features = p.0; types = p.1.0; groups = p.1.1.0; interned = p.1.1.1.0; grows = p.1.1.1.1 }) (λ _. refl)
 
 -- what an index stands for that is an id
 abbrev pub stands_for : KnownTypes → Index → DefType
@@ -63,18 +65,17 @@ interned_types list = id_types all_groups list
 
 abbrev pub known_types : Features → TypeTables → List ℕ → ℕ → KnownTypes
 known_types features list ids groups =
-    record { features = features; types = module_types list ids; groups = groups; interned = interned_types list }
+    record { features = features; types = module_types list ids; groups = groups; interned = interned_types list; grows = is_some list.known }
 
--- The list knows the module's types by these ids, and no other types: so it has room for as many as the limit lets a module have.
+-- The list knows the module's types by these ids. Where types are canonicalized, a list that grows finds each of its groups, and no type has two ids.
 pub record KnowsModule (features : Features) (list : TypeTables) (ids : List ℕ) : Type 0 where
   pub agree : TablesAgree list
-  pub grows : IsSome list.known
   pub earlier : AreBelowEarlier (slice_get (sub_types list))
   pub known : AreKnown list ids
   pub no_module : RefersToNoModule list
-  pub found : needs_type_canonicalization features ≡ true → AreFoundByKey all_groups list
+  pub found : needs_type_canonicalization features ≡ true → IsSome list.known → AreFoundByKey all_groups list
+  pub distinct : needs_type_canonicalization features ≡ true → AreDistinct (interned_types list)
   pub within : length ids ≤ most Types
-  pub no_others : length list.types ≤ length ids
 
 -- Indexes of two types can be compared: where types aren't canonicalized, two ids may stand for equal types, so there no id is compared with another one.
 abbrev pub CanCompare : Features → List Index → List Index → Type 0
@@ -107,6 +108,7 @@ PassesLimitOf old group l =
 pub data IsCause (old : KnownTypes) (group : RecGroup ℕ) : ErrorKind → Type 0 where
   breaks_a_rule : ¬ (KeepsGroupRules old.features old.types group) → IsCause old group kinds.Invalid
   passes_a_limit : (l : _) → PassesLimitOf old group (limit l) → IsCause old group (kinds.Limit l)
+  finds_no_room : HasNoRoom old.interned old.types group → IsCause old group kinds.Total
   out_of_memory : IsCause old group kinds.Memory
 
 -- where a refusal of this kind is told, of a group at an offset

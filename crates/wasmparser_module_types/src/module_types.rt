@@ -1,6 +1,6 @@
-//! The types of a module, known to a list of types of its own.
+//! The types of a module, and the list of types that knows them and those of earlier modules.
 
-ghost use Rattle.std.specs.Prelude.{◌≡◌, ◌≤◌, ◌+◌, ℕ, suc, IfErr, IfOk, length};
+ghost use Rattle.std.specs.Prelude.{◌≡◌, ◌≤◌, ◌+◌, ℕ, suc, IfErr, IfOk, IsSome, length};
 ghost use Rattle.wasm_core_base.specs.Features.{feature_set};
 ghost use Rattle.wasm_spec.specs.Groups.{IsWellFormedGroup};
 ghost use Rattle.wasm_spec.specs.Limits.{Groups, Types, most};
@@ -16,8 +16,9 @@ ghost use Rattle.wasmparser_types.specs.RecGroups.{members};
 use crate::kept_types::{func_type_in, id_at, sub_type_in};
 use crate::type_space::TypeSpace;
 use crate::with_ids::{heap_with_ids, val_with_ids};
-use std::alloc::Global;
+use std::alloc::{AllocError, Global};
 use std::marker::Model;
+use std::mem;
 use wasm_core_base::features::WasmFeatures;
 use wasm_core_base::limits::{Limit, MAX_WASM_REC_GROUPS, MAX_WASM_TYPES};
 use wasmparser_error::error::{Error, ErrorKind};
@@ -66,10 +67,12 @@ fn intern(
     offset: u64,
 ) -> Result<(), Error>
     requires knows { KnowsModule (feature_set space.old.features) list.old space.old.ids.items }
+    requires grows { IsSome list.old.known }
     requires indexes { NamesModuleTypes (spec.rec_group group) }
     requires room { length space.old.ids.items + length (members (spec.rec_group group)) ≤ most Types }
     ensures features { feature_set space.new.features ≡ feature_set space.old.features }
     ensures knows { IfOk result (λ _. KnowsModule (feature_set space.old.features) list.new space.new.ids.items) }
+    ensures grows { IsSome list.new.known }
     ensures accepted { IfOk result (λ _. IsWellFormedGroup (feature_set space.old.features) (module_types list.old space.old.ids.items) (in_section (spec.rec_group group))) }
     ensures added { IfOk result (λ _. module_types list.new space.new.ids.items ≡ types_after (module_types list.old space.old.ids.items) (in_section (spec.rec_group group))) }
     ensures entered { IfOk result (λ _. Enters (feature_set space.old.features) (interned_types list.old) (types_of_group (module_types list.old space.old.ids.items) (in_section (spec.rec_group group))) (interned_types list.new)) }
@@ -83,6 +86,7 @@ fn intern(
 }
 
 // Adds a group. After a refusal the module has no types, nor has the list, in which those of the refused group may stand.
+#[tactic(auto, using(crate::proofs::AddedGroups::knows_nothing))]
 fn add(
     space: &mut TypeSpace,
     list: &mut TypeList,
@@ -91,10 +95,12 @@ fn add(
     offset: u64,
 ) -> Result<(), Error>
     requires knows { KnowsModule (feature_set space.old.features) list.old space.old.ids.items }
+    requires grows { IsSome list.old.known }
     requires indexes { NamesModuleTypes (spec.rec_group group) }
     requires room { length space.old.ids.items + length (members (spec.rec_group group)) ≤ most Types }
     ensures features { feature_set space.new.features ≡ feature_set space.old.features }
     ensures knows { KnowsModule (feature_set space.new.features) list.new space.new.ids.items }
+    ensures grows { IsSome list.new.known }
     ensures accepted { IfOk result (λ _. IsWellFormedGroup (feature_set space.old.features) (module_types list.old space.old.ids.items) (in_section (spec.rec_group group))) }
     ensures added { IfOk result (λ _. module_types list.new space.new.ids.items ≡ types_after (module_types list.old space.old.ids.items) (in_section (spec.rec_group group))) }
     ensures entered { IfOk result (λ _. Enters (feature_set space.old.features) (interned_types list.old) (types_of_group (module_types list.old space.old.ids.items) (in_section (spec.rec_group group))) (interned_types list.new)) }
@@ -111,7 +117,8 @@ fn add(
     }
 }
 
-/// The types of a module, whose groups are judged by features and added one after the other. They are known to a list of types that knows no others.
+/// The types of a module, whose groups are judged by features and added one after the other, and a list of types that knows them. Groups of modules that have ended
+/// stay in the list.
 #[derive(Drop)]
 pub struct ModuleTypes {
     alloc: Global,
@@ -136,12 +143,13 @@ impl Model for ModuleTypes {
 }
 
 impl ModuleTypes {
-    ghost use Rattle.std.specs.Prelude.{◌≡◌, ◌<◌, ◌≤◌, ◌↔◌, [], IfErr, IfOk, IfSome, IsSome, IsTrue, Some, is_some, length, option_map, slice_get};
+    ghost use Rattle.std.specs.Prelude.{◌≡◌, ◌<◌, ◌≤◌, ◌↔◌, [], IfErr, IfOk, IfSome, IsSome, IsTrue, Some, false, is_some, length, option_map, slice_get, true};
     ghost use Rattle.std.specs.Option.{option_copied};
     ghost use Rattle.wasm_core_base.specs.Features.{feature_set};
     ghost use Rattle.wasm_spec.specs.Limits.{Types, most};
     ghost use Rattle.wasm_spec.specs.Subtyping.{ValBelow};
-    ghost use Rattle.wasm_spec.specs.Trees.{type_at, unrolled};
+    ghost use Rattle.wasm_spec.specs.Features.{needs_type_canonicalization};
+    ghost use Rattle.wasm_spec.specs.Trees.{AreDistinct, type_at, unrolled};
     ghost use Rattle.wasm_spec.specs.TypeReferences.{func_refs, heap_map, heap_refs, sub_map, sub_refs, val_map, val_refs};
     ghost use Rattle.wasmparser_module_types.specs.ModuleTypes.{AddsGroup, AreIds, CanCompare, IsFuncTypeAt, RefusesGroup, stands_for};
     ghost use Rattle.wasmparser_module_types.specs.WithIds.{names_only, names_only_heap};
@@ -154,9 +162,10 @@ impl ModuleTypes {
     ghost use Rattle.wasmparser_types.specs.SubTypes.{sub_type};
     ghost use Rattle.wasmparser_types.specs.ValTypes.{val_type};
 
-    /// A module without types.
+    /// A module without types, and a list without types.
+    #[tactic(auto, using(crate::proofs::AddedGroups::knows_nothing))]
     pub fn new(alloc: Global, features: WasmFeatures) -> ModuleTypes
-        ensures { result ≡ record { features = feature_set features; types = []; groups = 0; interned = [] } }
+        ensures { result ≡ record { features = feature_set features; types = []; groups = 0; interned = []; grows = true } }
     {
         ModuleTypes {
             alloc,
@@ -166,23 +175,53 @@ impl ModuleTypes {
         }
     }
 
-    /// Adds a group, which names types by their places in the module. After a refusal the module's types are left open: where it wasn't for the number of
-    /// groups or of types, the module has none.
+    /// Adds a group, which names types by their places in the module. After a refusal it is left open which types the module and the list have.
     ///
     /// # Errors
-    /// `Limit` where the group is one too many, its types are too many, or one of them passes a limit. `Invalid` where it breaks a rule. These are at the offset.
-    /// `Memory` where memory runs out.
+    /// `Limit` where the group is one too many, its types are too many, or one of them passes a limit. `Invalid` where it breaks a rule. `Total` where the types of
+    /// the list and of the group are more than 1,048,576, whether or not the list has the group. These are at the offset. `Memory` where memory runs out.
     pub fn add_rec_group(&mut self, group: RecGroup, offset: u64) -> Result<(), Error>
+        requires grows { self.old.grows ≡ true }
         requires indexes { NamesModuleTypes (spec.rec_group group) }
         ensures added { IfOk result (λ _. AddsGroup self.old self.new (in_section (spec.rec_group group))) }
         ensures refused { IfErr result (RefusesGroup self.old (in_section (spec.rec_group group)) offset) }
         ensures same_features { self.new.features ≡ self.old.features }
+        ensures grows { self.new.grows ≡ true }
     {
         let types = self.space.type_ids().len();
         check_counts(self.groups, types, group.types().len(), offset)?;
         add(&mut self.space, &mut self.list, self.alloc, group, offset)?;
         self.groups += 1;
         Ok(())
+    }
+
+    /// Ends the module: gives its types with a copy of the list, which shares the types and doesn't grow, and goes on with the list and no module.
+    ///
+    /// # Errors
+    /// Where memory runs out, nothing changes.
+    #[tactic(auto, using(crate::proofs::AddedGroups::copies))]
+    pub fn end_module(&mut self) -> Result<ModuleTypes, AllocError>
+        ensures ended { IfOk result (λ ended. ended ≡ record self.old { grows = false }) }
+        ensures kept { IfOk result (λ _. self.new ≡ record self.old { types = []; groups = 0 }) }
+        ensures refused { IfErr result (λ _. self.new ≡ self.old) }
+    {
+        let list = self.list.commit()?;
+        let none = TypeSpace::new(self.alloc, self.space.features());
+        Ok(ModuleTypes {
+            alloc: self.alloc,
+            space: mem::replace(&mut self.space, none),
+            list,
+            groups: mem::replace(&mut self.groups, 0),
+        })
+    }
+
+    /// Goes on with the list, and without the module.
+    #[tactic(auto, using(crate::proofs::AddedGroups::copies))]
+    pub fn forget_module(&mut self)
+        ensures { self.new ≡ record self.old { types = []; groups = 0 } }
+    {
+        self.space = TypeSpace::new(self.alloc, self.space.features());
+        self.groups = 0;
     }
 
     /// The function type that a type index names, by ids of the list, or None where the index names another kind of type or none.
@@ -197,6 +236,9 @@ impl ModuleTypes {
     pub fn type_id(&self, index: u32) -> Option<CoreTypeId>
         ensures named { slice_get self.now.types index ≡ option_map (type_at self.now.interned) result }
         ensures known { IfSome result (λ id. id < length self.now.interned) }
+
+        // Where types are canonicalized, no type has two ids.
+        ensures distinct { needs_type_canonicalization self.now.features ≡ true → AreDistinct self.now.interned }
     {
         id_at(self.space.type_ids(), index as usize)
     }

@@ -6,8 +6,7 @@ use wasm_core_base::features::{Flags, WasmFeatures};
 use wasm_test_rows::fields::three_fields;
 use wasm_test_rows::rows::check_rows;
 use wasmparser_error::error::{Error, ErrorKind};
-use wasmparser_module_state::module_state::ModuleState;
-use wasmparser_module_state_tests::judged::{answer, on_new_state};
+use wasmparser_module_state_tests::judged::{JudgedState, answer, on_new_state};
 
 // Sections, all of which are accepted.
 const SECTIONS: &str = "
@@ -44,7 +43,7 @@ fn is_of_memory(error: Error) -> bool {
 }
 
 // Whether a section is accepted; none where memory runs out, on its words or on what it says.
-fn accepts(alloc: Global, state: &mut ModuleState, section: &str) -> Option<bool> {
+fn accepts(alloc: Global, state: &mut JudgedState, section: &str) -> Option<bool> {
     match answer(alloc, state, section)? {
         Ok(()) => Some(true),
         Err(error) if is_of_memory(error) => None,
@@ -52,7 +51,7 @@ fn accepts(alloc: Global, state: &mut ModuleState, section: &str) -> Option<bool
     }
 }
 
-fn accepts_all(alloc: Global, state: &mut ModuleState, sections: &str) -> Option<bool> {
+fn accepts_all(alloc: Global, state: &mut JudgedState, sections: &str) -> Option<bool> {
     for section in sections.split_terminator(';') {
         if !accepts(alloc, state, section)? {
             return Some(false);
@@ -76,7 +75,7 @@ fn sections_are_accepted_or_memory_ran_out(rt: HostRuntime) -> Result<(), Fail> 
 }
 
 // Whether an item is accepted, at the second time where memory ran out.
-fn takes(alloc: Global, state: &mut ModuleState, item: &str) -> bool {
+fn takes(alloc: Global, state: &mut JudgedState, item: &str) -> bool {
     match accepts(alloc, state, item) {
         Some(is_accepted) => is_accepted,
         None => accepts(alloc, state, item) == Some(true),
@@ -84,14 +83,14 @@ fn takes(alloc: Global, state: &mut ModuleState, item: &str) -> bool {
 }
 
 // Whether a section is refused as invalid; none where memory runs out on its words.
-fn is_invalid(alloc: Global, state: &mut ModuleState, section: &str) -> Option<bool> {
+fn is_invalid(alloc: Global, state: &mut JudgedState, section: &str) -> Option<bool> {
     match answer(alloc, state, section)? {
         Ok(()) => Some(false),
         Err(error) => Some(error.kind == ErrorKind::Invalid),
     }
 }
 
-fn takes_all(alloc: Global, state: &mut ModuleState, row: &str) -> Option<bool> {
+fn takes_all(alloc: Global, state: &mut JudgedState, row: &str) -> Option<bool> {
     let (types, items, invalid) = three_fields(row)?;
     if !accepts(alloc, state, types)? {
         return Some(false);

@@ -7,12 +7,11 @@ use Rattle.wasm_core_read.specs.Input.{Input}
 use Rattle.wasm_spec.specs.Features.{Features, CompactImports, has}
 use Rattle.wasm_spec.specs.Grammar.{IsModule}
 use Rattle.wasm_spec.specs.Syntax.{Section, functions_of, bodies_of, data_of, data_counts_of}
-use Rattle.wasm_validity.specs.Context.{Context, at_first}
-use Rattle.wasm_validity.specs.Entries.{entries_of}
+use Rattle.wasm_validity.specs.Context.{Context}
 use Rattle.wasmparser_module_entries.proofs.ModuleFronts.{all_alike, module_is_whole, whole_is_module}
 use Rattle.wasmparser_error.specs.declared.error.ErrorKind.TheVariants as kinds
 use Rattle.wasm_spec.specs.Trees.{DefType}
-use Rattle.wasmparser_module_state.specs.History.{EnterAll, held}
+use Rattle.wasmparser_module_state.specs.History.{grows, held}
 use Rattle.wasmparser_module_state.specs.State.{context, features_of}
 use Rattle.wasmparser_sections.specs.Sections.{AreRead, CountsAgree, AreAccepted, RefusesSections}
 use Rattle.wasmparser_sections.specs.declared.sections.ValidSections.{ValidSections}
@@ -60,19 +59,19 @@ module _ (features : Features) (bytes : List ℕ) (first_held : List DefType) (c
 -- ---- what is answered
 
 pub accepted : (features : Features) (bytes : List ℕ) (first_held : List DefType) (m : ValidSections) → AreRead features bytes first_held (context m.state) (held m.state) m.bodies.items m.data_counts.items
-    → first_held ≡ [] → features_of m.state ≡ features
-    → CountsAgree (context m.state) m.bodies.items m.data_counts.items → AreAccepted features bytes m
-accepted features bytes first_held m r nothing same agree = record {
+    → grows m.state ≡ true → features_of m.state ≡ features → CountsAgree (context m.state) m.bodies.items m.data_counts.items → AreAccepted features first_held bytes m
+accepted features bytes first_held m r growing same agree = record {
   sections = r.sections;
   reads = counts_agree features bytes first_held (context m.state) (held m.state) m.bodies.items m.data_counts.items r agree;
   fine = r.fine;
   known = r.known;
-  entered = subst (λ first. EnterAll features at_first first (entries_of r.sections) (held m.state)) nothing r.entered;
+  entered = r.entered;
+  grows = growing;
   same_features = same;
   bodies = r.bodies;
   inside = r.inside;
 }
 
 pub not_counted : (features : Features) (bytes : List ℕ) (first_held : List DefType) (cx : Context) (held : List DefType) (given : List Input) (stated : List ℕ) → AreRead features bytes first_held cx held given stated → ¬ (CountsAgree cx given stated)
-    → RefusesSections features bytes (record { offset = length bytes; kind = kinds.Malformed })
+    → RefusesSections features first_held bytes (record { offset = length bytes; kind = kinds.Malformed })
 not_counted features bytes first_held cx held given stated r other = (λ sections m. other (of_module features bytes first_held cx held given stated r sections m), omega arith, λ k. absurd cc)

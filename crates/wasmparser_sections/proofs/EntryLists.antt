@@ -6,7 +6,7 @@ use Rattle.wasm_spec.specs.Trees.{DefType}
 use Rattle.wasm_validity.specs.Context.{Context, after, after_all}
 use Rattle.wasm_validity.specs.Entries.{Entry}
 use Rattle.wasm_validity.specs.Rules.{KeepRules, KeepLimits, PassLimit}
-use Rattle.wasmparser_module_state.specs.History.{EnterAll}
+use Rattle.wasmparser_module_state.specs.History.{EnterAll, OneFindsNoRoom}
 
 pub after_both : (cx : Context) (es fs : List Entry) → after_all cx (es ++ fs) ≡ after_all (after_all cx es) fs
 after_both cx [] fs = refl
@@ -32,3 +32,9 @@ pub enter_both : (features : Features) (cx : Context) (held mid new : List DefTy
     → EnterAll features cx held (es ++ fs) new
 enter_both features cx held mid new [] fs h k = subst (λ q. EnterAll features cx q fs new) h k
 enter_both features cx held mid new (e ∷ es) fs h k = (h.0, h.1, enter_both features (after cx e) h.0 mid new es fs h.2 k)
+
+-- where there is no room for one of the later entries, there is none for one of all
+pub no_room_both : (features : Features) (cx : Context) (held mid : List DefType) (es fs : List Entry) → KeepRules features cx es → KeepLimits cx es → EnterAll features cx held es mid
+    → OneFindsNoRoom features (after_all cx es) mid fs → OneFindsNoRoom features cx held (es ++ fs)
+no_room_both features cx held mid [] fs rules limits h none = subst (λ q. OneFindsNoRoom features cx q fs) h none
+no_room_both features cx held mid (e ∷ es) fs rules limits h none = inr (rules.0, limits.0, h.0, h.1, no_room_both features (after cx e) h.0 mid es fs rules.1 limits.1 h.2 none)

@@ -15,36 +15,36 @@ use Rattle.wasmparser_error.specs.declared.error.ErrorKind.TheVariants as kinds
 use Rattle.wasmparser_module_entries.specs.EntryReading.{type_entry_at, import_entry_at, function_entry_at, table_entry_at, memory_entry_at, tag_entry_at, global_entry_at, export_entry_at, element_entry_at, data_entry_at}
 use Rattle.wasmparser_module_entries.specs.PieceEntries.{items_of, said_first, with_items, entries_said}
 use Rattle.wasm_spec.specs.Trees.{DefType}
-use Rattle.wasmparser_module_state.specs.History.{EnterAll, EntersEntry}
+use Rattle.wasmparser_module_state.specs.History.{EnterAll, EntersEntry, OneFindsNoRoom}
 use Rattle.wasmparser_module_state.specs.Judging.{Accepts, Adds, NamesEntry, IsAt, Fronts, NamesEntries, IsIn, AddsEntries}
 use Rattle.wasmparser_payloads.specs.Pieces.{Piece, Place, Version, Types, Imports, Functions, Tables, Memories, Tags, Globals, Exports, Start, Elements, DataCount, CodeStart, Body, Segments, Custom, Unknown, End, Named}
 use Rattle.wasmparser_readers.specs.Sections.{Left, Limited, left_items}
 use Rattle.wasmparser_sections.specs.PieceJudging.{Says, by_itself, with_some, PieceBegins, IsFirstOf, IsAmong, IsInPiece, IsPlaced, NamesPiece, AddsPiece, RefusesAt}
-use Rattle.wasmparser_sections.proofs.EntryLists.{after_both, enter_both, keep_both, keep_others, within_both, past_others}
+use Rattle.wasmparser_sections.proofs.EntryLists.{after_both, enter_both, keep_both, keep_others, no_room_both, within_both, past_others}
 use Rattle.wasmparser_sections.proofs.PieceItems.{as_entries}
 
 -- ---- pieces that say one entry by themselves
 
 -- a refusal of the entry refuses the piece
-refused_first : (features : Features) (old : Context) (p : Piece) (entry : Entry) (place : ℕ) (kind : ErrorKind) (offset : ℕ) → said_first p ≡ entry ∷ [] → IsFirstOf p place
-    → (kind ≡ kinds.Memory → IsSome (items_of p)) → NamesEntry features old entry kind × IsAt place kind offset → NamesPiece features old p kind × IsPlaced p kind offset
-refused_first features old p entry place kind offset said first takes h = by_kind kind takes h
+refused_first : (features : Features) (old : Context) (held : List DefType) (p : Piece) (entry : Entry) (place : ℕ) (kind : ErrorKind) (offset : ℕ) → said_first p ≡ entry ∷ [] → IsFirstOf p place
+    → (kind ≡ kinds.Memory → IsSome (items_of p)) → NamesEntry features old held entry kind × IsAt place kind offset → NamesPiece features old held p kind × IsPlaced p kind offset
+refused_first features old held p entry place kind offset said first takes h = by_kind kind takes h
   where
     placed : offset ≡ place → IsInPiece p offset
     placed e = inl (subst (IsFirstOf p) (sym e) first)
 
-    by_kind : (kind : ErrorKind) → (kind ≡ kinds.Memory → IsSome (items_of p)) → NamesEntry features old entry kind × IsAt place kind offset → NamesPiece features old p kind × IsPlaced p kind offset
+    by_kind : (kind : ErrorKind) → (kind ≡ kinds.Memory → IsSome (items_of p)) → NamesEntry features old held entry kind × IsAt place kind offset → NamesPiece features old held p kind × IsPlaced p kind offset
     by_kind kinds.Invalid t h = (record { front = entry ∷ []; is = by_itself (sym said); holds = λ k. h.0 k.0 }, placed h.1)
     by_kind (kinds.Limit l) t h = (record { front = entry ∷ []; is = by_itself (sym said); holds = of_entry h.0 }, placed h.1)
       where
         of_entry : Passes (core.limit l) (measures old entry) ⊎ PassesByTypes (core.limit l) old entry → PassLimit (core.limit l) old (entry ∷ [])
         of_entry (inl q) = inl q
         of_entry (inr q) = inr (inl q)
+    by_kind kinds.Total t h = (record { front = entry ∷ []; is = by_itself (sym said); holds = inl h.0 }, placed h.1)
     by_kind kinds.Memory t h = (t refl, h.1)
     by_kind kinds.Malformed t h = absurd h.0
     by_kind kinds.Operator t h = absurd h.0
     by_kind kinds.Body t h = absurd h.0
-    by_kind kinds.Total t h = absurd h.0
     by_kind kinds.Order t h = absurd h.0
     by_kind kinds.Failed t h = absurd h.0
 
@@ -58,23 +58,23 @@ says_one features old held p entry new said enters h =
     record { entries = entry ∷ []; said = said; rules = (h.rule, tt); limits = (h.limits, tt); known = h.known; entered = (held, enters, refl) }
 
 adds_one : (features : Features) (old : Context) (held : List DefType) (p : Piece) (entry : Entry) (place : ℕ) (result : Result (Unit {0}) Error) (new : Context) → said_first p ≡ entry ∷ []
-    → entries_said p ≡ Some (entry ∷ []) → IsFirstOf p place → EntersEntry features old held entry held → TakesNone result → Adds features old entry place result new → AddsPiece features old held p result new held
+    → entries_said p ≡ Some (entry ∷ []) → IsFirstOf p place → EntersEntry features old held entry held → TakesNone result → Adds features old held entry place result new → AddsPiece features old held p result new held
 adds_one features old held p entry place (Ok x) new first said placed enters none h = says_one features old held p entry new said enters h
-adds_one features old held p entry place (Err e) new first said placed enters none h = refused_first features old p entry place e.kind e.offset first placed (λ is. absurd (none is)) (h.0, h.1)
+adds_one features old held p entry place (Err e) new first said placed enters none h = refused_first features old held p entry place e.kind e.offset first placed (λ is. absurd (none is)) (h.0, h.1)
 
-pub adds_start : (features : Features) (old : Context) (held : List DefType) (function : ℕ) (place : Place) (result : Result (Unit {0}) Error) → TakesNone result → Adds features old (OfStart function) place.start result old → AddsPiece features old held (Start function place) result old held
+pub adds_start : (features : Features) (old : Context) (held : List DefType) (function : ℕ) (place : Place) (result : Result (Unit {0}) Error) → TakesNone result → Adds features old held (OfStart function) place.start result old → AddsPiece features old held (Start function place) result old held
 unfolding said_first entries_said items_of IsFirstOf
 adds_start features old held function place result none h = adds_one features old held (Start function place) (OfStart function) place.start result old refl refl refl refl none h
 
-pub adds_custom : (features : Features) (old : Context) (held : List DefType) (section : Named) (result : Result (Unit {0}) Error) → TakesNone result → Adds features old (OfCustom section.name) section.start result old → AddsPiece features old held (Custom section) result old held
+pub adds_custom : (features : Features) (old : Context) (held : List DefType) (section : Named) (result : Result (Unit {0}) Error) → TakesNone result → Adds features old held (OfCustom section.name) section.start result old → AddsPiece features old held (Custom section) result old held
 unfolding said_first entries_said items_of IsFirstOf
 adds_custom features old held section result none h = adds_one features old held (Custom section) (OfCustom section.name) section.start result old refl refl refl refl none h
 
-pub adds_body : (features : Features) (old : Context) (held : List DefType) (body : Input) (result : Result (Unit {0}) Error) → TakesNone result → Adds features old (OfBody body.rest) body.position result old → AddsPiece features old held (Body body) result old held
+pub adds_body : (features : Features) (old : Context) (held : List DefType) (body : Input) (result : Result (Unit {0}) Error) → TakesNone result → Adds features old held (OfBody body.rest) body.position result old → AddsPiece features old held (Body body) result old held
 unfolding said_first entries_said items_of IsFirstOf
 adds_body features old held body result none h = adds_one features old held (Body body) (OfBody body.rest) body.position result old refl refl refl refl none h
 
-pub adds_data_count : (features : Features) (old : Context) (held : List DefType) (count : ℕ) (place : Place) (result : Result (Unit {0}) Error) → TakesNone result → Adds features old (OfDataCount count) place.start result old → AddsPiece features old held (DataCount count place) result old held
+pub adds_data_count : (features : Features) (old : Context) (held : List DefType) (count : ℕ) (place : Place) (result : Result (Unit {0}) Error) → TakesNone result → Adds features old held (OfDataCount count) place.start result old → AddsPiece features old held (DataCount count place) result old held
 unfolding said_first entries_said items_of IsFirstOf
 adds_data_count features old held count place result none h = adds_one features old held (DataCount count place) (OfDataCount count) place.start result old refl refl refl refl none h
 
@@ -124,22 +124,23 @@ adds_items features old mid held p first made form_at left (Err e) new new_held 
     placed w = inr (subst (λ items. IsAmong items e.offset) (sym its.items) w)
 
     begun : (Holds Held : List Entry → Type 0) (f : Fronts (as_entries made form_at) left Holds) → Held (first ++ f.front) → PieceBegins p Held
-    begun Holds Held f held = record {
+    begun Holds Held f holds = record {
       front = first ++ f.front;
       is = with_some (record { entry_at = as_entries made form_at; left = left }) f.front its.items (record { number = f.number; rest = f.rest; among = f.among; reads = f.reads }) (ap (λ l. l ++ f.front) (sym its.says_first));
-      holds = held;
+      holds = holds;
     }
 
-    by_kind : (kind : ErrorKind) → NamesEntries features (as_entries made form_at) mid left kind × IsIn left.input kind e.offset → NamesPiece features old p kind × IsPlaced p kind e.offset
+    by_kind : (kind : ErrorKind) → NamesEntries features (as_entries made form_at) mid held left kind × IsIn left.input kind e.offset → NamesPiece features old held p kind × IsPlaced p kind e.offset
     by_kind kinds.Malformed h = (unread h.0, placed h.1)
     by_kind kinds.Invalid h =
         (begun _ (λ es. ¬ (KeepRules features old es)) h.0 (λ k. h.0.holds (subst (λ cx. KeepRules features cx h.0.front) (sym known) (keep_others features old first h.0.front k))), placed h.1)
     by_kind (kinds.Limit l) h =
         (begun _ (PassLimit (core.limit l) old) h.0 (past_others (core.limit l) old first h.0.front (subst (λ cx. PassLimit (core.limit l) cx h.0.front) known h.0.holds)), placed h.1)
+    by_kind kinds.Total h =
+        (begun _ (OneFindsNoRoom features old held) h.0 (no_room_both features old held held first h.0.front rules limits enter (subst (λ cx. OneFindsNoRoom features cx held h.0.front) known h.0.holds)), placed h.1)
     by_kind kinds.Memory h = (ap is_some its.items, h.1)
     by_kind kinds.Operator h = absurd h.0
     by_kind kinds.Body h = absurd h.0
-    by_kind kinds.Total h = absurd h.0
     by_kind kinds.Order h = absurd h.0
     by_kind kinds.Failed h = absurd h.0
 
@@ -196,9 +197,9 @@ adds_tags features old mid held items result new new_held begins h =
     adds_items features old mid held (Tags items) (OfTags ∷ []) (λ x. OfTag x) (λ _. tag_type_at) items.left result new new_held (record { items = refl; says_first = refl; said = refl }) (begins.rule, tt) (begins.limits, tt)
     (held, refl, refl) begins.known h
 
-pub tags_refused : (features : Features) (old : Context) (items : Limited) (kind : ErrorKind) (offset : ℕ) → NamesEntry features old OfTags kind × IsAt items.start kind offset → NamesPiece features old (Tags items) kind × IsPlaced (Tags items) kind offset
+pub tags_refused : (features : Features) (old : Context) (held : List DefType) (items : Limited) (kind : ErrorKind) (offset : ℕ) → NamesEntry features old held OfTags kind × IsAt items.start kind offset → NamesPiece features old held (Tags items) kind × IsPlaced (Tags items) kind offset
 unfolding said_first entries_said items_of IsFirstOf
-tags_refused features old items kind offset h = refused_first features old (Tags items) OfTags items.start kind offset refl refl (λ _. refl) h
+tags_refused features old held items kind offset h = refused_first features old held (Tags items) OfTags items.start kind offset refl refl (λ _. refl) h
 
 -- ---- unknown sections
 

@@ -24,10 +24,10 @@ use Rattle.wasmparser_payloads.specs.declared.payloads.Stage.TheVariants.{Done}
 use Rattle.wasmparser_payloads.specs.Parsing.{Settings, whole_module, IsInside, LieBetween, at_most_remaining}
 use Rattle.wasmparser_payloads.specs.Pieces.{Piece, Version, Types, Imports, Functions, Tables, Memories, Tags, Globals, Exports, Start, Elements, DataCount, CodeStart, Body, Segments, Custom, Unknown, End, Remains, next_piece}
 use Rattle.wasm_spec.specs.Trees.{DefType}
-use Rattle.wasmparser_module_state.specs.History.{EnterAll}
+use Rattle.wasmparser_module_state.specs.History.{EnterAll, OneFindsNoRoom}
 use Rattle.wasmparser_sections.specs.PieceJudging.{Says, IsFrontOf, by_itself, with_some, IsPlaced, NamesPiece, AddsPiece, body_in, count_in}
 use Rattle.wasmparser_sections.specs.Sections.{contents_of, EndBy, AreRead, NamesSections, RefusesSections}
-use Rattle.wasmparser_sections.proofs.EntryLists.{after_both, enter_both, keep_both, keep_others, within_both, past_others}
+use Rattle.wasmparser_sections.proofs.EntryLists.{after_both, enter_both, keep_both, keep_others, no_room_both, within_both, past_others}
 use Rattle.wasmparser_sections.proofs.PieceItems.{body_of_piece, count_of_piece}
 use Rattle.wasmparser_sections.proofs.PiecePlaces.{PieceLies, piece_lies}
 use Rattle.wasmparser_sections.proofs.SectionEntries.{body_said, bodies_said, bodies_of_sections, count_said, data_counts_said, counts_of_sections}
@@ -138,7 +138,7 @@ goes_on features bytes first_held cx next held next_held given more stated other
 
 -- a refusal of a piece refuses the module
 pub refused : (features : Features) (bytes : List ℕ) (first_held : List DefType) (cx new-cx : Context) (held new_held : List DefType) (given : List Input) (stated : List ℕ) (now new : Remains) (p : Piece) (error : Error)
-    → AreBytes bytes → Progress features bytes first_held cx held given stated now → next_piece now ≡ Some (p, new) → AddsPiece features cx held p (Err error) new-cx new_held → RefusesSections features bytes error
+    → AreBytes bytes → Progress features bytes first_held cx held given stated now → next_piece now ≡ Some (p, new) → AddsPiece features cx held p (Err error) new-cx new_held → RefusesSections features first_held bytes error
 refused features bytes first_held cx new-cx held new_held given stated now new p error are s e h = by_kind error.kind h.0 h.1
   where
     lies : PieceLies 0 (length bytes) p
@@ -153,7 +153,7 @@ refused features bytes first_held cx new-cx held new_held given stated now new p
         front_is_begun (settings_of features) bytes (s.entries ++ front) are
         (record { before = s.entries; now = now; reached = s.reached; piece = p; next = new; is_next = e; items = items; has = has_items; front = others; reads = reads; say = ap (λ (l : List Entry). s.entries ++ l) is })
 
-    by_kind : (kind : ErrorKind) → NamesPiece features cx p kind → IsPlaced p kind error.offset → NamesSections features bytes kind × (error.offset ≤ length bytes) × (kind ≡ kinds.Memory → error.offset ≡ 0)
+    by_kind : (kind : ErrorKind) → NamesPiece features cx held p kind → IsPlaced p kind error.offset → NamesSections features first_held bytes kind × (error.offset ≤ length bytes) × (kind ≡ kinds.Memory → error.offset ≡ 0)
     by_kind kinds.Malformed names placed = (λ sections m. unread_is_none (settings_of features) bytes are (no_items p s.reached e names) sections m, (lies.places error.offset placed).1, λ k. absurd cc)
     by_kind kinds.Invalid names placed = (
       record {
@@ -173,10 +173,18 @@ refused features bytes first_held cx new-cx held new_held given stated now new p
       (lies.places error.offset placed).1,
       λ k. absurd cc,
     )
+    by_kind kinds.Total names placed = (
+      record {
+        entries = s.entries ++ names.front;
+        begins = begins_with names.front names.is;
+        no_room = no_room_both features at_first first_held held s.entries names.front s.rules s.limits s.entered (subst (λ c. OneFindsNoRoom features c held names.front) s.known names.holds);
+      },
+      (lies.places error.offset placed).1,
+      λ k. absurd cc,
+    )
     by_kind kinds.Memory names placed = (tt, omega (arith, placed), λ k. placed)
     by_kind kinds.Operator names placed = absurd names
     by_kind kinds.Body names placed = absurd names
-    by_kind kinds.Total names placed = absurd names
     by_kind kinds.Order names placed = absurd names
     by_kind kinds.Failed names placed = absurd names
 
@@ -187,7 +195,7 @@ not_ended s new less done = absurd (omega (arith, subst (λ (g : Stage). at_most
 -- where the next piece isn't there before the end, the bytes are no module
 pub unread : (features : Features) (bytes : List ℕ) (first_held : List DefType) (cx : Context) (held : List DefType) (given : List Input) (stated : List ℕ) (now : Remains) (error : Error) → AreBytes bytes
     → Progress features bytes first_held cx held given stated now → ¬ (now.stage ≡ Done)
-    → next_piece now ≡ None → error.kind ≡ kinds.Malformed → IsInside now error.offset → RefusesSections features bytes error
+    → next_piece now ≡ None → error.kind ≡ kinds.Malformed → IsInside now error.offset → RefusesSections features first_held bytes error
 unread features bytes first_held cx held given stated now error are s going none kind inside =
     rw kind (λ sections m. unread_is_none (settings_of features) bytes are (no_piece s.reached going none) sections m, (place_lies 0 (length bytes) now error.offset s.lie inside).1, λ k. absurd cc)
 

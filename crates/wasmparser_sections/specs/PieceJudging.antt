@@ -11,7 +11,7 @@ use Rattle.wasmparser_error.specs.declared.error.Error.{Error}
 use Rattle.wasmparser_error.specs.declared.error.ErrorKind.{ErrorKind}
 use Rattle.wasmparser_error.specs.declared.error.ErrorKind.TheVariants as kinds
 use Rattle.wasmparser_module_entries.specs.PieceEntries.{Items, items_of, said_first, entries_said, HasFront}
-use Rattle.wasmparser_module_state.specs.History.{EnterAll}
+use Rattle.wasmparser_module_state.specs.History.{EnterAll, OneFindsNoRoom}
 use Rattle.wasmparser_payloads.specs.Pieces.{Piece, Version, Types, Imports, Functions, Tables, Memories, Tags, Globals, Exports, Start, Elements, DataCount, CodeStart, Body, Segments, Custom, Unknown, End}
 
 -- ---- what a piece says
@@ -85,17 +85,18 @@ IsPlaced piece _ offset = IsInPiece piece offset
 -- ---- answers
 
 -- what a refusal of a piece names; items alone take memory
-abbrev pub NamesPiece : Features → Context → Piece → ErrorKind → Type 0
-NamesPiece features old piece kinds.Malformed = entries_said piece ≡ None
-NamesPiece features old piece kinds.Invalid = PieceBegins piece (λ entries. ¬ (KeepRules features old entries))
-NamesPiece features old piece (kinds.Limit l) = PieceBegins piece (λ entries. PassLimit (core.limit l) old entries)
-NamesPiece features old piece kinds.Memory = IsSome (items_of piece)
-NamesPiece features old piece _ = ⊥
+abbrev pub NamesPiece : Features → Context → List DefType → Piece → ErrorKind → Type 0
+NamesPiece features old held piece kinds.Malformed = entries_said piece ≡ None
+NamesPiece features old held piece kinds.Invalid = PieceBegins piece (λ entries. ¬ (KeepRules features old entries))
+NamesPiece features old held piece (kinds.Limit l) = PieceBegins piece (λ entries. PassLimit (core.limit l) old entries)
+NamesPiece features old held piece kinds.Total = PieceBegins piece (λ entries. OneFindsNoRoom features old held entries)
+NamesPiece features old held piece kinds.Memory = IsSome (items_of piece)
+NamesPiece features old held piece _ = ⊥
 
 -- What a call returned that judges a piece and adds what it says.
 abbrev pub AddsPiece : Features → Context → List DefType → Piece → Result (Unit {0}) Error → Context → List DefType → Type 0
 AddsPiece features old old_held piece (Ok x) new new_held = Says features old old_held piece new new_held
-AddsPiece features old old_held piece (Err e) new new_held = NamesPiece features old piece e.kind × IsPlaced piece e.kind e.offset
+AddsPiece features old old_held piece (Err e) new new_held = NamesPiece features old old_held piece e.kind × IsPlaced piece e.kind e.offset
 
 -- What a call returned that refuses what begins at a place.
 abbrev pub RefusesAt : ℕ → Result (Unit {0}) Error → Type 0

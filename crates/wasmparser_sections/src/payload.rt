@@ -1,8 +1,8 @@
 //! Judging the payloads of a module.
 
-ghost use Rattle.std.specs.Prelude.{◌≡◌};
+ghost use Rattle.std.specs.Prelude.{◌≡◌, true};
 ghost use Rattle.wasmparser_module_entries.specs.EntryReading.{export_entry_at};
-ghost use Rattle.wasmparser_module_state.specs.History.{held};
+ghost use Rattle.wasmparser_module_state.specs.History.{grows, held};
 ghost use Rattle.wasmparser_module_state.specs.Judging.{AddsEntries};
 ghost use Rattle.wasmparser_module_state.specs.State.{context, features_of};
 ghost use Rattle.wasmparser_payloads.specs.Parsing.{piece};
@@ -26,8 +26,10 @@ fn add_section<'a, T: FromReader<'a> + Entry>(
     state: &mut ModuleState,
     section: &SectionLimited<'a, T>,
 ) -> Result<(), Error>
+    requires grows { grows state.old ≡ true }
     ensures added { AddsEntries (features_of state.old) T.entry_at (context state.old) (held state.old) section.now.left result (context state.new) (held state.new) }
     ensures features { features_of state.new ≡ features_of state.old }
+    ensures grows { grows state.new ≡ true }
 {
     add_entries(alloc, state, section.clone()?)
 }
@@ -39,8 +41,10 @@ fn add_tags<'a>(
     state: &mut ModuleState,
     section: &SectionLimited<'a, TagType>,
 ) -> Result<(), Error>
+    requires grows { grows state.old ≡ true }
     ensures added { AddsPiece (features_of state.old) (context state.old) (held state.old) (Tags section.now) result (context state.new) (held state.new) }
     ensures features { features_of state.new ≡ features_of state.old }
+    ensures grows { grows state.new ≡ true }
 {
     state.tag_section(section.range().start)?;
     add_section(alloc, state, section)
@@ -51,8 +55,10 @@ fn add_exports<'a>(
     state: &mut ModuleState,
     section: &SectionLimited<'a, Export<'a>>,
 ) -> Result<(), Error>
+    requires grows { grows state.old ≡ true }
     ensures added { AddsEntries (features_of state.old) export_entry_at (context state.old) (held state.old) section.now.left result (context state.new) (held state.new) }
     ensures features { features_of state.new ≡ features_of state.old }
+    ensures grows { grows state.new ≡ true }
 {
     state.start_exports(section.clone()?);
     add_section(alloc, state, section)
@@ -61,16 +67,18 @@ fn add_exports<'a>(
 /// Judges a payload, and adds what it says. The bodies of functions aren't read, and no counts are compared.
 ///
 /// # Errors
-/// `Malformed` where items don't read or the section is unknown, `Invalid` where a rule is broken, `Limit` where one is passed, each at a
-/// place of the payload; `Memory` where memory runs out. Then it is open what the state holds.
+/// `Malformed` where items don't read or the section is unknown, `Invalid` where a rule is broken, `Limit` where one is passed, `Total` where the list of types has no
+/// room for a group, each at a place of the payload; `Memory` where memory runs out. Then it is open what the state holds.
 #[tactic(auto, using(crate::proofs::PieceLaws::piece_steps), unfolding(wasmparser_payloads::specs::Parsing::piece))]
 pub fn add_payload<'a>(
     alloc: Global,
     state: &mut ModuleState,
     payload: &Payload<'a>,
 ) -> Result<(), Error>
+    requires grows { grows state.old ≡ true }
     ensures added { AddsPiece (features_of state.old) (context state.old) (held state.old) (piece payload.now) result (context state.new) (held state.new) }
     ensures features { features_of state.new ≡ features_of state.old }
+    ensures grows { grows state.new ≡ true }
 {
     match payload {
         Payload::Version { .. } | Payload::CodeSectionStart { .. } | Payload::End(_) => Ok(()),

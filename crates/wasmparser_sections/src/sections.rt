@@ -1,11 +1,10 @@
 //! The sections of a module, judged one after the other.
 
 ghost use Rattle.std.specs.List.{list_all};
-ghost use Rattle.std.specs.Prelude.{◌≡◌, ◌==◌, ◌↔◌, ◌++◌, [], IfOk, IfErr, IsTrue};
-ghost use Rattle.wasm_core_base.specs.Features.{feature_set};
+ghost use Rattle.std.specs.Prelude.{◌≡◌, ◌==◌, ◌↔◌, ◌++◌, [], IfOk, IfErr, IsTrue, true};
 ghost use Rattle.wasm_validity.specs.Context.{at_first};
 ghost use Rattle.wasmparser_error.specs.declared.error.ErrorKind.TheVariants as kinds;
-ghost use Rattle.wasmparser_module_state.specs.History.{held};
+ghost use Rattle.wasmparser_module_state.specs.History.{grows, held};
 ghost use Rattle.wasmparser_module_state.specs.State.{context, features_of};
 ghost use Rattle.wasmparser_payloads.specs.Parsing.{piece};
 ghost use Rattle.wasmparser_sections.specs.PieceJudging.{body_in, count_in};
@@ -14,9 +13,9 @@ ghost use Rattle.wasmparser_sections.specs.Sections.{AreAccepted, CountsAgree, J
 use crate::payload::add_payload;
 use std::alloc::Global;
 use std::iter::Iterator;
-use wasm_core_base::features::WasmFeatures;
 use wasmparser_error::error::{Error, ErrorKind};
 use wasmparser_module_state::module_state::ModuleState;
+use wasmparser_module_types::module_types::ModuleTypes;
 use wasmparser_payloads::function_body::FunctionBody;
 use wasmparser_payloads::parser::Parser;
 use wasmparser_payloads::payload::Payload;
@@ -62,8 +61,10 @@ fn add_payloads<'a>(
     requires nothing { context state.old ≡ at_first }
     requires none { bodies.old.items ≡ [] }
     requires no_counts { data_counts.old.items ≡ [] }
+    requires grows { grows state.old ≡ true }
     ensures read { ReadsSections (features_of state.old) bytes.now (held state.old) result (context state.new) (held state.new) bodies.new.items data_counts.new.items }
     ensures features { features_of state.new ≡ features_of state.old }
+    ensures grows { grows state.new ≡ true }
 {
     let mut parser = Parser::new(0);
     parser.set_features(state.features());
@@ -77,16 +78,15 @@ fn add_payloads<'a>(
 }
 
 impl<'a> ValidSections<'a> {
-    // What is known of nothing.
-    fn new(alloc: Global, features: WasmFeatures) -> ValidSections<'a>
+    // What is known of nothing, with a list of types.
+    fn new(alloc: Global, types: ModuleTypes) -> ValidSections<'a>
         ensures nothing { context result.state ≡ at_first }
-        ensures no_types { held result.state ≡ [] }
+        ensures list { result.state.types ≡ record types { types = []; groups = 0 } }
         ensures none { result.bodies.items ≡ [] }
         ensures no_counts { result.data_counts.items ≡ [] }
-        ensures features { features_of result.state ≡ feature_set features }
     {
         ValidSections {
-            state: ModuleState::new(alloc, features),
+            state: ModuleState::with_list(alloc, types),
             bodies: Vec::new(alloc),
             data_counts: Vec::new(alloc),
         }
@@ -113,11 +113,11 @@ impl<'a> ValidSections<'a> {
     // Reads all sections, whose counts are to agree.
     fn read(&mut self, alloc: Global, bytes: &'a [u8]) -> Result<(), Error>
         requires nothing { context self.old.state ≡ at_first }
-        requires no_types { held self.old.state ≡ [] }
+        requires grows { grows self.old.state ≡ true }
         requires none { self.old.bodies.items ≡ [] }
         requires no_counts { self.old.data_counts.items ≡ [] }
-        ensures accepted { IfOk result (λ _. AreAccepted (features_of self.old.state) bytes.now self.new) }
-        ensures refused { IfErr result (RefusesSections (features_of self.old.state) bytes.now) }
+        ensures accepted { IfOk result (λ _. AreAccepted (features_of self.old.state) (held self.old.state) bytes.now self.new) }
+        ensures refused { IfErr result (RefusesSections (features_of self.old.state) (held self.old.state) bytes.now) }
     {
         add_payloads(
             alloc,
@@ -136,19 +136,20 @@ impl<'a> ValidSections<'a> {
     }
 }
 
-/// Judges the sections of a module one after the other as they are read.
+/// Judges the sections of a module one after the other as they are read, under the features of this list of types, to which the module's groups are added.
 ///
 /// # Errors
-/// `Malformed` where the bytes are no module, `Invalid` where what they say at their front breaks a rule,
-/// `Limit` where that passes a limit, each at a place of the bytes or their end; `Memory` where memory runs out.
+/// `Malformed` where the bytes are no module, `Invalid` where what they say at their front breaks a rule, `Limit` where that passes a limit, `Total` where the list has
+/// no room for a group there, each at a place of the bytes or their end; `Memory` where memory runs out.
 pub fn validate_sections<'a>(
     alloc: Global,
+    types: ModuleTypes,
     bytes: &'a [u8],
-    features: WasmFeatures,
 ) -> Result<ValidSections<'a>, Error>
-    ensures { JudgesSections (feature_set features) bytes.now result }
+    requires grows { types.grows ≡ true }
+    ensures { JudgesSections types.features types.interned bytes.now result }
 {
-    let mut sections = ValidSections::new(alloc, features);
+    let mut sections = ValidSections::new(alloc, types);
     sections.read(alloc, bytes)?;
     Ok(sections)
 }

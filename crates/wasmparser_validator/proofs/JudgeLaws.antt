@@ -1,5 +1,5 @@
 -- How a validator goes from piece to piece.
-use Rattle.std.proofs.Common.{◌≡◌, inl, inr, ◌<◌, ℕ, Bool, true, false, List, length, nat_lt, refl, subst, sym, tests, arith}
+use Rattle.std.proofs.Common.{◌≡◌, inl, inr, ◌<◌, ℕ, true, false, List, length, refl, arith}
 use Rattle.std.proofs.lemmas.Bool.Decides.{nat_tests}
 use Rattle.wasm_core_read.specs.Input.{Input}
 use Rattle.wasm_spec.specs.Trees.{DefType}
@@ -7,9 +7,9 @@ use Rattle.wasm_validity.specs.Context.{Context}
 use Rattle.wasmparser_error.specs.declared.error.Error.{Error}
 use Rattle.wasmparser_error.specs.declared.error.ErrorKind.{ErrorKind}
 use Rattle.wasmparser_error.specs.declared.error.ErrorKind.TheVariants as kinds
-use Rattle.wasmparser_payloads.specs.Pieces.{Piece, Body}
+use Rattle.wasmparser_payloads.specs.Pieces.{Piece, Body, End}
 use Rattle.wasmparser_sections.specs.PieceJudging.{IsPlaced, NamesPiece, Says}
-use Rattle.wasmparser_validator.specs.Judges.{AcceptsPiece, IsOutOfOrder, IsWaitedAt, Judge, NamesWaited, RefusesPiece, after_piece, agrees, follows_bodies, may_stand_between, is_version, place_of, waiting, waits_for, waits_in}
+use Rattle.wasmparser_validator.specs.Judges.{AcceptsPiece, IsOutOfOrder, IsWaitedAt, Judge, NamesWaited, RefusesPiece, after_piece, agrees, follows_bodies, is_end, may_stand_between, is_version, place_of, waiting, waits_for, waits_in}
 use Rattle.wasmparser_validator.specs.declared.validator.Stage.{Stage}
 use Rattle.wasmparser_validator.specs.declared.validator.Stage.TheVariants as stages
 
@@ -35,11 +35,11 @@ number_refused old piece waited not = rw waited (inl not, inl refl, refl)
 pub ruleset open_steps = (out_of_order, number_refused)
 
 -- what refuses a piece after all that is known is said of it, as it is waited for
-pub piece_refused : (old : Judge) (piece : Piece) (e : Error) → waits_for old piece ≡ true → NamesPiece old.features old.known piece e.kind → IsPlaced piece e.kind e.offset
+pub piece_refused : (old : Judge) (piece : Piece) (e : Error) → waits_for old piece ≡ true → NamesPiece old.features old.known old.held piece e.kind → IsPlaced piece e.kind e.offset
     → RefusesPiece (waits_for old piece) old piece e (waiting old stages.Failed)
 piece_refused old piece e waited names placed = rw waited (by_kind e.kind names, at e.kind placed, refl)
   where
-    by_kind : (kind : ErrorKind) → NamesPiece old.features old.known piece kind → NamesWaited old piece kind
+    by_kind : (kind : ErrorKind) → NamesPiece old.features old.known old.held piece kind → NamesWaited old piece kind
     by_kind kinds.Malformed h = inr h
     by_kind kinds.Invalid h = h
     by_kind (kinds.Limit l) h = h
@@ -48,7 +48,7 @@ piece_refused old piece e waited names placed = rw waited (by_kind e.kind names,
     by_kind kinds.Total h = h
     by_kind kinds.Order h = h
     by_kind kinds.Failed h = h
-    by_kind kinds.Memory h = h
+    by_kind kinds.Memory h = inl h
 
     at : (kind : ErrorKind) → IsPlaced piece kind e.offset → IsWaitedAt piece kind e.offset
     at kinds.Memory h = h
@@ -68,3 +68,9 @@ piece_accepted old piece known held waited agreed says = record { waited = waite
 pub ruleset judge_steps = (piece_refused, piece_accepted)
 
 pub ruleset body_steps = (body_waited)
+
+-- memory runs out at the end
+pub end_refused : (old new : Judge) (position : ℕ) (e : Error) → waits_for old (End position) ≡ true → e ≡ record { offset = 0; kind = kinds.Memory } → new ≡ waiting old stages.Failed
+    → RefusesPiece (waits_for old (End position)) old (End position) e new
+unfolding is_end
+end_refused old new position e waited memory failed = rw (waited, memory) (inr refl, refl, failed)

@@ -1,6 +1,8 @@
 -- What is known after entries that keep all rules and limits, and after others.
-use Rattle.std.proofs.Common.{◌≡◌, ℕ, true, List, [], ◌++◌, Some, is_some, slice_get, refl, sym, ap, subst, ◌∙◌}
+use Rattle.std.proofs.Common.{◌≡◌, ℕ, true, false, List, [], ◌++◌, Some, is_some, slice_get, refl, sym, ap, subst, ◌∙◌}
 use Rattle.wasm_spec.specs.Features.{Features}
+use Rattle.wasm_spec.specs.Trees.{DefType}
+use Rattle.wasmparser_module_types.specs.ModuleTypes.{KnownTypes}
 use Rattle.wasm_validity.specs.Context.{Context, after_all, at_first}
 use Rattle.wasm_validity.specs.DefinedTypes.{func_type_at}
 use Rattle.wasm_validity.specs.Entries.{Entry, entries_of}
@@ -19,30 +21,45 @@ use Rattle.wasmparser_validator.specs.Bodies.{AreNamed}
 use Rattle.wasmparser_validator.specs.KnownSpaces.{AreFew, CanBeShown, IsReached}
 use Rattle.wasmparser_validator.proofs.Counts.{are_few}
 
-pub reached_first : (state : ModuleState) → context state ≡ at_first → held state ≡ [] → IsReached state
-reached_first state known nothing = record { entries = []; rules = tt; limits = tt; known = known; entered = nothing }
+pub reached_first : (state : ModuleState) → context state ≡ at_first → IsReached state
+reached_first state known = record { before = held state; entries = []; rules = tt; limits = tt; known = known; entered = refl }
 
 -- what a piece says comes after the entries before it
 pub reached_next : (old new : ModuleState) (piece : Piece) → IsReached old → Says (features_of old) (context old) (held old) piece (context new) (held new) → features_of new ≡ features_of old → IsReached new
 reached_next old new piece before said same = record {
+  before = before.before;
   entries = before.entries ++ said.entries;
   rules = subst (λ f. KeepRules f at_first (before.entries ++ said.entries)) (sym same)
       (keep_both (features_of old) at_first before.entries said.entries before.rules (subst (λ cx. KeepRules (features_of old) cx said.entries) before.known said.rules));
   limits = within_both at_first before.entries said.entries before.limits (subst (λ cx. KeepLimits cx said.entries) before.known said.limits);
   known = said.known ∙ ap (λ cx. after_all cx said.entries) before.known ∙ sym (after_both at_first before.entries said.entries);
-  entered = subst (λ f. EnterAll f at_first [] (before.entries ++ said.entries) (held new)) (sym same)
-      (enter_both (features_of old) at_first [] (held old) (held new) before.entries said.entries before.entered (subst (λ cx. EnterAll (features_of old) cx (held old) said.entries (held new)) before.known said.entered));
+  entered = subst (λ f. EnterAll f at_first before.before (before.entries ++ said.entries) (held new)) (sym same)
+      (enter_both (features_of old) at_first before.before (held old) (held new) before.entries said.entries before.entered (subst (λ cx. EnterAll (features_of old) cx (held old) said.entries (held new)) before.known said.entered));
 }
 
 pub ruleset next_steps = (reached_first, reached_next)
 
-pub reached_end : (features : Features) (bytes : List ℕ) (m : ValidSections) → AreAccepted features bytes m → IsReached m.state
-reached_end features bytes m w = record {
+-- what is known at a module's end is what was known
+pub reached_so : (old new : ModuleState) → IsReached old → context new ≡ context old → new.types ≡ record old.types { grows = false } → IsReached new
+reached_so old new reached known types = record {
+  before = reached.before;
+  entries = reached.entries;
+  rules = subst (λ (t : KnownTypes). KeepRules t.features at_first reached.entries) (sym types) reached.rules;
+  limits = reached.limits;
+  known = known ∙ reached.known;
+  entered = subst (λ (t : KnownTypes). EnterAll t.features at_first reached.before reached.entries t.interned) (sym types) reached.entered;
+}
+
+pub ruleset end_steps = (reached_first, reached_so)
+
+pub reached_end : (features : Features) (old_held : List DefType) (bytes : List ℕ) (m : ValidSections) → AreAccepted features old_held bytes m → IsReached m.state
+reached_end features old_held bytes m w = record {
+  before = old_held;
   entries = entries_of w.sections;
   rules = subst (λ f. KeepRules f at_first (entries_of w.sections)) (sym w.same_features) w.fine.rules;
   limits = w.fine.limits;
   known = w.known;
-  entered = subst (λ f. EnterAll f at_first [] (entries_of w.sections) (held m.state)) (sym w.same_features) w.entered;
+  entered = subst (λ f. EnterAll f at_first old_held (entries_of w.sections) (held m.state)) (sym w.same_features) w.entered;
 }
 
 pub can_be_shown : (state : ModuleState) → ((features : Features) (entries : List Entry) → KeepRules features at_first entries → NamesTypes (spaces_in (after_all at_first entries)))

@@ -1,17 +1,21 @@
 -- What stands in the index spaces is found, and so are the types that it names.
-use Rattle.std.proofs.Common.{inl, inr, ◌≡◌, ◌≤◌, ℕ, ◌<◌, Bool, true, List, map, length, Option, Some, None, IsSome, is_some, option_map, if◌then◌else◌, nat_lt, slice_get, refl, sym, ap, ◌∙◌, arith}
+use Rattle.std.proofs.Common.{inl, inr, ◌≡◌, ◌≤◌, ℕ, ◌<◌, Bool, true, List, [], ◌∷◌, ◌++◌, map, length, Option, Some, None, IfSome, IsSome, is_some, option_map, if◌then◌else◌, nat_lt, slice_get, refl, sym, ap, subst, ◌∙◌, arith}
 use Rattle.std.proofs.lemmas.Option.{slice_get-map, slice_get_within}
+use Rattle.std.specs.List.{AllByRecursion}
 use Rattle.std.specs.Option.{option_and_then}
 use Rattle.wasm_core_read.proofs.Forms.{ltb_tells}
 use Rattle.wasm_spec.proofs.Places.{get_some}
-use Rattle.wasm_spec.specs.Trees.{DefType, type_at}
-use Rattle.wasm_spec.specs.TypeReferences.{external_map}
-use Rattle.wasm_spec.specs.Types.{ExternalType, FuncExternal, TableExternal, MemoryExternal, GlobalExternal, TagExternal, ExternalKind, FuncKind, TableKind, MemoryKind, GlobalKind, TagKind}
+use Rattle.wasm_spec.specs.Trees.{DefType, type_at, unrolled}
+use Rattle.wasm_spec.specs.TypeReferences.{composite_refs, external_map, sub_map, sub_refs}
+use Rattle.wasm_spec.specs.Types.{SubType, ExternalType, FuncExternal, TableExternal, MemoryExternal, GlobalExternal, TagExternal, ExternalKind, FuncKind, TableKind, MemoryKind, GlobalKind, TagKind}
 use Rattle.wasm_validity.specs.Context.{Context, functions_in, globals_in, item_at}
 use Rattle.wasm_validity.specs.DefinedTypes.{func_type_at, func_type_of}
 use Rattle.wasm_validity.specs.IndexSpaces.{spaces_in}
 use Rattle.wasm_validity_laws.specs.NamedTypes.{Each, NamesTypes}
 use Rattle.wasmparser_module_state.specs.Entities.{meant_item, names_types}
+use Rattle.wasmparser_module_types.specs.ModuleTypes.{IsIdOf, KnownTypes, stands_for}
+use Rattle.wasmparser_types.specs.Index.{Index, Module, RecGroup, Id, core_type_id}
+use Rattle.wasmparser_validator.specs.Shown.{declared_supertype, first_of, supertype_in}
 
 -- ---- a look-up
 
@@ -107,3 +111,31 @@ module _ (cx : Context) (named : NamesTypes (spaces_in cx)) where
   pub entity_is : {A : Type 0} (shows : A → ExternalType DefType) (kind : ExternalKind) (index : ℕ) (found : Option A) → option_map shows found ≡ option_and_then (meant_item cx.types) (item_at cx kind index)
       → option_map shows found ≡ option_map (external_map (type_at cx.types)) (item_at cx kind index)
   entity_is shows kind index found is = is ∙ meant_export kind index
+
+-- ---- supertypes
+
+module _ (known : KnownTypes) where
+  -- the first of some ids, and what it stands for
+  first_meant : (indexes others : List Index) → AllByRecursion (IsIdOf known.interned) (indexes ++ others)
+      → option_map (type_at known.interned) (option_and_then core_type_id (first_of indexes)) ≡ first_of (map (stands_for known) indexes)
+  first_meant [] others ids = refl
+  first_meant (Id id ∷ indexes) others ids = refl
+  first_meant (Module n ∷ indexes) others ids = absurd ids.0
+  first_meant (RecGroup n ∷ indexes) others ids = absurd ids.0
+
+  first_known : (indexes others : List Index) → AllByRecursion (IsIdOf known.interned) (indexes ++ others) → IfSome (option_and_then core_type_id (first_of indexes)) (λ it. it < length known.interned)
+  first_known [] others ids = tt
+  first_known (Id id ∷ indexes) others ids = ids.0
+  first_known (Module n ∷ indexes) others ids = tt
+  first_known (RecGroup n ∷ indexes) others ids = tt
+
+  pub supertype_same : (id : ℕ) (type : SubType Index) (found : Option ℕ) → found ≡ supertype_in type → unrolled (type_at known.interned id) ≡ Some (sub_map (stands_for known) type)
+      → AllByRecursion (IsIdOf known.interned) (sub_refs type) → option_map (type_at known.interned) found ≡ declared_supertype (type_at known.interned id)
+  supertype_same id type found is unrolls ids =
+      ap (option_map (type_at known.interned)) is ∙ first_meant type.supertypes (composite_refs type.composite_type) ids
+      ∙ sym (ap (option_and_then (λ (sub : SubType DefType). first_of sub.supertypes)) unrolls)
+
+  pub supertype_known : (type : SubType Index) (found : Option ℕ) → found ≡ supertype_in type → AllByRecursion (IsIdOf known.interned) (sub_refs type) → IfSome found (λ it. it < length known.interned)
+  supertype_known type found is ids = subst (λ f. IfSome f (λ it. it < length known.interned)) (sym is) (first_known type.supertypes (composite_refs type.composite_type) ids)
+
+pub ruleset supertype_steps = (supertype_same, supertype_known)

@@ -1,20 +1,23 @@
 -- Validators that are handed a module piece by piece: what they wait for, and what their calls answer.
-use Rattle.std.specs.Prelude.{◌≡◌, ◌⊎◌, ◌+◌, ◌==◌, ◌&&◌, ⊤, ℕ, Bool, true, false, [], length, nat_lt, Option, Some, None, List, Result, Ok, Err, IfOk, IsErrAnd, if◌then◌else◌}
+use Rattle.std.specs.Prelude.{◌≡◌, ◌⊎◌, ◌+◌, ◌==◌, ◌&&◌, ⊤, ℕ, Bool, true, false, [], length, nat_lt, Option, Some, None, IsSome, List, Result, Ok, Err, IfOk, IsErrAnd, if◌then◌else◌}
 use Rattle.wasm_core_base.specs.declared.limits.Limit.TheVariants as limits
 use Rattle.wasm_core_read.specs.Input.{Input}
-use Rattle.wasm_spec.specs.Features.{Features}
+use Rattle.wasm_spec.specs.Features.{Features, CompactImports, has}
+use Rattle.wasm_spec.specs.Grammar.{IsModule}
+use Rattle.wasm_spec.specs.Syntax.{Section}
 use Rattle.wasm_spec.specs.Trees.{DefType}
 use Rattle.wasm_validity.specs.Context.{Context, at_first}
+use Rattle.wasm_validity.specs.Entries.{entries_of}
 use Rattle.wasmparser_error.specs.declared.error.Error.{Error}
 use Rattle.wasmparser_error.specs.declared.error.ErrorKind.{ErrorKind}
 use Rattle.wasmparser_error.specs.declared.error.ErrorKind.TheVariants as kinds
-use Rattle.wasmparser_module_entries.specs.PieceEntries.{entries_said}
-use Rattle.wasmparser_module_state.specs.History.{held}
+use Rattle.wasmparser_module_entries.specs.PieceEntries.{entries_said, items_of}
+use Rattle.wasmparser_module_state.specs.History.{EnterAll, held}
 use Rattle.wasmparser_module_state.specs.State.{context, features_of}
 use Rattle.wasmparser_payloads.specs.Pieces.{Piece, Version, Types, Imports, Functions, Tables, Memories, Tags, Globals, Exports, Start, Elements, DataCount, CodeStart, Body, Segments, Custom, Unknown, End}
 use Rattle.wasmparser_sections.specs.PieceJudging.{IsInPiece, NamesPiece, Says, body_in}
 use Rattle.wasmparser_validator.specs.Functions.{HasFunction}
-use Rattle.wasmparser_validator.specs.KnownSpaces.{KnownModule}
+use Rattle.wasmparser_validator.specs.KnownSpaces.{IsEndOf, KnownModule}
 use Rattle.wasmparser_validator.specs.Validation.{IsValidated}
 use Rattle.wasmparser_validator.specs.declared.func.FuncToValidate.{FuncToValidate}
 use Rattle.wasmparser_validator.specs.declared.func.ValidatorResources.{ValidatorResources}
@@ -98,6 +101,10 @@ agrees j piece = true
 
 -- ---- what is known after a piece
 
+unfoldable pub is_end : Piece → Bool
+is_end (End position) = true
+is_end piece = false
+
 unfoldable pub bodies_with : Piece → ℕ → ℕ
 bodies_with (Body body) bodies = bodies + 1
 bodies_with piece bodies = bodies
@@ -152,10 +159,11 @@ IsOutOfOrder stages.Failed place old e new = (e ≡ record { offset = place; kin
 IsOutOfOrder stages.End place old e new = (e ≡ record { offset = place; kind = kinds.Order }) × (new ≡ old)
 IsOutOfOrder stage place old e new = (e ≡ record { offset = place; kind = kinds.Order }) × (new ≡ waiting old stages.Failed)
 
--- what a refusal of a piece names that was waited for
+-- what a refusal of a piece names that was waited for; items and the end take memory
 abbrev pub NamesWaited : Judge → Piece → ErrorKind → Type 0
 NamesWaited j piece kinds.Malformed = (agrees j piece ≡ false) ⊎ (entries_said piece ≡ None)
-NamesWaited j piece kind = NamesPiece j.features j.known piece kind
+NamesWaited j piece kinds.Memory = IsSome (items_of piece) ⊎ (is_end piece ≡ true)
+NamesWaited j piece kind = NamesPiece j.features j.known j.held piece kind
 
 -- the place of a refusal of a piece that was waited for
 abbrev pub IsWaitedAt : Piece → ErrorKind → ℕ → Type 0
@@ -198,7 +206,8 @@ may_begin stages.Header = true
 may_begin stages.End = true
 may_begin stage = false
 
--- The end is accepted where it is waited for and all numbers agree. What is shown then is all that was known of the module, and another one may begin.
+-- The end is accepted where it is waited for and all numbers agree. What is shown then is all that was known of the module. Its types stay in the list, and another one
+-- may begin once the validator is reset.
 pub record AcceptsEnd (old : Judge) (position : ℕ) (shown : KnownModule) (new : Judge) : Type 0 where
   pub waited : waits_for old (End position) ≡ true
   pub agreed : agrees old (End position) ≡ true
@@ -206,7 +215,7 @@ pub record AcceptsEnd (old : Judge) (position : ℕ) (shown : KnownModule) (new 
   pub features : features_of shown.state ≡ old.features
   pub all : context shown.state ≡ old.known
   pub all_types : held shown.state ≡ old.held
-  pub after : new ≡ waiting old stages.End
+  pub after : new ≡ record (waiting old stages.End) { held = old.held }
 
 -- What a call returned that ends a module.
 abbrev pub EndsModule : Judge → ℕ → Result KnownModule Error → Judge → Type 0
@@ -220,10 +229,6 @@ GivesFunction old body (Err e) new = RefusesPiece (waits_for old (Body body)) ol
 
 -- ---- payloads
 
-unfoldable pub is_end : Piece → Bool
-is_end (End position) = true
-is_end piece = false
-
 -- What is given for a piece that is accepted: what is shown for the end, a body for a body, and nothing for others.
 abbrev pub GivesValid : Judge → Piece → ValidPayload → Judge → Type 0
 GivesValid old piece valid.Ok new = AcceptsPiece old piece new × (is_end piece ≡ false) × (body_in piece ≡ [])
@@ -232,7 +237,7 @@ GivesValid old piece (valid.End shown) new = (position : ℕ) × (piece ≡ End 
 
 -- what is shown at the end is just what is known
 abbrev pub ShowsAll : KnownModule → ValidPayload → Type 0
-ShowsAll known (valid.End shown) = shown ≡ known
+ShowsAll known (valid.End shown) = IsEndOf known shown
 ShowsAll known given = ⊤
 
 -- What a call returned that is handed a payload.
@@ -254,8 +259,20 @@ abbrev pub stage_after_all : Result KnownModule Error → Stage
 stage_after_all (Ok shown) = stages.End
 stage_after_all (Err e) = if is_in_body e.kind then stages.End else stages.Failed
 
+-- What a list holds after a module that was refused: its groups too where that was in a body, and else nothing.
+abbrev pub HoldsAfterRefusal : Bool → Features → List DefType → List ℕ → List DefType → Type 0
+HoldsAfterRefusal true features old_held bytes new_held =
+    (sections : List Section) × IsModule (has features CompactImports) bytes sections × EnterAll features at_first old_held (entries_of sections) new_held
+HoldsAfterRefusal false features old_held bytes new_held = new_held ≡ []
+
+-- What a list holds after a whole module.
+abbrev pub HoldsAfter : Features → List DefType → List ℕ → Result KnownModule Error → List DefType → Type 0
+HoldsAfter features old_held bytes (Ok shown) new_held = new_held ≡ held shown.state
+HoldsAfter features old_held bytes (Err e) new_held = HoldsAfterRefusal (is_in_body e.kind) features old_held bytes new_held
+
 -- What a call returned that is handed a whole module, which is validated where one may begin.
 abbrev pub JudgesAll : Stage → Judge → List ℕ → Result KnownModule Error → Judge → Type 0
 JudgesAll stages.Header old bytes result new =
-    IsValidated old.features bytes result × IfOk result (λ shown. shown.id ≡ old.id) × (new ≡ waiting old (stage_after_all result))
+    IsValidated old.features old.held bytes result × IfOk result (λ shown. shown.id ≡ old.id)
+    × (new_held : List DefType) × HoldsAfter old.features old.held bytes result new_held × (new ≡ record (waiting old (stage_after_all result)) { held = new_held })
 JudgesAll stage old bytes result new = IsErrAnd result (λ e. IsOutOfOrder stage 0 old e new)

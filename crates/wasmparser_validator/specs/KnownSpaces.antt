@@ -1,7 +1,8 @@
 -- What holds of what is known of a valid module, or of the entries of one so far.
 use Rattle.std.specs.Coded.{Coded, code_by, coded×, coded_ℕ}
-use Rattle.std.specs.Prelude.{◌≡◌, ◌+◌, ◌≤◌, ℕ, List, [], length, refl}
+use Rattle.std.specs.Prelude.{◌≡◌, ◌+◌, ◌≤◌, ℕ, false, List, length, refl}
 use Rattle.wasm_spec.specs.Limits.{ElementSegments, Functions, Globals, Memories, Tables, Tags, most}
+use Rattle.wasm_spec.specs.Trees.{DefType}
 use Rattle.wasm_validity.specs.Context.{Context, after_all, at_first}
 use Rattle.wasm_validity.specs.Entries.{Entry}
 use Rattle.wasm_validity.specs.IndexSpaces.{Spaces, spaces_in}
@@ -20,13 +21,14 @@ pub record AreFew (cx : Context) : Type 0 where
   pub tags : length cx.tags ≤ most Tags
   pub elements : length cx.elements ≤ most ElementSegments
 
--- It is what is known after entries that keep all rules and limits, and its list holds what these enter.
+-- It is what is known after entries that keep all rules and limits, and its list holds what these enter after the types that it held before.
 pub record IsReached (state : ModuleState) : Type 0 where
+  pub before : List DefType
   pub entries : List Entry
   pub rules : KeepRules (features_of state) at_first entries
   pub limits : KeepLimits at_first entries
   pub known : context state ≡ after_all at_first entries
-  pub entered : EnterAll (features_of state) at_first [] entries (held state)
+  pub entered : EnterAll (features_of state) at_first before entries (held state)
 
 -- what contracts see of `Types`: who made it, and what is known of the module
 pub record KnownModule : Type 0 where
@@ -35,6 +37,12 @@ pub record KnownModule : Type 0 where
 
 abbrev pub known_module_code : Coded ModuleState → Coded KnownModule
 known_module_code state_code = code_by (ℕ × ModuleState) (coded× coded_ℕ state_code) (λ m. (m.id, m.state)) (λ p. record { id = p.0; state = p.1 }) (λ _. refl)
+
+-- It is what was known, except that its list doesn't grow.
+pub record IsEndOf (known shown : KnownModule) : Type 0 where
+  pub same_id : shown.id ≡ known.id
+  pub spaces : context shown.state ≡ context known.state
+  pub types : shown.state.types ≡ record known.state.types { grows = false }
 
 -- the index spaces that are known
 abbrev pub state_spaces : ModuleState → Spaces

@@ -3,8 +3,9 @@
 
 pub mod body;
 pub mod func;
+mod growing_types;
 mod local_type;
-pub mod modules;
+mod modules;
 pub mod spaces;
 pub mod types;
 pub mod valid_payload;

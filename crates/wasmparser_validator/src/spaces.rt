@@ -1,17 +1,19 @@
 //! What stands in the index spaces of a valid module, with ids in place of type indexes.
 
-ghost use Rattle.std.specs.Prelude.{◌≡◌, ◌<◌, IfSome, IsSome, Some, length, option_map, slice_get};
+ghost use Rattle.std.specs.Prelude.{◌≡◌, ◌<◌, IfSome, IsSome, Some, length, option_map, slice_get, true};
 ghost use Rattle.std.specs.Option.{option_and_then};
-ghost use Rattle.wasm_spec.specs.Trees.{type_at, unrolled};
+ghost use Rattle.wasm_spec.specs.Features.{needs_type_canonicalization};
+ghost use Rattle.wasm_spec.specs.Trees.{AreDistinct, type_at, unrolled};
 ghost use Rattle.wasm_spec.specs.TypeReferences.{external_map, global_map, global_refs, ref_map, ref_refs, sub_map, sub_refs, table_map, table_refs};
 ghost use Rattle.wasmparser_items.specs.Exports.{export_item};
 ghost use Rattle.wasmparser_items.specs.ItemTypes.{global_type, memory_type, table_type};
 ghost use Rattle.wasmparser_module_state.specs.Entities.{entity_type};
 ghost use Rattle.wasmparser_module_types.specs.ModuleTypes.{AreIds, stands_for};
 ghost use Rattle.wasmparser_types.specs.SubTypes.{sub_type};
-ghost use Rattle.wasmparser_validator.specs.Shown.{IsImported, exported, known, spaces};
+ghost use Rattle.wasmparser_validator.specs.Shown.{IsImported, declared_supertype, exported, known, spaces, supertype_in};
 
-use crate::types::TypesRef;
+use crate::types::{Types, TypesRef};
+use std::ops::Index;
 use wasmparser_imports::imports::Import;
 use wasmparser_items::export::Export;
 use wasmparser_items::global_type::GlobalType;
@@ -24,6 +26,13 @@ use wasmparser_types::index::CoreTypeId;
 use wasmparser_types::ref_type::RefType;
 use wasmparser_types::sub_type::SubType;
 
+// The id that a type has for its supertype.
+fn supertype_in(ty: &SubType) -> Option<CoreTypeId>
+    ensures { result ≡ supertype_in (sub_type ty.now) }
+{
+    ty.supertype_idxs.first()?.as_core_type_id()
+}
+
 impl<'a> TypesRef<'a> {
     /// The sub type that an id stands for, which names others by ids, or None where there is no such id.
     pub fn get(&self, id: CoreTypeId) -> Option<&'a SubType>
@@ -35,12 +44,25 @@ impl<'a> TypesRef<'a> {
         self.state().types().get(id)
     }
 
+    /// The id of the supertype that a type declares, if it does. The id is one of these types'.
+    #[tactic(auto, using(crate::proofs::SpaceLaws::supertype_steps))]
+    pub fn supertype_of(&self, id: CoreTypeId) -> Option<CoreTypeId>
+        requires { id < length (known self.now).interned }
+        ensures same { option_map (type_at (known self.now).interned) result ≡ declared_supertype (type_at (known self.now).interned id) }
+        ensures known { IfSome result (λ it. it < length (known self.now).interned) }
+    {
+        supertype_in(self.state().types().sub_type(id))
+    }
+
     /// The id of the type with this index, which is below their number.
     #[tactic(auto, using(crate::proofs::SpaceLaws::found_steps))]
     pub fn core_type_at_in_module(&self, index: u32) -> CoreTypeId
         requires { index < length (spaces self.now).types }
         ensures same { slice_get (spaces self.now).types index ≡ Some (type_at (known self.now).interned result) }
         ensures known { result < length (known self.now).interned }
+
+        // Where types are canonicalized, no type has two ids.
+        ensures distinct { needs_type_canonicalization (known self.now).features ≡ true → AreDistinct (known self.now).interned }
     {
         self.state().types().type_id(index).unwrap()
     }
@@ -156,5 +178,40 @@ impl<'a> TypesRef<'a> {
             TypeRef::Global(ty) => Some(EntityType::Global(ty)),
             TypeRef::Tag(ty) => Some(EntityType::Tag(types.type_id(ty.func_type_idx)?)),
         }
+    }
+}
+
+impl<'a> Index<CoreTypeId> for TypesRef<'a> {
+    ghost use Rattle.std.specs.Prelude.{◌<◌, length};
+    ghost use Rattle.wasmparser_types.specs.SubTypes.{sub_type};
+    ghost use Rattle.wasmparser_validator.specs.Shown.{StandsFor, known};
+
+    type Output = SubType;
+
+    ghost can_index = { λ types id. id < length (known types).interned };
+
+    ghost index_gives = { λ types id ty. StandsFor (known types) id (sub_type ty) };
+
+    /// The sub type that a known id stands for, as [`TypesRef::get`] gives it.
+    fn index(&self, id: CoreTypeId) -> &SubType {
+        self.state().types().sub_type(id)
+    }
+}
+
+impl Index<CoreTypeId> for Types {
+    ghost use Rattle.std.specs.Prelude.{◌<◌, length};
+    ghost use Rattle.wasmparser_types.specs.SubTypes.{sub_type};
+    ghost use Rattle.wasmparser_validator.specs.Shown.{StandsFor};
+
+    type Output = SubType;
+
+    ghost can_index = { λ types id. id < length types.state.types.interned };
+
+    ghost index_gives = { λ types id ty. StandsFor types.state.types id (sub_type ty) };
+
+    /// The sub type that a known id stands for, as [`TypesRef::get`] gives it.
+    fn index(&self, id: CoreTypeId) -> &SubType {
+        let types = self.state().types();
+        types.sub_type(id)
     }
 }

@@ -1,27 +1,28 @@
 //! What a validator shows of a valid module, or of one so far.
 
-ghost use Rattle.std.specs.Prelude.{◌≡◌, [], ◌<◌, ◌^◌, IfErr, IsSomeAnd, length};
+ghost use Rattle.std.specs.Prelude.{◌≡◌, [], ◌<◌, ◌^◌, IfErr, IfOk, IsSomeAnd, length, true};
 ghost use Rattle.std.specs.Iterator.{YieldsFirstBy, item_count};
 ghost use Rattle.wasm_core_base.specs.Features.{feature_set};
 ghost use Rattle.wasm_validity.specs.Context.{at_first};
 ghost use Rattle.wasmparser_items.specs.Exports.{export_item};
-ghost use Rattle.wasmparser_module_state.specs.History.{held};
+ghost use Rattle.wasmparser_module_state.specs.History.{grows, held};
 ghost use Rattle.wasmparser_module_state.specs.State.{context, features_of};
 ghost use Rattle.wasmparser_payloads.specs.Parsing.{piece};
 ghost use Rattle.wasmparser_sections.specs.PieceJudging.{AddsPiece};
 ghost use Rattle.wasmparser_validator.specs.Bodies.{AreNamed};
-ghost use Rattle.wasmparser_validator.specs.KnownSpaces.{CanBeShown};
+ghost use Rattle.wasmparser_validator.specs.KnownSpaces.{CanBeShown, IsEndOf};
 ghost use Rattle.wasmparser_validator.specs.Shown.{exports_left, spaces};
 
 use crate::valid_state::ValidState;
 use crate::validator_id::ValidatorId;
-use std::alloc::Global;
+use std::alloc::{AllocError, Global};
 use std::marker::Model;
 use wasm_core_base::features::WasmFeatures;
 use wasmparser_error::error::Error;
 use wasmparser_export_names::export_names::ExportNames;
 use wasmparser_items::export::Export;
 use wasmparser_module_state::module_state::ModuleState;
+use wasmparser_module_types::module_types::ModuleTypes;
 use wasmparser_payloads::payload::Payload;
 
 /// The index spaces of a valid module. Contracts see who made them, and what is known of the module.
@@ -50,11 +51,12 @@ impl Types {
         Types { id, state }
     }
 
-    // What is known before the first entry, under these features, by the validator of this name.
+    // What is known before the first entry, under these features, with a list without types, by the validator of this name.
     pub(crate) fn without_entries(alloc: Global, features: WasmFeatures, id: ValidatorId) -> Types
         ensures nothing { context result.state ≡ at_first }
         ensures no_types { held result.state ≡ [] }
         ensures features { features_of result.state ≡ feature_set features }
+        ensures grows { grows result.state ≡ true }
         ensures id { result.id ≡ id }
     {
         Types {
@@ -72,14 +74,42 @@ impl Types {
         self.state.state()
     }
 
-    // Judges a payload, and adds what it says. After a refusal nothing is known.
+    // Judges a payload, and adds what it says. After a refusal nothing is known, and the list has no types.
     pub(crate) fn add(&mut self, alloc: Global, payload: &Payload<'_>) -> Result<(), Error>
+        requires grows { grows self.old.state ≡ true }
         ensures added { AddsPiece (features_of self.old.state) (context self.old.state) (held self.old.state) (piece payload.now) result (context self.new.state) (held self.new.state) }
         ensures lost { IfErr result (λ _. (context self.new.state ≡ at_first) × (held self.new.state ≡ [])) }
         ensures features { features_of self.new.state ≡ features_of self.old.state }
+        ensures grows { grows self.new.state ≡ true }
         ensures id { self.new.id ≡ self.old.id }
     {
         self.state.add(alloc, payload)
+    }
+
+    // Gives what is known of a module that ends, with a copy of the list that doesn't grow, and goes on with the list and no module.
+    pub(crate) fn end_module(&mut self) -> Result<Types, AllocError>
+        ensures ended { IfOk result (IsEndOf self.old) }
+        ensures next { IfOk result (λ _. context self.new.state ≡ at_first) }
+        ensures kept { IfOk result (λ _. self.new.state.types ≡ record self.old.state.types { types = []; groups = 0 }) }
+        ensures refused { IfErr result (λ _. self.new ≡ self.old) }
+        ensures id { self.new.id ≡ self.old.id }
+    {
+        Ok(Types {
+            id: self.id,
+            state: self.state.end_module()?,
+        })
+    }
+
+    // Gives the list of types, and goes on with one without types and without a module.
+    pub(crate) fn take_list(&mut self, alloc: Global) -> ModuleTypes
+        ensures list { result ≡ self.old.state.types }
+        ensures nothing { context self.new.state ≡ at_first }
+        ensures no_types { held self.new.state ≡ [] }
+        ensures features { features_of self.new.state ≡ features_of self.old.state }
+        ensures grows { grows self.new.state ≡ true }
+        ensures id { self.new.id ≡ self.old.id }
+    {
+        self.state.take_list(alloc)
     }
 
     /// The index spaces, borrowed.

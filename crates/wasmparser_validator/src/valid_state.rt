@@ -1,21 +1,23 @@
 //! What is known of a module after entries that keep all rules and limits.
 
-ghost use Rattle.std.specs.Prelude.{◌≡◌, [], IfErr};
+ghost use Rattle.std.specs.Prelude.{◌≡◌, [], IfErr, IfOk, false, true};
 ghost use Rattle.wasm_core_base.specs.Features.{feature_set};
 ghost use Rattle.wasm_validity.specs.Context.{at_first};
-ghost use Rattle.wasmparser_module_state.specs.History.{held};
+ghost use Rattle.wasmparser_module_state.specs.History.{grows, held};
 ghost use Rattle.wasmparser_module_state.specs.State.{context, features_of};
 ghost use Rattle.wasmparser_payloads.specs.Parsing.{piece};
 ghost use Rattle.wasmparser_sections.specs.PieceJudging.{AddsPiece};
 ghost use Rattle.wasmparser_validator.specs.Bodies.{AreNamed};
 ghost use Rattle.wasmparser_validator.specs.KnownSpaces.{CanBeShown, IsReached};
 
-use std::alloc::Global;
+use std::alloc::{AllocError, Global};
 use std::marker::Model;
+use std::mem;
 use wasm_core_base::features::WasmFeatures;
 use wasm_validity_laws::laws::{named_functions, named_types};
 use wasmparser_error::error::Error;
 use wasmparser_module_state::module_state::ModuleState;
+use wasmparser_module_types::module_types::ModuleTypes;
 use wasmparser_payloads::payload::Payload;
 use wasmparser_sections::payload::add_payload;
 
@@ -40,12 +42,13 @@ impl Model for ValidState {
 }
 
 impl ValidState {
-    // What is known before the first entry, under these features.
+    // What is known before the first entry, under these features, with a list without types.
     #[tactic(auto, using(crate::proofs::ReachedLaws::reached_first))]
     pub(crate) fn new(alloc: Global, features: WasmFeatures) -> ValidState
         ensures nothing { context result ≡ at_first }
         ensures no_types { held result ≡ [] }
         ensures features { features_of result ≡ feature_set features }
+        ensures grows { grows result ≡ true }
     {
         ValidState {
             state: ModuleState::new(alloc, features),
@@ -72,20 +75,49 @@ impl ValidState {
         &self.state
     }
 
-    // Judges a payload, and adds what it says. After a refusal nothing is known.
+    // Judges a payload, and adds what it says. After a refusal nothing is known, and the list has no types.
     #[tactic(auto, using(crate::proofs::ReachedLaws::next_steps))]
     pub(crate) fn add(&mut self, alloc: Global, payload: &Payload<'_>) -> Result<(), Error>
+        requires grows { grows self.old ≡ true }
         ensures added { AddsPiece (features_of self.old) (context self.old) (held self.old) (piece payload.now) result (context self.new) (held self.new) }
         ensures lost { IfErr result (λ _. (context self.new ≡ at_first) × (held self.new ≡ [])) }
         ensures features { features_of self.new ≡ features_of self.old }
+        ensures grows { grows self.new ≡ true }
     {
         let features = self.state.features();
         match add_payload(alloc, &mut self.state, payload) {
             Ok(()) => Ok(()),
             Err(error) => {
-                self.state = ModuleState::new(alloc, features);
+                // (dropped by a call, which is cheaper to prove)
+                drop(mem::replace(&mut self.state, ModuleState::new(alloc, features)));
                 Err(error)
             }
         }
+    }
+
+    // Gives what is known of a module that ends, with a copy of the list that doesn't grow, and goes on with the list and no module.
+    #[tactic(auto, using(crate::proofs::ReachedLaws::end_steps))]
+    pub(crate) fn end_module(&mut self) -> Result<ValidState, AllocError>
+        ensures ended { IfOk result (λ ended. (context ended ≡ context self.old) × (ended.types ≡ record self.old.types { grows = false })) }
+        ensures next { IfOk result (λ _. context self.new ≡ at_first) }
+        ensures kept { IfOk result (λ _. self.new.types ≡ record self.old.types { types = []; groups = 0 }) }
+        ensures refused { IfErr result (λ _. self.new ≡ self.old) }
+    {
+        Ok(ValidState {
+            state: self.state.end_module()?,
+        })
+    }
+
+    // Gives the list of types, and goes on with one without types and without a module.
+    #[tactic(auto, using(crate::proofs::ReachedLaws::reached_first))]
+    pub(crate) fn take_list(&mut self, alloc: Global) -> ModuleTypes
+        ensures list { result ≡ self.old.types }
+        ensures nothing { context self.new ≡ at_first }
+        ensures no_types { held self.new ≡ [] }
+        ensures features { features_of self.new ≡ features_of self.old }
+        ensures grows { grows self.new ≡ true }
+    {
+        let none = ModuleState::new(alloc, self.state.features());
+        mem::replace(&mut self.state, none).into_types()
     }
 }

@@ -8,10 +8,12 @@ ghost use Rattle.wasmparser_payloads.specs.Parsing.{piece};
 ghost use Rattle.wasmparser_payloads.specs.Pieces as pieces;
 ghost use Rattle.wasmparser_validator.specs.Functions.{HasFunction};
 ghost use Rattle.wasmparser_validator.specs.Judges.{EndsModule, GivesFunction, IsOutOfOrder, JudgesAll, JudgesPayload, JudgesPiece, Opens, ShowsAll, after_piece, agrees, follows_bodies, is_in_body, is_middle, agrees_with_stated, judge, may_begin, place_of, stage_after_all, waiting, waits_for};
+ghost use Rattle.wasmparser_validator.specs.KnownSpaces.{IsEndOf};
 ghost use Rattle.wasmparser_validator.specs.Validation.{IsValidated};
 ghost use Rattle.wasmparser_validator.specs.declared.validator.Stage.TheVariants as stages;
 
 use crate::func::{FuncToValidate, ValidatorResources};
+use crate::growing_types::GrowingTypes;
 use crate::modules::validate_module;
 use crate::types::{Types, TypesRef};
 use crate::valid_payload::ValidPayload;
@@ -58,13 +60,14 @@ pub struct NotEnded;
 
 /// Judges a module that it is handed piece by piece. The order of sections is the parser's matter, but for bodies and what may follow them. After a refusal
 /// up to a module's end it answers `Failed` to every call; after the end, `Order`, until it is made ready for another module by [`reset`](Validator::reset).
+/// The types of modules that have ended stay in its list, so that equal types of all of its modules have one id where types are canonicalized.
 ///
 /// A section call answers `Order` where no section is waited for, `Failed` after a refusal, `Malformed` where the items don't read, `Invalid` and `Limit` where
-/// they break a rule or pass a limit, each at a place of the section, and `Memory` where memory runs out.
+/// they break a rule or pass a limit, `Total` where the list has no room for a group, each at a place of the section, and `Memory` where memory runs out.
 #[derive(Drop)]
 pub struct Validator {
     alloc: Global,
-    types: Types,
+    types: GrowingTypes,
     stage: Stage,
     bodies: usize,
     data_count: Option<u32>,
@@ -113,12 +116,15 @@ fn stage_after(verdict: &Result<Types, Error>) -> Stage
 /// Validates the bytes of a module under the default features, by a validator whose name is the number 0.
 ///
 /// # Errors
-/// Those of [`validate_module`].
+/// Those of [`Validator::validate_all`] but `Total`, `Order` and `Failed`.
 pub fn validate(alloc: Global, bytes: &[u8]) -> Result<Types, Error>
-    ensures validated { IsValidated default_features bytes.now result }
+    ensures validated { IsValidated default_features [] bytes.now result }
     ensures id { IfOk result (λ types. types.id ≡ 0) }
 {
-    validate_module(alloc, bytes, WasmFeatures::default(), ValidatorId::new(0))
+    let mut validator = Validator::new(alloc, ValidatorId::new(0));
+    let verdict = validator.validate_all(bytes);
+    drop(validator);
+    verdict
 }
 
 /// Whether a refusal of this kind is one of a body, of a module that is fine otherwise.
@@ -155,7 +161,7 @@ impl Validator {
     {
         Validator {
             alloc,
-            types: Types::without_entries(alloc, features, id),
+            types: GrowingTypes::new(alloc, features, id),
             stage: Stage::Header,
             bodies: 0,
             data_count: None,
@@ -173,16 +179,18 @@ impl Validator {
     pub fn id(&self) -> ValidatorId
         ensures { result ≡ (judge self.now).id }
     {
-        self.types.as_ref().id()
+        self.types.id()
     }
 
-    // Waits for something, and knows of no module.
+    // Waits for something, knows of no module, and holds no types.
     fn wait_for(&mut self, stage: Stage)
         ensures { judge self.new ≡ waiting (judge self.old) stage }
     {
         let features = self.features();
         let id = self.id();
-        self.types = Types::without_entries(self.alloc, features, id);
+        let next = GrowingTypes::new(self.alloc, features, id);
+        // (dropped by a call, which is cheaper to prove)
+        drop(mem::replace(&mut self.types, next));
         self.stage = stage;
         self.bodies = 0;
         self.data_count = None;
@@ -335,19 +343,13 @@ impl Validator {
         }
     }
 
-    // Hands on what is known of a module that has ended, and waits for another one.
-    fn take_types(&mut self) -> Types
-        ensures all { result ≡ self.old.types }
-        ensures after { judge self.new ≡ waiting (judge self.old) stages.End }
+    // Waits for something else; bodies and the stated count begin anew.
+    fn go_to(&mut self, stage: Stage)
+        ensures { judge self.new ≡ record (judge self.old) { stage = stage; bodies = 0; stated = None } }
     {
-        let features = self.features();
-        let id = self.id();
-        let ended = mem::replace(
-            &mut self.types,
-            Types::without_entries(self.alloc, features, id),
-        );
-        self.wait_for(Stage::End);
-        ended
+        self.stage = stage;
+        self.bodies = 0;
+        self.data_count = None;
     }
 
     /// Begins a module, of this version of the format.
@@ -536,14 +538,23 @@ impl Validator {
     ///
     /// # Errors
     /// `Malformed` where there are more functions than bodies, or another number of data segments than was stated; `Order` where no module has begun or
-    /// it has ended, `Failed` after a refusal.
+    /// it has ended, `Failed` after a refusal; `Memory` where memory runs out.
     #[tactic(auto, unfolding(wasmparser_payloads::specs::Parsing::piece))]
     pub fn end(&mut self, offset: u64) -> Result<Types, Error>
         ensures ended { EndsModule (judge self.old) offset result (judge self.new) }
-        ensures shown { IfOk result (λ shown. shown ≡ self.old.types) }
+        ensures shown { IfOk result (IsEndOf self.old.types) }
     {
         self.open(&Payload::End(offset))?;
-        Ok(self.take_types())
+        match self.types.end_module() {
+            Ok(ended) => {
+                self.go_to(Stage::End);
+                Ok(ended)
+            }
+            Err(error) => {
+                self.wait_for(Stage::Failed);
+                Err(Error::from(error))
+            }
+        }
     }
 
     /// Judges a payload: its section, or that it may come. It gives the function of a body, which is still to be validated, and at the end what is shown
@@ -579,12 +590,12 @@ impl Validator {
         ensures shown { IfSome result (λ shown. shown.types.now ≡ self.now.types) }
     {
         match self.stage {
-            Stage::Sections | Stage::Code if level == 0 => Some(self.types.as_ref()),
+            Stage::Sections | Stage::Code if level == 0 => Some(self.types.types().as_ref()),
             _ => None,
         }
     }
 
-    /// Makes ready for another module, with the same name and features.
+    /// Makes ready for another module, with the same name, features and list of types.
     ///
     /// # Errors
     /// In the middle of a module, and after any refusal up to its end: then nothing changes.
@@ -603,18 +614,20 @@ impl Validator {
     }
 
     /// Validates the bytes of a module, bodies after all sections, and shows the index spaces of a valid one. After a refusal of a body the validator can be
-    /// made ready for another module.
+    /// made ready for another module. The types of a module that is valid, or refused in a body, stay in the validator's list; any other refusal empties it.
     ///
     /// # Errors
-    /// Those of [`validate_module`]; `Order` at 0 where a module has begun or the last one has ended, `Failed` at 0 after another refusal.
+    /// `Malformed` where the bytes are no module. `Invalid` and `Limit` where what stands at their front breaks a rule or passes a limit. `Total` where the list has no
+    /// room for a group there. `Operator`, `Body` and the limit on locals, where all else is fine, for a body. `Memory` where memory runs out. `Order` at 0 where a
+    /// module has begun or the last one has ended, `Failed` at 0 after another refusal.
     pub fn validate_all(&mut self, bytes: &[u8]) -> Result<Types, Error>
         ensures { JudgesAll (judge self.old).stage (judge self.old) bytes.now result (judge self.new) }
     {
         if self.stage != Stage::Header {
             return Err(self.refuse_order(0));
         }
-        let verdict = validate_module(self.alloc, bytes, self.features(), self.id());
-        self.wait_for(stage_after(&verdict));
+        let verdict = validate_module(self.alloc, &mut self.types, bytes);
+        self.go_to(stage_after(&verdict));
         verdict
     }
 }

@@ -1,5 +1,5 @@
-use Rattle.wasm_gen.proofs.AcceptedLaws.{memory_alone}
+use Rattle.wasm_gen.proofs.AcceptedLaws.{memory_alone, resources_alone}
 use Rattle.wasm_gen.proofs.laws.generated_is_accepted.Goals as goal
 
 pub returns : goal.returns
-returns c config seed bytes features id new e made are checks = memory_alone config seed bytes features id new e made are checks
+returns c = record { any = resources_alone; first = memory_alone }

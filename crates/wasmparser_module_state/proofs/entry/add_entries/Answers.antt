@@ -9,13 +9,13 @@ use Rattle.wasmparser_module_state.proofs.TypeCounts.{types_within}
 use Rattle.wasmparser_module_state.proofs.entry.add_entries.Goals as goal
 
 pub items-init : goal.items-init
-items-init g c = rw c.into_iter_with_offsets-items.ensures (begins_entered _ _ _ _ _, subst (λ n. n ≤ most Types) c.type_count.ensures.count c.type_count.ensures.few, refl)
+items-init g c = rw c.into_iter_with_offsets-items.ensures (begins_entered _ _ _ _ _, subst (λ n. n ≤ most Types) c.type_count.ensures.count c.type_count.ensures.few, refl, c.requires.grows)
 
 pub returns-in_err-offset-clause-added : goal.returns-in_err-offset-clause-added
 returns-in_err-offset-clause-added g c =
     let n = rw c.in_err-offset.was at c.in-Some.ensures.steps in
     let p = err_from_is_err_and c.from_residual.result c.from_residual.ensures.1 in
-    rw (p.1, p.2) (refused_read _ _ _ _ _ _ _ g.met.T.Entry.is_made _ _ _ _ c.items.invariant.0.0 c.items.invariant.1 _ n.0)
+    rw (p.1, p.2) (refused_read _ _ _ _ _ _ _ g.met.T.Entry.is_made _ _ _ _ _ c.items.invariant.0.0 c.items.invariant.1 _ n.0)
 
 pub items-preserved : goal.items-preserved
 items-preserved g c =
@@ -27,6 +27,7 @@ items-preserved g c =
       goes_on_entered _ _ _ _ _ _ _ _ _ _ _ (g.T.Entry.entry c.in_ok-offset.item) c.items.invariant.0 n.0.counted e n.0.goes_on accepts enters,
       subst (λ cx. length cx.types ≤ most Types) (sym accepts.known) (types_within _ _ accepts.limits c.items.invariant.1),
       c.in_ok-add.ensures.features ∙ c.items.invariant.2,
+      c.in_ok-add.ensures.grows,
     )
 
 pub returns-in_err-add-clause-added : goal.returns-in_err-add-clause-added
@@ -34,8 +35,8 @@ returns-in_err-add-clause-added g c =
     let n = rw c.in_ok-offset.was at c.in-Some.ensures.steps in
     let e = entry_read _ _ _ _ _ g.met.T.Entry.is_made _ _ c.in_ok-offset.item _ n.0.reads in
     let p = err_from_is_err_and c.from_residual-in_err-add.result c.from_residual-in_err-add.ensures.1 in
-    let named = subst (λ f. NamesEntry f (context c.items.state) (g.T.Entry.entry c.in_ok-offset.item) c.in_err-add.field-0.0.kind) c.items.invariant.2 c.in_err-add.ensures.added.0 in
-    rw (p.1, p.2) (refused_entry _ _ _ _ _ _ _ _ _ c.items.invariant.0.0 n.0.counted e _ _ _ n.0.place (named, c.in_err-add.ensures.added.1))
+    let named = subst (λ f. NamesEntry f (context c.items.state) (held c.items.state) (g.T.Entry.entry c.in_ok-offset.item) c.in_err-add.field-0.0.kind) c.items.invariant.2 c.in_err-add.ensures.added.0 in
+    rw (p.1, p.2) (refused_entry _ _ _ _ _ _ _ _ _ _ _ c.items.invariant.0 n.0.counted e _ _ _ n.0.place (named, c.in_err-add.ensures.added.1))
 
 pub returns-clause-added : goal.returns-clause-added
 returns-clause-added g c = fills _ _ _ _ _ _ _ _ c.items.invariant.0 c.in_default.ensures.steps.0

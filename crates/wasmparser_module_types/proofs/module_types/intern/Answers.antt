@@ -2,9 +2,11 @@ use Rattle.std.proofs.Common.{◌≡◌, true, refl}
 use Rattle.std.proofs.lemmas.Result.{IfErr-weaker, on_ok_weaker}
 use Rattle.wasm_core_base.specs.Features.{feature_set}
 use Rattle.wasm_spec.specs.Features.{needs_type_canonicalization}
-use Rattle.wasm_spec.specs.Trees.{types_of_group}
+use Rattle.wasm_spec.proofs.GroupTrees.{length-places_of}
+use Rattle.wasm_spec.specs.Syntax.{members}
+use Rattle.wasm_spec.specs.Trees.{tree_of, types_of_group}
 use Rattle.wasmparser_interning_laws.specs.IdTypes.{AreFoundByKey}
-use Rattle.wasmparser_module_types.proofs.AddedGroups.{of_module, still_knows}
+use Rattle.wasmparser_module_types.proofs.AddedGroups.{has_room_for, of_module, still_knows}
 use Rattle.wasmparser_module_types.proofs.EnteredGroups.{enters}
 use Rattle.wasmparser_module_types.proofs.Refusals.{refuses}
 use Rattle.wasmparser_module_types.specs.ModuleTypes.{all_groups, module_types}
@@ -49,8 +51,8 @@ returns-clause-knows c =
     (λ accepts.
     let valid = accepts.valid in
     let found : needs_type_canonicalization features ≡ true → AreFoundByKey all_groups new =
-    λ needs. c.context_stays.ensures.found all_groups features ids old new group valid.is_new accepts.number valid.interned (λ _. needs) (knows.found needs) in
-    still_knows features ids new_ids old new group knows told.agree told.grows told.earlier told.known accepts
+    λ needs. c.context_stays.ensures.found all_groups features ids old new group valid.is_new accepts.number valid.interned (λ _. needs) (knows.found needs c.requires.grows) in
+    still_knows features ids new_ids old new group told.agree told.earlier told.known
     (c.context_stays.ensures.no_module features ids old new group valid.is_new accepts.number it valid.interned) found
     (c.accepted_groups_are_well_formed.ensures.types all_groups features ids new_ids old new group it accepts refl) c.requires.room)
     told.accepted
@@ -72,10 +74,12 @@ returns-clause-entered c =
     let valid = accepts.valid in
     let no_module = c.context_stays.ensures.no_module features ids old new group valid.is_new accepts.number it valid.interned in
     let found : needs_type_canonicalization features ≡ true → AreFoundByKey all_groups new =
-    λ needs. c.context_stays.ensures.found all_groups features ids old new group valid.is_new accepts.number valid.interned (λ _. needs) (knows.found needs) in
+    λ needs. c.context_stays.ensures.found all_groups features ids old new group valid.is_new accepts.number valid.interned (λ _. needs) (knows.found needs c.requires.grows) in
     enters features old new (canonical_members ids group) valid.is_new accepts.number (module_types old ids) (types_of_group (module_types old ids) (in_section group)) ids new_ids knows.agree told.agree
     valid.interned no_module found told.known accepts.added (c.context_stays.ensures.types all_groups features ids ids old new group valid.is_new accepts.number it valid.interned knows.known)
-    (c.accepted_groups_are_well_formed.ensures.types all_groups features ids new_ids old new group it accepts refl))
+    (c.accepted_groups_are_well_formed.ensures.types all_groups features ids new_ids old new group it accepts refl)
+    (has_room_for old ids group (types_of_group (module_types old ids) (in_section group)) knows.agree valid.room
+    (length-places_of (tree_of (module_types old ids) (in_section group)) 0 (members (in_section group)))))
     told.accepted
 
 pub returns-clause-refused : goal.returns-clause-refused
@@ -93,6 +97,6 @@ returns-clause-refused c groups =
     (refuses features ids old new group c.args.offset knows c.requires.room (c.refused_groups_are_ill_formed.ensures.before_interning all_groups features ids old group unchanged)
     (λ is_new number internable interned.
     c.refused_groups_are_ill_formed.ensures.after_interning all_groups features ids old new group is_new number it internable interned
-    (record { own = refl; all = λ needs. c.context_stays.ensures.found all_groups features ids old new group is_new number interned (λ _. needs) (knows.found needs) }))
+    (record { own = refl; all = λ needs. c.context_stays.ensures.found all_groups features ids old new group is_new number interned (λ _. needs) (knows.found needs c.requires.grows) }))
     groups)
     call.ensures.refused

@@ -9,7 +9,7 @@ use Rattle.wasmparser_sections.proofs.ReadPieces.{begins, goes_on, refused, not_
 use Rattle.wasmparser_sections.proofs.sections.add_payloads.Goals as goal
 
 pub payloads-init : goal.payloads-init
-payloads-init c = rw (c.parse_all-payloads.ensures, c.set_features.ensures, c.features.ensures, c.new-parser.ensures) (begins _ _ _ _ _ _ c.requires.nothing c.requires.none c.requires.no_counts, refl)
+payloads-init c = rw (c.parse_all-payloads.ensures, c.set_features.ensures, c.features.ensures, c.new-parser.ensures) (begins _ _ _ _ _ _ c.requires.nothing c.requires.none c.requires.no_counts, refl, c.requires.grows)
 
 pub returns-in_err-payload-clause-read : goal.returns-in_err-payload-clause-read
 returns-in_err-payload-clause-read c =
@@ -24,6 +24,7 @@ payloads-preserved c =
     let says = subst (λ f. Says f (context c.payloads.state) (held c.payloads.state) (piece c.in_ok-payload.payload) (context c.add_payload.new.state) (held c.add_payload.new.state)) c.payloads.invariant.1 c.in_ok-add_payload.ensures.added in (
       goes_on _ _ _ _ _ _ _ _ _ _ _ _ _ _ c.payloads.invariant.0 n says c.in_ok-keep.ensures.bodies c.in_ok-keep.ensures.counts,
       c.in_ok-add_payload.ensures.features ∙ c.payloads.invariant.1,
+      c.in_ok-add_payload.ensures.grows,
     )
 
 pub returns-in_err-add_payload-clause-read : goal.returns-in_err-add_payload-clause-read

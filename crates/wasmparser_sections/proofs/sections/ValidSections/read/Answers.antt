@@ -10,4 +10,4 @@ returns-then-not-counts_agree-clause-refused c =
 pub returns-clause-accepted : goal.returns-clause-accepted
 returns-clause-accepted c =
     let yes : c.counts_agree.result ≡ true = search (rules) in
-    accepted _ _ _ _ c.in_ok-add_payloads.ensures.read c.requires.no_types c.add_payloads.ensures.features (c.counts_agree.ensures.0 yes)
+    accepted _ _ _ _ c.in_ok-add_payloads.ensures.read c.add_payloads.ensures.grows c.add_payloads.ensures.features (c.counts_agree.ensures.0 yes)

@@ -1,7 +1,7 @@
 use Rattle.std.proofs.Common.{◌≡◌, false, length}
 use Rattle.wasm_gen.specs.CheckInputs.{Validates, beginning}
 use Rattle.wasm_gen.specs.Device.{WritesOn}
-use Rattle.wasm_gen.proofs.check_inputs.check_inputs.Given as goal
+use Rattle.wasm_gen.proofs.check_inputs.check_all.Given as goal
 
 -- each input that was met has come to its outcome, the session validates the next one, and no write has failed
 abbrev pub invariant-loop-place : goal.invariant-loop-place

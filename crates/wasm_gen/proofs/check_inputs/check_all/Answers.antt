@@ -1,14 +1,14 @@
 use Rattle.std.proofs.Common.{◌∙◌, inl, inr, length, sym, ap, arith}
 use Rattle.wasm_gen.proofs.CheckInputsLaws.{none_met, another_met, last_met, one_longer}
 use Rattle.wasm_gen.proofs.WriteLaws.{writes_go_on, last_write_fails, none_written}
-use Rattle.wasm_gen.proofs.check_inputs.check_inputs.Goals as goal
-use Rattle.wasm_gen.proofs.check_inputs.check_inputs.Goals.{else-loop-place-test, then-loop-place-test+in_ok-push+then-ends_run}
+use Rattle.wasm_gen.proofs.check_inputs.check_all.Goals as goal
+use Rattle.wasm_gen.proofs.check_inputs.check_all.Goals.{else-loop-place-test, then-loop-place-test+in_ok-push+then-ends_run}
 
 pub loop-place-init : goal.loop-place-init
 loop-place-init g c = record {
-  ready = ap (λ h. h.has_failed) c.first_session-session.ensures;
+  ready = ap (λ h. h.has_failed) c.requires;
   each = ap length c.in_ok-outcomes.ensures.items;
-  validated = none_met _ _ _ _ c.in_ok-outcomes.ensures.items c.first_session-session.ensures;
+  validated = none_met _ _ _ _ c.in_ok-outcomes.ensures.items c.requires;
   wrote = none_written _;
 }
 

@@ -1,0 +1,276 @@
+//! The types of many modules in one session: what their ids are, and how many there is room for.
+
+use crate::modules::{answers, module_of, new_session, parts_of};
+use std::alloc::Global;
+use std::test::Fail;
+use wasm_core::features::{Flags, WasmFeatures};
+use wasm_gen::judge::{ErrorKind, TypesRef, ValidatorId};
+use wasm_gen::session::Session;
+use wasm_test_rows::fields::{is_row, two_fields};
+use wasm_test_rows::rows::check_rows;
+
+// Modules: the letters of their groups, and their sections. Those of `e`, `f` and `g` have two types, which stand alone in others. One with a `!` has a function
+// whose body is refused, after which its groups stay in the list.
+const MODULES: &str = "
+    a       | 01 04 01 600000
+    b       | 01 06 01 60017f017c
+    c       | 01 03 01 5f00
+    d       | 01 04 01 5e7f00
+    e       | 01 08 01 4e025f005e7f00
+    f       | 01 0b 01 4e0260000060017f017c
+    g       | 01 07 01 4e025f005f00
+    aa      | 01 07 02 600000 600000
+    ab      | 01 09 02 600000 60017f017c
+    ba      | 01 09 02 60017f017c 600000
+    ce      | 01 0a 02 5f00 4e025f005e7f00
+    ec      | 01 0a 02 4e025f005e7f00 5f00
+    bfb     | 01 15 03 60017f017c 4e0260000060017f017c 60017f017c
+    gcg     | 01 0f 03 4e025f005f00 5f00 4e025f005f00
+    fga     | 01 14 03 4e0260000060017f017c 4e025f005f00 600000
+    abcdefg | 01 25 07 600000 60017f017c 5f00 5e7f00 4e025f005e7f00 4e0260000060017f017c 4e025f005f00
+    gfedcba | 01 25 07 4e025f005f00 4e0260000060017f017c 4e025f005e7f00 5e7f00 5f00 60017f017c 600000
+    a!      | 01 04 01 600000 functions 0a03010100
+    bc!     | 01 08 02 60017f017c 5f00 functions 0a03010100
+    agf!    | 01 14 03 600000 4e025f005f00 4e0260000060017f017c functions 0a03010100
+";
+
+// The same of modules that are valid under features of the first version.
+const FUNCTIONS: &str = "
+    a       | 01 04 01 600000
+    b       | 01 06 01 60017f017c
+    aa      | 01 07 02 600000 600000
+    ab      | 01 09 02 600000 60017f017c
+    a!      | 01 04 01 600000 functions 0a03010100
+    bab!    | 01 0e 03 60017f017c 600000 60017f017c functions 0a03010100
+";
+
+// How many types a group has.
+fn size_of(letter: u8) -> u32 {
+    if letter < b'e' { 1 } else { 2 }
+}
+
+fn is_refused(module: &str) -> bool {
+    module.ends_with('!')
+}
+
+// The letters of a module's groups.
+fn groups_of(module: &str) -> &[u8] {
+    module.trim_end_matches('!').as_bytes()
+}
+
+// The groups that a session has met: the first id of each, where it is one, and the id that comes next.
+#[derive(Drop)]
+struct Met {
+    are_one: bool,
+    first: [Option<u32>; 7],
+    next: u32,
+}
+
+impl Met {
+    fn new(are_one: bool) -> Met {
+        Met {
+            are_one,
+            first: [None; 7],
+            next: 0,
+        }
+    }
+
+    // The first id of a group that comes now.
+    fn enter(&mut self, letter: u8) -> Option<u32> {
+        let known = self.first.get_mut(usize::from(letter.checked_sub(b'a')?))?;
+        if let Some(id) = *known {
+            return Some(id);
+        }
+        let id = self.next;
+        self.next = id.checked_add(size_of(letter))?;
+        if self.are_one {
+            *known = Some(id);
+        }
+        Some(id)
+    }
+
+    // Enters the groups of a module that was refused; whether that was for its body.
+    fn enter_all(&mut self, groups: &[u8], kind: ErrorKind) -> Option<bool> {
+        for letter in groups {
+            let _ = self.enter(*letter)?;
+        }
+        Some(kind == ErrorKind::Body)
+    }
+
+    // Whether the types of these groups have the ids that they are to have.
+    fn agrees(&mut self, types: TypesRef<'_>, groups: &[u8]) -> Option<bool> {
+        let mut place = 0u32;
+        for letter in groups {
+            let first = self.enter(*letter)?;
+            for i in 0..size_of(*letter) {
+                if place >= types.core_type_count_in_module() {
+                    return Some(false);
+                }
+                let id = types.core_type_at_in_module(place);
+                if id.index() != first.checked_add(i)? as usize {
+                    return Some(false);
+                }
+                place = place.checked_add(1)?;
+            }
+        }
+        Some(place == types.core_type_count_in_module())
+    }
+}
+
+// Whether the session answers on a row's module as it is to.
+fn is_met(alloc: Global, session: &mut Session, met: &mut Met, row: &str) -> Option<bool> {
+    let (module, sections) = two_fields(row)?;
+    let bytes = module_of(alloc, sections)?;
+    let verdict = session.check(&bytes);
+    let holds = match &verdict {
+        Ok(types) => met.agrees(types.as_ref(), groups_of(module)),
+        Err(error) => met.enter_all(groups_of(module), error.kind),
+    };
+    let is_yes = verdict.is_ok();
+    drop(verdict);
+    Some(holds? && is_yes != is_refused(module))
+}
+
+// Whether a session answers so on three modules, one after the other.
+fn are_all_met(
+    alloc: Global,
+    session: &mut Session,
+    met: &mut Met,
+    modules: [&str; 3],
+) -> Option<bool> {
+    for module in modules {
+        if !is_met(alloc, session, met, module)? {
+            return Some(false);
+        }
+    }
+    Some(true)
+}
+
+// The same of a new session.
+fn are_met(alloc: Global, features: WasmFeatures, modules: [&str; 3]) -> Option<bool> {
+    let mut session = Session::new(alloc, features, ValidatorId::new(0));
+    let mut met = Met::new(features.needs_type_canonicalization());
+    let holds = are_all_met(alloc, &mut session, &mut met, modules);
+    drop(session);
+    holds
+}
+
+// In how many orders of three modules of a table, of which this is the first, the answers are as they are to be.
+fn count_after(alloc: Global, features: WasmFeatures, table: &str, first: &str) -> usize {
+    let mut count = 0usize;
+    for second in table.lines() {
+        for third in table.lines() {
+            let modules = [first, second, third];
+            if is_row(second) && is_row(third) && are_met(alloc, features, modules) == Some(true) {
+                count = count.saturating_add(1);
+            }
+        }
+    }
+    count
+}
+
+fn equal_types_have_one_id(alloc: Global, first: &str) -> Option<bool> {
+    let features = WasmFeatures::default().union(WasmFeatures::GC);
+    Some(count_after(alloc, features, MODULES, first) == 400)
+}
+
+// Features under which each definition is a type of its own.
+fn features_of_own_ids() -> WasmFeatures {
+    let canonical = WasmFeatures::GC
+        .union(WasmFeatures::FUNCTION_REFERENCES)
+        .union(WasmFeatures::STACK_SWITCHING);
+    WasmFeatures::default().difference(canonical)
+}
+
+fn each_definition_has_an_id(alloc: Global, first: &str) -> Option<bool> {
+    Some(count_after(alloc, features_of_own_ids(), FUNCTIONS, first) == 36)
+}
+
+#[test]
+fn types_have_their_ids_in_each_order_of_modules(rt: HostRuntime) -> Result<(), Fail> {
+    check_rows(rt.alloc(), MODULES, 20, equal_types_have_one_id)?;
+    Ok(check_rows(rt.alloc(), FUNCTIONS, 6, each_definition_has_an_id)?)
+}
+
+// Whether a session answers so on modules of function types that are all kept.
+fn is_full(alloc: Global, session: &mut Session, types: &str, expected: &str) -> Option<bool> {
+    let bytes = parts_of(alloc, types)?;
+    Some(answers(alloc, session, &bytes, expected))
+}
+
+// Whether a list holds 1,048,576 types, and no more.
+fn fills_up(alloc: Global, session: &mut Session) -> Option<bool> {
+    let million = "header 01 c38db701 c0843d 600000*1000000";
+    let others = "header 01 c3f208 c0fb02 600000*48576";
+    let one = "header types";
+    let holds = is_full(alloc, session, million, "yes")?
+        && is_full(alloc, session, others, "yes")?
+        && is_full(alloc, session, one, "Total")?
+        && is_full(alloc, session, one, "Failed")?;
+    session.restart(ValidatorId::new(1));
+    Some(holds && is_full(alloc, session, one, "yes")?)
+}
+
+// The same of groups that are held already.
+fn fills_up_by_known_groups(alloc: Global, session: &mut Session) -> Option<bool> {
+    let million = "header 01 85897a 01 4ec0843d 5f00*1000000";
+    let others = "header 01 85f705 01 4ec0fb02 5f00*48576";
+    Some(
+        is_full(alloc, session, million, "yes")?
+            && is_full(alloc, session, others, "yes")?
+            && is_full(alloc, session, others, "Total")?,
+    )
+}
+
+#[test]
+fn list_of_types_fills_up(rt: HostRuntime) {
+    let mut session = Session::new(rt.alloc(), features_of_own_ids(), ValidatorId::new(0));
+    let holds = fills_up(rt.alloc(), &mut session);
+    drop(session);
+    assert!(rt; holds == Some(true));
+}
+
+#[test]
+fn known_groups_find_no_room_either(rt: HostRuntime) {
+    let features = WasmFeatures::default().union(WasmFeatures::GC);
+    let mut session = Session::new(rt.alloc(), features, ValidatorId::new(0));
+    let holds = fills_up_by_known_groups(rt.alloc(), &mut session);
+    drop(session);
+    assert!(rt; holds == Some(true));
+}
+
+// Whether the types of a module are what they were, and know no id of a later one.
+fn stay(first: TypesRef<'_>, second: TypesRef<'_>) -> bool {
+    if first.core_type_count_in_module() != 1 || second.core_type_count_in_module() != 2 {
+        return false;
+    }
+    let new = second.core_type_at_in_module(0);
+    let known = second.core_type_at_in_module(1);
+    first.core_type_at_in_module(0) == known
+        && first.get(known).is_some()
+        && first.get(new).is_none()
+        && second.get(new).is_some()
+}
+
+// Whether the types of one module are kept while the session checks another.
+fn keeps_types(alloc: Global, session: &mut Session) -> Option<bool> {
+    let one = module_of(alloc, "01 06 01 60017f017c")?;
+    let both = module_of(alloc, "01 09 02 600000 60017f017c")?;
+    let first = session.check(&one);
+    let second = session.check(&both);
+    let holds = match (&first, &second) {
+        (Ok(first), Ok(second)) => stay(first.as_ref(), second.as_ref()),
+        _ => false,
+    };
+    drop(first);
+    drop(second);
+    Some(holds)
+}
+
+#[test]
+fn types_are_kept(rt: HostRuntime) {
+    let mut session = new_session(rt.alloc());
+    let holds = keeps_types(rt.alloc(), &mut session);
+    drop(session);
+    assert!(rt; holds == Some(true));
+}

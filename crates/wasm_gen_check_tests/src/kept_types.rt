@@ -58,6 +58,22 @@ fn groups_of(module: &str) -> &[u8] {
     module.trim_end_matches('!').as_bytes()
 }
 
+// Whether the type at a place has this id, and its group these many ids from the first one on.
+fn is_of_group(types: TypesRef<'_>, place: u32, id: u32, first: u32, size: u32) -> Option<bool> {
+    if place >= types.core_type_count_in_module() {
+        return Some(false);
+    }
+    let found = types.core_type_at_in_module(place);
+    let mut next = first;
+    for element in types.rec_group_elements(types.rec_group_id_of(found)) {
+        if element.index() != next as usize {
+            return Some(false);
+        }
+        next = next.checked_add(1)?;
+    }
+    Some(found.index() == id as usize && next == first.checked_add(size)?)
+}
+
 // The groups that a session has met: the first id of each, where it is one, and the id that comes next.
 #[derive(Drop)]
 struct Met {
@@ -103,11 +119,8 @@ impl Met {
         for letter in groups {
             let first = self.enter(*letter)?;
             for i in 0..size_of(*letter) {
-                if place >= types.core_type_count_in_module() {
-                    return Some(false);
-                }
-                let id = types.core_type_at_in_module(place);
-                if id.index() != first.checked_add(i)? as usize {
+                let size = size_of(*letter);
+                if !is_of_group(types, place, first.checked_add(i)?, first, size)? {
                     return Some(false);
                 }
                 place = place.checked_add(1)?;

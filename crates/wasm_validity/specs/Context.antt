@@ -1,18 +1,20 @@
 -- What is known after some entries of a module. Core Specification 3.0, Validation, "Conventions" (contexts) and "Modules". Types of items are
 -- kept as they are written, over type indexes; what an index stands for is in the context too.
 use Rattle.std.specs.Prelude.{ℕ, suc, false, ◌+◌, List, [], ◌∷◌, ◌++◌, length, Option, Some, None, map, slice_get}
-use Rattle.wasm_spec.specs.Syntax.{Export, ElementItems, FunctionItems, ExpressionItems, imported_by}
+use Rattle.wasm_spec.specs.Syntax.{Export, ElementItems, FunctionItems, ExpressionItems, ImportEntry, Import, CompactItems, CompactNames, imported_by}
 use Rattle.wasm_spec.specs.Trees.{DefType, types_after}
-use Rattle.wasm_spec.specs.Types.{Func, Abstract, RefType, MemoryType, TableType, GlobalType, ExternalType, FuncExternal, TableExternal, MemoryExternal, GlobalExternal, TagExternal, ExternalKind, FuncKind, TableKind, MemoryKind, GlobalKind, TagKind, FuncType}
+use Rattle.wasm_spec.specs.Types.{Func, Abstract, RefType, MemoryType, TableType, GlobalType, ExternalType, FuncExternal, TableExternal, MemoryExternal, GlobalExternal, TagExternal, ExternalKind, FuncKind, TableKind, MemoryKind, GlobalKind, TagKind, FuncType, kind_of}
 use Rattle.wasm_validity.specs.DefinedTypes.{func_type_at}
 use Rattle.wasm_validity.specs.Entries.{Entry, OfCustom, OfType, OfImport, OfFunction, OfTable, OfMemory, OfTags, OfTag, OfGlobal, OfExport, OfStart, OfElement, OfDataCount, OfBody, OfData}
+use Rattle.wasm_validity.specs.ImportedItems.{Imported, with_imports}
 
--- The index spaces, in which imported items stand first, the exports, and what else limits count: the entries of type and import sections, data
--- segments, and the size of the types of all imports and exports.
+-- The index spaces, in which imported items stand first, the imports by their names, the exports, and what else limits count: the entries of type and
+-- import sections, data segments, and the size of the types of all imports and exports.
 pub record Context : Type 0 where
   pub types : List DefType
   pub groups : ℕ
   pub imports : ℕ
+  pub imported : List Imported
   -- the type index of each function, of the imported ones and of the module's own
   pub imported_functions : List ℕ
   pub own_functions : List ℕ
@@ -33,6 +35,7 @@ at_first = record {
   types = [];
   groups = 0;
   imports = 0;
+  imported = [];
   imported_functions = [];
   own_functions = [];
   tables = [];
@@ -108,11 +111,45 @@ abbrev pub after_items : Context → List (ExternalType ℕ) → Context
 after_items cx [] = cx
 after_items cx (type ∷ types) = after_items (after_item cx type) types
 
+-- ---- imports by their names
+
+-- how many items of a kind are imported, or where imported ones don't stand first, how many there are
+abbrev pub next_index : Context → ExternalKind → ℕ
+next_index cx FuncKind = length cx.imported_functions
+next_index cx TableKind = length cx.tables
+next_index cx MemoryKind = length cx.memories
+next_index cx GlobalKind = length cx.imported_globals
+next_index cx TagKind = length cx.tags
+
+-- an import of these two names, which is the next item of its kind
+abbrev pub next_import : Context → List ℕ → List ℕ → ExternalType ℕ → Imported
+next_import cx origin name type = record { origin = origin; name = name; kind = kind_of type; index = next_index cx (kind_of type) }
+
+-- items by their names, each after those before it
+abbrev pub next_imports : Context → List ℕ → List (List ℕ) → List (ExternalType ℕ) → List Imported
+next_imports cx origin (name ∷ names) (type ∷ types) = next_import cx origin name type ∷ next_imports (after_item cx type) origin names types
+next_imports cx origin names types = []
+
+-- the name of the module that an entry imports from, and the names of what it imports
+abbrev pub origin_of : ImportEntry → List ℕ
+origin_of (Import origin name type) = origin
+origin_of (CompactItems origin items) = origin
+origin_of (CompactNames origin type names) = origin
+
+abbrev pub item_names : ImportEntry → List (List ℕ)
+item_names (Import origin name type) = name ∷ []
+item_names (CompactItems origin items) = map (λ item. item.name) items
+item_names (CompactNames origin type names) = names
+
+-- the imports of an entry
+abbrev pub imports_of : Context → ImportEntry → List Imported
+imports_of cx entry = next_imports cx (origin_of entry) (item_names entry) (imported_by entry)
+
 -- What is known after an entry that keeps its rule.
 abbrev pub after : Context → Entry → Context
 after cx (OfCustom name) = cx
 after cx (OfType group) = record cx { types = types_after cx.types group; groups = suc cx.groups }
-after cx (OfImport entry) = after_items (record cx { imports = suc cx.imports }) (imported_by entry)
+after cx (OfImport entry) = record (after_items (record cx { imports = suc cx.imports }) (imported_by entry)) { imported = with_imports cx.imported (imports_of cx entry) }
 after cx (OfFunction index) = record cx { own_functions = cx.own_functions ++ index ∷ [] }
 after cx (OfTable table) = record cx { tables = cx.tables ++ table.type ∷ [] }
 after cx (OfMemory type) = record cx { memories = cx.memories ++ type ∷ [] }

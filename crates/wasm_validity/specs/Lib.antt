@@ -5,6 +5,7 @@ pub mod DefinedTypes
 pub mod Entries
 pub mod Examples
 pub mod Fronts
+pub mod ImportedItems
 pub mod IndexSpaces
 pub mod Rules
 pub mod TypeRules

@@ -1,4 +1,5 @@
 pub mod InTurn
+mod KnownImports
 pub mod Named
 pub mod NamedTypes
 pub mod Spaces

@@ -1,1 +1,2 @@
+pub mod KnownImports
 pub mod NamedTypes

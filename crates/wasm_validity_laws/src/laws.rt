@@ -1,5 +1,6 @@
 //! Laws of entries that keep the rules. The functions do nothing: their contracts are theorems.
 
+ghost use Rattle.std.specs.List.{AllByRecursion};
 ghost use Rattle.std.specs.Prelude.{◌≡◌, ◌↔◌, ◌++◌, ℕ, List, Some, is_some, slice_get, true};
 ghost use Rattle.wasm_spec.specs.Features.{Features};
 ghost use Rattle.wasm_spec.specs.Limits.{Limit};
@@ -11,6 +12,7 @@ ghost use Rattle.wasm_validity.specs.Entries.{Entry};
 ghost use Rattle.wasm_validity.specs.IndexSpaces.{sizes_in, spaces_in, spaces_of};
 ghost use Rattle.wasm_validity.specs.Rules.{KeepLimits, KeepRules, PassLimit};
 ghost use Rattle.wasm_validity.specs.Validity.{context_of};
+ghost use Rattle.wasm_validity_laws.specs.KnownImports.{IsThere};
 ghost use Rattle.wasm_validity_laws.specs.NamedTypes.{NamesTypes};
 
 /// Entries keep the rules and limits one after the other: those at the front do, and then those after them in their
@@ -40,4 +42,10 @@ pub fn named_types()
 pub fn known_spaces()
     ensures own_functions { (sections : List Section) → (context_of sections).own_functions ≡ functions_of sections }
     ensures sizes { (sections : List Section) → sizes_in (spaces_of sections) ≡ sizes_of sections }
+{}
+
+/// Each import is an item that is there, whatever comes after it.
+#[tactic(auto, using(crate::proofs::KnownImports::imports_there))]
+pub fn known_imports()
+    ensures { (entries : List Entry) → AllByRecursion (IsThere (after_all at_first entries)) (after_all at_first entries).imported }
 {}

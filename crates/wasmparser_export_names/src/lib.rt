@@ -2,4 +2,4 @@
 #![tactic(auto)]
 
 pub mod export_names;
-mod name_hasher;
+pub mod name_hasher;

@@ -1,25 +1,25 @@
 //! Hashing of names that whoever wrote the module may have chosen.
 
-use std::hash::{BuildHasher, DefaultHasher, Hasher};
+use std::hash::{BuildHasher, DefaultHasher, Hash};
 
 /// Hashes each name after others, which may be all names of a section. Who chooses names so that they collide after some others has other names
 /// then, after which they don't.
 #[derive(Clone, Copy)]
-pub(crate) struct NameHasher {
+pub struct NameHasher {
     start: DefaultHasher,
 }
 
 impl NameHasher {
     /// After no names.
-    pub(crate) fn new() -> NameHasher {
+    pub fn new() -> NameHasher {
         NameHasher {
             start: DefaultHasher::new(),
         }
     }
 
-    /// One name more goes before those that are hashed.
-    pub(crate) fn start_after(&mut self, name: &str) {
-        self.start.write(name.as_bytes());
+    /// One name more goes before those that are hashed. Where it ends counts too, so that the same text in other pieces is something else.
+    pub fn start_after(&mut self, name: &str) {
+        name.hash(&mut self.start);
     }
 }
 

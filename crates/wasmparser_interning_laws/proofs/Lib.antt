@@ -6,3 +6,4 @@ pub mod KeptGroups
 mod KeyTrees
 mod LaterGroups
 pub mod MarkedTrees
+pub mod WholeGroups

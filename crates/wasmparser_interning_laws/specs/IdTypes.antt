@@ -5,7 +5,7 @@ use Rattle.std.specs.Prelude.{◌≡◌, ℕ, suc, ◌<◌, Bool, true, if◌the
 use Rattle.std.specs.List.{AllByRecursion}
 use Rattle.std.specs.declared.ops.Range.{Range}
 use Rattle.wasm_spec.specs.Syntax.{members}
-use Rattle.wasm_spec.specs.Trees.{GroupTree, Rolled, Own, joined, listed, DefType, tree_of, places_of, type_at}
+use Rattle.wasm_spec.specs.Trees.{GroupTree, Rolled, Own, joined, listed, opened, DefType, tree_of, places_of, type_at}
 use Rattle.wasm_spec.specs.TypeReferences.{subs_map, subs_refs}
 use Rattle.wasm_spec.specs.Types.{SubType, RecGroup, Group}
 use Rattle.wasmparser_types.specs.Index.{Index, module_index, number_of}
@@ -64,3 +64,8 @@ id_types canonical tables = id_types_from canonical 0 [] (groups_of tables)
 -- the type that an index stands for which is an id
 abbrev pub type_of_index : (ℕ → Bool) → TypeTables → Index → DefType
 type_of_index canonical tables index = type_at (id_types canonical tables) (number_of index)
+
+-- these are the ids of a whole group: they stand for all types of one tree, in their order there
+pub record IsWholeGroup (types : List DefType) (ids : List ℕ) : Type 0 where
+  pub tree : GroupTree
+  pub all : map (type_at types) ids ≡ places_of tree 0 (opened tree)

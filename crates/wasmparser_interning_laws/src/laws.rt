@@ -5,8 +5,8 @@ ghost use Rattle.wasm_spec.specs.ReferenceMaps.{ReferToTypes, Carries, CarriesBa
 ghost use Rattle.wasm_spec.specs.Trees.{AreDistinct, section_types, type_at, unrolled};
 ghost use Rattle.wasm_spec.specs.Types.{SubType, RecGroup};
 ghost use Rattle.wasmparser_types.specs.Index.{Index};
-ghost use Rattle.wasmparser_interning.specs.TypeTables.{Adds, Interns, TablesAgree, TypeTables, committed, type_by_id};
-ghost use Rattle.wasmparser_interning_laws.specs.IdTypes.{AreFoundByKey, IsFoundByKey, RefersToNoModule, group_after, groups_of, id_types, id_types_after, id_types_from, type_of_index};
+ghost use Rattle.wasmparser_interning.specs.TypeTables.{Adds, Interns, TablesAgree, TypeTables, committed, group_ids, type_by_id};
+ghost use Rattle.wasmparser_interning_laws.specs.IdTypes.{AreFoundByKey, IsFoundByKey, IsWholeGroup, RefersToNoModule, group_after, groups_of, id_types, id_types_after, id_types_from, type_of_index};
 
 /// Each id stands for a defined type, which unrolls to the kept type with its ids replaced by what they stand for.
 pub fn ids_are_types()
@@ -18,6 +18,9 @@ pub fn ids_are_types()
         → Carries (type_of_index canonical tables) (type_by_id tables) unrolled }
     ensures limits_back { (canonical : ℕ → Bool) (tables : TypeTables) → TablesAgree tables → RefersToNoModule tables
         → CarriesLimitsBack (type_of_index canonical tables) (type_by_id tables) unrolled }
+
+    ensures groups { (canonical : ℕ → Bool) (tables : TypeTables) (number : ℕ) → TablesAgree tables → number < length tables.groups
+        → IsWholeGroup (id_types canonical tables) (group_ids tables number) }
 
     // Where all groups count as canonical, these are the types of a type section.
     ensures section { (tables : TypeTables) → id_types (λ (number : ℕ). true) tables ≡ section_types (groups_of tables) }

@@ -11,8 +11,9 @@ use Rattle.wasm_spec.specs.Syntax.{ImportEntry, imported_by}
 use Rattle.wasm_spec.specs.Trees.{DefType}
 use Rattle.wasm_spec.specs.TypeReferences.{external_map, global_refs, table_refs}
 use Rattle.wasm_spec.specs.Types.{ExternalType, FuncExternal, TableExternal, MemoryExternal, GlobalExternal, TagExternal}
-use Rattle.wasm_validity.specs.Context.{Context, after_item, after_items}
+use Rattle.wasm_validity.specs.Context.{Context, after_item, after_items, imports_of, item_names, origin_of}
 use Rattle.wasm_validity.specs.Entries.{OfImport}
+use Rattle.wasm_validity.specs.ImportedItems.{Imported, with_imports}
 use Rattle.wasm_validity.specs.Rules.{keeps_item, keep_items, has_small_index, shares_small_index, import_names, item_measures, items_measures, name_measures, Passes, is_past}
 use Rattle.wasmparser_error.specs.declared.error.Error.{Error}
 use Rattle.wasmparser_error.specs.declared.error.ErrorKind.{ErrorKind}
@@ -21,6 +22,7 @@ use Rattle.wasmparser_imports.specs.declared.imports.Imports.{Imports}
 use Rattle.wasmparser_imports.specs.declared.imports.Imports.TheVariants as entries
 use Rattle.wasmparser_imports.specs.ImportEntries.{IsEntryOfModule, import_entry}
 use Rattle.wasmparser_items.specs.ItemTypes.{packed_refs, type_ref}
+use Rattle.wasmparser_module_state.proofs.NamedImports.{named_items, named_measures_of, named_next, named_rules}
 use Rattle.wasmparser_module_state.specs.Items.{AddsItem, NamesItem, AcceptsItems, AddsItems, AddsNamed, NamesItems, named_measures}
 use Rattle.wasmparser_module_state.specs.Judging.{Accepts, NamesEntry}
 use Rattle.wasmparser_types.specs.Index.{number_of, packable}
@@ -133,30 +135,34 @@ shares_small (entries.Single start import) is = refl
 shares_small (entries.Compact1 origin items) is = refl
 shares_small (entries.Compact2 origin type names) is = has_small (external_map number_of (type_ref type)) is.2
 
-pub accepted_entry : (features : Features) (old mid : Context) (entry : Imports) (n : ℕ) → IsEntryOfModule entry → n ≡ suc old.imports → n ≤ 1000000
+pub accepted_entry : (features : Features) (old mid : Context) (had has : List Imported) (entry : Imports) (n : ℕ) → IsEntryOfModule entry → n ≡ suc old.imports → n ≤ 1000000
     → AcceptsItems features old (imported_by (import_entry entry)) (named_measures old (import_names (import_entry entry)) (imported_by (import_entry entry))) mid
-    → Accepts features old (OfImport (import_entry entry)) (record mid { imports = n })
-accepted_entry features old mid entry n is counted few h =
+    → has ≡ with_imports had (imports_of old (import_entry entry))
+    → Accepts features (record old { imported = had }) (OfImport (import_entry entry)) (record mid { imports = n; imported = has })
+accepted_entry features old mid had has entry n is counted few h named =
     let types = imported_by (import_entry entry) in
     record {
-      rule = rw (shares_small entry is) h.rules;
-      limits = record { numbers = rw (sym counted, within_limit TheImports n few, counted_measures old n types) h.limits; types = λ limit p. p };
-      known = rw (h.known, sym counted) (sym (counted_items old n types));
+      rule = rw (shares_small entry is) (named_rules features old had types ∙ h.rules);
+      limits = record { numbers = rw (sym counted, within_limit TheImports n few, named_measures_of (record old { imports = n }) had types, counted_measures old n types) h.limits; types = λ limit p. p };
+      known =
+          rw (h.known, named, sym counted, named_items (record old { imports = n }) had types, counted_items old n types, named_next old had (origin_of (import_entry entry)) (item_names (import_entry entry)) types) refl;
     }
 
 -- what refuses its items refuses the entry
-pub refused_entry : (features : Features) (old : Context) (held : List DefType) (entry : ImportEntry) (kind : ErrorKind) → NamesItems features old (imported_by entry) (named_measures old (import_names entry) (imported_by entry)) kind → NamesEntry features old held (OfImport entry) kind
-refused_entry features old held entry kinds.Invalid h = by_shared (shares_small_index entry) h
+pub refused_entry : (features : Features) (old : Context) (had : List Imported) (held : List DefType) (entry : ImportEntry) (kind : ErrorKind) → NamesItems features old (imported_by entry) (named_measures old (import_names entry) (imported_by entry)) kind
+    → NamesEntry features (record old { imported = had }) held (OfImport entry) kind
+refused_entry features old had held entry kinds.Invalid h = by_shared (shares_small_index entry) (named_rules features old had (imported_by entry) ∙ h)
   where
-    by_shared : (small : Bool) → keep_items features old (imported_by entry) ≡ false → (small && keep_items features old (imported_by entry)) ≡ true → ⊥
+    by_shared : (small : Bool) → keep_items features (record old { imported = had }) (imported_by entry) ≡ false → (small && keep_items features (record old { imported = had }) (imported_by entry)) ≡ true → ⊥
     by_shared true h k = let w = sym h ∙ k in absurd cc
     by_shared false h k = absurd cc
-refused_entry features old held entry (kinds.Limit l) h =
-    inl (inr (subst (λ ms. Passes (core.limit l) (name_measures (import_names entry) ++ ms)) (sym (counted_measures old (suc old.imports) (imported_by entry))) h))
-refused_entry features old held entry kinds.Memory h = tt
-refused_entry features old held entry kinds.Malformed h = absurd h
-refused_entry features old held entry kinds.Operator h = absurd h
-refused_entry features old held entry kinds.Body h = absurd h
-refused_entry features old held entry kinds.Total h = absurd h
-refused_entry features old held entry kinds.Order h = absurd h
-refused_entry features old held entry kinds.Failed h = absurd h
+refused_entry features old had held entry (kinds.Limit l) h =
+    let same = named_measures_of (record old { imports = suc old.imports }) had (imported_by entry) ∙ counted_measures old (suc old.imports) (imported_by entry) in
+    inl (inr (subst (λ ms. Passes (core.limit l) (name_measures (import_names entry) ++ ms)) (sym same) h))
+refused_entry features old had held entry kinds.Memory h = tt
+refused_entry features old had held entry kinds.Malformed h = absurd h
+refused_entry features old had held entry kinds.Operator h = absurd h
+refused_entry features old had held entry kinds.Body h = absurd h
+refused_entry features old had held entry kinds.Total h = absurd h
+refused_entry features old had held entry kinds.Order h = absurd h
+refused_entry features old had held entry kinds.Failed h = absurd h

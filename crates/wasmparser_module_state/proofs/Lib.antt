@@ -7,6 +7,7 @@ mod IdLaws
 mod ImportLaws
 mod ItemTypes
 mod Judged
+mod NamedImports
 mod ReadItems
 mod SegmentLaws
 mod Sizes

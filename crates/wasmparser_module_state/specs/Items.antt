@@ -1,11 +1,12 @@
 -- Judging imported items.
-use Rattle.std.specs.Prelude.{◌≡◌, ◌≤◌, ◌+◌, ⊤, ℕ, true, false, List, [], ◌∷◌, ◌++◌, length, Option, Some, None, Result, Ok, Err}
+use Rattle.std.specs.Prelude.{◌≡◌, ◌≤◌, ◌+◌, ⊤, ℕ, true, false, List, [], ◌∷◌, ◌++◌, length, take, Option, Some, None, Result, Ok, Err}
 use Rattle.wasm_core_base.specs.Limits as core
 use Rattle.wasm_spec.specs.Features.{Features}
 use Rattle.wasm_spec.specs.Limits.{Limit, TypeSize, most}
-use Rattle.wasm_spec.specs.Syntax.{ImportEntry, imported_by}
-use Rattle.wasm_spec.specs.Types.{ExternalType, FuncType}
-use Rattle.wasm_validity.specs.Context.{Context, after_item, after_items}
+use Rattle.wasm_spec.specs.Syntax.{ImportEntry, Import, imported_by}
+use Rattle.wasm_spec.specs.Types.{ExternalType, FuncType, ExternalKind, FuncKind, TableKind, MemoryKind, GlobalKind, TagKind}
+use Rattle.wasm_validity.specs.Context.{Context, after_item, after_items, imports_of}
+use Rattle.wasm_validity.specs.ImportedItems.{Imported, with_imports}
 use Rattle.wasm_validity.specs.Entries.{OfImport}
 use Rattle.wasm_validity.specs.Rules.{keeps_item, keep_items, item_measures, items_measures, name_measures, import_names, Passes, are_within}
 use Rattle.wasmparser_error.specs.declared.error.Error.{Error}
@@ -68,6 +69,20 @@ AddsGroup features old names types place result new = AddsItems features old typ
 abbrev pub AddsImports : Features → Context → ImportEntry → ℕ → Result (Unit {0}) Error → Context → Type 0
 AddsImports features old entry place result new =
     AddsItems features old (imported_by entry) (named_measures old (import_names entry) (imported_by entry)) place (IsLeft old (OfImport entry) new) result new
+
+-- What is kept of the names of an entry's imports; after a refusal nothing is, unless the entry is a group, of which some may be.
+abbrev pub NamesImports : Context → ImportEntry → List Imported → Result (Unit {0}) Error → List Imported → Type 0
+NamesImports cx entry old (Ok x) new = new ≡ with_imports old (imports_of cx entry)
+NamesImports cx (Import origin name type) old (Err e) new = new ≡ old
+NamesImports cx entry old (Err e) new = ⊤
+
+-- the items of a kind that come before this index alone, and types that count so much
+abbrev pub cut_off : Context → ExternalKind → ℕ → ℕ → Context
+cut_off cx FuncKind index size = record cx { imported_functions = take index cx.imported_functions; type_size = size }
+cut_off cx TableKind index size = record cx { tables = take index cx.tables; type_size = size }
+cut_off cx MemoryKind index size = record cx { memories = take index cx.memories; type_size = size }
+cut_off cx GlobalKind index size = record cx { imported_globals = take index cx.imported_globals; type_size = size }
+cut_off cx TagKind index size = record cx { tags = take index cx.tags; type_size = size }
 
 -- ---- sizes
 

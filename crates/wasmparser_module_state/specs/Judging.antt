@@ -44,6 +44,7 @@ pub record Accepts (features : Features) (old : Context) (entry : Entry) (new : 
 -- all is as before, but for items that were imported
 abbrev pub HasItemsMore : Context → Context → Type 0
 HasItemsMore old new = new ≡ record old {
+  imported = new.imported;
   imported_functions = new.imported_functions;
   tables = new.tables;
   memories = new.memories;

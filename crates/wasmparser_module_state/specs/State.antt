@@ -1,5 +1,5 @@
 -- What the state of the code knows.
-use Rattle.std.specs.Prelude.{◌≡◌, ℕ, Option, option_map, map, slice_get}
+use Rattle.std.specs.Prelude.{◌≡◌, ℕ, [], Option, option_map, map, slice_get}
 use Rattle.std.specs.Option.{option_and_then}
 use Rattle.wasm_spec.specs.Features.{Features}
 use Rattle.wasm_spec.specs.Trees.{DefType}
@@ -31,11 +31,13 @@ global type = global_map number_of (global_type type)
 abbrev pub item : TypeRef → spec.ExternalType ℕ
 item type = external_map number_of (type_ref type)
 
-abbrev pub context : ModuleState → Context
-context s = record {
+-- what is known but for the names of imports
+abbrev pub unnamed : ModuleState → Context
+unnamed s = record {
   types = s.types.types;
   groups = s.types.groups;
   imports = s.imports;
+  imported = [];
   imported_functions = s.imported_functions.items;
   own_functions = s.own_functions.items;
   tables = map table s.tables.items;
@@ -48,6 +50,9 @@ context s = record {
   segments = s.segments;
   type_size = s.type_size;
 }
+
+abbrev pub context : ModuleState → Context
+context s = record (unnamed s) { imported = s.imported }
 
 -- the function type of a function of the module's own, by its place among these
 abbrev pub own_func_type : Context → ℕ → Option (spec.FuncType DefType)

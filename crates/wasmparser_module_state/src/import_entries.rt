@@ -5,24 +5,28 @@ ghost use Rattle.std.specs.List.{AllByRecursion};
 ghost use Rattle.wasm_core_base.specs.declared.limits.Limit.TheVariants as limits;
 ghost use Rattle.wasm_core_read.specs.PartReading.{import_item_at};
 ghost use Rattle.wasm_core_read.specs.Reading.{name_at};
+ghost use Rattle.wasm_validity.specs.Context.{next_import, next_imports};
 ghost use Rattle.wasm_validity.specs.Entries.{OfImport};
+ghost use Rattle.wasm_validity.specs.ImportedItems.{with_import, with_imports};
 ghost use Rattle.wasmparser_error.specs.declared.error.ErrorKind.TheVariants as kinds;
 ghost use Rattle.wasmparser_imports.specs.ImportEntries.{IsEntryOfModule, import_entry};
 ghost use Rattle.wasmparser_imports.specs.ImportGroups.{AreRead, items_of};
 ghost use Rattle.wasmparser_imports.specs.ImportItems.{items_refs};
 ghost use Rattle.wasmparser_module_entries.specs.EntryReading.{import_entry_at};
-ghost use Rattle.wasmparser_module_state.specs.Items.{AddsGroup, AddsImports, AddsNamed};
+ghost use Rattle.wasmparser_module_state.specs.Items.{AddsGroup, AddsImports, AddsNamed, NamesImports};
 ghost use Rattle.wasmparser_module_state.specs.LargeIndexes.{large_import};
-ghost use Rattle.wasmparser_module_state.specs.State.{context, features_of, item};
+ghost use Rattle.wasmparser_module_state.specs.State.{context, features_of, item, unnamed};
 ghost use Rattle.wasmparser_types.specs.Index.{packable};
 
 use crate::entry::Entry;
+use crate::imported_names::kind_of;
 use crate::module_state::{ModuleState, refusal};
 use crate::names::check_name;
 use wasm_core_base::limits::{Limit, MAX_WASM_IMPORTS};
 use wasmparser_error::error::{Error, ErrorKind};
+use wasmparser_import_names::import_names::ImportedItem;
 use wasmparser_imports::import_item::ImportItemCompact;
-use wasmparser_imports::imports::Imports;
+use wasmparser_imports::imports::{Import, Imports};
 use wasmparser_items::type_ref::TypeRef;
 use wasmparser_readers::section_limited::SectionLimited;
 
@@ -38,31 +42,47 @@ impl ModuleState {
         Ok(self.imports + 1)
     }
 
-    // Judges an import of this name and adds it.
+    // Judges an import, the name of whose module is short enough, and adds it.
     #[tactic(auto, using(crate::proofs::ImportLaws::named_steps))]
-    fn import_named(&mut self, name: &str, ty: &TypeRef, offset: u64) -> Result<(), Error>
-        ensures added { AddsNamed (features_of self.old) (context self.old) name.now (item ty.now) offset result (context self.new) }
+    fn import_named(&mut self, import: &Import<'_>, offset: u64) -> Result<(), Error>
+        ensures added { AddsNamed (features_of self.old) (unnamed self.old) import.now.name.now (item import.now.ty) offset result (unnamed self.new) }
+        ensures named { IfOk result (λ _. self.new.imported ≡ with_import self.old.imported (next_import (unnamed self.old) import.now.«module».now import.now.name.now (item import.now.ty))) }
+        ensures refused { IfErr result (λ _. self.new.imported ≡ self.old.imported) }
         ensures types { self.new.types ≡ self.old.types }
     {
-        check_name(name, offset)?;
-        self.import_item(ty, offset)
+        check_name(import.name, offset)?;
+        let kind = kind_of(&import.ty);
+        let place = self.next_index(kind);
+        let type_size = self.type_size;
+        self.import_item(&import.ty, offset)?;
+        let index = place as u32;
+        self.keep_names(import, ImportedItem { kind, index }, type_size)
     }
 
     // Judges the imports of a group one after the other, and adds them.
     fn import_items<'a>(
         &mut self,
+        module: &'a str,
         group: SectionLimited<'a, ImportItemCompact<'a>>,
         offset: u64,
     ) -> Result<(), Error>
         requires read { AreRead import_item_at group }
         requires small { AllByRecursion (λ n. n < packable) (items_refs (items_of import_item_at group)) }
-        ensures added { AddsGroup (features_of self.old) (context self.old) (map (λ item. item.name) (items_of import_item_at group.entry)) (map (λ item. item.type) (items_of import_item_at group.entry)) offset result (context self.new) }
+        ensures added { AddsGroup (features_of self.old) (unnamed self.old) (map (λ item. item.name) (items_of import_item_at group.entry)) (map (λ item. item.type) (items_of import_item_at group.entry)) offset result (unnamed self.new) }
+        ensures named { IfOk result (λ _. self.new.imported ≡ with_imports self.old.imported (next_imports (unnamed self.old) «module».now (map (λ item. item.name) (items_of import_item_at group.entry)) (map (λ item. item.type) (items_of import_item_at group.entry)))) }
         ensures types { self.new.types ≡ self.old.types }
     {
         let mut items = group.into_iter(*self.tags.allocator());
         'items: while let Some(item) = items.next() {
             match item {
-                Ok(item) => self.import_named(item.name, &item.ty, offset)?,
+                Ok(item) => {
+                    let import = Import {
+                        module,
+                        name: item.name,
+                        ty: item.ty,
+                    };
+                    self.import_named(&import, offset)?
+                }
                 Err(error) => return Err(error),
             }
         }
@@ -72,18 +92,25 @@ impl ModuleState {
     // The same of a group whose imports have one type.
     fn import_names<'a>(
         &mut self,
+        module: &'a str,
         ty: &TypeRef,
         group: SectionLimited<'a, &'a str>,
         offset: u64,
     ) -> Result<(), Error>
         requires { AreRead name_at group }
-        ensures added { AddsGroup (features_of self.old) (context self.old) (items_of name_at group.entry) (map (λ name. item ty.now) (items_of name_at group.entry)) offset result (context self.new) }
+        ensures added { AddsGroup (features_of self.old) (unnamed self.old) (items_of name_at group.entry) (map (λ name. item ty.now) (items_of name_at group.entry)) offset result (unnamed self.new) }
+        ensures named { IfOk result (λ _. self.new.imported ≡ with_imports self.old.imported (next_imports (unnamed self.old) «module».now (items_of name_at group.entry) (map (λ name. item ty.now) (items_of name_at group.entry)))) }
         ensures types { self.new.types ≡ self.old.types }
     {
         let mut names = group.into_iter(*self.tags.allocator());
         'names: while let Some(name) = names.next() {
             let name = name?;
-            self.import_named(name, ty, offset)?;
+            let import = Import {
+                module,
+                name,
+                ty: *ty,
+            };
+            self.import_named(&import, offset)?;
         }
         Ok(())
     }
@@ -92,21 +119,22 @@ impl ModuleState {
     #[tactic(auto, using(crate::proofs::ImportLaws::origin_steps))]
     fn add_imports<'a>(&mut self, entry: Imports<'a>, offset: u64) -> Result<(), Error>
         requires { IsEntryOfModule entry }
-        ensures added { AddsImports (features_of self.old) (context self.old) (import_entry entry.entry) offset result (context self.new) }
+        ensures added { AddsImports (features_of self.old) (unnamed self.old) (import_entry entry.entry) offset result (unnamed self.new) }
+        ensures named { NamesImports (unnamed self.old) (import_entry entry.entry) self.old.imported result self.new.imported }
         ensures types { self.new.types ≡ self.old.types }
     {
         match entry {
             Imports::Single(_, import) => {
                 check_name(import.module, offset)?;
-                self.import_named(import.name, &import.ty, offset)
+                self.import_named(&import, offset)
             }
             Imports::Compact1 { module, items } => {
                 check_name(module, offset)?;
-                self.import_items(items, offset)
+                self.import_items(module, items, offset)
             }
             Imports::Compact2 { module, ty, names } => {
                 check_name(module, offset)?;
-                self.import_names(&ty, names, offset)
+                self.import_names(module, &ty, names, offset)
             }
         }
     }

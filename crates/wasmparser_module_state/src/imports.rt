@@ -7,7 +7,7 @@ ghost use Rattle.wasmparser_error.specs.declared.error.ErrorKind.TheVariants as 
 ghost use Rattle.wasm_core_base.specs.declared.limits.Limit.TheVariants as limits;
 ghost use Rattle.wasmparser_items.specs.ItemTypes.{memory_type};
 ghost use Rattle.wasmparser_module_state.specs.Items.{AddsItem, IsSizeUpTo, IsTypeSize};
-ghost use Rattle.wasmparser_module_state.specs.State.{context, features_of, global, item, table};
+ghost use Rattle.wasmparser_module_state.specs.State.{context, features_of, global, item, table, unnamed};
 ghost use Rattle.wasmparser_types.specs.CompositeTypes.{func_type};
 
 use crate::module_state::{ModuleState, refusal};
@@ -52,7 +52,8 @@ impl ModuleState {
     }
 
     fn import_table(&mut self, ty: &TableType, offset: u64) -> Result<(), Error>
-        ensures added { AddsItem (features_of self.old) (context self.old) (spec.TableExternal (table ty.now)) offset result (context self.new) }
+        ensures added { AddsItem (features_of self.old) (unnamed self.old) (spec.TableExternal (table ty.now)) offset result (unnamed self.new) }
+        ensures names { self.new.imported ≡ self.old.imported }
         ensures types { self.new.types ≡ self.old.types }
     {
         if !self.keeps_table(ty) {
@@ -68,7 +69,8 @@ impl ModuleState {
     }
 
     fn import_memory(&mut self, ty: MemoryType, offset: u64) -> Result<(), Error>
-        ensures added { AddsItem (features_of self.old) (context self.old) (spec.MemoryExternal (memory_type ty)) offset result (context self.new) }
+        ensures added { AddsItem (features_of self.old) (unnamed self.old) (spec.MemoryExternal (memory_type ty)) offset result (unnamed self.new) }
+        ensures names { self.new.imported ≡ self.old.imported }
         ensures types { self.new.types ≡ self.old.types }
     {
         if !self.keeps_memory(ty) {
@@ -84,7 +86,8 @@ impl ModuleState {
     }
 
     fn import_global(&mut self, ty: &GlobalType, offset: u64) -> Result<(), Error>
-        ensures added { AddsItem (features_of self.old) (context self.old) (spec.GlobalExternal (global ty.now)) offset result (context self.new) }
+        ensures added { AddsItem (features_of self.old) (unnamed self.old) (spec.GlobalExternal (global ty.now)) offset result (unnamed self.new) }
+        ensures names { self.new.imported ≡ self.old.imported }
         ensures types { self.new.types ≡ self.old.types }
     {
         if !self.keeps_imported_global(ty) {
@@ -100,8 +103,9 @@ impl ModuleState {
     }
 
     fn push_imported_global(&mut self, content_type: ValType, mutable: bool) -> Result<(), Error>
-        ensures pushed { IfOk result (λ _. context self.new ≡ record (context self.old) { imported_globals = (context self.old).imported_globals ++ global (record { content_type = content_type; mutable = mutable }) ∷ [] }) }
-        ensures refused { IfErr result (λ e. (e ≡ record { offset = 0; kind = kinds.Memory }) × (context self.new ≡ context self.old)) }
+        ensures pushed { IfOk result (λ _. unnamed self.new ≡ record (unnamed self.old) { imported_globals = (unnamed self.old).imported_globals ++ global (record { content_type = content_type; mutable = mutable }) ∷ [] }) }
+        ensures refused { IfErr result (λ e. (e ≡ record { offset = 0; kind = kinds.Memory }) × (unnamed self.new ≡ unnamed self.old)) }
+        ensures names { self.new.imported ≡ self.old.imported }
         ensures types { self.new.types ≡ self.old.types }
     {
         self.imported_globals.push(GlobalType {
@@ -124,7 +128,8 @@ impl ModuleState {
 
     #[tactic(auto, using(crate::proofs::Sizes::sum_steps))]
     fn import_function(&mut self, index: u32, offset: u64) -> Result<(), Error>
-        ensures added { AddsItem (features_of self.old) (context self.old) (spec.FuncExternal index) offset result (context self.new) }
+        ensures added { AddsItem (features_of self.old) (unnamed self.old) (spec.FuncExternal index) offset result (unnamed self.new) }
+        ensures names { self.new.imported ≡ self.old.imported }
         ensures types { self.new.types ≡ self.old.types }
     {
         let Some(size) = self.size_of_type(index) else {
@@ -141,7 +146,8 @@ impl ModuleState {
 
     #[tactic(auto, using(crate::proofs::Sizes::sum_steps))]
     fn import_tag(&mut self, index: u32, offset: u64) -> Result<(), Error>
-        ensures added { AddsItem (features_of self.old) (context self.old) (spec.TagExternal index) offset result (context self.new) }
+        ensures added { AddsItem (features_of self.old) (unnamed self.old) (spec.TagExternal index) offset result (unnamed self.new) }
+        ensures names { self.new.imported ≡ self.old.imported }
         ensures types { self.new.types ≡ self.old.types }
     {
         let size = match self.size_of_type(index) {
@@ -163,7 +169,8 @@ impl ModuleState {
     /// `Invalid` where it breaks a rule, `Limit` where its space, or the size of all types, passes that limit, `Memory` where memory runs out. Nothing is added
     /// then.
     pub fn import_item(&mut self, ty: &TypeRef, offset: u64) -> Result<(), Error>
-        ensures added { AddsItem (features_of self.old) (context self.old) (item ty.now) offset result (context self.new) }
+        ensures added { AddsItem (features_of self.old) (unnamed self.old) (item ty.now) offset result (unnamed self.new) }
+        ensures names { self.new.imported ≡ self.old.imported }
         ensures types { self.new.types ≡ self.old.types }
     {
         match ty {

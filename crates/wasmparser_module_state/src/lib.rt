@@ -13,6 +13,7 @@ pub mod exports;
 pub mod functions;
 pub mod globals;
 pub mod import_entries;
+pub mod imported_names;
 pub mod imports;
 mod initialisers;
 pub mod item_types;

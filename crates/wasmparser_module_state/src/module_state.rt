@@ -13,6 +13,7 @@ use wasm_core_base::features::WasmFeatures;
 use wasmparser_constants::operands::Operands;
 use wasmparser_error::error::{Error, ErrorKind};
 use wasmparser_export_names::export_names::ExportNames;
+use wasmparser_import_names::import_names::ImportNames;
 use wasmparser_items::global_type::GlobalType;
 use wasmparser_items::memory_type::MemoryType;
 use wasmparser_items::table_type::TableType;
@@ -24,6 +25,7 @@ use wasmparser_types::ref_type::RefType;
 pub struct ModuleState {
     pub(crate) types: ModuleTypes,
     pub(crate) imports: u32,
+    pub(crate) imported: ImportNames,
     pub(crate) imported_functions: Vec<u32>,
     pub(crate) own_functions: Vec<u32>,
     pub(crate) tables: Vec<TableType>,
@@ -66,6 +68,7 @@ impl ModuleState {
         ModuleState {
             types,
             imports: 0,
+            imported: ImportNames::new(alloc),
             imported_functions: Vec::new(alloc),
             own_functions: Vec::new(alloc),
             tables: Vec::new(alloc),

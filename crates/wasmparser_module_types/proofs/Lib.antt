@@ -2,6 +2,7 @@ mod AddedGroups
 pub mod Comparisons
 mod EnteredGroups
 mod FuncTypes
+mod GroupIds
 mod KnownIds
 mod Refusals
 mod ReplacedIndexes

@@ -1,6 +1,8 @@
 -- The types of a module that is read group by group, and the list that knows them.
-use Rattle.std.specs.Prelude.{◌≡◌, ℕ, suc, ◌<◌, ◌≤◌, ◌⊎◌, Bool, true, List, length, slice_get, Option, option_map, IsSome, is_some, refl}
+use Rattle.std.specs.Prelude.{◌≡◌, ℕ, suc, ◌<◌, ◌≤◌, ◌⊎◌, Bool, true, List, [], length, map, slice_get, Option, Some, option_map, IsSome, is_some, refl}
 use Rattle.std.specs.List.{AllByRecursion}
+use Rattle.std.specs.Option.{unwrap_or}
+use Rattle.std.specs.declared.ops.Range.{Range}
 use Rattle.std.specs.Coded.{Coded, code_by, coded×, coded_ℕ, coded_bool, coded_list}
 use Rattle.wasm_core_base.specs.Limits.{limit}
 use Rattle.wasm_core_base.specs.declared.limits.Limit.TheVariants as limits
@@ -15,7 +17,7 @@ use Rattle.wasmparser_chains.specs.Chains.{AreBelowEarlier}
 use Rattle.wasmparser_error.specs.declared.error.Error.{Error}
 use Rattle.wasmparser_error.specs.declared.error.ErrorKind.{ErrorKind}
 use Rattle.wasmparser_error.specs.declared.error.ErrorKind.TheVariants as kinds
-use Rattle.wasmparser_interning.specs.TypeTables.{TablesAgree, TypeTables, sub_types}
+use Rattle.wasmparser_interning.specs.TypeTables.{TablesAgree, TypeTables, ids_in, sub_types}
 use Rattle.wasmparser_interning_laws.specs.IdTypes.{AreFoundByKey, RefersToNoModule, id_types}
 use Rattle.wasmparser_module_types.specs.History.{Enters, HasNoRoom}
 use Rattle.wasmparser_module_types.specs.TreeCodes.{def_type_code}
@@ -23,20 +25,22 @@ use Rattle.wasmparser_rec_group_laws.specs.Contexts.{types_of}
 use Rattle.wasmparser_rec_groups.specs.Interning.{AreKnown}
 use Rattle.wasmparser_types.specs.Index.{Index, Module, RecGroup as Place, Id, number_of}
 
--- the types of a module, by type index, the features by which they were judged, how many groups they came in, the types that ids stand for, by id, and
--- whether groups can be added to these
+-- the types of a module, by type index, the features by which they were judged, how many groups they came in, the types that ids stand for, by id, the ids of
+-- each group that these came in, by the group's id, and whether groups can be added to these
 pub record KnownTypes : Type 0 where
   pub features : Features
   pub types : List DefType
   pub groups : ℕ
   pub interned : List DefType
+  pub interned_groups : List (List ℕ)
   pub grows : Bool
 
 abbrev pub known_types_code : Coded KnownTypes
 known_types_code =
-    code_by (ℕ × (List DefType × (ℕ × (List DefType × Bool)))) (coded× coded_ℕ (coded× (coded_list def_type_code) (coded× coded_ℕ (coded× (coded_list def_type_code) coded_bool))))
-    (λ known. (known.features, (known.types, (known.groups, (known.interned, known.grows)))))
-    (λ p. record { features = p.0; types = p.1.0; groups = p.1.1.0; interned = p.1.1.1.0; grows = p.1.1.1.1 }) (λ _. refl)
+    code_by (ℕ × (List DefType × (ℕ × (List DefType × (List (List ℕ) × Bool)))))
+    (coded× coded_ℕ (coded× (coded_list def_type_code) (coded× coded_ℕ (coded× (coded_list def_type_code) (coded× (coded_list (coded_list coded_ℕ)) coded_bool)))))
+    (λ known. (known.features, (known.types, (known.groups, (known.interned, (known.interned_groups, known.grows))))))
+    (λ p. record { features = p.0; types = p.1.0; groups = p.1.1.0; interned = p.1.1.1.0; interned_groups = p.1.1.1.1.0; grows = p.1.1.1.1.1 }) (λ _. refl)
 
 -- what an index stands for that is an id
 abbrev pub stands_for : KnownTypes → Index → DefType
@@ -47,6 +51,14 @@ abbrev pub IsIdOf : List DefType → Index → Type 0
 IsIdOf interned (Module index) = ⊥
 IsIdOf interned (Place place) = ⊥
 IsIdOf interned (Id id) = id < length interned
+
+-- the ids of a group's types, in order; an unknown group has none
+abbrev pub ids_of_group : KnownTypes → ℕ → List ℕ
+ids_of_group known group = unwrap_or (slice_get known.interned_groups group) []
+
+-- the type with this id came in this group
+abbrev pub IsGroupOf : KnownTypes → ℕ → ℕ → Type 0
+IsGroupOf known id group = (place : ℕ) × (slice_get (ids_of_group known group) place ≡ Some id)
 
 abbrev pub AreIds : KnownTypes → List Index → Type 0
 AreIds known indexes = AllByRecursion (IsIdOf known.interned) indexes
@@ -63,9 +75,23 @@ module_types list ids = types_of all_groups list ids
 abbrev pub interned_types : TypeTables → List DefType
 interned_types list = id_types all_groups list
 
+-- the ids of each of its groups
+abbrev pub ids_in_range : Range ℕ → List ℕ
+ids_in_range range = ids_in (Some range)
+
+abbrev pub interned_groups : TypeTables → List (List ℕ)
+interned_groups list = map ids_in_range list.groups
+
 abbrev pub known_types : Features → TypeTables → List ℕ → ℕ → KnownTypes
 known_types features list ids groups =
-    record { features = features; types = module_types list ids; groups = groups; interned = interned_types list; grows = is_some list.known }
+    record {
+      features = features;
+      types = module_types list ids;
+      groups = groups;
+      interned = interned_types list;
+      interned_groups = interned_groups list;
+      grows = is_some list.known;
+    }
 
 -- The list knows the module's types by these ids. Where types are canonicalized, a list that grows finds each of its groups, and no type has two ids.
 pub record KnowsModule (features : Features) (list : TypeTables) (ids : List ℕ) : Type 0 where

@@ -22,6 +22,7 @@ use std::mem;
 use wasm_core_base::features::WasmFeatures;
 use wasm_core_base::limits::{Limit, MAX_WASM_REC_GROUPS, MAX_WASM_TYPES};
 use wasmparser_error::error::{Error, ErrorKind};
+use wasmparser_interning::rec_group_elements::RecGroupElements;
 use wasmparser_interning::type_list::TypeList;
 use wasmparser_rec_group_laws::laws::{
     accepted_groups_are_well_formed, context_stays, refused_groups_are_ill_formed,
@@ -29,7 +30,7 @@ use wasmparser_rec_group_laws::laws::{
 use wasmparser_rec_groups::intern::InternRecGroup;
 use wasmparser_types::composite_type::FuncType;
 use wasmparser_types::heap_type::HeapType;
-use wasmparser_types::index::CoreTypeId;
+use wasmparser_types::index::{CoreTypeId, RecGroupId};
 use wasmparser_types::sub_type::{RecGroup, SubType};
 use wasmparser_types::val_type::ValType;
 
@@ -151,7 +152,8 @@ impl ModuleTypes {
     ghost use Rattle.wasm_spec.specs.Features.{needs_type_canonicalization};
     ghost use Rattle.wasm_spec.specs.Trees.{AreDistinct, type_at, unrolled};
     ghost use Rattle.wasm_spec.specs.TypeReferences.{func_refs, heap_map, heap_refs, sub_map, sub_refs, val_map, val_refs};
-    ghost use Rattle.wasmparser_module_types.specs.ModuleTypes.{AddsGroup, AreIds, CanCompare, IsFuncTypeAt, RefusesGroup, stands_for};
+    ghost use Rattle.wasmparser_module_types.specs.ModuleTypes.{AddsGroup, AreIds, CanCompare, IsFuncTypeAt, IsGroupOf, RefusesGroup, ids_of_group, stands_for};
+    ghost use Rattle.wasmparser_interning_laws.specs.IdTypes.{IsWholeGroup};
     ghost use Rattle.wasmparser_module_types.specs.WithIds.{names_only, names_only_heap};
     ghost use Rattle.wasmparser_rec_group_laws.specs.Contexts.{in_section};
     ghost use Rattle.wasmparser_rec_groups.specs.Interning.{NamesModuleTypes};
@@ -165,7 +167,7 @@ impl ModuleTypes {
     /// A module without types, and a list without types.
     #[tactic(auto, using(crate::proofs::AddedGroups::knows_nothing))]
     pub fn new(alloc: Global, features: WasmFeatures) -> ModuleTypes
-        ensures { result ≡ record { features = feature_set features; types = []; groups = 0; interned = []; grows = true } }
+        ensures { result ≡ record { features = feature_set features; types = []; groups = 0; interned = []; interned_groups = []; grows = true } }
     {
         ModuleTypes {
             alloc,
@@ -250,6 +252,22 @@ impl ModuleTypes {
         ensures ids { AreIds self.now (sub_refs (sub_type result.now)) }
     {
         sub_type_in(&self.list, id)
+    }
+
+    /// The group that the type of a known id came in.
+    pub fn rec_group_id_of(&self, id: CoreTypeId) -> RecGroupId
+        requires { id < length self.now.interned }
+        ensures { IsGroupOf self.now id result }
+    {
+        self.list.rec_group_id_of(id)
+    }
+
+    /// The ids of a group's types, in the order in which it has them. An unknown group has none.
+    pub fn rec_group_elements(&self, id: RecGroupId) -> RecGroupElements
+        ensures ids { result ≡ ids_of_group self.now id }
+        ensures whole { id < length self.now.interned_groups → IsWholeGroup self.now.interned result }
+    {
+        self.list.rec_group_elements(id)
     }
 
     // Whether the list knows an id.

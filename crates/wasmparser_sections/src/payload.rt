@@ -1,7 +1,7 @@
 //! Judging the payloads of a module.
 
 ghost use Rattle.std.specs.Prelude.{◌≡◌, true};
-ghost use Rattle.wasmparser_module_entries.specs.EntryReading.{export_entry_at};
+ghost use Rattle.wasmparser_module_entries.specs.EntryReading.{export_entry_at, import_entry_at};
 ghost use Rattle.wasmparser_module_state.specs.History.{grows, held};
 ghost use Rattle.wasmparser_module_state.specs.Judging.{AddsEntries};
 ghost use Rattle.wasmparser_module_state.specs.State.{context, features_of};
@@ -12,6 +12,7 @@ ghost use Rattle.wasmparser_sections.specs.PieceJudging.{AddsPiece};
 use crate::unknown::refuse;
 use std::alloc::Global;
 use wasmparser_error::error::Error;
+use wasmparser_imports::imports::Imports;
 use wasmparser_items::export::Export;
 use wasmparser_items::tag_type::TagType;
 use wasmparser_module_state::entry::{Entry, add_entries};
@@ -50,6 +51,20 @@ fn add_tags<'a>(
     add_section(alloc, state, section)
 }
 
+fn add_imports<'a>(
+    alloc: Global,
+    state: &mut ModuleState,
+    section: &SectionLimited<'a, Imports<'a>>,
+) -> Result<(), Error>
+    requires grows { grows state.old ≡ true }
+    ensures added { AddsEntries (features_of state.old) import_entry_at (context state.old) (held state.old) section.now.left result (context state.new) (held state.new) }
+    ensures features { features_of state.new ≡ features_of state.old }
+    ensures grows { grows state.new ≡ true }
+{
+    state.start_imports(section.clone()?);
+    add_section(alloc, state, section)
+}
+
 fn add_exports<'a>(
     alloc: Global,
     state: &mut ModuleState,
@@ -83,7 +98,7 @@ pub fn add_payload<'a>(
     match payload {
         Payload::Version { .. } | Payload::CodeSectionStart { .. } | Payload::End(_) => Ok(()),
         Payload::TypeSection(section) => add_section(alloc, state, section),
-        Payload::ImportSection(section) => add_section(alloc, state, section),
+        Payload::ImportSection(section) => add_imports(alloc, state, section),
         Payload::FunctionSection(section) => add_section(alloc, state, section),
         Payload::TableSection(section) => add_section(alloc, state, section),
         Payload::MemorySection(section) => add_section(alloc, state, section),

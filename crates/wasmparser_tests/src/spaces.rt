@@ -17,8 +17,8 @@ use wasmparser::types::TypesRef;
 use wasmparser::validator::Validator;
 use wasmparser::validator_id::ValidatorId;
 
-// What is shown of a module: the kinds of its types, the ids of its types, whether the items of its element segments may be null, or what it exports and
-// imports. A function and a tag show how many parameters and results they have. In rows of own ids types aren't canonicalized.
+// What is shown of a module: the kinds of its types, the ids of its types, whether the items of its element segments may be null, what it exports and
+// imports, or its imports with their names. A function and a tag show how many parameters and results they have. In rows of own ids types aren't canonicalized.
 const SHOWN: &str = "
     types | 0061736d01000000 01 0b 03 60 00 00 5f 01 7f 00 5e 7f 00 | func struct array
     types | 0061736d01000000 | 
@@ -37,6 +37,11 @@ const SHOWN: &str = "
     exports | 0061736d01000000 01 0b 02 60 02 7f 7e 01 7d 60 01 7f 00 02 07 01 01 6d 01 66 00 01 03 02 01 00 04 05 01 70 01 02 05 05 04 01 01 01 03 0d 03 01 00 01 06 06 01 7e 01 42 00 0b 07 19 06 01 61 00 00 01 62 00 01 01 74 01 00 01 6d 02 00 01 67 03 00 01 65 04 00 0a 05 01 03 00 00 0b | a func 1 0; b func 2 1; t table 2 Some(5) true; m memory 1 Some(3); g global false true; e tag 1 0
     exports | 0061736d01000000 01 03 01 5f 00 06 07 01 63 00 00 d0 00 0b 07 05 01 01 67 03 00 | g global true false
     imports | 0061736d01000000 01 0b 02 60 02 7f 7e 01 7d 60 01 7f 00 02 24 05 01 6d 01 66 00 01 01 6d 01 74 01 6f 00 04 01 6d 01 6d 02 00 03 01 6d 01 67 03 7f 00 01 6d 01 65 04 00 01 | func 1 0; table 4 None true; memory 3 None; global false false; tag 1 0
+    named | 0061736d01000000 | 
+    named | 0061736d01000000 01 04 01 60 00 00 02 15 03 01 6d 01 61 00 00 01 6e 01 62 02 00 01 01 6d 01 61 03 7f 00 | m.a func 0 0; m.a global false false; n.b memory 1 None
+    named | 0061736d01000000 02 19 03 01 61 02 62 63 02 00 01 02 61 62 01 63 03 7f 00 01 61 02 62 63 03 7f 01 | a.bc memory 1 None; a.bc global false true; ab.c global false false
+    named | 0061736d01000000 01 04 01 60 00 00 02 0f 01 01 6d 00 7f 02 01 61 00 00 01 62 02 00 01 | m.a func 0 0; m.b memory 1 None
+    named | 0061736d01000000 02 14 02 01 6d 00 7e 03 7f 00 02 01 61 01 62 01 6d 01 61 02 00 01 | m.a global false false; m.a memory 1 None; m.b global false false
 ";
 
 fn type_text(alloc: Global, view: TypesRef<'_>, word: &str, id: CoreTypeId) -> Option<String> {
@@ -135,6 +140,23 @@ fn has_imports(alloc: Global, view: TypesRef<'_>, bytes: &[u8], expected: &str) 
     Some(texts.next().is_none())
 }
 
+// Whether the imports with their names are what the text says.
+fn has_named_imports(alloc: Global, view: TypesRef<'_>, expected: &str) -> Option<bool> {
+    let mut imports = view.core_imports()?;
+    for text in expected.split("; ") {
+        if text.is_empty() {
+            continue;
+        }
+        let (module, name, entity) = imports.next()?;
+        let shown = entity_text(alloc, view, entity)?;
+        let named = format!(in alloc; "{module}.{name} {}", shown.as_str()).ok()?;
+        if named.as_str() != text {
+            return Some(false);
+        }
+    }
+    Some(imports.next().is_none())
+}
+
 fn has_types(view: TypesRef<'_>, expected: &str) -> Option<bool> {
     let mut words = expected.split_whitespace();
     for index in 0..view.core_type_count_in_module() {
@@ -198,6 +220,7 @@ fn has(
         "elements" => Some(has_elements(view, expected)),
         "exports" => Some(has_exports(alloc, view, expected)),
         "imports" => has_imports(alloc, view, bytes, expected),
+        "named" => has_named_imports(alloc, view, expected),
         _ => None,
     }
 }
@@ -223,5 +246,5 @@ fn holds(alloc: Global, row: &str) -> Option<bool> {
 
 #[test]
 fn modules_show_what_they_have(rt: HostRuntime) -> Result<(), Fail> {
-    Ok(check_rows(rt.alloc(), SHOWN, 17, holds)?)
+    Ok(check_rows(rt.alloc(), SHOWN, 22, holds)?)
 }

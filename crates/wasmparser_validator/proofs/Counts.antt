@@ -48,8 +48,10 @@ few_after : (cx : Context) (entry : Entry) → AreFew cx → are_within (measure
 few_after cx (OfImport entry) few w =
     let items : Context = record cx { imports = suc cx.imports } in
     let others = (and_parts _ (are_within (name_measures (import_names entry) ++ items_measures items (imported_by entry))) w).1 in
+    let now =
     few_items items (imported_by entry) (record { functions = few.functions; tables = few.tables; memories = few.memories; globals = few.globals; tags = few.tags; elements = few.elements })
-    (within_both (name_measures (import_names entry)) (items_measures items (imported_by entry)) others).1
+    (within_both (name_measures (import_names entry)) (items_measures items (imported_by entry)) others).1 in
+    record { functions = now.functions; tables = now.tables; memories = now.memories; globals = now.globals; tags = now.tags; elements = now.elements }
 few_after cx (OfFunction index) few w =
     let fits = within 1000000 (suc (length cx.imported_functions + length cx.own_functions)) (and_parts _ _ w).0 in
     record { functions = omega (arith, fits, length-append cx.own_functions (index ∷ [])); tables = few.tables; memories = few.memories; globals = few.globals; tags = few.tags; elements = few.elements }

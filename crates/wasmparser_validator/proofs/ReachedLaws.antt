@@ -1,5 +1,6 @@
 -- What is known after entries that keep all rules and limits, and after others.
 use Rattle.std.proofs.Common.{◌≡◌, ℕ, true, false, List, [], ◌++◌, Some, is_some, slice_get, refl, sym, ap, subst, ◌∙◌}
+use Rattle.std.specs.List.{AllByRecursion}
 use Rattle.wasm_spec.specs.Features.{Features}
 use Rattle.wasm_spec.specs.Trees.{DefType}
 use Rattle.wasmparser_module_types.specs.ModuleTypes.{KnownTypes}
@@ -8,6 +9,7 @@ use Rattle.wasm_validity.specs.DefinedTypes.{func_type_at}
 use Rattle.wasm_validity.specs.Entries.{Entry, entries_of}
 use Rattle.wasm_validity.specs.IndexSpaces.{spaces_in}
 use Rattle.wasm_validity.specs.Rules.{KeepLimits, KeepRules}
+use Rattle.wasm_validity_laws.specs.KnownImports.{IsThere}
 use Rattle.wasm_validity_laws.specs.NamedTypes.{NamesTypes}
 use Rattle.wasmparser_module_state.specs.History.{EnterAll, held}
 use Rattle.wasmparser_module_state.specs.State.{context, features_of}
@@ -63,10 +65,11 @@ reached_end features old_held bytes m w = record {
 }
 
 pub can_be_shown : (state : ModuleState) → ((features : Features) (entries : List Entry) → KeepRules features at_first entries → NamesTypes (spaces_in (after_all at_first entries)))
-    → IsReached state → CanBeShown state
-can_be_shown state law reached = record {
+    → ((entries : List Entry) → AllByRecursion (IsThere (after_all at_first entries)) (after_all at_first entries).imported) → IsReached state → CanBeShown state
+can_be_shown state law there reached = record {
   few = subst AreFew (sym reached.known) (are_few reached.entries reached.limits);
   named = subst (λ (cx : Context). NamesTypes (spaces_in cx)) (sym reached.known) (law (features_of state) reached.entries reached.rules);
+  imports = subst (λ (cx : Context). AllByRecursion (IsThere cx) cx.imported) (sym reached.known) (there reached.entries);
 }
 
 pub are_named : (state : ModuleState) → ((features : Features) (entries : List Entry) (place index : ℕ) → KeepRules features at_first entries

@@ -1,12 +1,14 @@
 -- What holds of what is known of a valid module, or of the entries of one so far.
 use Rattle.std.specs.Coded.{Coded, code_by, coded×, coded_ℕ}
 use Rattle.std.specs.Prelude.{◌≡◌, ◌+◌, ◌≤◌, ℕ, false, List, length, refl}
+use Rattle.std.specs.List.{AllByRecursion}
 use Rattle.wasm_spec.specs.Limits.{ElementSegments, Functions, Globals, Memories, Tables, Tags, most}
 use Rattle.wasm_spec.specs.Trees.{DefType}
 use Rattle.wasm_validity.specs.Context.{Context, after_all, at_first}
 use Rattle.wasm_validity.specs.Entries.{Entry}
 use Rattle.wasm_validity.specs.IndexSpaces.{Spaces, spaces_in}
 use Rattle.wasm_validity.specs.Rules.{KeepLimits, KeepRules}
+use Rattle.wasm_validity_laws.specs.KnownImports.{IsThere}
 use Rattle.wasm_validity_laws.specs.NamedTypes.{NamesTypes}
 use Rattle.wasmparser_module_state.specs.History.{EnterAll, held}
 use Rattle.wasmparser_module_state.specs.State.{context, features_of}
@@ -51,7 +53,8 @@ state_spaces state = spaces_in (context state)
 abbrev pub spaces_known : KnownModule → Spaces
 spaces_known known = state_spaces known.state
 
--- they can be shown: their sizes have 32 bits, and what stands in them names types
+-- they can be shown: their sizes have 32 bits, what stands in them names types, and imports are there
 pub record CanBeShown (state : ModuleState) : Type 0 where
   pub few : AreFew (context state)
   pub named : NamesTypes (spaces_in (context state))
+  pub imports : AllByRecursion (IsThere (context state)) (context state).imported

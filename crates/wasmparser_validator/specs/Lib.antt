@@ -3,6 +3,7 @@ pub mod BodyReading
 pub mod BodyValidation
 pub mod KnownSpaces
 pub mod Shown
+pub mod ShownImports
 pub mod Validation
 pub mod Judges
 pub mod Functions

@@ -59,6 +59,8 @@ IsImported known (refs.Memory type) found = found ≡ Some (entities.Memory type
 IsImported known (refs.Global type) found = found ≡ Some (entities.Global type)
 IsImported known (refs.Tag type) found = IsOfType known type.func_type_idx (λ id. entities.Tag id) found
 
+-- ---- exports
+
 -- the exports that are still to come
 abbrev pub exports_left : CoreExports → List Export
 exports_left it = drop it.place it.exports.now

@@ -2,6 +2,7 @@
 #![tactic(auto)]
 
 pub mod body;
+pub mod core_imports;
 pub mod func;
 mod growing_types;
 mod local_type;

@@ -5,24 +5,27 @@ ghost use Rattle.std.specs.Option.{option_and_then};
 ghost use Rattle.wasm_spec.specs.Features.{needs_type_canonicalization};
 ghost use Rattle.wasm_spec.specs.Trees.{AreDistinct, type_at, unrolled};
 ghost use Rattle.wasm_spec.specs.TypeReferences.{external_map, global_map, global_refs, ref_map, ref_refs, sub_map, sub_refs, table_map, table_refs};
-ghost use Rattle.wasmparser_items.specs.Exports.{export_item};
+ghost use Rattle.wasmparser_interning_laws.specs.IdTypes.{IsWholeGroup};
+ghost use Rattle.wasmparser_items.specs.Exports.{export_item, external_kind};
 ghost use Rattle.wasmparser_items.specs.ItemTypes.{global_type, memory_type, table_type};
 ghost use Rattle.wasmparser_module_state.specs.Entities.{entity_type};
-ghost use Rattle.wasmparser_module_types.specs.ModuleTypes.{AreIds, stands_for};
+ghost use Rattle.wasmparser_module_types.specs.ModuleTypes.{AreIds, IsGroupOf, ids_of_group, stands_for};
 ghost use Rattle.wasmparser_types.specs.SubTypes.{sub_type};
 ghost use Rattle.wasmparser_validator.specs.Shown.{IsImported, declared_supertype, exported, known, spaces, supertype_in};
+ghost use Rattle.wasmparser_validator.specs.ShownImports.{shown_item};
 
 use crate::types::{Types, TypesRef};
 use std::ops::Index;
 use wasmparser_imports::imports::Import;
-use wasmparser_items::export::Export;
+use wasmparser_interning::rec_group_elements::RecGroupElements;
+use wasmparser_items::export::{Export, ExternalKind};
 use wasmparser_items::global_type::GlobalType;
 use wasmparser_items::memory_type::MemoryType;
 use wasmparser_items::table_type::TableType;
 use wasmparser_items::type_ref::TypeRef;
 use wasmparser_module_state::by_ids::{global_by_ids, ref_by_ids, table_by_ids};
 use wasmparser_module_state::entity_type::EntityType;
-use wasmparser_types::index::CoreTypeId;
+use wasmparser_types::index::{CoreTypeId, RecGroupId};
 use wasmparser_types::ref_type::RefType;
 use wasmparser_types::sub_type::SubType;
 
@@ -52,6 +55,22 @@ impl<'a> TypesRef<'a> {
         ensures known { IfSome result (λ it. it < length (known self.now).interned) }
     {
         supertype_in(self.state().types().sub_type(id))
+    }
+
+    /// The group that the type of an id came in, which is one of these types'.
+    pub fn rec_group_id_of(&self, id: CoreTypeId) -> RecGroupId
+        requires { id < length (known self.now).interned }
+        ensures { IsGroupOf (known self.now) id result }
+    {
+        self.state().types().rec_group_id_of(id)
+    }
+
+    /// The ids of a group's types, in the order in which it has them. A group that isn't one of these types' has none.
+    pub fn rec_group_elements(&self, id: RecGroupId) -> RecGroupElements
+        ensures ids { result ≡ ids_of_group (known self.now) id }
+        ensures whole { id < length (known self.now).interned_groups → IsWholeGroup (known self.now).interned result }
+    {
+        self.state().types().rec_group_elements(id)
     }
 
     /// The id of the type with this index, which is below their number.
@@ -158,11 +177,18 @@ impl<'a> TypesRef<'a> {
         ty
     }
 
+    // The item of a kind with an index, or None where there is no such item.
+    pub(crate) fn entity(&self, kind: ExternalKind, index: u32) -> Option<EntityType>
+        ensures { option_map (entity_type (known self.now)) result ≡ shown_item self.now.types.now.state (external_kind kind) index }
+    {
+        self.state().entity_at(kind, index)
+    }
+
     /// What an export is, or None where the module has no item of its kind with its index.
     pub fn entity_type_from_export(&self, export: &Export<'_>) -> Option<EntityType>
         ensures { option_map (entity_type (known self.now)) result ≡ option_map (external_map (type_at (spaces self.now).types)) (exported self.now (export_item export.now)) }
     {
-        self.state().entity_at(export.kind, export.index)
+        self.entity(export.kind, export.index)
     }
 
     /// What an import is, or None where it is a function or a tag whose type index the module doesn't have. The types of tables and globals stay as the

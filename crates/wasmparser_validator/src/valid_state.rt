@@ -14,7 +14,7 @@ use std::alloc::{AllocError, Global};
 use std::marker::Model;
 use std::mem;
 use wasm_core_base::features::WasmFeatures;
-use wasm_validity_laws::laws::{named_functions, named_types};
+use wasm_validity_laws::laws::{known_imports, named_functions, named_types};
 use wasmparser_error::error::Error;
 use wasmparser_module_state::module_state::ModuleState;
 use wasmparser_module_types::module_types::ModuleTypes;
@@ -72,6 +72,7 @@ impl ValidState {
         // The laws that the clauses follow from, which do nothing.
         named_functions();
         named_types();
+        known_imports();
         &self.state
     }
 

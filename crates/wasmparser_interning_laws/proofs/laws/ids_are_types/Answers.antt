@@ -5,6 +5,7 @@ use Rattle.wasmparser_interning.specs.TypeTables.{type_by_id}
 use Rattle.wasmparser_interning_laws.specs.IdTypes.{groups_of, type_of_index}
 use Rattle.wasmparser_interning_laws.proofs.GroupTypes.{all_canonical}
 use Rattle.wasmparser_interning_laws.proofs.IdLaws.{id_count, ids_closed, ids_unroll}
+use Rattle.wasmparser_interning_laws.proofs.WholeGroups.{whole_groups}
 use Rattle.wasmparser_interning_laws.proofs.laws.ids_are_types.Goals as goal
 
 pub returns : goal.returns
@@ -15,6 +16,7 @@ returns c = record {
   along = λ canonical tables agree no_module. carried (type_of_index canonical tables) (type_by_id tables) unrolled (ids_unroll tables agree no_module canonical);
   limits_back = λ canonical tables agree no_module.
       limits_carried_back (type_of_index canonical tables) (type_by_id tables) unrolled (ids_unroll tables agree no_module canonical) (ids_closed tables agree no_module);
+  groups = whole_groups;
   section = λ tables. all_canonical 0 (groups_of tables) [];
   committed = λ canonical tables. refl;
 }

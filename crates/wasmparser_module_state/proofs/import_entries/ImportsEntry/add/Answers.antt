@@ -1,16 +1,20 @@
 use Rattle.std.proofs.lemmas.Result.{err_from_is_err_and}
 use Rattle.wasmparser_imports.specs.ImportEntries.{import_entry}
 use Rattle.wasmparser_module_state.proofs.ImportLaws.{accepted_entry, refused_entry}
+use Rattle.wasmparser_module_state.proofs.NamedImports.{left_named}
 use Rattle.wasmparser_module_state.specs.History.{held}
+use Rattle.wasmparser_module_state.specs.State.{features_of, unnamed}
 use Rattle.wasmparser_module_state.proofs.import_entries.ImportsEntry.add.Goals as goal
 
 pub returns-in_err-add_imports-clause-added : goal.returns-in_err-add_imports-clause-added
 returns-in_err-add_imports-clause-added c =
     let h = c.in_err-add_imports.ensures.added in
+    let old = c.args.state.now in
+    let entry = import_entry c.args.self in
     let p = err_from_is_err_and c.from_residual-in_err-add_imports.result c.from_residual-in_err-add_imports.ensures.1 in
-    rw (p.1, p.2) (refused_entry _ _ (held c.args.state.now) (import_entry c.args.self) _ h.0, h.1, h.2)
+    rw (p.1, p.2) (refused_entry (features_of old) (unnamed old) old.imported (held old) entry _ h.0, h.1, left_named (unnamed old) _ old.imported _ entry _ h.2 c.in_err-add_imports.ensures.named)
 
 pub returns-clause-added : goal.returns-clause-added
 returns-clause-added c =
     let imports = c.in_ok-imports.ensures.grown in
-    accepted_entry _ _ _ c.args.self _ c.requires.of_module imports.0 imports.1 c.in_ok-add_imports.ensures.added
+    accepted_entry _ _ _ _ _ c.args.self _ c.requires.of_module imports.0 imports.1 c.in_ok-add_imports.ensures.added c.in_ok-add_imports.ensures.named

@@ -7,10 +7,10 @@ use Rattle.wasmparser_module_state.specs.Entities.{entity_type}
 use Rattle.wasmparser_module_state.specs.State.{context}
 use Rattle.wasmparser_validator.proofs.SpaceLaws.{entity_is}
 use Rattle.wasmparser_module_state.specs.declared.module_state.ModuleState.{ModuleState}
-use Rattle.wasmparser_validator.proofs.types.TypesRef.entity_type_from_export.Goals as goal
+use Rattle.wasmparser_validator.proofs.types.TypesRef.entity.Goals as goal
 
 pub returns : goal.returns
 returns c =
-    let export = c.args.export.now in
-    subst (λ (s : ModuleState). option_map (entity_type s.types) c.entity_at.result ≡ option_map (external_map (type_at (context s).types)) (item_at (context s) (external_kind export.kind) export.index)) c.state.ensures.same
-    (entity_is (context c.state.result.now) c.state.ensures.shown.named (entity_type c.state.result.now.types) (external_kind export.kind) export.index c.entity_at.result c.entity_at.ensures)
+    let kind = external_kind c.args.kind in
+    subst (λ (s : ModuleState). option_map (entity_type s.types) c.entity_at.result ≡ option_map (external_map (type_at (context s).types)) (item_at (context s) kind c.args.index)) c.state.ensures.same
+    (entity_is (context c.state.result.now) c.state.ensures.shown.named (entity_type c.state.result.now.types) kind c.args.index c.entity_at.result c.entity_at.ensures)

@@ -1,0 +1,70 @@
+//! Sessions that run out of memory.
+
+use std::alloc::Global;
+use std::test::Fail;
+use wasm_core::features::{Flags, WasmFeatures};
+use wasm_gen::judge::ValidatorId;
+use wasm_gen::session::Session;
+use wasm_test_rows::fields::two_fields;
+use wasm_test_rows::rows::check_rows;
+use wasm_test_rows::values::bytes_of;
+
+// Modules, and what a session answers: `yes`, or the name of a refusal.
+const MODULES: &str = "
+    yes | 0061736d01000000
+    yes | 0061736d01000000 01 11 02 4e 02 60 00 00 60 00 00 4e 02 60 00 00 60 00 00
+    yes | 0061736d01000000 01 04 01 60 00 00 02 15 03 01 6d 01 61 00 00 01 6e 01 62 02 00 01 01 6d 01 61 03 7f 00
+    yes | 0061736d01000000 01 04 01 60 00 00 02 0f 01 01 6d 00 7f 02 01 61 00 00 01 62 02 00 01
+    yes | 0061736d01000000 02 14 02 01 6d 00 7e 03 7f 00 02 01 61 01 62 01 6d 01 61 02 00 01
+    yes | 0061736d01000000 01 04 01 60 00 00 03 02 01 00 09 0b 02 01 00 01 00 05 70 01 d0 70 0b 0a 05 01 03 00 00 0b
+    yes | 0061736d01000000 01 0b 02 60 02 7f 7e 01 7d 60 01 7f 00 02 07 01 01 6d 01 66 00 01 03 02 01 00 04 05 01 70 01 02 05 05 04 01 01 01 03 0d 03 01 00 01 06 06 01 7e 01 42 00 0b 07 19 06 01 61 00 00 01 62 00 01 01 74 01 00 01 6d 02 00 01 67 03 00 01 65 04 00 0a 05 01 03 00 00 0b
+    malformed | 0061736d01000000 01 05 01 60 00 00
+    invalid | 0061736d01000000 01 04 01 60 00 00 02 0d 02 01 6d 01 61 00 00 01 6d 01 61 00 01
+    invalid | 0061736d01000000 05 03 01 00 01 07 09 02 01 61 02 00 01 61 02 00
+    body | 0061736d01000000 01 04 01 60 00 00 03 02 01 00 0a 03 01 01 00
+";
+
+// What a session answers on a module.
+fn answer(session: &mut Session, bytes: &[u8]) -> &'static str {
+    let verdict = session.check(bytes);
+    let name = match &verdict {
+        Ok(_) => "yes",
+        Err(error) => error.kind.name(),
+    };
+    drop(verdict);
+    name
+}
+
+// Whether a session answers so, after a restart where memory ran out and the session failed, and at the second time where it didn't fail.
+fn answers(session: &mut Session, bytes: &[u8], expected: &str) -> bool {
+    let first = answer(session, bytes);
+    if first != "memory" {
+        return first == expected;
+    }
+    if session.has_failed() {
+        if answer(session, bytes) != "failed" {
+            return false;
+        }
+        session.restart(ValidatorId::new(1));
+    }
+    answer(session, bytes) == expected
+}
+
+fn holds(alloc: Global, row: &str) -> Option<bool> {
+    let (expected, field) = two_fields(row)?;
+    let bytes = match bytes_of(alloc, field) {
+        Some(bytes) => bytes,
+        // (the allocation that is refused may be one for the bytes)
+        None => bytes_of(alloc, field)?,
+    };
+    let mut session = Session::new(alloc, WasmFeatures::all(), ValidatorId::new(0));
+    let holds = answers(&mut session, &bytes, expected);
+    // (dropped by a call, which is cheaper to prove)
+    drop(session);
+    Some(holds)
+}
+
+#[test]
+fn sessions_go_on_after_memory_ran_out(rt: HostRuntime) -> Result<(), Fail> {
+    Ok(check_rows(rt.alloc(), MODULES, 11, holds)?)
+}

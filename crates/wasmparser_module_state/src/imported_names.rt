@@ -1,0 +1,133 @@
+//! The names of imports, which are kept beside the items.
+
+ghost use Rattle.std.specs.Prelude.{◌≡◌, IfErr, IfOk};
+ghost use Rattle.wasm_spec.specs.Types.{kind_of};
+ghost use Rattle.wasm_validity.specs.Context.{next_index};
+ghost use Rattle.wasm_validity.specs.ImportedItems.{with_import};
+ghost use Rattle.wasmparser_error.specs.declared.error.ErrorKind.TheVariants as kinds;
+ghost use Rattle.wasmparser_import_names.specs.ImportNames.{imported};
+ghost use Rattle.wasmparser_items.specs.Exports.{external_kind};
+ghost use Rattle.wasmparser_module_state.specs.Items.{cut_off};
+ghost use Rattle.wasmparser_module_state.specs.State.{context, item, unnamed};
+
+use crate::module_state::ModuleState;
+use std::alloc::Global;
+use wasmparser_error::error::Error;
+use wasmparser_export_names::name_hasher::NameHasher;
+use wasmparser_import_names::import_names::{ImportNames, ImportedItem};
+use wasmparser_imports::imports::{Import, Imports};
+use wasmparser_items::export::ExternalKind;
+use wasmparser_items::type_ref::TypeRef;
+use wasmparser_readers::section_limited::SectionLimited;
+
+// The kind of an imported item.
+pub(crate) fn kind_of(ty: &TypeRef) -> ExternalKind
+    ensures { external_kind result ≡ kind_of (item ty.now) }
+{
+    match ty {
+        TypeRef::Func(_) => ExternalKind::Func,
+        TypeRef::Table(_) => ExternalKind::Table,
+        TypeRef::Memory(_) => ExternalKind::Memory,
+        TypeRef::Global(_) => ExternalKind::Global,
+        TypeRef::Tag(_) => ExternalKind::Tag,
+    }
+}
+
+// The names of an entry of an import section go before those that are hashed.
+fn start_after_names<'a>(alloc: Global, hasher: &mut NameHasher, entry: Imports<'a>) {
+    match entry {
+        Imports::Single(_, import) => {
+            hasher.start_after(import.module);
+            hasher.start_after(import.name);
+        }
+        Imports::Compact1 { module, items } => {
+            hasher.start_after(module);
+            for item in items.into_iter(alloc) {
+                if let Ok(item) = item {
+                    hasher.start_after(item.name);
+                }
+            }
+        }
+        Imports::Compact2 { module, names, .. } => {
+            hasher.start_after(module);
+            for name in names.into_iter(alloc) {
+                if let Ok(name) = name {
+                    hasher.start_after(name);
+                }
+            }
+        }
+    }
+}
+
+impl ModuleState {
+    /// The imports by their names; those of the same two names stand together.
+    pub fn imported(&self) -> &ImportNames
+        ensures { result.now ≡ (context self.now).imported }
+    {
+        &self.imported
+    }
+
+    /// Makes ready for the imports of a section, so that names can hardly be chosen that collide.
+    pub fn start_imports<'a>(&mut self, section: SectionLimited<'a, Imports<'a>>)
+        ensures same { context self.new ≡ context self.old }
+        ensures types { self.new.types ≡ self.old.types }
+    {
+        let alloc = *self.tags.allocator();
+        let mut hasher = NameHasher::new();
+        for entry in section.into_iter(alloc) {
+            if let Ok(entry) = entry {
+                start_after_names(alloc, &mut hasher, entry);
+            }
+        }
+        self.imported.start_with(hasher);
+    }
+
+    // The index that the next imported item of a kind has.
+    pub(crate) fn next_index(&self, kind: ExternalKind) -> usize
+        ensures { result ≡ next_index (unnamed self.now) (external_kind kind) }
+    {
+        match kind {
+            ExternalKind::Func => self.imported_functions.len(),
+            ExternalKind::Table => self.tables.len(),
+            ExternalKind::Memory => self.memories.len(),
+            ExternalKind::Global => self.imported_globals.len(),
+            ExternalKind::Tag => self.tags.len(),
+        }
+    }
+
+    // Takes back what was imported of a kind from this index on.
+    #[tactic(auto, using(crate::proofs::NamedImports::cut_steps))]
+    fn cut_off(&mut self, kind: ExternalKind, index: usize, type_size: u32)
+        ensures cut { unnamed self.new ≡ cut_off (unnamed self.old) (external_kind kind) index type_size }
+        ensures names { self.new.imported ≡ self.old.imported }
+        ensures types { self.new.types ≡ self.old.types }
+    {
+        match kind {
+            ExternalKind::Func => self.imported_functions.truncate(index),
+            ExternalKind::Table => self.tables.truncate(index),
+            ExternalKind::Memory => self.memories.truncate(index),
+            ExternalKind::Global => self.imported_globals.truncate(index),
+            ExternalKind::Tag => self.tags.truncate(index),
+        }
+        self.type_size = type_size;
+    }
+
+    // Keeps the names of the item that was imported last. Where they find no memory, the item goes again.
+    pub(crate) fn keep_names(
+        &mut self,
+        import: &Import<'_>,
+        item: ImportedItem,
+        type_size: u32,
+    ) -> Result<(), Error>
+        ensures kept { IfOk result (λ _. (unnamed self.new ≡ unnamed self.old) × (self.new.imported ≡ with_import self.old.imported (imported import.now.«module».now import.now.name.now item))) }
+        ensures refused { IfErr result (λ e. (e ≡ record { offset = 0; kind = kinds.Memory }) × (self.new.imported ≡ self.old.imported)) }
+        ensures gone { IfErr result (λ _. unnamed self.new ≡ cut_off (unnamed self.old) (external_kind item.kind) item.index type_size) }
+        ensures types { self.new.types ≡ self.old.types }
+    {
+        if let Err(error) = self.imported.push(import.module, import.name, item) {
+            self.cut_off(item.kind, item.index as usize, type_size);
+            return Err(error.into());
+        }
+        Ok(())
+    }
+}

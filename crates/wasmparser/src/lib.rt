@@ -12,4 +12,6 @@ pub use wasmparser_module_state::{entity_type, laws};
 pub use wasmparser_payloads::{custom_section, function_body, parser, payload, payloads};
 pub use wasmparser_readers::{from_reader, section_limited};
 pub use wasmparser_types::{composite_type, heap_type, index, ref_type, sub_type, val_type};
-pub use wasmparser_validator::{body, core_imports, func, types, valid_payload, validator, validator_id};
+pub use wasmparser_validator::{
+    body, core_imports, func, types, valid_payload, validator, validator_id,
+};

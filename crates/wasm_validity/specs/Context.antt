@@ -113,7 +113,8 @@ after_items cx (type ∷ types) = after_items (after_item cx type) types
 
 -- ---- imports by their names
 
--- how many items of a kind are imported, or where imported ones don't stand first, how many there are
+-- The index that the next imported item of a kind has. Imported tables, memories and tags are kept in one list with the module's own, which come after all
+-- imports; imported functions and globals have lists of their own.
 abbrev pub next_index : Context → ExternalKind → ℕ
 next_index cx FuncKind = length cx.imported_functions
 next_index cx TableKind = length cx.tables

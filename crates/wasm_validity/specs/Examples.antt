@@ -8,6 +8,7 @@ use Rattle.wasm_spec.specs.Syntax.{ElementItems, ElementSegment, Export, Express
 use Rattle.wasm_spec.specs.TypeExamples.{empty_structure, final_type, gives, takes}
 use Rattle.wasm_spec.specs.Types.{HeapType, Concrete, F32, I32, I64, RefType, ValType, FuncComposite, Single, Limits, TableType, GlobalType, ExternalType, ExternalKind, FuncExternal, FuncKind, GlobalExternal, TagKind, funcref}
 use Rattle.wasm_validity.specs.Context.{Context, after_all, at_first}
+use Rattle.wasm_validity.specs.ImportedItems.{Imported}
 use Rattle.wasm_validity.specs.Entries.{Entry, OfElement, OfExport, OfFunction, OfGlobal, OfImport, OfMemory, OfTable, OfTag, OfType}
 use Rattle.wasm_validity.specs.Rules.{Keeps, Passes, measures}
 
@@ -75,6 +76,9 @@ variable type = record { value_type = type; mutable = true }
 -- an import without names
 abbrev pub imports : ExternalType ℕ → Entry
 imports type = OfImport (Import [] [] type)
+
+abbrev pub named : List ℕ → List ℕ → ExternalKind → ℕ → Imported
+named origin name kind index = record { origin = origin; name = name; kind = kind; index = index }
 
 abbrev pub export_of : List ℕ → ExternalKind → ℕ → Export
 export_of name kind index = record { name = name; kind = kind; index = index }

@@ -1,4 +1,4 @@
--- What is shown of a module: its index spaces, those of data segments, locals, labels and fields aside, and its exports. Core Specification 3.0,
+-- What is shown of a module: its index spaces, those of data segments, locals, labels and fields aside, its imports by their names, and its exports. Core Specification 3.0,
 -- Structure, Modules, "Indices", and Validation, "Modules". Types of items are kept as they are written, over type indexes.
 use Rattle.std.specs.Prelude.{ℕ, List, length}
 use Rattle.wasm_spec.specs.Spaces.{Sizes}
@@ -6,6 +6,7 @@ use Rattle.wasm_spec.specs.Syntax.{Export, Section}
 use Rattle.wasm_spec.specs.Trees.{DefType}
 use Rattle.wasm_spec.specs.Types.{GlobalType, MemoryType, RefType, TableType}
 use Rattle.wasm_validity.specs.Context.{Context, functions_in, globals_in}
+use Rattle.wasm_validity.specs.ImportedItems.{Imported}
 use Rattle.wasm_validity.specs.Validity.{context_of}
 
 -- each space in order, imported items first
@@ -20,6 +21,7 @@ pub record Spaces : Type 0 where
   pub tags : List ℕ
   -- the type of each element segment
   pub elements : List (RefType ℕ)
+  pub imported : List Imported
   pub exports : List Export
 
 abbrev pub spaces_in : Context → Spaces
@@ -31,6 +33,7 @@ spaces_in cx = record {
   globals = globals_in cx;
   tags = cx.tags;
   elements = cx.elements;
+  imported = cx.imported;
   exports = cx.exports;
 }
 

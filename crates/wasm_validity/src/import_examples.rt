@@ -7,10 +7,10 @@ ghost use Rattle.wasm_spec.specs.Grammar.{header};
 ghost use Rattle.wasm_spec.specs.Limits.{total_of_types};
 ghost use Rattle.wasm_spec.specs.Syntax.{TypeSection, ImportSection, FunctionSection, StartSection, CodeSection, CompactItems, CompactNames, Import};
 ghost use Rattle.wasm_spec.specs.TypeExamples.{empty_function, final_type, gives, takes};
-ghost use Rattle.wasm_spec.specs.Types.{I32, Concrete, FuncComposite, FuncExternal, MemoryExternal, MemoryType, RecGroup, Ref, Single, TableExternal, GlobalExternal};
-ghost use Rattle.wasm_validity.specs.Context.{at_first};
-ghost use Rattle.wasm_validity.specs.Entries.{OfImport};
-ghost use Rattle.wasm_validity.specs.Examples.{IsBroken, IsKept, between, constant, reference, table_of};
+ghost use Rattle.wasm_spec.specs.Types.{I32, Concrete, FuncComposite, FuncExternal, FuncKind, GlobalKind, MemoryExternal, MemoryKind, MemoryType, RecGroup, Ref, Single, TableExternal, TableKind, TagExternal, TagKind, GlobalExternal};
+ghost use Rattle.wasm_validity.specs.Context.{after_all, at_first};
+ghost use Rattle.wasm_validity.specs.Entries.{OfFunction, OfImport};
+ghost use Rattle.wasm_validity.specs.Examples.{IsBroken, IsKept, between, constant, named, reference, table_of};
 ghost use Rattle.wasm_validity.specs.Validity.{BeginsInvalid, IsValid};
 
 use wasm_spec::grammar_examples::imports_and_exports;
@@ -43,6 +43,21 @@ pub fn groups()
     ensures greatest_index { IsKept at_first (OfImport (CompactNames [] (TableExternal (table_of (reference true (Concrete 1048575)) (at_least 1))) [])) }
     ensures larger_index { IsBroken at_first (OfImport (CompactNames [] (TableExternal (table_of (reference true (Concrete total_of_types)) (at_least 1))) [])) }
     ensures larger_in_a_global { IsBroken at_first (OfImport (CompactNames [] (GlobalExternal (constant (Ref true (Concrete total_of_types)))) [])) }
+{}
+
+/// Imports of the same two names are shown together, where the first of them stands; each is the next item of its kind.
+pub fn names()
+    ensures together { (after_all at_first (OfImport (Import (0x6d ∷ []) (0x61 ∷ []) (FuncExternal 0)) ∷ OfImport (Import (0x6e ∷ []) (0x62 ∷ []) (MemoryExternal (at_least 1)))
+        ∷ OfImport (Import (0x6d ∷ []) (0x61 ∷ []) (GlobalExternal (constant I32))) ∷ [])).imported
+        ≡ named (0x6d ∷ []) (0x61 ∷ []) FuncKind 0 ∷ named (0x6d ∷ []) (0x61 ∷ []) GlobalKind 0 ∷ named (0x6e ∷ []) (0x62 ∷ []) MemoryKind 0 ∷ [] }
+    ensures apart { (after_all at_first (OfImport (Import (0x61 ∷ []) (0x62 ∷ 0x63 ∷ []) (TagExternal 0)) ∷ OfImport (Import (0x61 ∷ 0x62 ∷ []) (0x63 ∷ []) (TagExternal 0))
+        ∷ OfImport (Import (0x61 ∷ []) (0x62 ∷ 0x63 ∷ []) (TagExternal 1)) ∷ [])).imported
+        ≡ named (0x61 ∷ []) (0x62 ∷ 0x63 ∷ []) TagKind 0 ∷ named (0x61 ∷ []) (0x62 ∷ 0x63 ∷ []) TagKind 2 ∷ named (0x61 ∷ 0x62 ∷ []) (0x63 ∷ []) TagKind 1 ∷ [] }
+    ensures of_items { (after_all at_first (OfImport (CompactItems (0x6d ∷ []) (record { name = 0x61 ∷ []; type = FuncExternal 0 } ∷ record { name = 0x62 ∷ []; type = FuncExternal 0 } ∷ []))
+        ∷ OfImport (Import (0x6d ∷ []) (0x61 ∷ []) (TableExternal (table_of (reference true (Concrete 0)) (at_least 1)))) ∷ OfFunction 0 ∷ [])).imported
+        ≡ named (0x6d ∷ []) (0x61 ∷ []) FuncKind 0 ∷ named (0x6d ∷ []) (0x61 ∷ []) TableKind 0 ∷ named (0x6d ∷ []) (0x62 ∷ []) FuncKind 1 ∷ [] }
+    ensures of_names { (after_all at_first (OfImport (CompactNames (0x6d ∷ []) (MemoryExternal (at_least 1)) ((0x61 ∷ []) ∷ (0x62 ∷ []) ∷ (0x61 ∷ []) ∷ [])) ∷ [])).imported
+        ≡ named (0x6d ∷ []) (0x61 ∷ []) MemoryKind 0 ∷ named (0x6d ∷ []) (0x61 ∷ []) MemoryKind 2 ∷ named (0x6d ∷ []) (0x62 ∷ []) MemoryKind 1 ∷ [] }
 {}
 
 /// A section with an import of a type that isn't there breaks a rule, whatever follows.

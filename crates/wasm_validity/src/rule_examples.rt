@@ -224,7 +224,7 @@ pub fn spaces()
     ensures elements { (spaces_in one_of_each).elements ≡ reference false (Abstract Func) ∷ reference false (Concrete 1) ∷ funcref ∷ [] }
     ensures exports { (spaces_in one_of_each).exports ≡ export_of (97 ∷ []) TagKind 0 ∷ export_of (98 ∷ []) FuncKind 2 ∷ [] }
     ensures of_sections { (spaces_of (MemorySection (at_least 1 ∷ []) ∷ ExportSection (export_of (97 ∷ []) MemoryKind 0 ∷ []) ∷ [])).exports ≡ export_of (97 ∷ []) MemoryKind 0 ∷ [] }
-    ensures sizes { sizes_in (record { types = (with_types []).types; functions = 0 ∷ []; tables = []; memories = replicate 2 (at_least 1); globals = replicate 3 (constant I32); tags = replicate 5 0; elements = replicate 6 funcref; exports = replicate 7 (export_of [] FuncKind 0) })
+    ensures sizes { sizes_in (record { types = (with_types []).types; functions = 0 ∷ []; tables = []; memories = replicate 2 (at_least 1); globals = replicate 3 (constant I32); tags = replicate 5 0; elements = replicate 6 funcref; imported = []; exports = replicate 7 (export_of [] FuncKind 0) })
         ≡ record { types = 4; functions = 1; tables = 0; memories = 2; globals = 3; tags = 5; elements = 6; exports = 7 } }
 {}
 

@@ -132,7 +132,8 @@ one : (features : Features) (cx : Context) (entry : Entry) → NamesTypes (space
 one features cx (OfType group) named keeps = more_types (spaces_in cx) (types_of_group cx.types group) named
 one features cx (OfImport entry) named keeps =
     let kept = both (shares_small_index entry) (keep_items features cx (imported_by entry)) keeps in
-    subst NamesTypes (sym (uncounted cx (suc cx.imports) (imported_by entry))) (all_items features cx (imported_by entry) named kept.1)
+    let after_them = subst NamesTypes (sym (uncounted cx (suc cx.imports) (imported_by entry))) (all_items features cx (imported_by entry) named kept.1) in
+    record { functions = after_them.functions; tables = after_them.tables; globals = after_them.globals; tags = after_them.tags; elements = after_them.elements }
 one features cx (OfFunction index) named keeps =
     record { functions = rest_more cx.imported_functions cx.own_functions index named.functions keeps; tables = named.tables; globals = named.globals; tags = named.tags; elements = named.elements }
 one features cx (OfTable table) named keeps = one_item features cx (TableExternal table.type) named keeps.type

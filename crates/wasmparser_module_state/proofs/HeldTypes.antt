@@ -6,10 +6,11 @@ use Rattle.std.specs.List.{AllByRecursion, slice_get}
 use Rattle.wasm_spec.proofs.GroupTrees.{length-places_of, length-types_after}
 use Rattle.wasm_spec.proofs.Places.{all_get, get_cases}
 use Rattle.wasm_spec.specs.Features.{Features, needs_type_canonicalization}
+use Rattle.wasm_spec.specs.Limits.{total_of_types}
 use Rattle.wasm_spec.specs.Syntax.{members}
 use Rattle.wasm_spec.specs.Trees.{AreDistinct, DefType, GroupTree, places_of, tree_of, types_of_group}
 use Rattle.wasm_spec.specs.Types.{RecGroup}
-use Rattle.wasm_validity.specs.Context.{Context, after}
+use Rattle.wasm_validity.specs.Context.{Context, after, after_all}
 use Rattle.wasm_validity.specs.Entries.{Entry}
 use Rattle.wasmparser_module_state.proofs.TypeCounts.{types_after_entry, types_with}
 use Rattle.wasmparser_module_state.specs.History.{EnterAll, EntersGroup, OneFindsNoRoom, group_in}
@@ -88,14 +89,39 @@ all_one features cx held a b (entry ∷ entries) (mid, enters, rest) (mid', ente
     let same : mid' ≡ mid = group_one features cx.types held mid' mid (group_in entry) enters' enters in
     all_one features (after cx entry) mid a b entries rest (subst (λ q. EnterAll features (after cx entry) q entries b) same rest')
 
--- ---- room for a first module
+-- ---- room below the total
 
-group_count : (before held new : List DefType) (features : Features) (found : Option (RecGroup ℕ)) → EntersGroup features before held found new → length held ≤ length before
-    → length new ≤ length (types_with before found)
-group_count before held _ features (Some group) (is_held room asked all) few = omega (arith, few, length-types_after before group)
-group_count before held _ features (Some group) (is_new room apart) few =
-    omega (arith, few, length-types_after before group, length-append held (types_of_group before group), length-places_of (tree_of before group) 0 (members group))
-group_count before held new features None same few = omega (arith, few, ap length same)
+-- what a module knows of types only grows
+types_grow : (before : List DefType) (found : Option (RecGroup ℕ)) → length before ≤ length (types_with before found)
+types_grow before (Some group) = omega (arith, length-types_after before group)
+types_grow before None = omega arith
+
+all_types_grow : (cx : Context) (entries : List Entry) → length cx.types ≤ length (after_all cx entries).types
+all_types_grow cx [] = omega arith
+all_types_grow cx (entry ∷ entries) = omega (arith, types_grow cx.types (group_in entry), ap length (types_after_entry cx entry), all_types_grow (after cx entry) entries)
+
+module _ (features : Features) (count : ℕ) where
+  count_after : (before held new : List DefType) (found : Option (RecGroup ℕ)) → EntersGroup features before held found new → length held ≤ count + length before → length new ≤ count + length (types_with before found)
+  count_after before held _ (Some group) (is_held room asked all) few = omega (arith, few, length-types_after before group)
+  count_after before held _ (Some group) (is_new room apart) few =
+      omega (arith, few, length-types_after before group, length-append held (types_of_group before group), length-places_of (tree_of before group) 0 (members group))
+  count_after before held new None same few = omega (arith, few, ap length same)
+
+  has_room_below : (before held : List DefType) (found : Option (RecGroup ℕ)) → length held ≤ count + length before → count + length (types_with before found) ≤ total_of_types → IsSomeAnd found (λ group. HasNoRoom held before group) → ⊥
+  has_room_below before held None few all none = none
+  has_room_below before held (Some group) few all none = absurd (omega (arith, few, all, none.past_total, length-types_after before group))
+
+  -- so many types were held before the module
+  pub room_below : (cx : Context) (held : List DefType) (entries : List Entry) → length held ≤ count + length cx.types → count + length (after_all cx entries).types ≤ total_of_types → ¬ (OneFindsNoRoom features cx held entries)
+  room_below cx held [] few all none = none
+  room_below cx held (entry ∷ entries) few all (inl none) =
+      let next : count + length (types_with cx.types (group_in entry)) ≤ total_of_types = omega (arith, all, ap length (types_after_entry cx entry), all_types_grow (after cx entry) entries) in
+      has_room_below cx.types held (group_in entry) few next none
+  room_below cx held (entry ∷ entries) few all (inr (keeps, within, mid, enters, none)) =
+      room_below (after cx entry) mid entries
+      (subst (λ ts. length mid ≤ count + length ts) (sym (types_after_entry cx entry)) (count_after cx.types held mid (group_in entry) enters few)) all none
+
+-- ---- room for a first module
 
 has_room : (before held : List DefType) (group : RecGroup ℕ) → length held ≤ length before → ¬ (HasNoRoom held before group)
 has_room before held group few none = absurd (omega (arith, few, none.within_limit, none.past_total, length-types_after before group))
@@ -109,4 +135,4 @@ find_room features cx held (entry ∷ entries) few (inl none) = by_group (group_
     by_group (Some group) none = has_room cx.types held group few none
 find_room features cx held (entry ∷ entries) few (inr (keeps, within, mid, enters, none)) =
     find_room features (after cx entry) mid entries
-    (subst (λ ts. length mid ≤ length ts) (sym (types_after_entry cx entry)) (group_count cx.types held mid features (group_in entry) enters few)) none
+    (subst (λ ts. length mid ≤ length ts) (sym (types_after_entry cx entry)) (omega (arith, count_after features 0 cx.types held mid (group_in entry) enters (omega (arith, few))))) none

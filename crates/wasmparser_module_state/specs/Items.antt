@@ -70,7 +70,7 @@ abbrev pub AddsImports : Features → Context → ImportEntry → ℕ → Result
 AddsImports features old entry place result new =
     AddsItems features old (imported_by entry) (named_measures old (import_names entry) (imported_by entry)) place (IsLeft old (OfImport entry) new) result new
 
--- What is kept of the names of an entry's imports; after a refusal nothing is, unless the entry is a group, of which some may be.
+-- What is kept of the names of an entry's imports. After a refusal of an import the names are as before; of a group it is open which are kept.
 abbrev pub NamesImports : Context → ImportEntry → List Imported → Result (Unit {0}) Error → List Imported → Type 0
 NamesImports cx entry old (Ok x) new = new ≡ with_imports old (imports_of cx entry)
 NamesImports cx (Import origin name type) old (Err e) new = new ≡ old

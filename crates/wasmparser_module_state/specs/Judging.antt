@@ -41,7 +41,7 @@ pub record Accepts (features : Features) (old : Context) (entry : Entry) (new : 
   pub limits : IsWithinLimits old entry
   pub known : new ≡ after old entry
 
--- all is as before, but for items that were imported
+-- all is as before, but for items that were imported, and their names
 abbrev pub HasItemsMore : Context → Context → Type 0
 HasItemsMore old new = new ≡ record old {
   imported = new.imported;
@@ -53,8 +53,8 @@ HasItemsMore old new = new ≡ record old {
   type_size = new.type_size;
 }
 
--- After a refusal all is as before, but the types where the entry is a recursive group, and imported items where it is a group of imports: those
--- before the one that was refused may stand.
+-- After a refusal all is as before, but the types where the entry is a recursive group, and imported items and their names where it is a group of imports: of
+-- these it is open which stand.
 abbrev pub IsLeft : Context → Entry → Context → Type 0
 IsLeft old (OfType group) new = new ≡ record old { types = new.types; groups = new.groups }
 IsLeft old (OfImport (CompactItems origin items)) new = HasItemsMore old new

@@ -1,11 +1,12 @@
 //! What is imported and exported.
 
-ghost use Rattle.std.specs.Prelude.{◌≡◌, option_map};
+ghost use Rattle.std.specs.Prelude.{◌≡◌, IfSome, option_map};
 ghost use Rattle.std.specs.Option.{option_and_then};
 ghost use Rattle.wasm_validity.specs.Context.{item_at};
 ghost use Rattle.wasmparser_items.specs.Exports.{external_kind};
-ghost use Rattle.wasmparser_module_state.specs.Entities.{entity_type, meant_item};
+ghost use Rattle.wasmparser_module_state.specs.Entities.{entity_refs, entity_type, meant_item};
 ghost use Rattle.wasmparser_module_state.specs.State.{context, item};
+ghost use Rattle.wasmparser_module_types.specs.ModuleTypes.{AreIds};
 
 use crate::by_ids::{global_by_ids, table_by_ids};
 use crate::module_state::ModuleState;
@@ -21,7 +22,7 @@ use wasmparser_types::index::CoreTypeId;
 pub enum EntityType {
     /// A function of the type with this id.
     Func(CoreTypeId),
-    /// A table. That of an import keeps the type index that it is written with.
+    /// A table. What the validator tells of an import as it is written keeps the type index (`TypesRef::entity_type_from_import`).
     Table(TableType),
     /// A memory.
     Memory(MemoryType),
@@ -35,7 +36,8 @@ impl ModuleState {
     // The type of an item with ids in place of type indexes, or None where the module has no type of such an index.
     #[tactic(auto, using(crate::proofs::IdLaws::entity_steps))]
     fn entity(&self, ty: TypeRef) -> Option<EntityType>
-        ensures { option_map (entity_type self.now.types) result ≡ meant_item (context self.now).types (item ty) }
+        ensures same { option_map (entity_type self.now.types) result ≡ meant_item (context self.now).types (item ty) }
+        ensures ids { IfSome result (λ entity. AreIds self.now.types (entity_refs entity)) }
     {
         match ty {
             TypeRef::Func(index) => Some(EntityType::Func(self.types.type_id(index)?)),
@@ -49,7 +51,8 @@ impl ModuleState {
     /// The item of a kind with an index, with ids in place of type indexes, or None where there is no such item or its type has an index
     /// that names no type.
     pub fn entity_at(&self, kind: ExternalKind, index: u32) -> Option<EntityType>
-        ensures { option_map (entity_type self.now.types) result ≡ option_and_then (meant_item (context self.now).types) (item_at (context self.now) (external_kind kind) index) }
+        ensures same { option_map (entity_type self.now.types) result ≡ option_and_then (meant_item (context self.now).types) (item_at (context self.now) (external_kind kind) index) }
+        ensures ids { IfSome result (λ entity. AreIds self.now.types (entity_refs entity)) }
     {
         match self.exported_type(kind, index) {
             Some(ty) => self.entity(ty),

@@ -163,7 +163,7 @@ impl ModuleState {
         Ok(())
     }
 
-    /// Judges an imported item and adds it.
+    /// Judges an imported item and adds it, without its names.
     ///
     /// # Errors
     /// `Invalid` where it breaks a rule, `Limit` where its space, or the size of all types, passes that limit, `Memory` where memory runs out. Nothing is added

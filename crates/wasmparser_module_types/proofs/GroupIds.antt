@@ -1,14 +1,16 @@
 -- The groups that types came in, by the ids of their types.
-use Rattle.std.proofs.Common.{◌≡◌, ℕ, zero, suc, ◌+◌, ◌-◌, ◌<◌, ◌≤◌, List, [], ◌∷◌, length, replicate, Option, Some, None, refl, sym, ap, ◌∙◌, arith, inl, inr, slice_get}
+use Rattle.std.proofs.Common.{◌≡◌, ℕ, zero, suc, ◌+◌, ◌-◌, ◌<◌, ◌≤◌, List, [], ◌∷◌, ◌++◌, map, length, replicate, Option, Some, None, refl, sym, ap, ◌∙◌, arith, inl, inr, slice_get}
 use Rattle.std.proofs.lemmas.List.{length-map}
 use Rattle.std.proofs.lemmas.Option.{slice_get-map}
-use Rattle.std.specs.List.{range_with_len}
+use Rattle.std.specs.List.{flat_map, range_with_len}
 use Rattle.std.specs.Option.{option_map, unwrap_or}
 use Rattle.std.specs.declared.ops.Range.{Range}
 use Rattle.wasm_spec.proofs.Places.{get_cases}
 use Rattle.wasmparser_interning.specs.TypeTables.{AreConsecutive, TablesAgree, TypeTables, group_ids, ids_in, numbers_from}
+use Rattle.wasmparser_interning_laws.proofs.KeptGroups.{ends}
 use Rattle.wasmparser_interning_laws.proofs.WholeGroups.{whole_groups}
 use Rattle.wasmparser_interning_laws.specs.IdTypes.{IsWholeGroup}
+use Rattle.wasmparser_module_types.proofs.KnownIds.{kept_count}
 use Rattle.wasmparser_module_types.specs.ModuleTypes.{ids_in_range, interned_groups, interned_types, all_groups}
 
 -- ---- the group of an id
@@ -58,7 +60,31 @@ in_range first (suc count) zero within = let same : first ≡ first + 0 = omega 
 in_range first (suc count) (suc place) within =
     let same : first + 1 + place ≡ first + suc place = omega arith in in_range (first + 1) count place (omega (arith, within)) ∙ ap Some same
 
+joined_ranges : (first count more : ℕ) → range_with_len first count ++ range_with_len (first + count) more ≡ range_with_len first (count + more)
+joined_ranges first zero more =
+    let same : first + 0 ≡ first = omega arith in let all : 0 + more ≡ more = omega arith in ap (λ n. range_with_len n more) same ∙ ap (range_with_len first) (sym all)
+joined_ranges first (suc count) more =
+    let same : first + suc count ≡ first + 1 + count = omega arith in
+    let all : suc count + more ≡ suc (count + more) = omega arith in
+    ap (λ n. first ∷ (range_with_len (first + 1) count ++ range_with_len n more)) same ∙ ap (λ ids. first ∷ ids) (joined_ranges (first + 1) count more) ∙ ap (range_with_len first) (sym all)
+
+-- groups one after the other have all ids
+all_ids : (start : ℕ) (ranges : List (Range ℕ)) (end : ℕ) → AreConsecutive start ranges end → flat_map (λ (ids : List ℕ). ids) (map ids_in_range ranges) ≡ range_with_len start (end - start)
+all_ids start [] end are = let none : end - start ≡ 0 = omega (arith, are) in ap (range_with_len start) (sym none)
+all_ids start (range ∷ ranges) end are =
+    let first : range.start ≡ start = are.0 in
+    let next : start + (range.end - range.start) ≡ range.end = omega (arith, are.0, are.1) in
+    let count : range.end - range.start + (end - range.end) ≡ end - start = omega (arith, are.0, are.1, ends range.end ranges end are.2) in
+    ap (λ ids. ids_in_range range ++ ids) (all_ids range.end ranges end are.2)
+    ∙ ap (λ n. range_with_len n (range.end - range.start) ++ range_with_len range.end (end - range.end)) first
+    ∙ ap (λ n. range_with_len start (range.end - range.start) ++ range_with_len n (end - range.end)) (sym next)
+    ∙ joined_ranges start (range.end - range.start) (end - range.end) ∙ ap (range_with_len start) count
+
 module _ (list : TypeTables) (agree : TablesAgree list) where
+  pub are_parts : flat_map (λ (ids : List ℕ). ids) (interned_groups list) ≡ range_with_len 0 (length (interned_types list))
+  are_parts =
+      let all : length list.types - 0 ≡ length (interned_types list) = omega (arith, kept_count list agree) in all_ids 0 list.groups (length list.types) agree.groups ∙ ap (range_with_len 0) all
+
   -- the ids of a group of this number, as they are shown
   shown_ids : (number : ℕ) (range : Option (Range ℕ)) → slice_get list.groups number ≡ range → unwrap_or (slice_get (interned_groups list) number) [] ≡ ids_in range
   shown_ids number range at = ap (λ o. unwrap_or o []) (slice_get-map ids_in_range list.groups number ∙ ap (option_map ids_in_range) at) ∙ either range where

@@ -145,6 +145,7 @@ impl Model for ModuleTypes {
 
 impl ModuleTypes {
     ghost use Rattle.std.specs.Prelude.{◌≡◌, ◌<◌, ◌≤◌, ◌↔◌, [], IfErr, IfOk, IfSome, IsSome, IsTrue, Some, false, is_some, length, option_map, slice_get, true};
+    ghost use Rattle.std.specs.List.{flat_map, range_with_len};
     ghost use Rattle.std.specs.Option.{option_copied};
     ghost use Rattle.wasm_core_base.specs.Features.{feature_set};
     ghost use Rattle.wasm_spec.specs.Limits.{Types, most};
@@ -266,6 +267,9 @@ impl ModuleTypes {
     pub fn rec_group_elements(&self, id: RecGroupId) -> RecGroupElements
         ensures ids { result ≡ ids_of_group self.now id }
         ensures whole { id < length self.now.interned_groups → IsWholeGroup self.now.interned result }
+
+        // Each id is in one group, and they are in order.
+        ensures parts { flat_map (λ ids. ids) self.now.interned_groups ≡ range_with_len 0 (length self.now.interned) }
     {
         self.list.rec_group_elements(id)
     }

@@ -8,10 +8,11 @@ use Rattle.wasm_spec.specs.TypeReferences.{external_map}
 use Rattle.wasm_spec.specs.Types.{ExternalType, ExternalKind, FuncKind, TableKind, MemoryKind, GlobalKind, TagKind}
 use Rattle.wasm_validity.specs.Context.{item_at}
 use Rattle.wasm_validity.specs.ImportedItems.{Imported}
-use Rattle.wasmparser_module_state.specs.Entities.{entity_type}
+use Rattle.wasmparser_module_state.specs.Entities.{entity_refs, entity_type}
 use Rattle.wasmparser_module_state.specs.State.{context}
 use Rattle.wasmparser_module_state.specs.declared.entity_type.EntityType.{EntityType}
 use Rattle.wasmparser_module_state.specs.declared.module_state.ModuleState.{ModuleState}
+use Rattle.wasmparser_module_types.specs.ModuleTypes.{AreIds}
 
 -- what the item of a kind with an index is, if there is one
 abbrev pub shown_item : ModuleState → ExternalKind → ℕ → Option (ExternalType DefType)
@@ -29,6 +30,7 @@ pub record IsImport (old : ImportsLeft) (origin name : List ℕ) (type : EntityT
   pub origin_is : origin ≡ import.origin
   pub name_is : name ≡ import.name
   pub type_is : Some (entity_type old.state.types type) ≡ shown_item old.state import.kind import.index
+  pub ids : AreIds old.state.types (entity_refs type)
 
 abbrev pub GivesImport : ImportsLeft → Option (Bor (List ℕ) × Bor (List ℕ) × EntityType) → ImportsLeft → Type 0
 GivesImport old None new = (old.left ≡ []) × (new.left ≡ [])

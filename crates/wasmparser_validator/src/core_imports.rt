@@ -1,7 +1,7 @@
 //! The imports of a module, as they are shown.
 
 ghost use Rattle.std.specs.Prelude.{◌≡◌, IsSomeAnd};
-ghost use Rattle.wasmparser_module_state.specs.State.{context};
+ghost use Rattle.wasmparser_validator.specs.Shown.{spaces};
 
 use crate::types::TypesRef;
 use std::iter::Iterator;
@@ -38,7 +38,7 @@ impl<'a> TypesRef<'a> {
     /// The imports. Always `Some`, since there are no components.
     pub fn core_imports(&self) -> Option<CoreImports<'a>>
         ensures of { IsSomeAnd result (λ imports. imports.state ≡ self.now.types.now.state) }
-        ensures all { IsSomeAnd result (λ imports. imports.left ≡ (context self.now.types.now.state).imported) }
+        ensures all { IsSomeAnd result (λ imports. imports.left ≡ (spaces self.now).imported) }
     {
         Some(CoreImports {
             types: *self,

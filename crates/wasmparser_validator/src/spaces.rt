@@ -1,6 +1,7 @@
 //! What stands in the index spaces of a valid module, with ids in place of type indexes.
 
 ghost use Rattle.std.specs.Prelude.{◌≡◌, ◌<◌, IfSome, IsSome, Some, length, option_map, slice_get, true};
+ghost use Rattle.std.specs.List.{flat_map, range_with_len};
 ghost use Rattle.std.specs.Option.{option_and_then};
 ghost use Rattle.wasm_spec.specs.Features.{needs_type_canonicalization};
 ghost use Rattle.wasm_spec.specs.Trees.{AreDistinct, type_at, unrolled};
@@ -8,7 +9,7 @@ ghost use Rattle.wasm_spec.specs.TypeReferences.{external_map, global_map, globa
 ghost use Rattle.wasmparser_interning_laws.specs.IdTypes.{IsWholeGroup};
 ghost use Rattle.wasmparser_items.specs.Exports.{export_item, external_kind};
 ghost use Rattle.wasmparser_items.specs.ItemTypes.{global_type, memory_type, table_type};
-ghost use Rattle.wasmparser_module_state.specs.Entities.{entity_type};
+ghost use Rattle.wasmparser_module_state.specs.Entities.{entity_refs, entity_type};
 ghost use Rattle.wasmparser_module_types.specs.ModuleTypes.{AreIds, IsGroupOf, ids_of_group, stands_for};
 ghost use Rattle.wasmparser_types.specs.SubTypes.{sub_type};
 ghost use Rattle.wasmparser_validator.specs.Shown.{IsImported, declared_supertype, exported, known, spaces, supertype_in};
@@ -69,6 +70,9 @@ impl<'a> TypesRef<'a> {
     pub fn rec_group_elements(&self, id: RecGroupId) -> RecGroupElements
         ensures ids { result ≡ ids_of_group (known self.now) id }
         ensures whole { id < length (known self.now).interned_groups → IsWholeGroup (known self.now).interned result }
+
+        // Each id is in one group, and they are in order.
+        ensures parts { flat_map (λ ids. ids) (known self.now).interned_groups ≡ range_with_len 0 (length (known self.now).interned) }
     {
         self.state().types().rec_group_elements(id)
     }
@@ -179,14 +183,16 @@ impl<'a> TypesRef<'a> {
 
     // The item of a kind with an index, or None where there is no such item.
     pub(crate) fn entity(&self, kind: ExternalKind, index: u32) -> Option<EntityType>
-        ensures { option_map (entity_type (known self.now)) result ≡ shown_item self.now.types.now.state (external_kind kind) index }
+        ensures same { option_map (entity_type (known self.now)) result ≡ shown_item self.now.types.now.state (external_kind kind) index }
+        ensures ids { IfSome result (λ entity. AreIds (known self.now) (entity_refs entity)) }
     {
         self.state().entity_at(kind, index)
     }
 
     /// What an export is, or None where the module has no item of its kind with its index.
     pub fn entity_type_from_export(&self, export: &Export<'_>) -> Option<EntityType>
-        ensures { option_map (entity_type (known self.now)) result ≡ option_map (external_map (type_at (spaces self.now).types)) (exported self.now (export_item export.now)) }
+        ensures same { option_map (entity_type (known self.now)) result ≡ option_map (external_map (type_at (spaces self.now).types)) (exported self.now (export_item export.now)) }
+        ensures ids { IfSome result (λ entity. AreIds (known self.now) (entity_refs entity)) }
     {
         self.entity(export.kind, export.index)
     }

@@ -15,7 +15,8 @@ returns-clause-steps c =
         first = c.in_ok-import.ensures.steps;
         origin_is = refl;
         name_is = refl;
-        type_is = ap (option_map (entity_type state.types)) (sym c.in-Some.is) ∙ c.entity.ensures;
+        type_is = ap (option_map (entity_type state.types)) (sym c.in-Some.is) ∙ c.entity.ensures.same;
+        ids = c.in-Some.ensures.ids;
       },
       refl,
     )

@@ -32,6 +32,7 @@ def modules(n):
     few = min(n, 100_000)
     return [
         ("imports of globals", n - 2, section(2, n - 2, b"\0\0\3\x7f\0" * (n - 2))),
+        ("imports of globals by different names", n - 2, section(2, n - 2, b"".join(b"\1m\6%06d\3\x7f\0" % i for i in range(n - 2)))),
         ("exports of a memory", n - 2, section(5, 1, b"\0\1") + section(7, n - 2, b"".join(b"\6%06d\2\0" % i for i in range(n - 2)))),
         ("globals of i32", n, section(6, n, b"\x7f\0\x41\0\x0b" * n)),
         ("globals, each of the one before", n, section(6, n, b"\x7f\0\x41\0\x0b" + others(n))),

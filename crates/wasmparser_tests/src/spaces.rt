@@ -140,21 +140,40 @@ fn has_imports(alloc: Global, view: TypesRef<'_>, bytes: &[u8], expected: &str) 
     Some(texts.next().is_none())
 }
 
+// Whether an import is what the text says, its two names and what it is.
+fn is_import(
+    alloc: Global,
+    view: TypesRef<'_>,
+    names: [&str; 2],
+    entity: EntityType,
+    expected: &str,
+) -> bool {
+    let Some((name, text)) = expected.split_once(' ') else {
+        return false;
+    };
+    let Some((module, name)) = name.split_once('.') else {
+        return false;
+    };
+    module == names[0] && name == names[1] && is_shown(alloc, view, entity, text)
+}
+
 // Whether the imports with their names are what the text says.
-fn has_named_imports(alloc: Global, view: TypesRef<'_>, expected: &str) -> Option<bool> {
-    let mut imports = view.core_imports()?;
+fn has_named_imports(alloc: Global, view: TypesRef<'_>, expected: &str) -> bool {
+    let Some(mut imports) = view.core_imports() else {
+        return false;
+    };
     for text in expected.split("; ") {
         if text.is_empty() {
             continue;
         }
-        let (module, name, entity) = imports.next()?;
-        let shown = entity_text(alloc, view, entity)?;
-        let named = format!(in alloc; "{module}.{name} {}", shown.as_str()).ok()?;
-        if named.as_str() != text {
-            return Some(false);
+        let Some((module, name, entity)) = imports.next() else {
+            return false;
+        };
+        if !is_import(alloc, view, [module, name], entity, text) {
+            return false;
         }
     }
-    Some(imports.next().is_none())
+    imports.next().is_none()
 }
 
 fn has_types(view: TypesRef<'_>, expected: &str) -> Option<bool> {
@@ -220,7 +239,7 @@ fn has(
         "elements" => Some(has_elements(view, expected)),
         "exports" => Some(has_exports(alloc, view, expected)),
         "imports" => has_imports(alloc, view, bytes, expected),
-        "named" => has_named_imports(alloc, view, expected),
+        "named" => Some(has_named_imports(alloc, view, expected)),
         _ => None,
     }
 }

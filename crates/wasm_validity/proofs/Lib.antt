@@ -1,7 +1,10 @@
 mod BodyKinds
 mod ConstantSubtypes
 mod FirstSections
+mod FrontParts
+mod GroupFronts
 mod ManyMemories
+mod RelatedTypes
 mod SmallBodies
 mod SmallModules
 mod ZeroMemories

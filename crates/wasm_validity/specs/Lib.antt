@@ -7,6 +7,8 @@ pub mod Examples
 pub mod Fronts
 pub mod ImportedItems
 pub mod IndexSpaces
+pub mod ItemExamples
 pub mod Rules
+pub mod SubtypeExamples
 pub mod TypeRules
 pub mod Validity

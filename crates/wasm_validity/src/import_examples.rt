@@ -1,16 +1,17 @@
 //! Worked examples of modules with imports, and of such as aren't valid.
 
-ghost use Rattle.std.specs.Prelude.{◌≡◌, ◌++◌, ℕ, List, [], ◌∷◌, length, true};
+ghost use Rattle.std.specs.Prelude.{◌≡◌, ◌++◌, ℕ, List, [], ◌∷◌, false, length, true};
 ghost use Rattle.wasm_spec.specs.Examples.{at_least};
-ghost use Rattle.wasm_spec.specs.Features.{Features};
+ghost use Rattle.wasm_spec.specs.Features.{CompactImports, Features, has};
 ghost use Rattle.wasm_spec.specs.Grammar.{header};
 ghost use Rattle.wasm_spec.specs.Limits.{total_of_types};
 ghost use Rattle.wasm_spec.specs.Syntax.{TypeSection, ImportSection, FunctionSection, StartSection, CodeSection, CompactItems, CompactNames, Import};
 ghost use Rattle.wasm_spec.specs.TypeExamples.{empty_function, final_type, gives, takes};
 ghost use Rattle.wasm_spec.specs.Types.{I32, Concrete, FuncComposite, FuncExternal, FuncKind, GlobalKind, MemoryExternal, MemoryKind, MemoryType, RecGroup, Ref, Single, TableExternal, TableKind, TagExternal, TagKind, GlobalExternal};
 ghost use Rattle.wasm_validity.specs.Context.{after_all, at_first};
-ghost use Rattle.wasm_validity.specs.Entries.{OfFunction, OfImport};
+ghost use Rattle.wasm_validity.specs.Entries.{Entry, OfFunction, OfImport};
 ghost use Rattle.wasm_validity.specs.Examples.{IsBroken, IsKept, between, constant, named, reference, table_of};
+ghost use Rattle.wasm_validity.specs.Fronts.{BeginsWith};
 ghost use Rattle.wasm_validity.specs.Validity.{BeginsInvalid, IsValid};
 
 use wasm_spec::grammar_examples::imports_and_exports;
@@ -67,3 +68,26 @@ pub fn fronts()
 {
     imports_and_exports();
 }
+
+/// A section with a group of imports begins with that group where the feature for it is on, and else with nothing that reads: here a memory of module `m`, and
+/// two of one type.
+pub fn fronts_of_groups()
+    ensures items { (rest : List ℕ) → BeginsWith true (header ++ (0x02 ∷ 0x0b ∷ 0x01 ∷ 0x01 ∷ 0x6d ∷ 0x00 ∷ 0x7f ∷ 0x01 ∷ 0x01 ∷ 0x61 ∷ 0x02 ∷ 0x00 ∷ 0x01 ∷ rest))
+        (OfImport (CompactItems (0x6d ∷ []) (record { name = 0x61 ∷ []; type = MemoryExternal (at_least 1) } ∷ [])) ∷ []) }
+    ensures items_without { (rest : List ℕ) (entries : List Entry)
+        → BeginsWith false (header ++ (0x02 ∷ 0x0b ∷ 0x01 ∷ 0x01 ∷ 0x6d ∷ 0x00 ∷ 0x7f ∷ 0x01 ∷ 0x01 ∷ 0x61 ∷ 0x02 ∷ 0x00 ∷ 0x01 ∷ rest)) entries → entries ≡ [] }
+    ensures names { (rest : List ℕ) → BeginsWith true (header ++ (0x02 ∷ 0x0d ∷ 0x01 ∷ 0x01 ∷ 0x6d ∷ 0x00 ∷ 0x7e ∷ 0x02 ∷ 0x00 ∷ 0x01 ∷ 0x02 ∷ 0x01 ∷ 0x61 ∷ 0x01 ∷ 0x62 ∷ rest))
+        (OfImport (CompactNames (0x6d ∷ []) (MemoryExternal (at_least 1)) ((0x61 ∷ []) ∷ (0x62 ∷ []) ∷ [])) ∷ []) }
+    ensures names_without { (rest : List ℕ) (entries : List Entry)
+        → BeginsWith false (header ++ (0x02 ∷ 0x0d ∷ 0x01 ∷ 0x01 ∷ 0x6d ∷ 0x00 ∷ 0x7e ∷ 0x02 ∷ 0x00 ∷ 0x01 ∷ 0x02 ∷ 0x01 ∷ 0x61 ∷ 0x01 ∷ 0x62 ∷ rest)) entries → entries ≡ [] }
+{
+    imports_and_exports();
+}
+
+/// So a group with a memory whose bounds are crossed is invalid with the feature, and without it nothing is broken by what doesn't read.
+pub fn broken_groups()
+    ensures crossed { (features : Features) (rest : List ℕ) → has features CompactImports ≡ true → BeginsInvalid features
+        (header ++ (0x02 ∷ 0x0c ∷ 0x01 ∷ 0x01 ∷ 0x6d ∷ 0x00 ∷ 0x7f ∷ 0x01 ∷ 0x01 ∷ 0x61 ∷ 0x02 ∷ 0x01 ∷ 0x02 ∷ 0x01 ∷ rest)) }
+    ensures without { (features : Features) (rest : List ℕ) → has features CompactImports ≡ false → ¬ (BeginsInvalid features
+        (header ++ (0x02 ∷ 0x0c ∷ 0x01 ∷ 0x01 ∷ 0x6d ∷ 0x00 ∷ 0x7f ∷ 0x01 ∷ 0x01 ∷ 0x61 ∷ 0x02 ∷ 0x01 ∷ 0x02 ∷ 0x01 ∷ rest))) }
+{}

@@ -6,6 +6,9 @@
 pub mod body_examples;
 pub mod cause_examples;
 pub mod constant_examples;
+pub mod element_examples;
 pub mod import_examples;
+pub mod item_examples;
 pub mod rule_examples;
+pub mod subtype_examples;
 pub mod validity_examples;

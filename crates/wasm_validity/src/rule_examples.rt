@@ -7,9 +7,9 @@ ghost use Rattle.wasm_spec.specs.Features.{BulkMemory, CustomPageSizes, Exceptio
 ghost use Rattle.wasm_spec.specs.Grammar.{AreOrdered, header};
 ghost use Rattle.wasm_spec.specs.Groups.{IsWithinGroupLimits, KeepsGroupRules};
 ghost use Rattle.wasm_spec.specs.Limits.{BodySize, DataSegments, ElementSegments, Exports, Functions, Globals, Groups, Imports, Limit, Memories, Name, SegmentEntries, Tables, Tags, TypeSize, Types, total_of_types};
-ghost use Rattle.wasm_spec.specs.Syntax.{CompactItems, CompactNames, Custom, DataSegment, ElementMode, ElementSegment, Export, ExportSection, ExpressionItems, FunctionItems, Global, Import, MemorySection, StartSection, TagSection};
+ghost use Rattle.wasm_spec.specs.Syntax.{CompactItems, CompactNames, Custom, DataSegment, ElementMode, ElementSegment, Export, ExportSection, ExpressionItems, FunctionItems, Global, Import, MemorySection, StartSection, TagSection, members};
 ghost use Rattle.wasm_spec.specs.TypeExamples.{empty_structure, final_type, function_to};
-ghost use Rattle.wasm_spec.specs.Types.{Abstract, Concrete, Extern, F32, Func, FuncExternal, ExternalKind, FuncKind, GlobalExternal, GlobalKind, GlobalType, Group, I32, MemoryExternal, MemoryKind, MemoryType, RecGroup, Ref, Single, TableExternal, TableKind, TableType, TagExternal, TagKind, V128, funcref};
+ghost use Rattle.wasm_spec.specs.Types.{Abstract, Concrete, Extern, F32, Func, FuncExternal, ExternalKind, FuncKind, GlobalExternal, GlobalKind, GlobalType, Group, I32, MemoryExternal, MemoryKind, MemoryType, RecGroup, Ref, Single, SubType, TableExternal, TableKind, TableType, TagExternal, TagKind, V128, funcref};
 ghost use Rattle.wasm_validity.specs.Context.{Context, after, after_all, at_first, functions_in, globals_in};
 ghost use Rattle.wasm_validity.specs.Entries.{Entry, OfBody, OfCustom, OfData, OfDataCount, OfElement, OfExport, OfFunction, OfGlobal, OfImport, OfMemory, OfStart, OfTable, OfTag, OfTags, OfType, entries_in, entries_of};
 ghost use Rattle.wasm_validity.specs.Examples.{IsBroken, IsFullAt, IsKept, IsLongestAt, KeptWith, between, constant, export_of, exports, imports, one_of_each, own_table, paged, reference, shared, table_of, variable, wide, with_types};
@@ -246,6 +246,19 @@ pub fn limits_of_spaces()
     ensures group { (group : RecGroup ℕ) → IsFullAt 1000000 Groups (λ cx. cx.groups) (OfType group) }
     ensures import { (type : MemoryType) → IsFullAt 1000000 Imports (λ cx. cx.imports) (imports (MemoryExternal type)) }
     ensures empty_group_of_imports { IsFullAt 1000000 Imports (λ cx. cx.imports) (OfImport (CompactItems [] [])) }
+{}
+
+/// Types: those of all groups are counted, so that a module may have 1,000,000 of them and no more, in one group or in several.
+pub fn limit_of_types()
+    ensures alone { (type : SubType ℕ) → IsFullAt 1000000 Types (λ cx. length cx.types) (OfType (Single type)) }
+    ensures group_of_one { (type : SubType ℕ) → IsFullAt 1000000 Types (λ cx. length cx.types) (OfType (Group (type ∷ []))) }
+    ensures group_of_two { (a b : SubType ℕ) → IsFullAt 999999 Types (λ cx. length cx.types) (OfType (Group (a ∷ b ∷ []))) }
+    ensures group_of_none { (cx : Context) → length cx.types ≡ 1000000 → ¬ (Passes Types (measures cx (OfType (Group [])))) }
+    ensures most { (cx : Context) (group : RecGroup ℕ) → length cx.types + length (members group) ≡ 1000000 → ¬ (Passes Types (measures cx (OfType group))) }
+    ensures more { (cx : Context) (group : RecGroup ℕ) → length cx.types + length (members group) ≡ 1000001 → Passes Types (measures cx (OfType group)) }
+    ensures most_in_one { (n : ℕ) (type : SubType ℕ) → n ≡ 1000000 → ¬ (Passes Types (measures at_first (OfType (Group (replicate n type))))) }
+    ensures more_in_one { (n : ℕ) (type : SubType ℕ) → n ≡ 1000001 → Passes Types (measures at_first (OfType (Group (replicate n type)))) }
+    ensures other { (cx : Context) (type : MemoryType) → ¬ (Passes Types (measures cx (OfMemory type))) }
 {}
 
 /// What is known has the numbers that limits count: one more for an entry of its kind.

@@ -3,3 +3,4 @@ mod KnownImports
 pub mod Named
 pub mod NamedTypes
 pub mod Spaces
+pub mod Within

@@ -1,20 +1,21 @@
 -- Imports of known names and of new ones.
-use Rattle.std.proofs.Common.{◌≡◌, ◌≢◌, Bool, true, false, List, [], ◌∷◌, ◌++◌, ℕ, Option, Some, None, map, unwrap_or, refl, sym, ap, ap₂, ◌∙◌}
+use Rattle.std.proofs.Common.{◌≡◌, ◌≢◌, ◌<◌, Bool, true, false, List, [], ◌∷◌, ◌++◌, ℕ, length, length-append, Option, Some, None, map, unwrap_or, refl, sym, ap, ap₂, ◌∙◌, arith}
 use Rattle.std.proofs.lemmas.Bool.{and_parts}
 use Rattle.std.proofs.lemmas.Map.{NonePasses, none_passes_from_lookup}
 use Rattle.std.proofs.lemmas.Map.Entries.{none_past_head}
 use Rattle.std.proofs.lemmas.Map.Keys.{IsDistinct-tail}
-use Rattle.std.specs.Cmp.Lexicographic.{bytes_decides}
-use Rattle.std.specs.Cmp.{IsEquivalence, and_equiv, on_equiv}
-use Rattle.std.specs.Global.{Vec}
-use Rattle.std.specs.List.{list_any, IsDistinct}
+use Rattle.std.specs.Cmp.{IsEquivalence}
+use Rattle.std.specs.List.{list_any, AllByRecursion, IsDistinct}
 use Rattle.std.specs.Map.{lookup, set_value, keys_of}
-use Rattle.std.specs.Prelude.{bytes_eq, cond, ◌&&◌, ◌||◌, not, if◌then◌else◌}
-use Rattle.std.specs.String.{string_bytes, string_eq, string_eq_equiv}
+use Rattle.std.specs.Prelude.{bytes_eq, cond, ◌&&◌, ◌||◌, not, if◌then◌else◌, OnOk, Result, Ok, Err}
+use Rattle.std.specs.declared.alloc.AllocError.{AllocError}
 use Rattle.indexmap.specs.IndexMap.{insert_entry}
 use Rattle.wasm_validity.specs.ImportedItems.{Imported, have_same_names, with_import}
-use Rattle.wasmparser_import_names.specs.ImportNames.{NamePair, NamedItems, imported, imports_of, imports_in, AreUsed}
-use Rattle.wasmparser_import_names.specs.declared.import_names.ImportedItem.{ImportedItem}
+use Rattle.wasmparser_import_names.proofs.Keys.{known_before, other_parts, same_bytes, same_key, same_keys, same_parts}
+use Rattle.wasmparser_import_names.specs.ModuleNames.{with_name}
+use Rattle.wasmparser_import_names.specs.ImportNames.{Kept, NamedItems, imported, module_at, imports_of, imports_in, AreKept}
+use Rattle.wasmparser_import_names.specs.declared.import_key.ImportKey.{ImportKey}
+use Rattle.wasmparser_import_names.specs.declared.imported_items.ImportedItem.{ImportedItem}
 
 module _ (new : Imported) where
   -- whether a list has an import of the same names
@@ -65,119 +66,156 @@ one_more : (origin name : List ℕ) (item : ImportedItem) (items : List Imported
 one_more origin name item [] rest = refl
 one_more origin name item (x ∷ items) rest = ap (λ l. imported origin name x ∷ l) (one_more origin name item items rest)
 
-abbrev same_pair : NamePair → NamePair → Bool
-same_pair a b = string_eq a.0 b.0 && string_eq a.1 b.1
-
-same_pairs : IsEquivalence same_pair
-same_pairs = and_equiv (on_equiv (λ t. t.0) string_eq_equiv) (on_equiv (λ t. t.1) string_eq_equiv)
-
-module _ (key : NamePair) where
+module _ (modules : List (List ℕ)) (apart : IsDistinct bytes_eq modules) (key : ImportKey) (known : key.origin < length modules) where
   abbrev for_key : ImportedItem → Imported
-  for_key item = imported (string_bytes key.0) (string_bytes key.1) item
+  for_key item = imported (module_at modules key.origin) key.name item
 
   -- an equal key has the same names
-  for_same : (k : NamePair) (item : ImportedItem) → same_pair key k ≡ true → imported (string_bytes k.0) (string_bytes k.1) item ≡ for_key item
+  for_same : (k : ImportKey) (item : ImportedItem) → same_key key k ≡ true → imported (module_at modules k.origin) k.name item ≡ for_key item
   for_same k item same =
-      let p = and_parts (string_eq key.0 k.0) (string_eq key.1 k.1) same in
-      sym (ap₂ (λ origin name. imported origin name item) ((bytes_decides (string_bytes key.0) (string_bytes k.0)).0 p.0) ((bytes_decides (string_bytes key.1) (string_bytes k.1)).0 p.1))
+      let p = same_parts key k same in
+      sym (ap₂ (λ (origin : ℕ) name. imported (module_at modules origin) name item) p.0 p.1)
 
   -- the imports of other keys have other names
-  others : (item : ImportedItem) (entries : List NamedItems) → NonePasses (same_pair key) entries → has_names (for_key item) (imports_in entries) ≡ false
-  others item [] none = refl
-  others item (e ∷ entries) none = neither (for_key item) (imports_of e) (imports_in entries) (other_names (for_key item) _ _ e.1.items none.0) (others item entries none.1)
+  others : (item : ImportedItem) (entries : List NamedItems) → NonePasses (same_key key) entries → AreKept modules entries → has_names (for_key item) (imports_in modules entries) ≡ false
+  others item [] none kept = refl
+  others item (e ∷ entries) none kept =
+      neither (for_key item) (imports_of modules e) (imports_in modules entries) (other_names (for_key item) _ _ e.1 (other_parts modules apart key e.0 known kept.0.0 none.0)) (others item entries none.1 kept.1)
 
   -- an import of a new key goes last
-  new_key : (item : ImportedItem) (items : Vec ImportedItem) (entries : List NamedItems) → NonePasses (same_pair key) entries → items.items ≡ item ∷ []
-      → imports_in (insert_entry same_pair entries key items) ≡ with_import (imports_in entries) (for_key item)
-  new_key item items [] none is = ap (λ l. map for_key l ++ []) is
-  new_key item items (e ∷ entries) none is =
-      ap (λ b. imports_in (if b then (e.0, items) ∷ entries else e ∷ insert_entry same_pair entries key items)) none.0 ∙ ap (λ l. imports_of e ++ l) (new_key item items entries none.1 is)
-      ∙ sym (passed (for_key item) (imports_of e) (imports_in entries) (other_names (for_key item) _ _ e.1.items none.0))
+  new_key : (item : ImportedItem) (entries : List NamedItems) → NonePasses (same_key key) entries → AreKept modules entries
+      → imports_in modules (insert_entry same_key entries key (item ∷ [])) ≡ with_import (imports_in modules entries) (for_key item)
+  new_key item [] none kept = refl
+  new_key item (e ∷ entries) none kept =
+      ap (λ b. imports_in modules (if b then (e.0, item ∷ []) ∷ entries else e ∷ insert_entry same_key entries key (item ∷ []))) none.0 ∙ ap (λ l. imports_of modules e ++ l) (new_key item entries none.1 kept.1)
+      ∙ sym (passed (for_key item) (imports_of modules e) (imports_in modules entries) (other_names (for_key item) _ _ e.1 (other_parts modules apart key e.0 known kept.0.0 none.0)))
 
-  new_key_used : (items : Vec ImportedItem) (entries : List NamedItems) → items.items ≢ [] → AreUsed entries → AreUsed (insert_entry same_pair entries key items)
-  new_key_used items [] some used = (some, tt)
-  new_key_used items (e ∷ entries) some used = by (same_pair key e.0) (new_key_used items entries some used.1)
+  new_key_kept : (items : List ImportedItem) (entries : List NamedItems) → items ≢ [] → AreKept modules entries → AreKept modules (insert_entry same_key entries key items)
+  new_key_kept items [] some kept = ((known, some), tt)
+  new_key_kept items (e ∷ entries) some kept = by (same_key key e.0) (new_key_kept items entries some kept.1)
     where
-      by : (b : Bool) → AreUsed (insert_entry same_pair entries key items) → AreUsed (if b then (e.0, items) ∷ entries else e ∷ insert_entry same_pair entries key items)
-      by true further = (some, used.1)
-      by false further = (used.0, further)
+      by : (b : Bool) → AreKept modules (insert_entry same_key entries key items) → AreKept modules (if b then (e.0, items) ∷ entries else e ∷ insert_entry same_key entries key items)
+      by true further = ((kept.0.0, some), kept.1)
+      by false further = (kept.0, further)
 
   -- an import of the first key goes after the others of this key
-  first_key : (item : ImportedItem) (items : Vec ImportedItem) (e : NamedItems) (entries : List NamedItems)
-      → NonePasses (same_pair key) entries → e.1.items ≢ [] → same_pair key e.0 ≡ true → items.items ≡ e.1.items ++ item ∷ []
-      → imports_of (e.0, items) ++ imports_in entries ≡ with_import (imports_of e ++ imports_in entries) (for_key item)
-  first_key item items e entries none some same is =
-      ap (λ l. map (imported (string_bytes e.0.0) (string_bytes e.0.1)) l ++ imports_in entries) is ∙ one_more _ _ item e.1.items (imports_in entries)
-      ∙ ap (λ i. imports_of e ++ i ∷ imports_in entries) (for_same e.0 item same)
-      ∙ sym (after_all_same (for_key item) _ _ e.1.items (imports_in entries) some same (others item entries none))
-
-  known_key : (item : ImportedItem) (old items : Vec ImportedItem) (entries : List NamedItems)
-      → IsDistinct same_pair (keys_of entries) → AreUsed entries → Some old ≡ lookup (same_pair key) entries → items.items ≡ old.items ++ item ∷ []
-      → imports_in (set_value (same_pair key) entries items) ≡ with_import (imports_in entries) (for_key item)
-  known_key item old items [] apart used found is = absurd cc
-  known_key item old items (e ∷ entries) apart used found is = by (known_key item old items entries (IsDistinct-tail _ _ _ apart) used.1) (same_pair key e.0) refl found
+  first_key : (item : ImportedItem) (e : NamedItems) (entries : List NamedItems)
+      → NonePasses (same_key key) entries → AreKept modules (e ∷ entries) → same_key key e.0 ≡ true
+      → imports_of modules (e.0, e.1 ++ item ∷ []) ++ imports_in modules entries ≡ with_import (imports_of modules e ++ imports_in modules entries) (for_key item)
+  first_key item e entries none kept same =
+      one_more _ _ item e.1 (imports_in modules entries)
+      ∙ ap (λ i. imports_of modules e ++ i ∷ imports_in modules entries) (for_same e.0 item same)
+      ∙ sym (after_all_same (for_key item) _ _ e.1 (imports_in modules entries) kept.0.1 (same_names e.0 same) (others item entries none kept.1))
     where
-      by : (Some old ≡ lookup (same_pair key) entries → items.items ≡ old.items ++ item ∷ [] → imports_in (set_value (same_pair key) entries items) ≡ with_import (imports_in entries) (for_key item))
-          → (b : Bool) → same_pair key e.0 ≡ b → Some old ≡ cond b (Some e.1) (lookup (same_pair key) entries)
-          → imports_in (cond b ((e.0, items) ∷ entries) (e ∷ set_value (same_pair key) entries items)) ≡ with_import (imports_in (e ∷ entries)) (for_key item)
+      same_names : (k : ImportKey) → same_key key k ≡ true → (bytes_eq (module_at modules key.origin) (module_at modules k.origin) && bytes_eq key.name k.name) ≡ true
+      same_names k same =
+          let p = same_parts key k same in
+          ap₂ (λ (origin : ℕ) name. bytes_eq (module_at modules key.origin) (module_at modules origin) && bytes_eq key.name name) (sym p.0) (sym p.1) ∙ same_bytes (module_at modules key.origin) key.name
+
+  known_key : (item : ImportedItem) (old : List ImportedItem) (entries : List NamedItems)
+      → IsDistinct same_key (keys_of entries) → AreKept modules entries → Some old ≡ lookup (same_key key) entries
+      → imports_in modules (set_value (same_key key) entries (old ++ item ∷ [])) ≡ with_import (imports_in modules entries) (for_key item)
+  known_key item old [] distinct kept found = absurd cc
+  known_key item old (e ∷ entries) distinct kept found = by (known_key item old entries (IsDistinct-tail _ _ _ distinct) kept.1) (same_key key e.0) refl found
+    where
+      by : (Some old ≡ lookup (same_key key) entries → imports_in modules (set_value (same_key key) entries (old ++ item ∷ [])) ≡ with_import (imports_in modules entries) (for_key item))
+          → (b : Bool) → same_key key e.0 ≡ b → Some old ≡ cond b (Some e.1) (lookup (same_key key) entries)
+          → imports_in modules (cond b ((e.0, old ++ item ∷ []) ∷ entries) (e ∷ set_value (same_key key) entries (old ++ item ∷ []))) ≡ with_import (imports_in modules (e ∷ entries)) (for_key item)
       by further true same found =
-          first_key item items e entries (none_past_head same_pairs key e entries apart same) used.0 same (is ∙ ap (λ (o : Option (Vec ImportedItem)). (unwrap_or o e.1).items ++ item ∷ []) found)
+          ap (λ (o : Option (List ImportedItem)). imports_of modules (e.0, unwrap_or o e.1 ++ item ∷ []) ++ imports_in modules entries) found
+          ∙ first_key item e entries (none_past_head same_keys key e entries distinct same) kept same
       by further false other found =
-          ap (λ l. imports_of e ++ l) (further found is) ∙ sym (passed (for_key item) (imports_of e) (imports_in entries) (other_names (for_key item) _ _ e.1.items other))
+          ap (λ l. imports_of modules e ++ l) (further found)
+          ∙ sym (passed (for_key item) (imports_of modules e) (imports_in modules entries) (other_names (for_key item) _ _ e.1 (other_parts modules apart key e.0 known kept.0.0 other)))
 
-module _ (test : NamePair → Bool) where
+module _ (modules : List (List ℕ)) (test : ImportKey → Bool) where
   -- items that come to a key leave all keys with some
-  known_key_used : (items : Vec ImportedItem) (entries : List NamedItems) → items.items ≢ [] → AreUsed entries → AreUsed (set_value test entries items)
-  known_key_used items [] some used = tt
-  known_key_used items (e ∷ entries) some used = by (test e.0) (known_key_used items entries some used.1)
+  known_key_kept : (items : List ImportedItem) (entries : List NamedItems) → items ≢ [] → AreKept modules entries → AreKept modules (set_value test entries items)
+  known_key_kept items [] some kept = tt
+  known_key_kept items (e ∷ entries) some kept = by (test e.0) (known_key_kept items entries some kept.1)
     where
-      by : (b : Bool) → AreUsed (set_value test entries items) → AreUsed (cond b ((e.0, items) ∷ entries) (e ∷ set_value test entries items))
-      by true further = (some, used.1)
-      by false further = (used.0, further)
+      by : (b : Bool) → AreKept modules (set_value test entries items) → AreKept modules (cond b ((e.0, items) ∷ entries) (e ∷ set_value test entries items))
+      by true further = ((kept.0.0, some), kept.1)
+      by false further = (kept.0, further)
 
   -- nothing changes where the items of a key don't
-  same_items : (old items : Vec ImportedItem) (entries : List NamedItems) → Some old ≡ lookup test entries → items.items ≡ old.items
-      → (imports_in (set_value test entries items) ≡ imports_in entries) × (AreUsed entries → AreUsed (set_value test entries items))
-  same_items old items [] found is = (refl, λ used. used)
-  same_items old items (e ∷ entries) found is = by (same_items old items entries) (test e.0) found
+  same_items : (old : List ImportedItem) (entries : List NamedItems) → Some old ≡ lookup test entries → set_value test entries old ≡ entries
+  same_items old [] found = absurd cc
+  same_items old (e ∷ entries) found = by (same_items old entries) (test e.0) found
     where
-      by : (Some old ≡ lookup test entries → items.items ≡ old.items → (imports_in (set_value test entries items) ≡ imports_in entries) × (AreUsed entries → AreUsed (set_value test entries items)))
-          → (b : Bool) → Some old ≡ cond b (Some e.1) (lookup test entries)
-          → (imports_in (cond b ((e.0, items) ∷ entries) (e ∷ set_value test entries items)) ≡ imports_in (e ∷ entries)) × (AreUsed (e ∷ entries) → AreUsed (cond b ((e.0, items) ∷ entries) (e ∷ set_value test entries items)))
-      by further true found =
-          let same : items.items ≡ e.1.items = is ∙ ap (λ (o : Option (Vec ImportedItem)). (unwrap_or o e.1).items) found in
-          (ap (λ l. map (imported (string_bytes e.0.0) (string_bytes e.0.1)) l ++ imports_in entries) same, λ used. ((λ none. used.0 (sym same ∙ none)), used.1))
-      by further false found =
-          let rest = further found is in
-          (ap (λ l. imports_of e ++ l) rest.0, λ used. (used.0, rest.1 used.1))
+      by : (Some old ≡ lookup test entries → set_value test entries old ≡ entries) → (b : Bool) → Some old ≡ cond b (Some e.1) (lookup test entries)
+          → cond b ((e.0, old) ∷ entries) (e ∷ set_value test entries old) ≡ e ∷ entries
+      by further true found = ap (λ (o : Option (List ImportedItem)). (e.0, unwrap_or o e.1) ∷ entries) found
+      by further false found = ap (λ l. e ∷ l) (further found)
+
+-- ---- names of modules that come later
+
+module _ (modules more : List (List ℕ)) where
+  -- a known one stays
+  same_module : (n : ℕ) → n < length modules → module_at (modules ++ more) n ≡ module_at modules n
+  same_module n few = ap (λ o. unwrap_or o []) (known_before modules more n few)
+
+  pub same_imports : (entries : List NamedItems) → AreKept modules entries → imports_in (modules ++ more) entries ≡ imports_in modules entries
+  same_imports [] kept = refl
+  same_imports (e ∷ entries) kept =
+      ap₂ (λ origin l. map (imported origin e.0.name) e.1 ++ l) (same_module e.0.origin kept.0.0) (same_imports entries kept.1)
+
+  pub still_kept : (entries : List NamedItems) → AreKept modules entries → AreKept (modules ++ more) entries
+  still_kept [] kept = tt
+  still_kept (e ∷ entries) kept = ((omega (arith, length-append modules more, kept.0.0), kept.0.1), still_kept entries kept.1)
 
 -- ---- what `push` leaves
 
-module _ (key : NamePair) (origin name : List ℕ) (item : ImportedItem) where
-  pub pushed : (old items : Vec ImportedItem) (entries new : List NamedItems) → string_bytes key.0 ≡ origin → string_bytes key.1 ≡ name → IsDistinct same_pair (keys_of entries) → AreUsed entries → Some old ≡ lookup (same_pair key) entries
-      → items.items ≡ old.items ++ item ∷ [] → new ≡ set_value (same_pair key) entries items → imports_in new ≡ with_import (imports_in entries) (imported origin name item)
-  pushed old items entries new module_is name_is apart used found is writes =
-      ap imports_in writes ∙ known_key key item old items entries apart used found is ∙ ap₂ (λ o n. with_import (imports_in entries) (imported o n item)) module_is name_is
+-- the items of a key that are as before
+pub unchanged : (test : ImportKey → Bool) (old items : List ImportedItem) (entries new : List NamedItems) → Some old ≡ lookup test entries → items ≡ old → new ≡ set_value test entries items → new ≡ entries
+unchanged test old items entries new found same writes = writes ∙ ap (set_value test entries) same ∙ same_items [] test old entries found
 
-  pub inserted : (items : Vec ImportedItem) (entries new : List NamedItems) → string_bytes key.0 ≡ origin → string_bytes key.1 ≡ name → lookup (same_pair key) entries ≡ None → items.items ≡ item ∷ []
-      → new ≡ insert_entry same_pair entries key items → imports_in new ≡ with_import (imports_in entries) (imported origin name item)
-  inserted items entries new module_is name_is absent is inserts =
-      ap imports_in inserts ∙ new_key key item items entries (none_passes_from_lookup _ entries absent) is
-      ∙ ap₂ (λ o n. with_import (imports_in entries) (imported o n item)) module_is name_is
+module _ (modules : List (List ℕ)) (apart : IsDistinct bytes_eq modules) (key : ImportKey) (known : key.origin < length modules) (item : ImportedItem) where
+  pub pushed : (old items : List ImportedItem) (entries new : List NamedItems) → IsDistinct same_key (keys_of entries) → AreKept modules entries → Some old ≡ lookup (same_key key) entries
+      → items ≡ old ++ item ∷ [] → new ≡ set_value (same_key key) entries items
+      → imports_in modules new ≡ with_import (imports_in modules entries) (imported (module_at modules key.origin) key.name item)
+  pushed old items entries new distinct kept found is writes =
+      ap (imports_in modules) (writes ∙ ap (set_value (same_key key) entries) is) ∙ known_key modules apart key known item old entries distinct kept found
 
-module _ (key : NamePair) where
-  pub pushed_used : (item : ImportedItem) (old items : Vec ImportedItem) (entries new : List NamedItems) → AreUsed entries → items.items ≡ old.items ++ item ∷ [] → new ≡ set_value (same_pair key) entries items → AreUsed new
-  pushed_used item old items entries new used is writes = rw writes (known_key_used _ items entries (λ none. not_empty old.items (sym is ∙ none)) used)
+  pub inserted : (new_name : List ℕ) (entries new : List NamedItems) → new_name ≡ key.name → AreKept modules entries → lookup (same_key key) entries ≡ None
+      → new ≡ insert_entry same_key entries (record { origin = key.origin; name = new_name }) (item ∷ [])
+      → imports_in modules new ≡ with_import (imports_in modules entries) (imported (module_at modules key.origin) key.name item)
+  inserted new_name entries new is kept absent inserts =
+      ap (imports_in modules) (inserts ∙ ap (λ name. insert_entry same_key entries (record { origin = key.origin; name = name }) (item ∷ [])) is)
+      ∙ new_key modules apart key known item entries (none_passes_from_lookup _ entries absent) kept
+
+module _ (modules : List (List ℕ)) (item : ImportedItem) where
+  pub pushed_kept : (test : ImportKey → Bool) (old items : List ImportedItem) (entries new : List NamedItems) → AreKept modules entries → items ≡ old ++ item ∷ [] → new ≡ set_value test entries items → AreKept modules new
+  pushed_kept test old items entries new kept is writes = rw writes (known_key_kept modules test items entries (λ none. not_empty old (sym is ∙ none)) kept)
     where
       not_empty : (xs : List ImportedItem) → xs ++ item ∷ [] ≢ []
       not_empty [] none = absurd cc
       not_empty (x ∷ xs) none = absurd cc
 
-  pub inserted_used : (item : ImportedItem) (items : Vec ImportedItem) (entries new : List NamedItems) → AreUsed entries → items.items ≡ item ∷ [] → new ≡ insert_entry same_pair entries key items → AreUsed new
-  inserted_used item items entries new used is inserts = rw inserts (new_key_used key items entries (λ none. absurd (cons_nil (sym is ∙ none))) used)
+  pub inserted_kept : (apart : IsDistinct bytes_eq modules) (key : ImportKey) → key.origin < length modules → (entries new : List NamedItems) → AreKept modules entries → new ≡ insert_entry same_key entries key (item ∷ []) → AreKept modules new
+  inserted_kept apart key known entries new kept inserts = rw inserts (new_key_kept modules apart key known (item ∷ []) entries (λ none. absurd (cons_nil none)) kept)
     where
       cons_nil : item ∷ [] ≢ []
       cons_nil none = absurd cc
 
-  pub kept : (old items : Vec ImportedItem) (entries new : List NamedItems) → Some old ≡ lookup (same_pair key) entries → items.items ≡ old.items → new ≡ set_value (same_pair key) entries items → (imports_in new ≡ imports_in entries) × (AreUsed entries → AreUsed new)
-  kept old items entries new found is writes = rw writes (same_items _ old items entries found is)
+-- ---- one name more of a module
+
+module _ (modules : List (List ℕ)) (name : List ℕ) (entries : List NamedItems) (kept : AreKept modules entries) where
+  named_more : imports_in (with_name modules name) entries ≡ imports_in modules entries
+  named_more = by (list_any (bytes_eq name) modules)
+    where
+      by : (b : Bool) → imports_in (if b then modules else modules ++ name ∷ []) entries ≡ imports_in modules entries
+      by true = refl
+      by false = same_imports modules (name ∷ []) entries kept
+
+  pub kept_more : AreKept (with_name modules name) entries
+  kept_more = by (list_any (bytes_eq name) modules)
+    where
+      by : (b : Bool) → AreKept (if b then modules else modules ++ name ∷ []) entries
+      by true = kept
+      by false = still_kept modules (name ∷ []) entries kept
+
+  pub numbered : (result : Result ℕ AllocError) (new : List (List ℕ)) → OnOk result (new ≡ with_name modules name)
+      → OnOk result (◌≡◌ {A = Kept} (record { modules = new; imports = imports_in new entries }) (record { modules = with_name modules name; imports = imports_in modules entries }))
+  numbered (Ok n) new is = rw is (ap (λ imports. record { modules = with_name modules name; imports = imports }) named_more)
+  numbered (Err e) new is = tt

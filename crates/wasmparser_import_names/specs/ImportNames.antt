@@ -1,14 +1,11 @@
 -- Imports by their names.
-use Rattle.std.specs.Prelude.{ℕ, List, [], ◌∷◌, ◌++◌, ◌≢◌, map}
-use Rattle.std.specs.Global.{Global, Vec}
+use Rattle.std.specs.Prelude.{ℕ, List, [], ◌∷◌, ◌++◌, ◌≢◌, ◌<◌, length, map, slice_get, unwrap_or}
 use Rattle.std.specs.List.{AllByRecursion}
-use Rattle.std.specs.String.{string_bytes}
-use Rattle.std.specs.declared.string.String.{String}
 use Rattle.wasm_validity.specs.ImportedItems.{Imported}
 use Rattle.wasmparser_items.specs.Exports.{external_kind}
-use Rattle.wasmparser_import_names.specs.declared.import_names.ImportNamesIter.{ImportNamesIter}
-use Rattle.wasmparser_import_names.specs.declared.import_names.ImportedItem.{ImportedItem}
+use Rattle.wasmparser_import_names.specs.declared.import_key.ImportKey.{ImportKey}
 use Rattle.wasmparser_import_names.specs.declared.import_names.NamedImport.{NamedImport}
+use Rattle.wasmparser_import_names.specs.declared.imported_items.ImportedItem.{ImportedItem}
 
 -- an item that is imported by these names
 abbrev pub imported : List ℕ → List ℕ → ImportedItem → Imported
@@ -17,26 +14,33 @@ imported origin name item = record { origin = origin; name = name; kind = extern
 abbrev pub named_import : NamedImport → Imported
 named_import import = imported import.module.now import.name.now import.item
 
+-- the names of modules, which have numbers, and the imports
+pub record Kept : Type 0 where
+  pub modules : List (List ℕ)
+  pub imports : List Imported
+
+-- the name of the module with this number
+abbrev pub module_at : List (List ℕ) → ℕ → List ℕ
+module_at modules number = unwrap_or (slice_get modules number) []
+
 -- two names, and what is imported by them
-abbrev pub NamePair : Type 0
-NamePair = String Global × String Global
-
 abbrev pub NamedItems : Type 0
-NamedItems = NamePair × Vec ImportedItem
+NamedItems = ImportKey × List ImportedItem
 
--- the imports of two names
-abbrev pub imports_of : NamedItems → List Imported
-imports_of entry = map (imported (string_bytes entry.0.0) (string_bytes entry.0.1)) entry.1.items
+module _ (modules : List (List ℕ)) where
+  -- the imports of two names
+  abbrev pub imports_of : NamedItems → List Imported
+  imports_of entry = map (imported (module_at modules entry.0.origin) entry.0.name) entry.1
 
--- those of all names
-abbrev pub imports_in : List NamedItems → List Imported
-imports_in [] = []
-imports_in (entry ∷ entries) = imports_of entry ++ imports_in entries
+  -- those of all names
+  abbrev pub imports_in : List NamedItems → List Imported
+  imports_in [] = []
+  imports_in (entry ∷ entries) = imports_of entry ++ imports_in entries
 
--- all names have imports
-abbrev pub AreUsed : List NamedItems → Type 0
-AreUsed entries = AllByRecursion (λ entry. entry.1.items ≢ []) entries
+  -- all names are of modules that are known, and have imports
+  abbrev pub AreKept : List NamedItems → Type 0
+  AreKept entries = AllByRecursion (λ entry. (entry.0.origin < length modules) × (entry.1 ≢ [])) entries
 
--- the imports that are still to come
-abbrev pub imports_left : ImportNamesIter → List Imported
-imports_left it = map (imported it.module.now it.name.now) it.items.now ++ imports_in it.rest
+  -- the imports that are still to come
+  abbrev pub imports_left : List ℕ → List ℕ → List ImportedItem → List NamedItems → List Imported
+  imports_left origin name items entries = map (imported origin name) items ++ imports_in entries

@@ -1,1 +1,4 @@
 pub mod ImportNames
+pub mod ImportedItems
+pub mod KeptName
+pub mod ModuleNames

@@ -1,25 +1,19 @@
 //! Imports by their names.
 
-ghost use Rattle.std.specs.Prelude.{◌≡◌, [], IfOk, IfSome, OnErr, OnOk, ◌∷◌};
-ghost use Rattle.std.specs.String.{string_bytes};
+ghost use Rattle.std.specs.Prelude.{◌≡◌, [], ◌<◌, Some, IfOk, OnErr, OnOk, length, slice_get};
 ghost use Rattle.wasm_validity.specs.ImportedItems.{with_import};
-ghost use Rattle.wasmparser_import_names.specs.ImportNames.{imported, imports_left};
+ghost use Rattle.wasmparser_import_names.specs.ImportNames.{imported, module_at};
+ghost use Rattle.wasmparser_import_names.specs.ModuleNames.{with_name};
 
+use crate::import_key::{ImportKey, ImportQuery};
+use crate::imported_items::{ImportedItem, ImportedItems};
+use crate::kept_name::KeptName;
+use crate::module_names::ModuleNames;
 use indexmap::IndexMap;
 use indexmap::map::Iter;
 use std::alloc::{AllocError, Global};
 use std::marker::Model;
 use wasmparser_export_names::name_hasher::NameHasher;
-use wasmparser_items::export::ExternalKind;
-
-/// Which item an import is.
-#[derive(Clone, Copy, Debug, PartialEq, Eq)]
-pub struct ImportedItem {
-    /// Its kind.
-    pub kind: ExternalKind,
-    /// Its index among those of its kind.
-    pub index: u32,
-}
 
 /// An import with its names.
 #[derive(Clone, Copy, Debug)]
@@ -32,68 +26,89 @@ pub struct NamedImport<'a> {
     pub item: ImportedItem,
 }
 
-/// Imports by their two names, in order of the first of each. Imports of the same two names stand together. Contracts see them as their list.
+/// Imports by their two names, in order of the first of each. Imports of the same two names stand together. Contracts see the names of their modules, in
+/// order of their numbers, and the list of the imports.
 #[derive(Debug, Drop)]
 pub struct ImportNames {
-    map: IndexMap<(String, String), Vec<ImportedItem>, NameHasher>,
+    modules: ModuleNames,
+    map: IndexMap<ImportKey, ImportedItems, NameHasher>,
 }
 
 impl Model for ImportNames {
-    ghost use Rattle.std.specs.Prelude.{List};
-    ghost use Rattle.wasm_validity.specs.ImportedItems.{Imported};
-    ghost use Rattle.wasmparser_import_names.specs.ImportNames.{imports_in, AreUsed};
+    ghost use Rattle.std.specs.List.{IsDistinct};
+    ghost use Rattle.std.specs.Prelude.{bytes_eq};
+    ghost use Rattle.wasmparser_import_names.specs.ImportNames.{Kept, imports_in, AreKept};
 
-    ghost Value = { List Imported };
+    ghost Value = { Kept };
 
-    ghost view = { λ names. imports_in names.map.entries };
+    ghost view = { λ names. record { modules = names.modules; imports = imports_in names.modules names.map.entries } };
 
-    ghost invariant = { λ names. AreUsed names.map.entries };
+    ghost invariant = { λ names. IsDistinct bytes_eq names.modules × AreKept names.modules names.map.entries };
 }
 
 impl ImportNames {
     /// No imports.
     pub fn new(alloc: Global) -> ImportNames
-        ensures { result ≡ [] }
+        ensures modules { result.modules ≡ [] }
+        ensures imports { result.imports ≡ [] }
     {
+        let hasher = NameHasher::new();
         ImportNames {
-            map: IndexMap::with_hasher(alloc, NameHasher::new()),
+            modules: ModuleNames::new(alloc, hasher),
+            map: IndexMap::with_hasher(alloc, hasher),
         }
     }
 
-    /// Hashes names by `hasher` from now on, unless there are imports already. Where it starts after all names that are to come, finding them takes
+    /// Hashes names by `hasher` from now on, unless there are names already. Where it starts after all names that are to come, finding them takes
     /// no longer where they were chosen to make it slow.
     pub fn start_with(&mut self, hasher: NameHasher)
         ensures { self.new ≡ self.old }
     {
-        if self.map.is_empty() {
-            self.map = IndexMap::with_hasher(*self.map.allocator(), hasher);
+        if self.modules.is_empty() && self.map.is_empty() {
+            let alloc = *self.map.allocator();
+            self.modules = ModuleNames::new(alloc, hasher);
+            self.map = IndexMap::with_hasher(alloc, hasher);
         }
     }
 
-    /// Adds an import: after the last of the same two names, and else after all.
+    /// The number of a module's name, which is kept if it is new.
     ///
     /// # Errors
     /// Where memory runs out; then nothing changes.
-    pub fn push(&mut self, module: &str, name: &str, item: ImportedItem) -> Result<(), AllocError>
-        ensures added { OnOk result (self.new ≡ with_import self.old (imported «module».now name.now item)) }
+    pub fn number_of(&mut self, module: &str) -> Result<usize, AllocError>
+        ensures found { IfOk result (λ number. slice_get self.new.modules number ≡ Some «module».now) }
+        ensures kept { OnOk result (self.new ≡ record self.old { modules = with_name self.old.modules «module».now }) }
+        ensures refused { OnErr result (self.new ≡ self.old) }
+    {
+        self.modules.number(module)
+    }
+
+    /// Adds an import from the module whose name has this number: after the last of the same two names, and else after all.
+    ///
+    /// # Errors
+    /// Where memory runs out; then nothing changes.
+    pub fn push(&mut self, origin: usize, name: &str, item: ImportedItem) -> Result<(), AllocError>
+        requires { origin < length self.old.modules }
+        ensures added { OnOk result (self.new ≡ record self.old { imports = with_import self.old.imports (imported (module_at self.old.modules origin) name.now item) }) }
         ensures refused { OnErr result (self.new ≡ self.old) }
     {
         let alloc = *self.map.allocator();
-        let names = owned_names(alloc, module, name)?;
-        if let Some(items) = self.map.get_mut(&names) {
-            items.push(item)?;
+        if let Some(items) = self.map.get_mut(ImportQuery { origin, name }) {
+            items.push(alloc, item)?;
             return Ok(());
         }
-        let items = only(alloc, item)?;
-        self.map.insert(names, items)?;
+        let name = KeptName::new(alloc, name)?;
+        self.map
+            .insert(ImportKey { origin, name }, ImportedItems::new(item))?;
         Ok(())
     }
 
     /// The imports in order.
     pub fn iter(&self) -> ImportNamesIter<'_>
-        ensures { imports_left result ≡ self.now }
+        ensures { result ≡ self.now.imports }
     {
         ImportNamesIter {
+            modules: &self.modules,
             module: "",
             name: "",
             items: &[],
@@ -102,32 +117,26 @@ impl ImportNames {
     }
 }
 
-// Two names as a key.
-fn owned_names(alloc: Global, module: &str, name: &str) -> Result<(String, String), AllocError>
-    ensures module { IfOk result (λ names. string_bytes names.0 ≡ «module».now) }
-    ensures name { IfOk result (λ names. string_bytes names.1 ≡ name.now) }
-{
-    let module = String::from_str(alloc, module)?;
-    let name = String::from_str(alloc, name)?;
-    Ok((module, name))
-}
-
-// One item alone.
-fn only(alloc: Global, item: ImportedItem) -> Result<Vec<ImportedItem>, AllocError>
-    ensures { IfOk result (λ items. items.items ≡ item ∷ []) }
-{
-    let mut items = Vec::new(alloc);
-    items.push(item)?;
-    Ok(items)
-}
-
-/// The imports that are still to come, in order.
+/// The imports that are still to come, in order. Contracts see them as their list.
 #[derive(Debug, Drop)]
 pub struct ImportNamesIter<'a> {
+    modules: &'a ModuleNames,
     module: &'a str,
     name: &'a str,
     items: &'a [ImportedItem],
-    rest: Iter<'a, (String, String), Vec<ImportedItem>>,
+    rest: Iter<'a, ImportKey, ImportedItems>,
+}
+
+impl<'a> Model for ImportNamesIter<'a> {
+    ghost use Rattle.std.specs.Prelude.{List};
+    ghost use Rattle.wasm_validity.specs.ImportedItems.{Imported};
+    ghost use Rattle.wasmparser_import_names.specs.ImportNames.{AreKept, imports_left};
+
+    ghost Value = { List Imported };
+
+    ghost view = { λ it. imports_left it.modules.now it.«module».now it.name.now it.items.now it.rest };
+
+    ghost invariant = { λ it. AreKept it.modules.now it.rest };
 }
 
 impl<'a> Iterator for ImportNamesIter<'a> {
@@ -136,19 +145,28 @@ impl<'a> Iterator for ImportNamesIter<'a> {
 
     type Item = NamedImport<'a>;
 
-    ghost next_gives = { YieldsFirstBy named_import imports_left };
+    ghost next_gives = { YieldsFirstBy named_import (λ it. it) };
 
-    ghost remaining = { item_count imports_left };
+    ghost remaining = { item_count (λ it. it) };
 
     fn next(&mut self) -> Option<NamedImport<'a>> {
-        while self.items.is_empty() {
-            let (names, items) = self.rest.next()?;
-            self.module = names.0.as_str();
-            self.name = names.1.as_str();
-            self.items = items.as_slice();
-        }
-        let (item, items) = self.items.split_first()?;
-        self.items = items;
+        let item = match self.items.split_first() {
+            Some((item, items)) => {
+                self.items = items;
+                item
+            }
+            None => {
+                let (key, items) = self.rest.next()?;
+                let Some(module) = self.modules.get(key.origin) else {
+                    unreachable!()
+                };
+                let (first, others) = items.parts();
+                self.module = module;
+                self.name = key.name.as_str();
+                self.items = others;
+                first
+            }
+        };
         Some(NamedImport {
             module: self.module,
             name: self.name,

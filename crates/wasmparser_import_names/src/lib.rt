@@ -1,4 +1,8 @@
 //! The imports of a module by their names: a part of `wasmparser`.
 #![tactic(auto)]
 
+pub mod import_key;
 pub mod import_names;
+pub mod imported_items;
+pub mod kept_name;
+pub mod module_names;

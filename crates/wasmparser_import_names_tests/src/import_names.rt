@@ -5,7 +5,8 @@ use std::test::Fail;
 use wasm_test_rows::fields::two_fields;
 use wasm_test_rows::rows::check_rows;
 use wasmparser_export_names::name_hasher::NameHasher;
-use wasmparser_import_names::import_names::{ImportNames, ImportedItem};
+use wasmparser_import_names::import_names::ImportNames;
+use wasmparser_import_names::imported_items::ImportedItem;
 use wasmparser_items::export::ExternalKind;
 
 // Imports as they are pushed, and as they are shown. Each is the module, the name, and the kind and the index of the item.
@@ -25,6 +26,9 @@ const SHOWN: &str = "
     // The same item twice.
     a.b.f0 c.d.f1 a.b.f0 | a.b.f0 a.b.f0 c.d.f1
     a.b.f0 c.d.f1 e.f.f2 c.d.f3 a.b.f4 e.f.f5 | a.b.f0 a.b.f4 c.d.f1 c.d.f3 e.f.f2 e.f.f5
+    // Names of 16 bytes, and longer ones.
+    a.0123456789abcdef.f0 a.0123456789abcdefg.f1 a.0123456789abcdef.f2 a.0123456789abcdefg.f3 | a.0123456789abcdef.f0 a.0123456789abcdef.f2 a.0123456789abcdefg.f1 a.0123456789abcdefg.f3
+    a.0123456789abcdefg.f0 a.0123456789abcdefh.f1 0123456789abcdefg.a.f2 | a.0123456789abcdefg.f0 a.0123456789abcdefh.f1 0123456789abcdefg.a.f2
 ";
 
 fn module_of(word: &str) -> Option<&str> {
@@ -52,11 +56,19 @@ fn item_of(word: &str) -> Option<ImportedItem> {
     Some(ImportedItem { kind, index })
 }
 
+fn push_named(
+    names: &mut ImportNames,
+    module: &str,
+    name: &str,
+    item: ImportedItem,
+) -> Result<(), AllocError> {
+    let origin = names.number_of(module)?;
+    names.push(origin, name, item)
+}
+
 fn push_words(names: &mut ImportNames, words: &str) -> Option<()> {
     for word in words.split_whitespace() {
-        names
-            .push(module_of(word)?, name_of(word)?, item_of(word)?)
-            .ok()?;
+        push_named(names, module_of(word)?, name_of(word)?, item_of(word)?).ok()?;
     }
     Some(())
 }
@@ -89,7 +101,7 @@ fn holds(alloc: Global, row: &str) -> Option<bool> {
 
 #[test]
 fn the_same_names_stand_together(rt: HostRuntime) -> Result<(), Fail> {
-    Ok(check_rows(rt.alloc(), SHOWN, 11, holds)?)
+    Ok(check_rows(rt.alloc(), SHOWN, 13, holds)?)
 }
 
 // A hasher has no say in what is shown, nor has it an effect where there are imports already.
@@ -127,7 +139,7 @@ fn push_many(
             kind: ExternalKind::Func,
             index,
         };
-        names.push("env", name.as_str(), item)?;
+        push_named(names, "env", name.as_str(), item)?;
     }
     Ok(())
 }
@@ -165,4 +177,39 @@ fn many_are_taken(rt: HostRuntime) {
     for period in [1, 300, 100_000] {
         assert!(rt; takes_many(rt.alloc(), period), "{period} names");
     }
+}
+
+// Pushes imports of the same name from so many modules, whose names are long.
+fn push_modules(alloc: Global, names: &mut ImportNames, count: u32) -> Result<(), AllocError> {
+    for index in 0..count {
+        let module = format!(in alloc; "a module with a long name, of number {}", index)?;
+        let item = ImportedItem {
+            kind: ExternalKind::Global,
+            index,
+        };
+        push_named(names, module.as_str(), "f", item)?;
+    }
+    Ok(())
+}
+
+fn count_of(names: &ImportNames) -> u32 {
+    let mut count: u32 = 0;
+    for _ in names.iter() {
+        count = count.saturating_add(1);
+    }
+    count
+}
+
+fn pushes_modules(alloc: Global, names: &mut ImportNames) -> bool {
+    push_modules(alloc, names, 100_000).is_ok() && count_of(names) == 100_000
+}
+
+fn takes_modules(alloc: Global) -> bool {
+    let mut names = ImportNames::new(alloc);
+    pushes_modules(alloc, &mut names)
+}
+
+#[test]
+fn many_modules_are_taken(rt: HostRuntime) {
+    assert!(rt; takes_modules(rt.alloc()));
 }

@@ -24,6 +24,7 @@ use Rattle.wasmparser_readers.proofs.SectionLaws.{none_left}
 use Rattle.wasmparser_types.specs.Index.{packable}
 use Rattle.wasmparser_module_state.specs.Items.{AcceptsItems, NamesItems, named_measures}
 use Rattle.wasmparser_module_state.specs.Judging.{HasItemsMore}
+use Rattle.wasmparser_module_state.proofs.NamedImports.{themselves}
 use Rattle.wasmparser_module_state.proofs.ImportLaws.{passes_first, passes_later}
 use Rattle.wasmparser_module_state.proofs.ReadItems.{HaveSmall, no_indexes, none_large, read_again, split}
 
@@ -181,10 +182,6 @@ small_names names = no_indexes names
 -- of names that have read, which stand for themselves
 abbrev pub NamesStanding : Features → ExternalType ℕ → List (List ℕ) → Context → Context → Left → Type 0
 NamesStanding features type all old now left = Standing features name_at (λ name. []) (λ name. name) (λ name. type) all old now left
-
-themselves : (names : List (List ℕ)) → map (λ name. name) names ≡ names
-themselves [] = refl
-themselves (name ∷ names) = ap (λ others. name ∷ others) (themselves names)
 
 pub names_ended : (features : Features) (type : ExternalType ℕ) (all : List (List ℕ)) (old now : Context) (left : Left) → NamesStanding features type all old now left → IsEmpty left
     → AcceptsItems features old (map (λ name. type) all) (named_measures old all (map (λ name. type) all)) now

@@ -13,7 +13,9 @@ use Rattle.wasm_validity.specs.Context.{Context, after_item, after_items, next_i
 use Rattle.wasm_validity.specs.Entries.{OfImport}
 use Rattle.wasm_validity.specs.ImportedItems.{Imported, with_import, with_imports}
 use Rattle.wasm_validity.specs.Rules.{are_within, item_measures, items_measures, keep_items, keeps_item}
+use Rattle.wasm_validity_laws.proofs.Within.{within}
 use Rattle.wasmparser_error.specs.declared.error.Error.{Error}
+use Rattle.wasmparser_import_names.specs.ImportNames.{Kept, module_at}
 use Rattle.wasmparser_module_state.proofs.ReadItems.{split}
 use Rattle.wasmparser_module_state.specs.Items.{NamesImports, cut_off}
 use Rattle.wasmparser_items.specs.ItemTypes.{memory_type}
@@ -94,9 +96,6 @@ cut_again cx (GlobalExternal type) = ap (λ xs. record cx { imported_globals = x
 cut_again cx (TagExternal function) = ap (λ (xs : List ℕ). record cx { tags = xs }) (front_of cx.tags function)
 
 -- its index is small
-within : (most n : ℕ) → not (nat_lt most n) ≡ true → n ≤ most
-within most n e = grind (arith, nat_tests)
-
 pub few_items : (cx : Context) (type : ExternalType ℕ) → are_within (item_measures cx type) ≡ true → next_index cx (kind_of type) ≤ 1000000
 few_items cx (FuncExternal function) w = omega (arith, within 1000000 (suc (length cx.imported_functions + length cx.own_functions)) (and_parts _ _ w).0)
 few_items cx (TableExternal type) w = omega (arith, within 100 (suc (length cx.tables)) (and_parts _ _ w).0)
@@ -136,7 +135,14 @@ names_end {A = A} item_at name_of type_of origin all old now had has left s empt
     let none : [] ≡ s.rest = some_is [] s.rest (sym (none_left (λ features. item_at) left empty) ∙ s.reads) in
     subst (λ (xs : List A). with_imports has (next_imports now origin (map name_of xs) (map type_of xs)) ≡ with_imports had (next_imports old origin (map name_of all) (map type_of all))) (sym none) s.named
 
-themselves : (names : List (List ℕ)) → map (λ name. name) names ≡ names
+-- one import more from the module of a number
+pub named_on : (kept new : Kept) (modules : List (List ℕ)) (cx : Context) (origin : ℕ) (name : List ℕ) (type : ExternalType ℕ)
+    → new ≡ record kept { imports = with_import kept.imports (next_import cx (module_at kept.modules origin) name type) } → kept.modules ≡ modules
+    → (new.modules ≡ modules) × (new.imports ≡ with_import kept.imports (next_import cx (module_at modules origin) name type))
+named_on kept new modules cx origin name type named known =
+    (ap (λ (k : Kept). k.modules) named ∙ known, ap (λ (k : Kept). k.imports) named ∙ ap (λ (m : List (List ℕ)). with_import kept.imports (next_import cx (module_at m origin) name type)) known)
+
+pub themselves : (names : List (List ℕ)) → map (λ name. name) names ≡ names
 themselves [] = refl
 themselves (name ∷ names) = ap (λ others. name ∷ others) (themselves names)
 

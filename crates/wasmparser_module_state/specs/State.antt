@@ -52,7 +52,7 @@ unnamed s = record {
 }
 
 abbrev pub context : ModuleState → Context
-context s = record (unnamed s) { imported = s.imported }
+context s = record (unnamed s) { imported = s.imported.imports }
 
 -- the function type of a function of the module's own, by its place among these
 abbrev pub own_func_type : Context → ℕ → Option (spec.FuncType DefType)

@@ -1,6 +1,6 @@
 //! Entries of import sections: an import, or a group of imports, which are judged one after the other.
 
-ghost use Rattle.std.specs.Prelude.{◌≡◌, ◌≤◌, ◌<◌, refl, suc, IfErr, IfOk, map};
+ghost use Rattle.std.specs.Prelude.{◌≡◌, ◌≤◌, ◌<◌, refl, suc, IfErr, IfOk, length, map};
 ghost use Rattle.std.specs.List.{AllByRecursion};
 ghost use Rattle.wasm_core_base.specs.declared.limits.Limit.TheVariants as limits;
 ghost use Rattle.wasm_core_read.specs.PartReading.{import_item_at};
@@ -9,6 +9,7 @@ ghost use Rattle.wasm_validity.specs.Context.{next_import, next_imports};
 ghost use Rattle.wasm_validity.specs.Entries.{OfImport};
 ghost use Rattle.wasm_validity.specs.ImportedItems.{with_import, with_imports};
 ghost use Rattle.wasmparser_error.specs.declared.error.ErrorKind.TheVariants as kinds;
+ghost use Rattle.wasmparser_import_names.specs.ImportNames.{module_at};
 ghost use Rattle.wasmparser_imports.specs.ImportEntries.{IsEntryOfModule, import_entry};
 ghost use Rattle.wasmparser_imports.specs.ImportGroups.{AreRead, items_of};
 ghost use Rattle.wasmparser_imports.specs.ImportItems.{items_refs};
@@ -24,9 +25,9 @@ use crate::module_state::{ModuleState, refusal};
 use crate::names::check_name;
 use wasm_core_base::limits::{Limit, MAX_WASM_IMPORTS};
 use wasmparser_error::error::{Error, ErrorKind};
-use wasmparser_import_names::import_names::ImportedItem;
+use wasmparser_import_names::imported_items::ImportedItem;
 use wasmparser_imports::import_item::ImportItemCompact;
-use wasmparser_imports::imports::{Import, Imports};
+use wasmparser_imports::imports::Imports;
 use wasmparser_items::type_ref::TypeRef;
 use wasmparser_readers::section_limited::SectionLimited;
 
@@ -42,47 +43,48 @@ impl ModuleState {
         Ok(self.imports + 1)
     }
 
-    // Judges an import, the name of whose module is short enough, and adds it.
+    // Judges an import from the module whose name has this number, and adds it.
     #[tactic(auto, using(crate::proofs::ImportLaws::named_steps))]
-    fn import_named(&mut self, import: &Import<'_>, offset: u64) -> Result<(), Error>
-        ensures added { AddsNamed (features_of self.old) (unnamed self.old) import.now.name.now (item import.now.ty) offset result (unnamed self.new) }
-        ensures named { IfOk result (λ _. self.new.imported ≡ with_import self.old.imported (next_import (unnamed self.old) import.now.«module».now import.now.name.now (item import.now.ty))) }
+    fn import_named(
+        &mut self,
+        origin: usize,
+        name: &str,
+        ty: &TypeRef,
+        offset: u64,
+    ) -> Result<(), Error>
+        requires { origin < length self.old.imported.modules }
+        ensures added { AddsNamed (features_of self.old) (unnamed self.old) name.now (item ty.now) offset result (unnamed self.new) }
+        ensures named { IfOk result (λ _. self.new.imported ≡ record self.old.imported { imports = with_import self.old.imported.imports (next_import (unnamed self.old) (module_at self.old.imported.modules origin) name.now (item ty.now)) }) }
         ensures refused { IfErr result (λ _. self.new.imported ≡ self.old.imported) }
         ensures types { self.new.types ≡ self.old.types }
     {
-        check_name(import.name, offset)?;
-        let kind = kind_of(&import.ty);
+        check_name(name, offset)?;
+        let kind = kind_of(ty);
         let place = self.next_index(kind);
         let type_size = self.type_size;
-        self.import_item(&import.ty, offset)?;
+        self.import_item(ty, offset)?;
         let index = place as u32;
-        self.keep_names(import, ImportedItem { kind, index }, type_size)
+        self.keep_names(origin, name, ImportedItem { kind, index }, type_size)
     }
 
     // Judges the imports of a group one after the other, and adds them.
     fn import_items<'a>(
         &mut self,
-        module: &'a str,
+        origin: usize,
         group: SectionLimited<'a, ImportItemCompact<'a>>,
         offset: u64,
     ) -> Result<(), Error>
+        requires known { origin < length self.old.imported.modules }
         requires read { AreRead import_item_at group }
         requires small { AllByRecursion (λ n. n < packable) (items_refs (items_of import_item_at group)) }
         ensures added { AddsGroup (features_of self.old) (unnamed self.old) (map (λ item. item.name) (items_of import_item_at group.entry)) (map (λ item. item.type) (items_of import_item_at group.entry)) offset result (unnamed self.new) }
-        ensures named { IfOk result (λ _. self.new.imported ≡ with_imports self.old.imported (next_imports (unnamed self.old) «module».now (map (λ item. item.name) (items_of import_item_at group.entry)) (map (λ item. item.type) (items_of import_item_at group.entry)))) }
+        ensures named { IfOk result (λ _. self.new.imported.imports ≡ with_imports self.old.imported.imports (next_imports (unnamed self.old) (module_at self.old.imported.modules origin) (map (λ item. item.name) (items_of import_item_at group.entry)) (map (λ item. item.type) (items_of import_item_at group.entry)))) }
         ensures types { self.new.types ≡ self.old.types }
     {
         let mut items = group.into_iter(*self.tags.allocator());
         'items: while let Some(item) = items.next() {
             match item {
-                Ok(item) => {
-                    let import = Import {
-                        module,
-                        name: item.name,
-                        ty: item.ty,
-                    };
-                    self.import_named(&import, offset)?
-                }
+                Ok(item) => self.import_named(origin, item.name, &item.ty, offset)?,
                 Err(error) => return Err(error),
             }
         }
@@ -92,49 +94,48 @@ impl ModuleState {
     // The same of a group whose imports have one type.
     fn import_names<'a>(
         &mut self,
-        module: &'a str,
+        origin: usize,
         ty: &TypeRef,
         group: SectionLimited<'a, &'a str>,
         offset: u64,
     ) -> Result<(), Error>
-        requires { AreRead name_at group }
+        requires known { origin < length self.old.imported.modules }
+        requires read { AreRead name_at group }
         ensures added { AddsGroup (features_of self.old) (unnamed self.old) (items_of name_at group.entry) (map (λ name. item ty.now) (items_of name_at group.entry)) offset result (unnamed self.new) }
-        ensures named { IfOk result (λ _. self.new.imported ≡ with_imports self.old.imported (next_imports (unnamed self.old) «module».now (items_of name_at group.entry) (map (λ name. item ty.now) (items_of name_at group.entry)))) }
+        ensures named { IfOk result (λ _. self.new.imported.imports ≡ with_imports self.old.imported.imports (next_imports (unnamed self.old) (module_at self.old.imported.modules origin) (items_of name_at group.entry) (map (λ name. item ty.now) (items_of name_at group.entry)))) }
         ensures types { self.new.types ≡ self.old.types }
     {
         let mut names = group.into_iter(*self.tags.allocator());
         'names: while let Some(name) = names.next() {
             let name = name?;
-            let import = Import {
-                module,
-                name,
-                ty: *ty,
-            };
-            self.import_named(&import, offset)?;
+            self.import_named(origin, name, ty, offset)?;
         }
         Ok(())
     }
 
-    // Judges the imports of an entry, and adds them.
+    // Judges the imports of an entry, and adds them. A name of a module is looked up once, however many imports of a group share it.
     #[tactic(auto, using(crate::proofs::ImportLaws::origin_steps))]
     fn add_imports<'a>(&mut self, entry: Imports<'a>, offset: u64) -> Result<(), Error>
         requires { IsEntryOfModule entry }
         ensures added { AddsImports (features_of self.old) (unnamed self.old) (import_entry entry.entry) offset result (unnamed self.new) }
-        ensures named { NamesImports (unnamed self.old) (import_entry entry.entry) self.old.imported result self.new.imported }
+        ensures named { NamesImports (unnamed self.old) (import_entry entry.entry) self.old.imported.imports result self.new.imported.imports }
         ensures types { self.new.types ≡ self.old.types }
     {
         match entry {
             Imports::Single(_, import) => {
                 check_name(import.module, offset)?;
-                self.import_named(&import, offset)
+                let origin = self.imported.number_of(import.module)?;
+                self.import_named(origin, import.name, &import.ty, offset)
             }
             Imports::Compact1 { module, items } => {
                 check_name(module, offset)?;
-                self.import_items(module, items, offset)
+                let origin = self.imported.number_of(module)?;
+                self.import_items(origin, items, offset)
             }
             Imports::Compact2 { module, ty, names } => {
                 check_name(module, offset)?;
-                self.import_names(module, &ty, names, offset)
+                let origin = self.imported.number_of(module)?;
+                self.import_names(origin, &ty, names, offset)
             }
         }
     }

@@ -1,11 +1,11 @@
 //! The names of imports, which are kept beside the items.
 
-ghost use Rattle.std.specs.Prelude.{◌≡◌, IfErr, IfOk};
+ghost use Rattle.std.specs.Prelude.{◌≡◌, ◌<◌, IfErr, IfOk, length};
 ghost use Rattle.wasm_spec.specs.Types.{kind_of};
 ghost use Rattle.wasm_validity.specs.Context.{next_index};
 ghost use Rattle.wasm_validity.specs.ImportedItems.{with_import};
 ghost use Rattle.wasmparser_error.specs.declared.error.ErrorKind.TheVariants as kinds;
-ghost use Rattle.wasmparser_import_names.specs.ImportNames.{imported};
+ghost use Rattle.wasmparser_import_names.specs.ImportNames.{imported, module_at};
 ghost use Rattle.wasmparser_items.specs.Exports.{external_kind};
 ghost use Rattle.wasmparser_module_state.specs.Items.{cut_off};
 ghost use Rattle.wasmparser_module_state.specs.State.{context, item, unnamed};
@@ -14,8 +14,9 @@ use crate::module_state::ModuleState;
 use std::alloc::Global;
 use wasmparser_error::error::Error;
 use wasmparser_export_names::name_hasher::NameHasher;
-use wasmparser_import_names::import_names::{ImportNames, ImportedItem};
-use wasmparser_imports::imports::{Import, Imports};
+use wasmparser_import_names::import_names::ImportNames;
+use wasmparser_import_names::imported_items::ImportedItem;
+use wasmparser_imports::imports::Imports;
 use wasmparser_items::export::ExternalKind;
 use wasmparser_items::type_ref::TypeRef;
 use wasmparser_readers::section_limited::SectionLimited;
@@ -62,7 +63,7 @@ fn start_after_names<'a>(alloc: Global, hasher: &mut NameHasher, entry: Imports<
 impl ModuleState {
     /// The imports by their names; those of the same two names stand together.
     pub fn imported(&self) -> &ImportNames
-        ensures { result.now ≡ (context self.now).imported }
+        ensures { result.now.imports ≡ (context self.now).imported }
     {
         &self.imported
     }
@@ -112,19 +113,21 @@ impl ModuleState {
         self.type_size = type_size;
     }
 
-    // Keeps the names of the item that was imported last. Where they find no memory, the item goes again.
+    // Keeps the names of the item that was imported last, from the module whose name has this number. Where they find no memory, the item goes again.
     pub(crate) fn keep_names(
         &mut self,
-        import: &Import<'_>,
+        origin: usize,
+        name: &str,
         item: ImportedItem,
         type_size: u32,
     ) -> Result<(), Error>
-        ensures kept { IfOk result (λ _. (unnamed self.new ≡ unnamed self.old) × (self.new.imported ≡ with_import self.old.imported (imported import.now.«module».now import.now.name.now item))) }
+        requires { origin < length self.old.imported.modules }
+        ensures kept { IfOk result (λ _. (unnamed self.new ≡ unnamed self.old) × (self.new.imported ≡ record self.old.imported { imports = with_import self.old.imported.imports (imported (module_at self.old.imported.modules origin) name.now item) })) }
         ensures refused { IfErr result (λ e. (e ≡ record { offset = 0; kind = kinds.Memory }) × (self.new.imported ≡ self.old.imported)) }
         ensures gone { IfErr result (λ _. unnamed self.new ≡ cut_off (unnamed self.old) (external_kind item.kind) item.index type_size) }
         ensures types { self.new.types ≡ self.old.types }
     {
-        if let Err(error) = self.imported.push(import.module, import.name, item) {
+        if let Err(error) = self.imported.push(origin, name, item) {
             self.cut_off(item.kind, item.index as usize, type_size);
             return Err(error.into());
         }

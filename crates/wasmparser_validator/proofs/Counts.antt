@@ -9,10 +9,8 @@ use Rattle.wasm_spec.specs.Types.{ExternalType, FuncExternal, TableExternal, Mem
 use Rattle.wasm_validity.specs.Context.{Context, after, after_all, after_item, after_items, at_first, element_type}
 use Rattle.wasm_validity.specs.Entries.{Entry, OfCustom, OfType, OfImport, OfFunction, OfTable, OfMemory, OfTags, OfTag, OfGlobal, OfExport, OfStart, OfElement, OfDataCount, OfBody, OfData}
 use Rattle.wasm_validity.specs.Rules.{KeepLimits, measures, name_measures, import_names, item_measures, items_measures, is_past, are_within}
+use Rattle.wasm_validity_laws.proofs.Within.{within}
 use Rattle.wasmparser_validator.specs.KnownSpaces.{AreFew}
-
-within : (most n : ℕ) → not (nat_lt most n) ≡ true → n ≤ most
-within most n e = grind (arith, nat_tests)
 
 within_both : (xs ys : List (Limit × ℕ)) → are_within (xs ++ ys) ≡ true → (are_within xs ≡ true) × (are_within ys ≡ true)
 within_both [] ys w = (refl, w)

@@ -20,7 +20,6 @@ pub struct CoreImports<'a> {
 impl<'a> Model for CoreImports<'a> {
     ghost use Rattle.std.specs.List.{AllByRecursion};
     ghost use Rattle.wasm_validity_laws.specs.KnownImports.{IsThere};
-    ghost use Rattle.wasmparser_import_names.specs.ImportNames.{imports_left};
     ghost use Rattle.wasmparser_module_state.specs.State.{context};
     ghost use Rattle.wasmparser_module_state.specs.contracts.module_state.ModuleState as kept;
     ghost use Rattle.wasmparser_validator.specs.ShownImports.{ImportsLeft, imports_left_code};
@@ -29,9 +28,9 @@ impl<'a> Model for CoreImports<'a> {
 
     ghost coded = { imports_left_code kept.the_row.coded };
 
-    ghost view = { λ it. record { state = it.types.types.now.state; left = imports_left it.imports } };
+    ghost view = { λ it. record { state = it.types.types.now.state; left = it.imports } };
 
-    ghost invariant = { λ it. AllByRecursion (IsThere (context it.types.types.now.state)) (imports_left it.imports) };
+    ghost invariant = { λ it. AllByRecursion (IsThere (context it.types.types.now.state)) it.imports };
 }
 
 impl<'a> TypesRef<'a> {

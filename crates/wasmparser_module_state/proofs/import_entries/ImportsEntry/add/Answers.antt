@@ -12,7 +12,7 @@ returns-in_err-add_imports-clause-added c =
     let old = c.args.state.now in
     let entry = import_entry c.args.self in
     let p = err_from_is_err_and c.from_residual-in_err-add_imports.result c.from_residual-in_err-add_imports.ensures.1 in
-    rw (p.1, p.2) (refused_entry (features_of old) (unnamed old) old.imported (held old) entry _ h.0, h.1, left_named (unnamed old) _ old.imported _ entry _ h.2 c.in_err-add_imports.ensures.named)
+    rw (p.1, p.2) (refused_entry (features_of old) (unnamed old) old.imported.imports (held old) entry _ h.0, h.1, left_named (unnamed old) _ old.imported.imports _ entry _ h.2 c.in_err-add_imports.ensures.named)
 
 pub returns-clause-added : goal.returns-clause-added
 returns-clause-added c =

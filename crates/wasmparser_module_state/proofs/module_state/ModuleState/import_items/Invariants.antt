@@ -1,5 +1,6 @@
 use Rattle.std.proofs.Common.{◌≡◌}
 use Rattle.wasm_core_read.specs.PartReading.{import_item_at}
+use Rattle.wasmparser_import_names.specs.ImportNames.{module_at}
 use Rattle.wasmparser_imports.specs.ImportGroups.{items_of}
 use Rattle.wasmparser_items.specs.ItemTypes.{packed_refs}
 use Rattle.wasmparser_module_state.proofs.GroupLaws.{Standing}
@@ -11,4 +12,5 @@ abbrev pub invariant-items : goal.invariant-items
 invariant-items l =
     Standing (features_of l.fn.self) import_item_at (λ item. packed_refs item.type) (λ item. item.name) (λ item. item.type) (items_of import_item_at l.fn.group) (unnamed l.fn.self) (unnamed l.self) l.items
     × (l.self.types ≡ l.fn.self.types)
-    × NamesStand import_item_at (λ item. item.name) (λ item. item.type) l.module (items_of import_item_at l.fn.group) (unnamed l.fn.self) (unnamed l.self) l.fn.self.imported l.self.imported l.items
+    × (l.self.imported.modules ≡ l.fn.self.imported.modules)
+    × NamesStand import_item_at (λ item. item.name) (λ item. item.type) (module_at l.fn.self.imported.modules l.origin) (items_of import_item_at l.fn.group) (unnamed l.fn.self) (unnamed l.self) l.fn.self.imported.imports l.self.imported.imports l.items

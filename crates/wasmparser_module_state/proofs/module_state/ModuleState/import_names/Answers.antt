@@ -4,11 +4,11 @@ use Rattle.wasmparser_module_state.specs.Items.{AcceptsItems, NamesItems, named_
 use Rattle.wasmparser_module_types.specs.ModuleTypes.{KnownTypes}
 use Rattle.wasmparser_module_state.specs.State.{item, unnamed}
 use Rattle.wasmparser_module_state.proofs.GroupLaws.{begins, goes_on, names_ended, names_refused, never_refused, small_names, stays}
-use Rattle.wasmparser_module_state.proofs.NamedImports.{all_names_end, names_begin, names_go_on}
+use Rattle.wasmparser_module_state.proofs.NamedImports.{all_names_end, named_on, names_begin, names_go_on}
 use Rattle.wasmparser_module_state.proofs.module_state.ModuleState.import_names.Goals as goal
 
 pub names-init : goal.names-init
-names-init c = rw c.into_iter-names.ensures (begins _ _ _ _ (λ name. item c.args.ty.now) _ _ _ c.requires (small_names _), refl, names_begin _ _ (λ name. item c.args.ty.now) _ _ _ _ _ c.requires)
+names-init c = rw c.into_iter-names.ensures (begins _ _ _ _ (λ name. item c.args.ty.now) _ _ _ c.requires.read (small_names _), refl, refl, names_begin _ _ (λ name. item c.args.ty.now) _ _ _ _ _ c.requires.read)
 
 pub returns-in_err-name-clause-added : goal.returns-in_err-name-clause-added
 returns-in_err-name-clause-added c =
@@ -23,7 +23,8 @@ names-preserved c =
     let accepts =
     subst (λ (t : KnownTypes). AcceptsItems t.features now (type ∷ []) (named_measures now (c.in_ok-name.name.now ∷ []) (type ∷ [])) (unnamed c.import_named.new.self)) c.names.invariant.1
     c.in_ok-import_named.ensures.added in
-    (goes_on _ _ _ _ _ _ _ _ _ _ _ _ c.in_ok-name.name.now c.names.invariant.0 n.0 accepts, c.in_ok-import_named.ensures.types ∙ c.names.invariant.1, names_go_on _ _ _ _ _ _ _ _ _ _ _ _ _ _ c.in_ok-name.name.now c.names.invariant.2 n.0 accepts.known c.in_ok-import_named.ensures.named)
+    let on = named_on _ _ _ now _ _ type c.in_ok-import_named.ensures.named c.names.invariant.2 in
+    (goes_on _ _ _ _ _ _ _ _ _ _ _ _ c.in_ok-name.name.now c.names.invariant.0 n.0 accepts, c.in_ok-import_named.ensures.types ∙ c.names.invariant.1, on.0, names_go_on _ _ _ _ _ _ _ _ _ _ _ _ _ _ c.in_ok-name.name.now c.names.invariant.3 n.0 accepts.known on.1)
 
 pub returns-in_err-import_named-clause-added : goal.returns-in_err-import_named-clause-added
 returns-in_err-import_named-clause-added c =
@@ -36,7 +37,7 @@ returns-in_err-import_named-clause-added c =
     rw (p.1, p.2) (names_refused _ _ _ _ _ _ _ _ c.in_ok-name.name.now _ c.names.invariant.0 n.0 named, h.1, stays _ _ _ _ _ _ _ _ _ _ c.names.invariant.0 h.2)
 
 pub returns-clause-named : goal.returns-clause-named
-returns-clause-named c = all_names_end _ _ _ _ _ _ _ _ c.names.invariant.2 c.in_default.ensures.steps.0
+returns-clause-named c = all_names_end _ _ _ _ _ _ _ _ c.names.invariant.3 c.in_default.ensures.steps.0
 
 pub returns-clause-added : goal.returns-clause-added
 returns-clause-added c = names_ended _ _ _ _ _ _ c.names.invariant.0 c.in_default.ensures.steps.0

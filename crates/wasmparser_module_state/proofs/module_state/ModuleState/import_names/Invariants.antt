@@ -1,5 +1,6 @@
 use Rattle.std.proofs.Common.{◌≡◌, []}
 use Rattle.wasm_core_read.specs.Reading.{name_at}
+use Rattle.wasmparser_import_names.specs.ImportNames.{module_at}
 use Rattle.wasmparser_imports.specs.ImportGroups.{items_of}
 use Rattle.wasmparser_module_state.proofs.GroupLaws.{Standing}
 use Rattle.wasmparser_module_state.proofs.NamedImports.{NamesStand}
@@ -10,4 +11,5 @@ abbrev pub invariant-names : goal.invariant-names
 invariant-names l =
     Standing (features_of l.fn.self) name_at (λ name. []) (λ name. name) (λ name. item l.ty) (items_of name_at l.fn.group) (unnamed l.fn.self) (unnamed l.self) l.names
     × (l.self.types ≡ l.fn.self.types)
-    × NamesStand name_at (λ name. name) (λ name. item l.ty) l.module (items_of name_at l.fn.group) (unnamed l.fn.self) (unnamed l.self) l.fn.self.imported l.self.imported l.names
+    × (l.self.imported.modules ≡ l.fn.self.imported.modules)
+    × NamesStand name_at (λ name. name) (λ name. item l.ty) (module_at l.fn.self.imported.modules l.origin) (items_of name_at l.fn.group) (unnamed l.fn.self) (unnamed l.self) l.fn.self.imported.imports l.self.imported.imports l.names

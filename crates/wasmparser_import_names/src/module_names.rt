@@ -1,0 +1,73 @@
+//! The names of the modules that imports come from.
+
+ghost use Rattle.std.specs.Prelude.{◌≡◌, [], Some, IfOk, OnErr, OnOk, bytes_eq, slice_get, length, nat_eq};
+ghost use Rattle.std.specs.List.{IsDistinct};
+ghost use Rattle.std.specs.Option.{option_copied};
+ghost use Rattle.wasmparser_import_names.specs.ModuleNames.{with_name};
+
+use indexmap::IndexSet;
+use std::alloc::{AllocError, Global};
+use std::marker::Model;
+use wasmparser_export_names::name_hasher::NameHasher;
+
+/// Names of modules, each of which is kept once and has a number. Contracts see them as their list.
+#[derive(Debug, Drop)]
+pub struct ModuleNames {
+    names: IndexSet<String, NameHasher>,
+}
+
+impl Model for ModuleNames {
+    ghost use Rattle.std.specs.Prelude.{List, ℕ, map};
+    ghost use Rattle.std.specs.List.{IsDistinct};
+    ghost use Rattle.std.specs.String.{string_bytes, string_eq};
+
+    ghost Value = { List (List ℕ) };
+
+    ghost view = { λ it. map string_bytes it.names.keys };
+
+    ghost invariant = { λ it. IsDistinct string_eq it.names.keys };
+}
+
+impl ModuleNames {
+    /// No names.
+    pub fn new(alloc: Global, hasher: NameHasher) -> ModuleNames
+        ensures { result ≡ [] }
+    {
+        ModuleNames {
+            names: IndexSet::with_hasher(alloc, hasher),
+        }
+    }
+
+    /// Whether there are no names.
+    pub fn is_empty(&self) -> bool
+        ensures { result ≡ nat_eq (length self.now) 0 }
+    {
+        self.names.is_empty()
+    }
+
+    /// The number of a name, which is kept if it is new.
+    ///
+    /// # Errors
+    /// Where memory runs out; then nothing changes.
+    pub fn number(&mut self, name: &str) -> Result<usize, AllocError>
+        ensures found { IfOk result (λ number. slice_get self.new number ≡ Some name.now) }
+        ensures kept { OnOk result (self.new ≡ with_name self.old name.now) }
+        ensures refused { OnErr result (self.new ≡ self.old) }
+        ensures distinct { IsDistinct bytes_eq self.new }
+    {
+        if let Some((number, _)) = self.names.get_full(name) {
+            return Ok(number);
+        }
+        let name = String::from_str(*self.names.allocator(), name)?;
+        let (number, _) = self.names.insert_full(name)?;
+        Ok(number)
+    }
+
+    /// The name of a number.
+    pub fn get(&self, number: usize) -> Option<&str>
+        ensures { option_copied result ≡ slice_get self.now number }
+    {
+        let name = self.names.get_index(number)?;
+        Some(name.as_str())
+    }
+}

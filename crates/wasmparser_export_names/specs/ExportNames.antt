@@ -1,14 +1,12 @@
 -- Exports by their names.
 use Rattle.std.specs.Prelude.{ℕ, Bool, List, bytes_eq, map}
 use Rattle.std.specs.List.{list_any}
-use Rattle.std.specs.String.{string_bytes}
-use Rattle.std.specs.declared.string.String.{String}
 use Rattle.wasm_spec.specs.Syntax as spec
 use Rattle.wasmparser_items.specs.Exports.{external_kind}
 use Rattle.wasmparser_export_names.specs.declared.export_names.Exported.{Exported}
 
-abbrev pub listed : {A : Type 0} → List (String A × Exported) → List spec.Export
-listed entries = map (λ e. record { name = string_bytes e.0; kind = external_kind e.1.kind; index = e.1.index }) entries
+abbrev pub listed : List (List ℕ × Exported) → List spec.Export
+listed entries = map (λ e. record { name = e.0; kind = external_kind e.1.kind; index = e.1.index }) entries
 
 -- the names of exports
 abbrev pub names_of : List spec.Export → List (List ℕ)

@@ -1,1 +1,2 @@
 pub mod ExportNames
+pub mod KeptName

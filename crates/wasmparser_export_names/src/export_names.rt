@@ -4,6 +4,7 @@ ghost use Rattle.std.specs.Prelude.{◌≡◌, ◌++◌, ◌∷◌, [], IfOk, On
 ghost use Rattle.wasmparser_export_names.specs.ExportNames.{is_exported};
 ghost use Rattle.wasmparser_items.specs.Exports.{export_item};
 
+use crate::kept_name::KeptName;
 use crate::name_hasher::NameHasher;
 use indexmap::IndexMap;
 use std::alloc::{AllocError, Global};
@@ -23,7 +24,7 @@ pub struct Exported {
 /// Exports in order, each of which has a name of its own. Contracts see them as their list.
 #[derive(Debug, Drop)]
 pub struct ExportNames {
-    map: IndexMap<String, Exported, NameHasher>,
+    map: IndexMap<KeptName, Exported, NameHasher>,
 }
 
 impl Model for ExportNames {
@@ -47,17 +48,11 @@ impl ExportNames {
     }
 
     /// No exports, ready for those of a section: finding them by name takes no longer where the names were chosen to make it slow.
-    pub fn for_section<'a>(alloc: Global, section: SectionLimited<'a, Export<'a>>) -> ExportNames
+    pub fn for_section<'a>(alloc: Global, section: &SectionLimited<'a, Export<'a>>) -> ExportNames
         ensures { result ≡ [] }
     {
-        let mut hasher = NameHasher::new();
-        for export in section.into_iter(alloc) {
-            if let Ok(export) = export {
-                hasher.start_after(export.name);
-            }
-        }
         ExportNames {
-            map: IndexMap::with_hasher(alloc, hasher),
+            map: IndexMap::with_hasher(alloc, NameHasher::after(section.remaining_buffer())),
         }
     }
 
@@ -81,7 +76,7 @@ impl ExportNames {
         if self.map.contains_key(export.name) {
             return Ok(false);
         }
-        let name = String::from_str(*self.map.allocator(), export.name)?;
+        let name = KeptName::new(*self.map.allocator(), export.name)?;
         let exported = Exported {
             kind: export.kind,
             index: export.index,

@@ -1,5 +1,6 @@
-//! The exports of a module by their names: a part of `wasmparser`.
+//! Names of imports and exports, and the exports of a module by theirs: a part of `wasmparser`.
 #![tactic(auto)]
 
 pub mod export_names;
+pub mod kept_name;
 pub mod name_hasher;

@@ -1,34 +1,36 @@
 //! Hashing of names that whoever wrote the module may have chosen.
 
-use std::hash::{BuildHasher, DefaultHasher, Hash};
+use std::hash::{BuildHasher, DefaultHasher, FoldHasher, Hasher};
 
-/// Hashes each name after others, which may be all names of a section. Who chooses names so that they collide after some others has other names
+/// Hashes names, after a number that all bytes of their section make. Who chooses names so that they collide after some number has another number
 /// then, after which they don't.
 #[derive(Clone, Copy)]
 pub struct NameHasher {
-    start: DefaultHasher,
+    start: FoldHasher,
 }
 
 impl NameHasher {
-    /// After no names.
+    /// For names that stand in no section.
     pub fn new() -> NameHasher {
-        NameHasher {
-            start: DefaultHasher::new(),
-        }
+        NameHasher::after(&[])
     }
 
-    /// One name more goes before those that are hashed. Where it ends counts too, so that the same text in other pieces is something else.
-    pub fn start_after(&mut self, name: &str) {
-        name.hash(&mut self.start);
+    /// For names that stand among these bytes.
+    pub fn after(bytes: &[u8]) -> NameHasher {
+        let mut hasher = DefaultHasher::new();
+        hasher.write(bytes);
+        let mut start = FoldHasher::default();
+        start.write_u64(hasher.finish());
+        NameHasher { start }
     }
 }
 
 impl BuildHasher for NameHasher {
-    type Hasher = DefaultHasher;
+    type Hasher = FoldHasher;
 
     ghost build_hasher = { λ hasher. hasher.start };
 
-    fn build_hasher(&self) -> DefaultHasher {
+    fn build_hasher(&self) -> FoldHasher {
         self.start
     }
 }

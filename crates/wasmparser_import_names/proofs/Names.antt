@@ -1,11 +1,9 @@
 -- Imports of known names and of new ones.
 use Rattle.std.proofs.Common.{◌≡◌, ◌≢◌, ◌<◌, Bool, true, false, List, [], ◌∷◌, ◌++◌, ℕ, length, length-append, Option, Some, None, map, unwrap_or, refl, sym, ap, ap₂, ◌∙◌, arith}
-use Rattle.std.proofs.lemmas.Bool.{and_parts}
 use Rattle.std.proofs.lemmas.Map.{NonePasses, none_passes_from_lookup}
 use Rattle.std.proofs.lemmas.Map.Entries.{none_past_head}
 use Rattle.std.proofs.lemmas.Map.Keys.{IsDistinct-tail}
-use Rattle.std.specs.Cmp.{IsEquivalence}
-use Rattle.std.specs.List.{list_any, AllByRecursion, IsDistinct}
+use Rattle.std.specs.List.{list_any, IsDistinct}
 use Rattle.std.specs.Map.{lookup, set_value, keys_of}
 use Rattle.std.specs.Prelude.{bytes_eq, cond, ◌&&◌, ◌||◌, not, if◌then◌else◌, OnOk, Result, Ok, Err}
 use Rattle.std.specs.declared.alloc.AllocError.{AllocError}

@@ -1,4 +1,3 @@
 pub mod ImportNames
 pub mod ImportedItems
-pub mod KeptName
 pub mod ModuleNames

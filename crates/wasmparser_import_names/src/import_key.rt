@@ -4,8 +4,8 @@ ghost use Rattle.std.specs.Prelude.{◌&&◌, bytes_eq, nat_eq};
 ghost use Rattle.std.specs.Cmp.Rules.{hashing};
 ghost use Rattle.std.proofs.Common.{rules};
 
-use crate::kept_name::KeptName;
 use indexmap::Equivalent;
+use wasmparser_export_names::kept_name::KeptName;
 
 /// The two names of an import: the number of that of its module, and its own.
 #[derive(Debug, Drop, PartialEq, Eq, Hash)]

@@ -7,12 +7,12 @@ ghost use Rattle.wasmparser_import_names.specs.ModuleNames.{with_name};
 
 use crate::import_key::{ImportKey, ImportQuery};
 use crate::imported_items::{ImportedItem, ImportedItems};
-use crate::kept_name::KeptName;
 use crate::module_names::ModuleNames;
 use indexmap::IndexMap;
 use indexmap::map::Iter;
 use std::alloc::{AllocError, Global};
 use std::marker::Model;
+use wasmparser_export_names::kept_name::KeptName;
 use wasmparser_export_names::name_hasher::NameHasher;
 
 /// An import with its names.

@@ -4,5 +4,4 @@
 pub mod import_key;
 pub mod import_names;
 pub mod imported_items;
-pub mod kept_name;
 pub mod module_names;

@@ -106,12 +106,9 @@ fn the_same_names_stand_together(rt: HostRuntime) -> Result<(), Fail> {
 
 // A hasher has no say in what is shown, nor has it an effect where there are imports already.
 fn starts_anew(names: &mut ImportNames) -> Option<bool> {
-    let mut hasher = NameHasher::new();
-    hasher.start_after("a");
-    names.start_with(hasher);
+    names.start_with(NameHasher::after(b"a"));
     push_words(names, "a.b.f0 c.d.f1")?;
-    hasher.start_after("b");
-    names.start_with(hasher);
+    names.start_with(NameHasher::after(b"b"));
     push_words(names, "a.b.f2 c.d.f3")?;
     shows(names, "a.b.f0 a.b.f2 c.d.f1 c.d.f3")
 }

@@ -33,7 +33,7 @@ impl ModuleState {
     }
 
     /// Makes ready for the exports of a section, where there are none yet, so that names can hardly be chosen that collide.
-    pub fn start_exports<'a>(&mut self, section: SectionLimited<'a, Export<'a>>)
+    pub fn start_exports<'a>(&mut self, section: &SectionLimited<'a, Export<'a>>)
         ensures same { context self.new ≡ context self.old }
         ensures types { self.new.types ≡ self.old.types }
     {

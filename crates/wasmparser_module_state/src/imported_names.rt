@@ -11,7 +11,6 @@ ghost use Rattle.wasmparser_module_state.specs.Items.{cut_off};
 ghost use Rattle.wasmparser_module_state.specs.State.{context, item, unnamed};
 
 use crate::module_state::ModuleState;
-use std::alloc::Global;
 use wasmparser_error::error::Error;
 use wasmparser_export_names::name_hasher::NameHasher;
 use wasmparser_import_names::import_names::ImportNames;
@@ -34,32 +33,6 @@ pub(crate) fn kind_of(ty: &TypeRef) -> ExternalKind
     }
 }
 
-// The names of an entry of an import section go before those that are hashed.
-fn start_after_names<'a>(alloc: Global, hasher: &mut NameHasher, entry: Imports<'a>) {
-    match entry {
-        Imports::Single(_, import) => {
-            hasher.start_after(import.module);
-            hasher.start_after(import.name);
-        }
-        Imports::Compact1 { module, items } => {
-            hasher.start_after(module);
-            for item in items.into_iter(alloc) {
-                if let Ok(item) = item {
-                    hasher.start_after(item.name);
-                }
-            }
-        }
-        Imports::Compact2 { module, names, .. } => {
-            hasher.start_after(module);
-            for name in names.into_iter(alloc) {
-                if let Ok(name) = name {
-                    hasher.start_after(name);
-                }
-            }
-        }
-    }
-}
-
 impl ModuleState {
     /// The imports by their names; those of the same two names stand together.
     pub fn imported(&self) -> &ImportNames
@@ -69,18 +42,12 @@ impl ModuleState {
     }
 
     /// Makes ready for the imports of a section, so that names can hardly be chosen that collide.
-    pub fn start_imports<'a>(&mut self, section: SectionLimited<'a, Imports<'a>>)
+    pub fn start_imports<'a>(&mut self, section: &SectionLimited<'a, Imports<'a>>)
         ensures same { context self.new ≡ context self.old }
         ensures types { self.new.types ≡ self.old.types }
     {
-        let alloc = *self.tags.allocator();
-        let mut hasher = NameHasher::new();
-        for entry in section.into_iter(alloc) {
-            if let Ok(entry) = entry {
-                start_after_names(alloc, &mut hasher, entry);
-            }
-        }
-        self.imported.start_with(hasher);
+        self.imported
+            .start_with(NameHasher::after(section.remaining_buffer()));
     }
 
     // The index that the next imported item of a kind has.

@@ -82,6 +82,13 @@ impl<'a, T> SectionLimited<'a, T> {
         self.count
     }
 
+    /// The bytes of the items.
+    pub fn remaining_buffer(&self) -> &'a [u8]
+        ensures { result.now ≡ self.now.left.input.rest }
+    {
+        self.reader.remaining_buffer()
+    }
+
     /// The place of the content in the input.
     pub fn range(&self) -> Range<u64>
         ensures start { result.start ≡ self.now.start }

@@ -61,7 +61,7 @@ fn add_imports<'a>(
     ensures features { features_of state.new ≡ features_of state.old }
     ensures grows { grows state.new ≡ true }
 {
-    state.start_imports(section.clone()?);
+    state.start_imports(section);
     add_section(alloc, state, section)
 }
 
@@ -75,7 +75,7 @@ fn add_exports<'a>(
     ensures features { features_of state.new ≡ features_of state.old }
     ensures grows { grows state.new ≡ true }
 {
-    state.start_exports(section.clone()?);
+    state.start_exports(section);
     add_section(alloc, state, section)
 }
 

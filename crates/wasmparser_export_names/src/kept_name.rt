@@ -1,14 +1,14 @@
 //! Copies of names.
 
-ghost use Rattle.std.specs.Prelude.{◌≡◌, IfOk};
+ghost use Rattle.std.specs.Prelude.{◌≡◌, IfOk, bytes_eq, nat_eq};
 ghost use Rattle.std.specs.Cmp.{partial_equiv_from_equiv};
 ghost use Rattle.std.specs.Cmp.Lexicographic.{nat_list_eq_equiv, pointwise};
 ghost use Rattle.std.specs.Cmp.Rules.{hashing};
 ghost use Rattle.std.specs.Hash as fed;
-ghost use Rattle.std.specs.Prelude.{nat_eq};
 ghost use Rattle.std.proofs.Common.{rules};
 
 use arrayvec::ArrayString;
+use indexmap::Equivalent;
 use std::alloc::{AllocError, Global};
 use std::hash::{Hash, Hasher};
 use std::marker::Model;
@@ -27,7 +27,7 @@ enum Text {
 
 impl Model for KeptName {
     ghost use Rattle.std.specs.Prelude.{List, ℕ};
-    ghost use Rattle.wasmparser_import_names.specs.KeptName.{bytes_of};
+    ghost use Rattle.wasmparser_export_names.specs.KeptName.{bytes_of};
 
     ghost Value = { List ℕ };
 
@@ -82,5 +82,17 @@ impl Hash for KeptName {
 
     fn hash<H: Hasher>(&self, state: &mut H) {
         self.as_str().hash(state);
+    }
+}
+
+impl<'a> Equivalent<KeptName> for &'a str {
+    ghost equivalent = { λ name kept. bytes_eq name.now kept };
+
+    ghost respects_hash = { Prim.search (hashing, rules) };
+
+    ghost respects_eq = { Prim.search (hashing, rules) };
+
+    fn equivalent(&self, kept: &KeptName) -> bool {
+        *self == kept.as_str()
     }
 }

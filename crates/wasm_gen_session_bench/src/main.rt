@@ -1,0 +1,73 @@
+//! A driver for `bench/sections.sh`: one session judges so many modules, each with a type of its own, and the types of all of them are kept.
+#![tactic(auto)]
+
+use std::alloc::{AllocError, Global};
+use std::env;
+use std::process::ExitCode;
+use std::rt::Env;
+use wasm_core::features::WasmFeatures;
+use wasm_gen::judge::{Types, ValidatorId};
+use wasm_gen::session::Session;
+
+fn main(rt: HostRuntime) -> ExitCode {
+    match run(&rt) {
+        Some(()) => ExitCode::SUCCESS,
+        None => {
+            let _ = eprintln!(rt; "usage: wasm_gen_session_bench MODULES");
+            ExitCode::FAILURE
+        }
+    }
+}
+
+// Does what the program's words ask for.
+fn run<R: Env + Print + AllocGlobal>(rt: &R) -> Option<()> {
+    let args = env::args(rt).ok()?;
+    let words = args.collect::<Vec<String>>(rt.alloc()).ok()?;
+    let count = count_in(words.as_slice())?;
+    let kept = keep_types(rt.alloc(), count)?;
+    println!(rt; "{} modules show {} types", kept.len(), count_types(kept.as_slice())).ok()
+}
+
+fn count_in(words: &[String]) -> Option<u32> {
+    let [_, count] = words else {
+        return None;
+    };
+    count.as_str().parse::<u32>().ok()
+}
+
+// Judges so many modules in one session, and keeps the types of each.
+fn keep_types(alloc: Global, count: u32) -> Option<Vec<Types>> {
+    let mut session = Session::new(alloc, WasmFeatures::default(), ValidatorId::new(0));
+    let kept = keep_each(alloc, &mut session, count);
+    drop(session);
+    kept
+}
+
+fn keep_each(alloc: Global, session: &mut Session, count: u32) -> Option<Vec<Types>> {
+    let mut kept = Vec::new(alloc);
+    for number in 0..count {
+        let bytes = module_of(alloc, number).ok()?;
+        let types = session.check(&bytes).ok()?;
+        kept.push(types).ok()?;
+    }
+    Some(kept)
+}
+
+// A module with one function type, whose 32 parameters tell the bits of a number.
+fn module_of(alloc: Global, number: u32) -> Result<Vec<u8>, AllocError> {
+    let mut bytes = Vec::new(alloc);
+    bytes.extend_from_slice(b"\0asm\x01\0\0\0\x01\x24\x01\x60\x20")?;
+    for bit in 0..32 {
+        bytes.push(if number >> bit & 1 == 0 { 0x7f } else { 0x7e })?;
+    }
+    bytes.push(0)?;
+    Ok(bytes)
+}
+
+fn count_types(kept: &[Types]) -> u64 {
+    let mut count = 0u64;
+    for types in kept {
+        count = count.saturating_add(u64::from(types.as_ref().core_type_count_in_module()));
+    }
+    count
+}

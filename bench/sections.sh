@@ -1,9 +1,12 @@
 #!/bin/sh
 # Seconds and peak memory of `wasm_gen check` on modules of a million items of a kind: imports of globals, exports, globals, functions and expressions of element
 # segments, segments, and operands of constant expressions. Beside it node's WebAssembly.validate on files of 100,000 items, where node is there. A module
-# is to take 1.5 s and 100 bytes an item beyond the input at most; where one takes more, the status is 1.
+# is to take 1.5 s and 100 bytes an item beyond the input at most; where one takes more, the status is 1. Last come many modules of one session whose types
+# are all kept: twice as many are to take twice as long, or little more.
 set -eu
 . "$(dirname "$0")/setup.sh"
+driver=$(pwd)/crates/wasm_gen_session_bench
+(cd "$driver" && ../../.ci/rt run -- 1 > /dev/null 2>&1) || true
 # (a process that holds the modules would lend its size to those that it starts)
 python3 - "$folder" <<'PYTHON'
 import sys
@@ -50,9 +53,9 @@ for size in ["large", "small"]:
             print(count, name, file=names)
 open(f"{sys.argv[1]}/empty.wasm", "wb").write(header)
 PYTHON
-python3 - "$program" "$folder" <<'PYTHON'
-import os, shutil, subprocess, sys, time
-program, folder = sys.argv[1:]
+python3 - "$program" "$folder" "$driver/out/wasm_gen_session_bench" <<'PYTHON'
+import os, resource, shutil, subprocess, sys, time
+program, folder, driver = sys.argv[1:]
 
 def measure(path):
     best = None
@@ -89,5 +92,18 @@ if shutil.which("node"):
         taken = measure(path)[0] - start
         said = subprocess.run(["node", "-e", script, path], stdout=subprocess.PIPE, text=True).stdout.split()
         print(f"  {count:,} {name}: {taken * 1e3:.1f} ms with reading the file; node's call: {float(said[0]):.1f} ms, answers {said[1]}")
+
+def keep(count):
+    best = None
+    for _ in range(5):
+        before = resource.getrusage(resource.RUSAGE_CHILDREN).ru_utime
+        subprocess.run([driver, str(count)], stdout=subprocess.DEVNULL, check=True)
+        taken = resource.getrusage(resource.RUSAGE_CHILDREN).ru_utime - before
+        best = taken if best is None else min(best, taken)
+    return best
+
+few, many = keep(20_000), keep(40_000)
+past |= many > 2.5 * few + 0.05
+print(f"the types of 20,000 and of 40,000 modules of one session, all kept: {few:.2f} and {many:.2f} s of processor")
 sys.exit(past)
 PYTHON

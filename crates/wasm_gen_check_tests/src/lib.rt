@@ -18,6 +18,8 @@ mod functions;
 #[cfg(test)]
 mod globals;
 #[cfg(test)]
+mod import_groups;
+#[cfg(test)]
 mod kept_types;
 #[cfg(test)]
 mod lines;

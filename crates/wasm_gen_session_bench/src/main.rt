@@ -25,7 +25,12 @@ fn run<R: Env + Print + AllocGlobal>(rt: &R) -> Option<()> {
     let words = args.collect::<Vec<String>>(rt.alloc()).ok()?;
     let count = count_in(words.as_slice())?;
     let kept = keep_types(rt.alloc(), count)?;
-    println!(rt; "{} modules show {} types", kept.len(), count_types(kept.as_slice())).ok()
+    println!(rt;
+        "{} modules show {} types",
+        kept.len(),
+        count_types(kept.as_slice())
+    )
+    .ok()
 }
 
 fn count_in(words: &[String]) -> Option<u32> {
@@ -57,8 +62,10 @@ fn keep_each(alloc: Global, session: &mut Session, count: u32) -> Option<Vec<Typ
 fn module_of(alloc: Global, number: u32) -> Result<Vec<u8>, AllocError> {
     let mut bytes = Vec::new(alloc);
     bytes.extend_from_slice(b"\0asm\x01\0\0\0\x01\x24\x01\x60\x20")?;
-    for bit in 0..32 {
-        bytes.push(if number >> bit & 1 == 0 { 0x7f } else { 0x7e })?;
+    let mut left = number;
+    for _ in 0..32 {
+        bytes.push(if left % 2 == 0 { 0x7f } else { 0x7e })?;
+        left /= 2;
     }
     bytes.push(0)?;
     Ok(bytes)

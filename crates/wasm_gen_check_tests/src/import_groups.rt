@@ -1,0 +1,51 @@
+//! A group of many imports that share the long name of a module: it is looked up once.
+
+use std::alloc::{AllocError, Global};
+use wasm_core::features::{Flags, WasmFeatures};
+use wasm_gen::judge::ValidatorId;
+use wasm_gen::session::Session;
+
+// An import section with one group: the name of its module has 100,000 bytes, and 200,000 functions of the first type have one of 25 names each.
+fn push_group(section: &mut Vec<u8>) -> Result<(), AllocError> {
+    section.extend_from_slice(b"\x02\xab\xc2\x1e\x01\xa0\x8d\x06")?;
+    for _ in 0..100_000 {
+        section.push(b'm')?;
+    }
+    section.extend_from_slice(b"\x00\x7e\x00\x00\xc0\x9a\x0c")?;
+    for _ in 0..200_000 / 25 {
+        for letter in b'a'..b'z' {
+            section.push(1)?;
+            section.push(letter)?;
+        }
+    }
+    Ok(())
+}
+
+fn long_group(alloc: Global) -> Result<Vec<u8>, AllocError> {
+    let mut bytes = Vec::new(alloc);
+    bytes.extend_from_slice(b"\0asm\x01\0\0\0\x01\x04\x01\x60\0\0")?;
+    push_group(&mut bytes)?;
+    Ok(bytes)
+}
+
+// How many functions a session shows of these bytes.
+fn function_count(alloc: Global, bytes: &[u8]) -> Option<u32> {
+    let features = WasmFeatures::default().union(WasmFeatures::COMPACT_IMPORTS);
+    let mut session = Session::new(alloc, features, ValidatorId::new(0));
+    let count = match session.check(bytes) {
+        Ok(types) => Some(types.as_ref().function_count()),
+        Err(_) => None,
+    };
+    drop(session);
+    count
+}
+
+fn is_shared(alloc: Global) -> Option<bool> {
+    let bytes = long_group(alloc).ok()?;
+    Some(function_count(alloc, &bytes)? == 200_000)
+}
+
+#[test]
+fn a_long_name_is_looked_up_once(rt: HostRuntime) {
+    assert!(rt; is_shared(rt.alloc()) == Some(true));
+}

@@ -1,0 +1,7 @@
+pub mod Judging
+pub mod MoreFeatures
+pub mod OtherCodes
+pub mod RightBodies
+pub mod RightRows
+pub mod SmallBodies
+pub mod SmallOperators

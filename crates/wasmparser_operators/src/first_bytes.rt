@@ -1,0 +1,249 @@
+//! Reading operators of one byte by it (Core Specification 3.0, Binary Format, "Instructions").
+
+ghost use Rattle.std.specs.Prelude.{◌≡◌, ◌≤◌, IfOk};
+ghost use Rattle.wasm_bodies.specs.OperatorRows.{Byte};
+ghost use Rattle.wasm_core_read.specs.Reading.{Answers};
+ghost use Rattle.wasmparser_operators.specs.OperatorReading.{Packed, coded_at, operator_from};
+ghost use Rattle.wasmparser_operators.specs.OperatorValues.{IsWhole, operator};
+
+use crate::br_table::read_labels;
+use crate::immediates::{read_block_type, read_index_with, read_null_type};
+use crate::operator::Operator;
+use crate::scalars::scalar;
+use crate::second_codes::no_operator;
+use crate::select_types::read_typed_select;
+use wasm_core_read::binary_reader::BinaryReader;
+use wasm_core_read::malformed::Malformed;
+
+// Reads the immediates of a call through a table. Without reference types there is one table, and a single byte of 0.
+#[tactic(auto, unfolding(crate::specs::OperatorReading::shape_of))]
+fn read_call_indirect<'a>(reader: &mut BinaryReader<'a>) -> Result<Operator<'a>, Malformed>
+    ensures read { Answers operator reader.old reader.new result (coded_at Packed reader.old.features (Byte 0x11) reader.old.rest) }
+    ensures whole { IfOk result IsWhole }
+{
+    let several = reader.features().reference_types();
+    let type_index = reader.read_var_u32()?;
+    let table_index = read_index_with(several, reader)?;
+    Ok(Operator::CallIndirect {
+        type_index,
+        table_index,
+    })
+}
+
+// Reads an operator of control after its first byte.
+#[inline(always)]
+#[tactic(auto, using(crate::proofs::CodeGaps::gaps), unfolding(crate::specs::CodeTables::row_of, crate::specs::OperatorReading::shape_of))]
+pub(crate) fn read_control_from<'a>(
+    code: u8,
+    reader: &mut BinaryReader<'a>,
+) -> Result<Operator<'a>, Malformed>
+    requires to { code ≤ 0x0f }
+    ensures read { Answers operator reader.old reader.new result (operator_from Packed reader.old.features code reader.old.rest) }
+    ensures whole { IfOk result IsWhole }
+{
+    match code {
+        0x00 => Ok(Operator::Unreachable),
+        0x01 => Ok(Operator::Nop),
+        0x02 => Ok(Operator::Block {
+            blockty: read_block_type(reader)?,
+        }),
+        0x03 => Ok(Operator::Loop {
+            blockty: read_block_type(reader)?,
+        }),
+        0x04 => Ok(Operator::If {
+            blockty: read_block_type(reader)?,
+        }),
+        0x05 => Ok(Operator::Else),
+        0x0b => Ok(Operator::End),
+        0x0c => Ok(Operator::Br {
+            relative_depth: reader.read_var_u32()?,
+        }),
+        0x0d => Ok(Operator::BrIf {
+            relative_depth: reader.read_var_u32()?,
+        }),
+        0x0e => Ok(Operator::BrTable {
+            targets: read_labels(reader)?,
+        }),
+        0x0f => Ok(Operator::Return),
+        0x06..=0x0a => Err(no_operator(reader)),
+        0x10..=0xff => Err(no_operator(reader)),
+    }
+}
+
+// Reads a call, or an operator on operands of any type, after its first byte.
+#[inline(always)]
+#[tactic(auto, using(crate::proofs::CodeGaps::gaps), unfolding(crate::specs::CodeTables::row_of, crate::specs::OperatorReading::shape_of))]
+pub(crate) fn read_call_from<'a>(
+    code: u8,
+    reader: &mut BinaryReader<'a>,
+) -> Result<Operator<'a>, Malformed>
+    requires from { 0x10 ≤ code }
+    requires to { code ≤ 0x1f }
+    ensures read { Answers operator reader.old reader.new result (operator_from Packed reader.old.features code reader.old.rest) }
+    ensures whole { IfOk result IsWhole }
+{
+    match code {
+        0x10 => Ok(Operator::Call {
+            function_index: reader.read_var_u32()?,
+        }),
+        0x11 => read_call_indirect(reader),
+        0x12 => Ok(Operator::ReturnCall {
+            function_index: reader.read_var_u32()?,
+        }),
+        0x13 => {
+            let type_index = reader.read_var_u32()?;
+            let table_index = reader.read_var_u32()?;
+            Ok(Operator::ReturnCallIndirect {
+                type_index,
+                table_index,
+            })
+        }
+        0x14 => Ok(Operator::CallRef {
+            type_index: reader.read_var_u32()?,
+        }),
+        0x15 => Ok(Operator::ReturnCallRef {
+            type_index: reader.read_var_u32()?,
+        }),
+        0x1a => Ok(Operator::Drop),
+        0x1b => Ok(Operator::Select),
+        0x1c => read_typed_select(reader),
+        0x16..=0x19 => Err(no_operator(reader)),
+        0x1d..=0x1f => Err(no_operator(reader)),
+        0x00..=0x0f => Err(no_operator(reader)),
+        0x20..=0xff => Err(no_operator(reader)),
+    }
+}
+
+// Reads an operator on a local, a global or a table after its first byte.
+#[inline(always)]
+#[tactic(auto, using(crate::proofs::CodeGaps::gaps), unfolding(crate::specs::CodeTables::row_of, crate::specs::OperatorReading::shape_of))]
+pub(crate) fn read_variable_from<'a>(
+    code: u8,
+    reader: &mut BinaryReader<'a>,
+) -> Result<Operator<'a>, Malformed>
+    requires from { 0x20 ≤ code }
+    requires to { code ≤ 0x27 }
+    ensures read { Answers operator reader.old reader.new result (operator_from Packed reader.old.features code reader.old.rest) }
+    ensures whole { IfOk result IsWhole }
+{
+    match code {
+        0x20 => Ok(Operator::LocalGet {
+            local_index: reader.read_var_u32()?,
+        }),
+        0x21 => Ok(Operator::LocalSet {
+            local_index: reader.read_var_u32()?,
+        }),
+        0x22 => Ok(Operator::LocalTee {
+            local_index: reader.read_var_u32()?,
+        }),
+        0x23 => Ok(Operator::GlobalGet {
+            global_index: reader.read_var_u32()?,
+        }),
+        0x24 => Ok(Operator::GlobalSet {
+            global_index: reader.read_var_u32()?,
+        }),
+        0x25 => Ok(Operator::TableGet {
+            table: reader.read_var_u32()?,
+        }),
+        0x26 => Ok(Operator::TableSet {
+            table: reader.read_var_u32()?,
+        }),
+        0x27 => Err(no_operator(reader)),
+        0x00..=0x1f => Err(no_operator(reader)),
+        0x28..=0xff => Err(no_operator(reader)),
+    }
+}
+
+// Reads a constant, or an operator on a memory's size, after its first byte.
+#[inline(always)]
+#[tactic(auto, unfolding(crate::specs::CodeTables::row_of, crate::specs::OperatorReading::shape_of))]
+pub(crate) fn read_constant_from<'a>(
+    code: u8,
+    reader: &mut BinaryReader<'a>,
+) -> Result<Operator<'a>, Malformed>
+    requires from { 0x3f ≤ code }
+    requires to { code ≤ 0x44 }
+    ensures read { Answers operator reader.old reader.new result (operator_from Packed reader.old.features code reader.old.rest) }
+    ensures whole { IfOk result IsWhole }
+{
+    match code {
+        0x3f => {
+            let several = reader.features().multi_memory();
+            Ok(Operator::MemorySize {
+                mem: read_index_with(several, reader)?,
+            })
+        }
+        0x40 => {
+            let several = reader.features().multi_memory();
+            Ok(Operator::MemoryGrow {
+                mem: read_index_with(several, reader)?,
+            })
+        }
+        0x41 => Ok(Operator::I32Const {
+            value: reader.read_var_i32()?,
+        }),
+        0x42 => Ok(Operator::I64Const {
+            value: reader.read_var_i64()?,
+        }),
+        0x43 => Ok(Operator::F32Const {
+            bits: reader.read_f32_bits()?,
+        }),
+        0x44 => Ok(Operator::F64Const {
+            bits: reader.read_f64_bits()?,
+        }),
+        0x00..=0x3e => Err(no_operator(reader)),
+        0x45..=0xff => Err(no_operator(reader)),
+    }
+}
+
+// Reads an operator on numbers alone, which is a byte.
+#[inline(always)]
+#[tactic(auto, using(crate::proofs::CodeGaps::scalars))]
+pub(crate) fn read_scalar_from<'a>(
+    code: u8,
+    reader: &mut BinaryReader<'a>,
+) -> Result<Operator<'a>, Malformed>
+    requires from { 0x45 ≤ code }
+    requires to { code ≤ 0xc4 }
+    ensures read { Answers operator reader.old reader.new result (operator_from Packed reader.old.features code reader.old.rest) }
+    ensures whole { IfOk result IsWhole }
+{
+    match scalar(code) {
+        Some(it) => Ok(Operator::Scalar(it)),
+        None => Err(no_operator(reader)),
+    }
+}
+
+// Reads an operator on references after its first byte.
+#[tactic(auto, using(crate::proofs::CodeGaps::gaps), unfolding(crate::specs::CodeTables::row_of, crate::specs::OperatorReading::shape_of))]
+pub(crate) fn read_reference_from<'a>(
+    code: u8,
+    reader: &mut BinaryReader<'a>,
+) -> Result<Operator<'a>, Malformed>
+    requires from { 0xc5 ≤ code }
+    requires to { code ≤ 0xfa }
+    ensures read { Answers operator reader.old reader.new result (operator_from Packed reader.old.features code reader.old.rest) }
+    ensures whole { IfOk result IsWhole }
+{
+    match code {
+        0xd0 => Ok(Operator::RefNull {
+            hty: read_null_type(reader)?,
+        }),
+        0xd1 => Ok(Operator::RefIsNull),
+        0xd2 => Ok(Operator::RefFunc {
+            function_index: reader.read_var_u32()?,
+        }),
+        0xd3 => Ok(Operator::RefEq),
+        0xd4 => Ok(Operator::RefAsNonNull),
+        0xd5 => Ok(Operator::BrOnNull {
+            relative_depth: reader.read_var_u32()?,
+        }),
+        0xd6 => Ok(Operator::BrOnNonNull {
+            relative_depth: reader.read_var_u32()?,
+        }),
+        0xc5..=0xcf => Err(no_operator(reader)),
+        0xd7..=0xfa => Err(no_operator(reader)),
+        0x00..=0xc4 => Err(no_operator(reader)),
+        0xfb..=0xff => Err(no_operator(reader)),
+    }
+}

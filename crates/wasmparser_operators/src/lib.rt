@@ -1,0 +1,16 @@
+//! Operators of bodies, read from a module's bytes one by one: a part of `wasmparser`.
+#![tactic(auto)]
+
+mod accesses;
+pub mod br_table;
+mod first_bytes;
+pub mod immediates;
+pub mod laws;
+pub mod operator;
+mod operator_codes;
+pub mod operators_reader;
+mod other_codes;
+pub mod scalar_operator;
+mod scalars;
+mod second_codes;
+pub mod select_types;

@@ -9,6 +9,9 @@ pub use wasmparser_imports::{import_item, imports};
 pub use wasmparser_interning::rec_group_elements;
 pub use wasmparser_items::{export, global_type, memory_type, table_type, tag_type, type_ref};
 pub use wasmparser_module_state::{entity_type, laws};
+pub use wasmparser_operators::{
+    br_table, immediates, operator, operators_reader, scalar_operator, select_types,
+};
 pub use wasmparser_payloads::{custom_section, function_body, parser, payload, payloads};
 pub use wasmparser_readers::{from_reader, section_limited};
 pub use wasmparser_types::{composite_type, heap_type, index, ref_type, sub_type, val_type};

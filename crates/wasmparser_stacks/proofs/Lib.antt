@@ -1,0 +1,5 @@
+mod LocalLaws
+mod Places
+mod Stacked
+mod TailLaws
+mod Taking

@@ -1,0 +1,3 @@
+pub mod LocalRuns
+pub mod StackChanges
+pub mod StackViews

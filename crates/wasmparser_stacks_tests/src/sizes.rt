@@ -1,0 +1,93 @@
+//! Many operands, blocks and locals.
+
+use std::alloc::{AllocError, Global};
+use std::test::Fail;
+use wasmparser_operators::immediates::BlockType;
+use wasmparser_stacks::frame::FrameKind;
+use wasmparser_stacks::locals::Locals;
+use wasmparser_stacks::stacks::Stacks;
+use wasmparser_types::ref_type::RefType;
+use wasmparser_types::val_type::ValType;
+
+// So many operands, each above a block of its own, and then all of them gone.
+fn nest(stacks: &mut Stacks, count: usize) -> Result<bool, AllocError> {
+    for _ in 0..count {
+        stacks.enter(FrameKind::Block, BlockType::Empty, 0, &[])?;
+        stacks.push_known(ValType::I32)?;
+    }
+    let are_there = stacks.frame_count() == count && stacks.operand_count() == count;
+    for _ in 0..count {
+        stacks.leave(&[])?;
+    }
+    Ok(are_there && stacks.is_closed() && stacks.operand_count() == 0)
+}
+
+// A call of a thousand parameters and results, again and again.
+fn call(stacks: &mut Stacks, types: &[ValType], count: usize) -> Result<bool, AllocError> {
+    stacks.replace(0, types)?;
+    let mut are_known = true;
+    for _ in 0..count {
+        are_known = are_known && stacks.are_known(0, types);
+        stacks.replace(types.len(), types)?;
+    }
+    Ok(are_known && stacks.operand_count() == types.len())
+}
+
+// So many locals assigned in a block, and then none of them.
+fn assign(stacks: &mut Stacks, count: u32) -> Result<bool, AllocError> {
+    stacks.enter(FrameKind::Block, BlockType::Empty, 0, &[])?;
+    for local in 0..count {
+        stacks.assign(local)?;
+    }
+    let last = count.saturating_sub(1);
+    let are_assigned = stacks.is_assigned(0) && stacks.is_assigned(last);
+    stacks.leave(&[])?;
+    Ok(are_assigned && !stacks.is_assigned(0) && !stacks.is_assigned(last))
+}
+
+fn stacks_hold(alloc: Global) -> Result<bool, AllocError> {
+    let mut stacks = Stacks::new(alloc);
+    let mut types = Vec::new(alloc);
+    types.resize(1_000, ValType::I64)?;
+    let mut are_right = true;
+    for _ in 0..3 {
+        are_right = are_right
+            && nest(&mut stacks, 200_000)?
+            && call(&mut stacks, &types, 200)?
+            && assign(&mut stacks, 50_000)?;
+        stacks.reset();
+    }
+    Ok(are_right)
+}
+
+#[test]
+fn stacks_are_deep(rt: HostRuntime) -> Result<(), Fail> {
+    assert!(rt; stacks_hold(rt.alloc())?);
+    Ok(())
+}
+
+// The locals of as many bodies, each with one run of all locals that there may be, and with as many runs of one.
+fn locals_hold(alloc: Global, bodies: u32) -> bool {
+    let mut locals = Locals::new(alloc);
+    let mut are_right = true;
+    for _ in 0..bodies {
+        locals.reset();
+        are_right = are_right
+            && locals.define(50_000, ValType::Ref(RefType::FUNC)).is_ok()
+            && locals.get(49_999).is_some()
+            && locals.get(50_000).is_none();
+    }
+    locals.reset();
+    for _ in 0..50_000 {
+        are_right = are_right && locals.define(1, ValType::F64).is_ok();
+    }
+    for index in 0..50_000 {
+        are_right = are_right && locals.get(index).is_some();
+    }
+    are_right && locals.define(1, ValType::F64).is_err() && locals.len() == 50_000
+}
+
+#[test]
+fn locals_are_many(rt: HostRuntime) {
+    assert!(rt; locals_hold(rt.alloc(), 20_000));
+}

@@ -1,0 +1,4 @@
+mod CompositeKinds
+pub mod Deciding
+pub mod Ids
+pub mod Mapped

@@ -1,0 +1,5 @@
+pub mod BodyAnswers
+pub mod BodyStates
+pub mod CodeReading
+pub mod LocalsAnswers
+pub mod LocalsReading

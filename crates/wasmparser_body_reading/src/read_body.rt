@@ -1,0 +1,70 @@
+//! Bodies, read from their bytes and judged (Core Specification 3.0, Binary Format, "Code Section").
+
+ghost use Rattle.std.specs.Prelude.{◌≡◌, ◌≢◌, ◌<◌, ◌≤◌, [], IfOk, length, map, true};
+ghost use Rattle.wasm_bodies.specs.Bodies.{parameter};
+ghost use Rattle.wasm_bodies.specs.Operators.{Indexed};
+ghost use Rattle.wasm_bodies_laws.specs.Machine.{at_start, frame_type};
+ghost use Rattle.wasm_spec.specs.Limits as limits;
+ghost use Rattle.wasmparser_body_reading.specs.BodyAnswers.{AnswersOutcome, body_outcome};
+ghost use Rattle.wasmparser_body_reading.specs.BodyStates.{ReadsStep, context_in};
+ghost use Rattle.wasmparser_body_reading.specs.CodeReading.{code_outcome};
+ghost use Rattle.wasmparser_types.specs.Index.{packable};
+
+use crate::judge_body::{JudgeBody, broken};
+use crate::read_locals::read_locals;
+use wasm_core_read::binary_reader::BinaryReader;
+use wasmparser_error::error::Error;
+use wasmparser_operators::operators_reader::OperatorsReader;
+use wasmparser_readers::passing::fork;
+
+// Reads the next operator, which is judged.
+fn read_step<B: JudgeBody>(reader: &mut OperatorsReader<'_>, body: &mut B) -> Result<(), Error>
+    requires ready { (B.state body.old).is_ready ≡ true }
+    requires few { length (B.state body.old).items.types ≤ packable }
+    requires open { (B.state body.old).machine.frames ≢ [] }
+    requires same_features { reader.old.input.features ≡ (B.state body.old).features }
+    ensures judged { ReadsStep (B.state body.old) (B.state body.new) reader.old.input reader.new.input result }
+    ensures further { IfOk result (λ _. reader.old.input.position < reader.new.input.position) }
+{
+    let offset = reader.original_position();
+    match reader.read() {
+        Ok(operator) => body.op(offset, &operator),
+        Err(error) => Err(error),
+    }
+}
+
+// Reads operators up to the end of the body, after which nothing may stand.
+fn read_code<B: JudgeBody>(reader: &mut OperatorsReader<'_>, body: &mut B) -> Result<(), Error>
+    requires ready { (B.state body.old).is_ready ≡ true }
+    requires few { length (B.state body.old).items.types ≤ packable }
+    requires same_features { reader.old.input.features ≡ (B.state body.old).features }
+    ensures { AnswersOutcome reader.old.input result (code_outcome (context_in (B.state body.old)) (B.state body.old).machine reader.old.input.rest) }
+{
+    'operators: while !body.is_closed() {
+        read_step(reader, body)?;
+    }
+    if !reader.eof() {
+        return Err(broken(reader.original_position()));
+    }
+    Ok(())
+}
+
+/// Reads a body and judges it. The reader has the bytes of the body and no others, and the judge has the function's parameters as locals
+/// and begins with the body's own block.
+///
+/// # Errors
+/// `Limit` where there are too many locals, `Operator` where a code stands that no operator has, after locals and operators that a body may
+/// begin with, and `Body` where the body is broken otherwise: each at a place of the body or its end. Or `Memory`.
+pub fn read_body<B: JudgeBody>(reader: &mut BinaryReader<'_>, body: &mut B) -> Result<(), Error>
+    requires ready { (B.state body.old).is_ready ≡ true }
+    requires few { length (B.state body.old).items.types ≤ packable }
+    requires same_features { reader.old.features ≡ (B.state body.old).features }
+    requires parameters { (B.state body.old).locals ≡ map parameter (frame_type (B.state body.old).items (Indexed (B.state body.old).index)).params }
+    requires within { length (B.state body.old).locals ≤ limits.most limits.Locals }
+    requires begins { (B.state body.old).machine ≡ at_start (B.state body.old).index }
+    ensures { AnswersOutcome reader.old result (body_outcome (B.state body.old).features (B.state body.old).items (B.state body.old).index reader.old.rest) }
+{
+    read_locals(reader, body)?;
+    let mut operators = OperatorsReader::new(fork(reader));
+    read_code(&mut operators, body)
+}

@@ -1,0 +1,7 @@
+mod BlockLaws
+mod BranchLaws
+mod LookupLaws
+mod OperandLaws
+mod Stepping
+mod Taking
+mod TypeLaws

@@ -1,0 +1,22 @@
+use Rattle.std.proofs.Common.{arith, ◌≡◌, ◌+◌, ◌∙◌, Some, ap, sym, subst, length, map}
+use Rattle.std.proofs.lemmas.List.{length-map}
+use Rattle.wasm_bodies.specs.Operands.{all_taken}
+use Rattle.wasm_core_base.specs.Features.{feature_set}
+use Rattle.wasmparser_operators.specs.OperatorValues.{block_type}
+use Rattle.wasmparser_stacks.specs.StackChanges.{lowered}
+use Rattle.wasmparser_stacks.specs.StackViews.{block_with_ids, frame_kind}
+use Rattle.wasmparser_types.specs.ValTypes.{val_type}
+use Rattle.wasmparser_func_validator.specs.Steps.{context_of}
+use Rattle.wasmparser_func_validator.proofs.BlockLaws.{opened}
+use Rattle.wasmparser_func_validator.proofs.body.Body.open.Goals as goal
+
+pub returns : goal.returns
+returns g c =
+    let cx = context_of (g.R.WasmModuleResources.resources c.args.self.now.resources) (feature_set c.args.self.now.features) c.args.self.now.locals c.args.self.now.ty in
+    let s = c.args.stacks.now.now in
+    let params = map val_type c.block_params-params.result.now in
+    let count : 0 + length params ≡ length c.block_params-params.result.now = omega (arith, length-map c.block_params-params.result.now val_type) in
+    let took = subst (λ n. all_taken cx.items params s ≡ Some (lowered n s)) count c.if-not-accepts.ensures in
+    opened cx (frame_kind c.args.kind) (block_type c.args.blockty.now) (block_with_ids c.in-Some.block_type) c.args.stacks.now.frames s (lowered (length c.block_params-params.result.now) s) params
+    c.in-Some.ensures c.block_params-params.ensures took
+    ∙ ap Some (sym c.in_ok-enter.ensures.ok)

@@ -1,0 +1,4 @@
+pub mod NumericForms
+pub mod Refusals
+pub mod Steps
+pub mod Validation

@@ -1,0 +1,157 @@
+//! What operators take and give.
+
+ghost use Rattle.std.specs.Prelude.{◌≡◌, ◌≢◌, ◌+◌, ◌≤◌, [], length, map, Some};
+ghost use Rattle.wasm_bodies.specs.BodyContext.{are_below, provided};
+ghost use Rattle.wasm_bodies.specs.Effects.{leaves};
+ghost use Rattle.wasm_bodies.specs.Operands.{all_taken, applied, fits};
+ghost use Rattle.wasm_bodies.specs.Signatures.{after_one_more, from_to};
+ghost use Rattle.wasmparser_stacks.specs.StackChanges.{lowered};
+ghost use Rattle.wasmparser_stacks.specs.StackViews.{operand};
+ghost use Rattle.wasmparser_func_validator.specs.Steps.{Takes};
+ghost use Rattle.wasmparser_types.specs.ValTypes.{val_type};
+
+use crate::refusal::Refusal;
+use crate::type_list::{TypeList, Types};
+use std::slice;
+use wasm_core_base::features::WasmFeatures;
+use wasmparser_resources::module_resources::WasmModuleResources;
+use wasmparser_stacks::locals::Locals;
+use wasmparser_stacks::operand::Operand;
+use wasmparser_stacks::stacks::Stacks;
+use wasmparser_types::val_type::ValType;
+
+/// What stays the same while a body is validated, its locals aside.
+#[derive(Drop)]
+pub struct Body<R> {
+    pub(crate) resources: R,
+    pub(crate) features: WasmFeatures,
+    pub(crate) locals: Locals,
+    // The type index of the function.
+    pub(crate) ty: u32,
+}
+
+impl<R: WasmModuleResources> Body<R> {
+    // Whether an operand may stand where one of the type is wanted.
+    fn fits(&self, wanted: ValType, x: &Operand) -> bool
+        ensures { result ≡ fits (R.resources self.now.resources).items (val_type wanted) (operand x.now) }
+    {
+        match x {
+            Operand::Known(known) => self.resources.is_subtype(*known, wanted),
+            Operand::Unknown => true,
+            Operand::UnknownRef => wanted.is_ref(),
+        }
+    }
+
+    // Whether operands of these types are there, below the last one or from the last one on.
+    pub(crate) fn accepts<L: TypeList>(&self, stacks: &Stacks, above: usize, types: &L) -> bool
+        requires { above ≤ 1 }
+        ensures { all_taken (R.resources self.now.resources).items (L.types types.now) (lowered above stacks.now.now) ≡ provided result (Some (lowered (above + length (L.types types.now)) stacks.now.now)) }
+    {
+        let count = types.count();
+        let mut left = count;
+        while left > 0 {
+            let depth = above + (count - left);
+            let Some(x) = stacks.peek(depth) else {
+                return false;
+            };
+            if depth >= stacks.known_len() {
+                return true;
+            }
+            left -= 1;
+            if !self.fits(types.type_at(left), &x) {
+                return false;
+            }
+        }
+        true
+    }
+
+    // Takes operands and gives others.
+    pub(crate) fn apply(
+        &self,
+        stacks: &mut Stacks,
+        takes: &[ValType],
+        gives: &[ValType],
+    ) -> Result<(), Refusal>
+        ensures { Takes (applied (R.resources self.now.resources).items (from_to (map val_type takes.now) (map val_type gives.now)) stacks.old.now) stacks.old stacks.new result }
+    {
+        if !self.accepts(stacks, 0, &Types(takes)) {
+            return Err(Refusal::Invalid);
+        }
+        stacks.replace(takes.len(), gives)?;
+        Ok(())
+    }
+
+    // Whether an operand of a type is there, and others below it.
+    pub(crate) fn accepts_with_last(
+        &self,
+        stacks: &Stacks,
+        takes: &[ValType],
+        last: &ValType,
+    ) -> bool
+        ensures { all_taken (R.resources self.now.resources).items (after_one_more (val_type last.now) (from_to (map val_type takes.now) [])).params stacks.now.now ≡ provided result (Some (lowered (length takes.now + 1) stacks.now.now)) }
+    {
+        self.accepts(stacks, 0, &Types(slice::from_ref(last)))
+            && self.accepts(stacks, 1, &Types(takes))
+    }
+
+    // Takes an operand, and others below it, and gives others.
+    pub(crate) fn apply_with_last(
+        &self,
+        stacks: &mut Stacks,
+        takes: &[ValType],
+        last: &ValType,
+        gives: &[ValType],
+    ) -> Result<(), Refusal>
+        ensures { Takes (applied (R.resources self.now.resources).items (after_one_more (val_type last.now) (from_to (map val_type takes.now) (map val_type gives.now))) stacks.old.now) stacks.old stacks.new result }
+    {
+        if !self.accepts_with_last(stacks, takes, last) {
+            return Err(Refusal::Invalid);
+        }
+        stacks.replace(takes.len() + 1, gives)?;
+        Ok(())
+    }
+
+    // Takes operands, and never goes on.
+    pub(crate) fn leave(&self, stacks: &mut Stacks, takes: &[ValType]) -> Result<(), Refusal>
+        requires { stacks.old.frames ≢ [] }
+        ensures { Takes (leaves (R.resources self.now.resources).items (map val_type takes.now) stacks.old.now) stacks.old stacks.new result }
+    {
+        if !self.accepts(stacks, 0, &Types(takes)) {
+            return Err(Refusal::Invalid);
+        }
+        stacks.mark_unreachable();
+        Ok(())
+    }
+
+    // Takes an operand, and others below it, and never goes on.
+    pub(crate) fn leave_with_last(
+        &self,
+        stacks: &mut Stacks,
+        takes: &[ValType],
+        last: &ValType,
+    ) -> Result<(), Refusal>
+        requires { stacks.old.frames ≢ [] }
+        ensures { Takes (leaves (R.resources self.now.resources).items (after_one_more (val_type last.now) (from_to (map val_type takes.now) [])).params stacks.old.now) stacks.old stacks.new result }
+    {
+        if !self.accepts_with_last(stacks, takes, last) {
+            return Err(Refusal::Invalid);
+        }
+        stacks.mark_unreachable();
+        Ok(())
+    }
+
+    // Whether types are below others one by one, and are as many.
+    pub(crate) fn are_below(&self, types: &[ValType], wanted: &[ValType]) -> bool
+        ensures { result ≡ are_below (R.resources self.now.resources).items (map val_type types.now) (map val_type wanted.now) }
+    {
+        if types.len() != wanted.len() {
+            return false;
+        }
+        for index in 0..types.len() {
+            if !self.resources.is_subtype(types[index], wanted[index]) {
+                return false;
+            }
+        }
+        true
+    }
+}

@@ -1,0 +1,280 @@
+//! The validator of one body.
+
+ghost use Rattle.std.specs.Prelude.{◌≡◌, IfErr, OnOk, None, Some, false, length, map, option_map, slice_get};
+ghost use Rattle.wasm_bodies.specs.Bodies.{parameter};
+ghost use Rattle.wasm_bodies.specs.BodyContext.{written};
+ghost use Rattle.wasm_bodies.specs.Operators.{Indexed};
+ghost use Rattle.wasm_bodies_laws.specs.Machine.{at_start, frame_type, stepped};
+ghost use Rattle.wasm_core_base.specs.Features.{feature_set};
+ghost use Rattle.wasmparser_error.specs.declared.error.ErrorKind.TheVariants as kinds;
+ghost use Rattle.wasmparser_func_validator.specs.Steps.{IsAsRead, context_of};
+ghost use Rattle.wasmparser_func_validator.specs.Validation.{Defines, IsRefusedStart, Judges, Tries, is_refused, known_type, locals_error, type_seen, unless_failed};
+ghost use Rattle.wasmparser_operators.specs.OperatorValues as code;
+ghost use Rattle.wasmparser_stacks.specs.LocalRuns.{local_seen};
+ghost use Rattle.wasmparser_stacks.specs.StackChanges.{all_known, places_of};
+ghost use Rattle.wasmparser_stacks.specs.StackViews.{block_kept, block_seen, place_kept};
+ghost use Rattle.wasmparser_types.specs.ValTypes.{val_type};
+
+use crate::body::Body;
+use crate::func_to_validate::FuncValidatorAllocations;
+use crate::lookups::func_type_in;
+use crate::refusal::Refusal;
+use wasm_core_base::features::WasmFeatures;
+use wasm_core_base::limits::Limit;
+use wasmparser_error::error::{Error, ErrorKind};
+use wasmparser_operators::immediates::BlockType;
+use wasmparser_operators::operator::Operator;
+use wasmparser_resources::module_resources::WasmModuleResources;
+use wasmparser_stacks::frame::{Frame, FrameKind};
+use wasmparser_stacks::locals::LocalsError;
+use wasmparser_stacks::operand::Operand;
+use wasmparser_stacks::stacks::Stacks;
+use wasmparser_types::val_type::ValType;
+
+/// Validates a body, operator by operator. After a refusal, other than one of `try_op`, it refuses all that comes, and tells nothing of
+/// locals, operands and blocks.
+#[derive(Drop)]
+pub struct FuncValidator<T> {
+    pub(crate) body: Body<T>,
+    pub(crate) stacks: Stacks,
+    pub(crate) index: u32,
+    pub(crate) failed: bool,
+}
+
+// What is refused after a refusal.
+fn failed(offset: u64) -> Error
+    ensures { result ≡ record { offset = offset; kind = kinds.Failed } }
+{
+    Error {
+        offset,
+        kind: ErrorKind::Failed,
+    }
+}
+
+// The parameters of a type index, none where it is no function type's.
+fn params_at<T: WasmModuleResources>(resources: &T, index: u32) -> &[ValType]
+    ensures { map val_type result.now ≡ (frame_type (T.resources resources.now).items (Indexed index)).params }
+{
+    match func_type_in(resources, index) {
+        Some(it) => it.params(),
+        None => &[],
+    }
+}
+
+fn locals_refusal(error: LocalsError, offset: u64) -> Error
+    ensures { result ≡ locals_error error offset }
+{
+    match error {
+        LocalsError::Limit => Error {
+            offset,
+            kind: ErrorKind::Limit(Limit::Locals),
+        },
+        LocalsError::Memory => Error {
+            offset: 0,
+            kind: ErrorKind::Memory,
+        },
+    }
+}
+
+impl<T: WasmModuleResources> FuncValidator<T> {
+    /// Validates the next operator, which is as a reader of operators gives it.
+    ///
+    /// # Errors
+    /// `Body` at the offset, where it may not stand there, `Memory`, or `Failed` at the offset after a refusal.
+    pub fn op(&mut self, offset: u64, operator: &Operator<'_>) -> Result<(), Error>
+        requires { IsAsRead operator.now }
+        ensures judged { Judges self.old.failed offset (stepped (context_of (T.resources self.old.body.resources) (feature_set self.old.body.features) self.old.body.locals self.old.body.ty) self.old.stacks (code.operator operator.now)) self.new.stacks self.new.failed result }
+        ensures body { self.new.body ≡ self.old.body }
+        ensures index { self.new.index ≡ self.old.index }
+    {
+        if self.failed {
+            return Err(failed(offset));
+        }
+        match self.body.step(&mut self.stacks, operator) {
+            Ok(()) => Ok(()),
+            Err(refusal) => {
+                self.failed = true;
+                Err(refusal.at(offset))
+            }
+        }
+    }
+
+    /// As `op`, but a refusal changes nothing.
+    ///
+    /// # Errors
+    /// Those of `op`.
+    pub fn try_op(&mut self, offset: u64, operator: &Operator<'_>) -> Result<(), Error>
+        requires { IsAsRead operator.now }
+        ensures tried { Tries self.old.failed offset (stepped (context_of (T.resources self.old.body.resources) (feature_set self.old.body.features) self.old.body.locals self.old.body.ty) self.old.stacks (code.operator operator.now)) self.old.stacks self.new.stacks self.new.failed result }
+        ensures body { self.new.body ≡ self.old.body }
+        ensures index { self.new.index ≡ self.old.index }
+    {
+        if self.failed {
+            return Err(failed(offset));
+        }
+        match self.body.step(&mut self.stacks, operator) {
+            Ok(()) => Ok(()),
+            Err(refusal) => Err(refusal.at(offset)),
+        }
+    }
+
+    // Opens the body as a block, and begins its locals with the parameters.
+    pub(crate) fn begin(&mut self) -> Result<(), Error>
+        ensures stacks { OnOk result (self.new.stacks ≡ at_start self.old.body.ty) }
+        ensures locals { OnOk result (self.new.body.locals ≡ map parameter (frame_type (T.resources self.old.body.resources).items (Indexed self.old.body.ty)).params) }
+        ensures given { OnOk result ((self.new.body.resources ≡ self.old.body.resources) × (self.new.body.features ≡ self.old.body.features) × (self.new.body.ty ≡ self.old.body.ty) × (self.new.index ≡ self.old.index) × (self.new.failed ≡ self.old.failed)) }
+        ensures refused { IfErr result (λ e. IsRefusedStart (frame_type (T.resources self.old.body.resources).items (Indexed self.old.body.ty)).params e.kind e.offset) }
+    {
+        self.stacks.reset();
+        let ty = BlockType::FuncType(self.body.ty);
+        if self.stacks.enter(FrameKind::Block, ty, 0, &[]).is_err() {
+            return Err(Refusal::Memory.at(0));
+        }
+        self.body.locals.reset();
+        let params = params_at(&self.body.resources, self.body.ty);
+        match self.body.locals.define_parameters(params) {
+            Ok(()) => Ok(()),
+            Err(error) => Err(locals_refusal(error, 0)),
+        }
+    }
+
+    // The same, where nothing was refused.
+    fn add_locals(&mut self, offset: u64, count: u32, ty: &ValType) -> Result<(), Error>
+        requires { code.IsOfModule ty.now }
+        ensures defined { Defines false offset count (written (feature_set self.old.body.features) (T.resources self.old.body.resources).items (code.module_type ty.now)) self.old.body.locals self.new.body.locals (is_refused result) result }
+        ensures stacks { self.new.stacks ≡ self.old.stacks }
+        ensures others { (self.new.body.ty ≡ self.old.body.ty) × (self.new.body.features ≡ self.old.body.features) × (self.new.body.resources ≡ self.old.body.resources) × (self.new.index ≡ self.old.index) × (self.new.failed ≡ self.old.failed) }
+    {
+        let Some(ty) = self.body.written(ty) else {
+            return Err(Error {
+                offset,
+                kind: ErrorKind::Body,
+            });
+        };
+        match self.body.locals.define(count, ty) {
+            Ok(()) => Ok(()),
+            Err(error) => Err(locals_refusal(error, offset)),
+        }
+    }
+
+    /// So many more locals of a type, whose type index, if it has one, is one of the module.
+    ///
+    /// # Errors
+    /// `Body` at the offset, where the type is not allowed or there is no such type, `Limit` at the offset, where there are too many
+    /// locals, `Memory`, or `Failed` at the offset after a refusal.
+    pub fn define_locals(&mut self, offset: u64, count: u32, ty: ValType) -> Result<(), Error>
+        requires { code.IsOfModule ty }
+        ensures defined { Defines self.old.failed offset count (written (feature_set self.old.body.features) (T.resources self.old.body.resources).items (code.module_type ty)) self.old.body.locals self.new.body.locals self.new.failed result }
+        ensures stacks { self.new.stacks ≡ self.old.stacks }
+        ensures others { (self.new.body.ty ≡ self.old.body.ty) × (self.new.body.features ≡ self.old.body.features) × (self.new.body.resources ≡ self.old.body.resources) × (self.new.index ≡ self.old.index) }
+    {
+        if self.failed {
+            return Err(failed(offset));
+        }
+        let result = self.add_locals(offset, count, &ty);
+        if result.is_err() {
+            self.failed = true;
+        }
+        result
+    }
+
+    /// The features under which the body is validated.
+    pub fn features(&self) -> &WasmFeatures
+        ensures { result.now ≡ self.now.body.features }
+    {
+        &self.body.features
+    }
+
+    /// What the module tells of itself.
+    pub fn resources(&self) -> &T
+        ensures { result.now ≡ self.now.body.resources }
+    {
+        &self.body.resources
+    }
+
+    /// The index of the function.
+    pub fn index(&self) -> u32
+        ensures { result ≡ self.now.index }
+    {
+        self.index
+    }
+
+    /// How many locals there are, parameters counted.
+    pub fn len_locals(&self) -> u32
+        ensures { result ≡ unless_failed self.now.failed 0 (length self.now.body.locals) }
+    {
+        if self.failed {
+            return 0;
+        }
+        self.body.locals.len()
+    }
+
+    /// The type of a local.
+    pub fn get_local_type(&self, index: u32) -> Option<ValType>
+        ensures { option_map val_type result ≡ unless_failed self.now.failed None (option_map (λ local. local.type) (slice_get self.now.body.locals index)) }
+    {
+        if self.failed {
+            return None;
+        }
+        match self.body.locals.get(index) {
+            Some(local) => Some(local.value_type),
+            None => None,
+        }
+    }
+
+    /// How many operands are known, in all open blocks.
+    pub fn operand_stack_height(&self) -> usize
+        ensures { result ≡ unless_failed self.now.failed 0 (length (all_known self.now.stacks)) }
+    {
+        if self.failed {
+            return 0;
+        }
+        self.stacks.operand_count()
+    }
+
+    /// The type of an operand at a depth, in whichever block, the last one at 0: none where it is unknown.
+    pub fn get_operand_type(&self, depth: usize) -> Option<Option<ValType>>
+        ensures { option_map type_seen result ≡ unless_failed self.now.failed None (option_map known_type (slice_get (all_known self.now.stacks) depth)) }
+    {
+        if self.failed {
+            return None;
+        }
+        match self.stacks.operand_at(depth) {
+            Some(Operand::Known(ty)) => Some(Some(ty)),
+            Some(Operand::Unknown) => Some(None),
+            Some(Operand::UnknownRef) => Some(None),
+            None => None,
+        }
+    }
+
+    /// How many blocks are open, the body itself counted.
+    pub fn control_stack_height(&self) -> usize
+        ensures { result ≡ unless_failed self.now.failed 0 (length self.now.stacks.frames) }
+    {
+        if self.failed {
+            return 0;
+        }
+        self.stacks.frame_count()
+    }
+
+    /// The open block at a depth, the innermost one at 0.
+    pub fn get_control_frame(&self, depth: usize) -> Option<&Frame>
+        ensures block { option_map (λ f. block_kept f.now) result ≡ unless_failed self.now.failed None (option_map block_seen (slice_get self.now.stacks.frames depth)) }
+        ensures place { option_map (λ f. place_kept f.now) result ≡ unless_failed self.now.failed None (slice_get (places_of self.now.stacks) depth) }
+    {
+        if self.failed {
+            return None;
+        }
+        self.stacks.frame_at(depth)
+    }
+}
+
+impl<T: Drop> FuncValidator<T> {
+    /// The room that was taken, for the next body.
+    pub fn into_allocations(self) -> FuncValidatorAllocations {
+        FuncValidatorAllocations {
+            stacks: self.stacks,
+            locals: self.body.locals,
+        }
+    }
+}

@@ -1,0 +1,21 @@
+//! Validation of function bodies operator by operator: a part of `wasmparser`.
+#![tactic(auto)]
+
+mod aggregates;
+mod blocks;
+mod body;
+mod branches;
+pub mod func_to_validate;
+pub mod func_validator;
+mod gates;
+mod lookups;
+mod memories;
+mod number_type;
+mod numeric;
+mod references;
+mod refusal;
+mod simple;
+mod step;
+mod tables;
+mod type_list;
+mod variables;

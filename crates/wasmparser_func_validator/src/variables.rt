@@ -1,0 +1,83 @@
+//! Locals and globals (Core Specification 3.0, Validation, "Variable Instructions").
+
+ghost use Rattle.std.specs.Prelude.{◌≡◌};
+ghost use Rattle.wasm_bodies.specs.Operators as spec;
+ghost use Rattle.wasm_core_base.specs.Features.{feature_set};
+ghost use Rattle.wasmparser_func_validator.specs.Steps.{HasEffect, context_of};
+
+use crate::body::Body;
+use crate::refusal::Refusal;
+use crate::type_list::Types;
+use std::slice;
+use wasmparser_resources::module_resources::WasmModuleResources;
+use wasmparser_stacks::stacks::Stacks;
+
+impl<R: WasmModuleResources> Body<R> {
+    pub(crate) fn local_get(&self, stacks: &mut Stacks, index: u32) -> Result<(), Refusal>
+        ensures { HasEffect (context_of (R.resources self.now.resources) (feature_set self.now.features) self.now.locals self.now.ty) (spec.LocalGet index) stacks.old stacks.new result }
+    {
+        let Some(local) = self.locals.get(index) else {
+            return Err(Refusal::Invalid);
+        };
+        if !local.is_set && !stacks.is_assigned(index) {
+            return Err(Refusal::Invalid);
+        }
+        stacks.push_known(local.value_type)?;
+        Ok(())
+    }
+
+    pub(crate) fn local_set(&self, stacks: &mut Stacks, index: u32) -> Result<(), Refusal>
+        ensures { HasEffect (context_of (R.resources self.now.resources) (feature_set self.now.features) self.now.locals self.now.ty) (spec.LocalSet index) stacks.old stacks.new result }
+    {
+        let Some(local) = self.locals.get(index) else {
+            return Err(Refusal::Invalid);
+        };
+        if !self.accepts(stacks, 0, &Types(slice::from_ref(&local.value_type))) {
+            return Err(Refusal::Invalid);
+        }
+        if !local.is_set {
+            stacks.assign(index)?;
+        }
+        stacks.lower(1);
+        Ok(())
+    }
+
+    pub(crate) fn local_tee(&self, stacks: &mut Stacks, index: u32) -> Result<(), Refusal>
+        ensures { HasEffect (context_of (R.resources self.now.resources) (feature_set self.now.features) self.now.locals self.now.ty) (spec.LocalTee index) stacks.old stacks.new result }
+    {
+        let Some(local) = self.locals.get(index) else {
+            return Err(Refusal::Invalid);
+        };
+        let types = slice::from_ref(&local.value_type);
+        if !self.accepts(stacks, 0, &Types(types)) {
+            return Err(Refusal::Invalid);
+        }
+        if local.is_set {
+            stacks.replace(1, types)?;
+        } else {
+            stacks.replace_and_assign(1, types, index)?;
+        }
+        Ok(())
+    }
+
+    pub(crate) fn global_get(&self, stacks: &mut Stacks, index: u32) -> Result<(), Refusal>
+        ensures { HasEffect (context_of (R.resources self.now.resources) (feature_set self.now.features) self.now.locals self.now.ty) (spec.GlobalGet index) stacks.old stacks.new result }
+    {
+        match self.resources.global_at(index) {
+            Some(global) => self.apply(stacks, &[], slice::from_ref(&global.content_type)),
+            None => Err(Refusal::Invalid),
+        }
+    }
+
+    pub(crate) fn global_set(&self, stacks: &mut Stacks, index: u32) -> Result<(), Refusal>
+        ensures { HasEffect (context_of (R.resources self.now.resources) (feature_set self.now.features) self.now.locals self.now.ty) (spec.GlobalSet index) stacks.old stacks.new result }
+    {
+        let Some(global) = self.resources.global_at(index) else {
+            return Err(Refusal::Invalid);
+        };
+        if !global.mutable {
+            return Err(Refusal::Invalid);
+        }
+        self.apply(stacks, slice::from_ref(&global.content_type), &[])
+    }
+}

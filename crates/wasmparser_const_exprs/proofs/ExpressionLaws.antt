@@ -1,5 +1,5 @@
 -- Expressions, operator by operator.
-use Rattle.std.proofs.Common.{◌≡◌, ◌≢◌, ◌≤◌, ◌<◌, ◌-◌, ◌⊎◌, inl, inr, ℕ, zero, suc, List, [], ◌∷◌, ◌++◌, Option, Some, None, refl, sym, ap, subst, ◌∙◌, length, take, arith, length-append}
+use Rattle.std.proofs.Common.{◌≡◌, ◌≢◌, ◌≤◌, ◌<◌, ◌-◌, inl, inr, true, false, ℕ, zero, suc, List, [], ◌∷◌, ◌++◌, Option, Some, None, refl, sym, ap, subst, ◌∙◌, length, take, arith, length-append}
 use Rattle.std.specs.Prelude.{slice_get}
 use Rattle.std.proofs.lemmas.Bool.{ne_eqb}
 use Rattle.std.proofs.lemmas.Bool.Decides.{eqb_tells}
@@ -12,7 +12,7 @@ use Rattle.wasm_spec.specs.ConstantGrammar.{IsConstantOperator, IsConstantExpres
 use Rattle.wasm_spec.specs.Constants.{ConstantOperator, ConstantExpression}
 use Rattle.wasmparser_readers.specs.Passing.{rest_of, read_or}
 use Rattle.wasmparser_readers.proofs.PassingLaws.{reads_again}
-use Rattle.wasmparser_const_exprs.specs.ConstExprs.{expression_of, IsExpression, AreOperators, with_first}
+use Rattle.wasmparser_const_exprs.specs.ConstExprs.{expression_of, are_none, IsExpression, AreOperators, with_first}
 
 -- ---- the next operator, whatever the bound on their number
 
@@ -155,5 +155,37 @@ first_of old new v (inr is) less e = by_read (expression_at new) refl
           ap (λ (y : ConstantExpression × List ℕ). y.0) same ∙ ap (λ (l : ConstantExpression). v ∷ l) (sym value),
           inr (f ∙ ap (λ (l : List ℕ). Some (x.0, l)) ended ∙ ap (λ (l : ConstantExpression). Some (l, [])) (sym value)),
         )
+
+-- ---- whether one is left
+
+none_there : (bytes : List ℕ) → expression_of bytes ≡ [] → true ≡ are_none (expression_of bytes)
+none_there bytes e = ap are_none (sym e)
+
+pub ends_here : (bytes : List ℕ) → slice_get bytes 0 ≡ Some 0x0b → true ≡ are_none (expression_of bytes)
+unfolding expression_at operators_at
+ends_here [] e = absurd cc
+ends_here (b ∷ bs) e = rw (some_is b 0x0b e) refl
+
+pub nothing_left : (bytes : List ℕ) → slice_get bytes 0 ≡ None → true ≡ are_none (expression_of bytes)
+nothing_left [] e = none_there [] nothing_of
+nothing_left (b ∷ bs) e = absurd cc
+
+no_first : (v : ConstantOperator) (others : ConstantExpression) (read : Option (ConstantExpression × List ℕ)) → Some (others, []) ≡ with_first v read → false ≡ are_none others
+no_first v others None e = absurd cc
+no_first v others (Some x) e = ap (λ (y : ConstantExpression × List ℕ). are_none y.0) (sym (some_is (others, []) (v ∷ x.0, x.1) e))
+
+pub goes_on : (bytes : List ℕ) (b : ℕ) → AreOperators bytes → slice_get bytes 0 ≡ Some b → b ≢ 0x0b → false ≡ are_none (expression_of bytes)
+unfolding expression_at operators_at
+goes_on [] b is e other = absurd cc
+goes_on (c ∷ cs) b (inl empty) e other = absurd cc
+goes_on (c ∷ cs) b (inr is) e other =
+    let same : b ≡ c = sym (some_is c b e) in
+    by_read (operator_at (c ∷ cs)) (sym is ∙ rw (ne_eqb c end_code (subst (λ (x : ℕ). x ≢ 0x0b) same other)) refl)
+  where
+    by_read : (read : Option (ConstantOperator × List ℕ)) → Some (expression_of (c ∷ cs), []) ≡ (read >>= λ first. with_first first.0 (operators_at (length cs) first.1)) → false ≡ are_none (expression_of (c ∷ cs))
+    by_read None e = absurd cc
+    by_read (Some x) e = no_first x.0 (expression_of (c ∷ cs)) (operators_at (length cs) x.1) e
+
+pub ruleset last_steps = (ends_here, goes_on, nothing_left)
 
 pub ruleset operator_steps = (nothing_of, none_are_left, none_of, none_remain, end_is_last, first_of)

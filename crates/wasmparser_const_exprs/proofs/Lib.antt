@@ -1,2 +1,3 @@
 pub mod ExpressionLaws
 mod OperatorLaws
+mod ShortLaws

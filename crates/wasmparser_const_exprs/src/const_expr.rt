@@ -6,7 +6,7 @@ ghost use Rattle.wasm_core_read.specs.Reading.{Answers};
 ghost use Rattle.wasm_spec.specs.Constants.{ConstantExpression};
 ghost use Rattle.wasmparser_readers.specs.Answers.{ReadsItem};
 ghost use Rattle.wasmparser_readers.specs.Passing.{passed};
-ghost use Rattle.wasmparser_const_exprs.specs.ConstExprs.{IsExpression, ReadsStep, PassesStep, expression_of};
+ghost use Rattle.wasmparser_const_exprs.specs.ConstExprs.{IsExpression, PassesShort, PassesStep, ReadsStep, expression_of, takes_number};
 
 use crate::const_operator::{ConstOperator, read_operator};
 use std::alloc::Global;
@@ -22,6 +22,7 @@ use wasmparser_readers::passing::{Pass, fork, passed_part};
 const END: u8 = 0x0b;
 
 // Reads the next operator of an expression, or none at its end.
+#[inline(always)]
 #[tactic(auto, using(crate::proofs::ExpressionLaws::expression_steps))]
 fn read_next(reader: &mut BinaryReader<'_>) -> Result<Option<ConstOperator>, Malformed>
     ensures { ReadsStep reader.old reader.new result }
@@ -40,6 +41,7 @@ fn read_next(reader: &mut BinaryReader<'_>) -> Result<Option<ConstOperator>, Mal
 }
 
 // Passes over the next operator of an expression, or over its end, and tells whether that was the end.
+#[inline(always)]
 #[tactic(auto, using(crate::proofs::ExpressionLaws::passed_one))]
 fn passes_end(reader: &mut BinaryReader<'_>) -> Result<bool, Malformed>
     ensures { PassesStep reader.old reader.new result }
@@ -48,6 +50,32 @@ fn passes_end(reader: &mut BinaryReader<'_>) -> Result<bool, Malformed>
         Ok(Some(_)) => Ok(false),
         Ok(None) => Ok(true),
         Err(malformed) => Err(malformed),
+    }
+}
+
+// Whether a number stands after a code, and nothing else: that of a global or of a function, or a constant.
+#[inline(always)]
+fn takes_number(code: u8) -> bool
+    ensures { result ≡ takes_number code }
+{
+    code == 0x23 || code == 0x41 || code == 0x42 || code == 0xd2
+}
+
+// Passes over an expression of three bytes, as most are: a code, its number and the end. Else nothing is passed.
+#[inline(always)]
+#[tactic(auto, using(crate::proofs::ShortLaws::short_read))]
+fn passes_short(reader: &mut BinaryReader<'_>) -> bool
+    ensures { PassesShort reader.old reader.new result }
+{
+    let [code, number, last, ..] = reader.remaining_buffer() else {
+        return false;
+    };
+    if *last != END || *number >= 128 || !takes_number(*code) {
+        return false;
+    }
+    match reader.read_bytes(3) {
+        Ok(_) => true,
+        Err(_) => false,
     }
 }
 
@@ -98,6 +126,9 @@ impl Pass for Expression {
 
     #[tactic(auto, using(crate::proofs::ExpressionLaws::pass_steps))]
     fn pass(reader: &mut BinaryReader<'_>) -> Result<(), Malformed> {
+        if passes_short(reader) {
+            return Ok(());
+        }
         while !passes_end(reader)? {}
         Ok(())
     }
@@ -159,6 +190,22 @@ impl<'a> Model for ConstOperators<'a> {
     ghost invariant = { λ s. AreOperators s.reader.rest };
 }
 
+impl<'a> ConstOperators<'a> {
+    ghost use Rattle.wasmparser_const_exprs.specs.ConstExprs.{are_none};
+
+    /// Whether no operator is left.
+    #[inline(always)]
+    #[tactic(auto, using(crate::proofs::ExpressionLaws::last_steps))]
+    pub fn is_empty(&self) -> bool
+        ensures { result ≡ are_none self.now }
+    {
+        match self.reader.peek() {
+            Some(END) | None => true,
+            Some(_) => false,
+        }
+    }
+}
+
 impl<'a> Iterator for ConstOperators<'a> {
     ghost use Rattle.wasmparser_const_exprs.specs.ConstExprs.{GivesOperator, at_most_these};
 
@@ -168,6 +215,7 @@ impl<'a> Iterator for ConstOperators<'a> {
 
     ghost remaining = { at_most_these };
 
+    #[inline(always)]
     #[tactic(auto, using(crate::proofs::ExpressionLaws::operator_steps))]
     fn next(&mut self) -> Option<ConstOperator> {
         match read_next(&mut self.reader) {

@@ -171,6 +171,7 @@ fn read_vector_from(number: u32, reader: &mut BinaryReader<'_>) -> Result<ConstO
 }
 
 // Reads an operator after its first byte.
+#[inline(always)]
 fn read_operator_from(code: u8, reader: &mut BinaryReader<'_>) -> Result<ConstOperator, Malformed>
     ensures read { Answers const_operator reader.old reader.new result (operator_from code reader.old.rest) }
     ensures in_module { IfOk result NamesModuleType }
@@ -221,6 +222,7 @@ fn read_operator_from(code: u8, reader: &mut BinaryReader<'_>) -> Result<ConstOp
 }
 
 // Reads an operator.
+#[inline(always)]
 #[tactic(auto, using(crate::proofs::OperatorLaws::operator_codes))]
 pub(crate) fn read_operator(reader: &mut BinaryReader<'_>) -> Result<ConstOperator, Malformed>
     ensures read { Answers const_operator reader.old reader.new result (operator_at reader.old.rest) }

@@ -1,4 +1,5 @@
 mod AggregateLaws
+mod AloneLaws
 mod Meanings
 mod OperandLists
 pub mod SeenLaws

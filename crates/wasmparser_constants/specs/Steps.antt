@@ -1,11 +1,13 @@
 -- What calls return that do with the operands what an operator does.
 use Rattle.std.specs.Prelude.{◌≡◌, ◌⊎◌, ⊤, ℕ, true, List, [], ◌∷◌, Option, Some, None, Result, Ok, Err}
+use Rattle.wasm_spec.specs.Constants.{ConstantExpression}
 use Rattle.wasm_spec.specs.Features.{Features}
 use Rattle.wasm_spec.specs.Gates.{is_allowed}
 use Rattle.wasm_spec.specs.Trees.{DefType}
 use Rattle.wasm_spec.specs.TypeReferences.{ref_refs, val_refs}
 use Rattle.wasm_spec.specs.Types as spec
-use Rattle.wasm_validity.specs.ConstantTyping.{ConvertsLast, Does, Effect, TakesOff, Operands as Standing}
+use Rattle.wasm_validity.specs.ConstantTyping.{ConvertsLast, Does, Effect, TakesOff, effect, puts, Operands as Standing}
+use Rattle.wasm_validity.specs.Context.{Context}
 use Rattle.wasmparser_constants.specs.Operands.{Operands, AreKnown, meant, meant_type}
 use Rattle.wasmparser_error.specs.declared.error.Error.{Error}
 use Rattle.wasmparser_error.specs.declared.error.ErrorKind.{ErrorKind}
@@ -58,6 +60,11 @@ IsStuck effect old = ¬ (Does effect old (λ next. ⊤))
 abbrev pub Steps : KnownTypes → ℕ → Option Effect → Operands → Result (Unit {0}) Error → Operands → Type 0
 Steps known place effect old (Ok x) new = Leads effect (meant known old) (meant known new) × AreKnown known new
 Steps known place effect old (Err e) new = Refuses place (IsStuck effect (meant known old)) e.kind e.offset
+
+-- the expression is a single operator, which takes no operands and gives a value of this type
+abbrev pub IsAlone : Features → Context → spec.ValType DefType → ConstantExpression → Type 0
+IsAlone features cx type (operator ∷ []) = effect features cx operator ≡ Some (puts type)
+IsAlone features cx type _ = ⊥
 
 -- What a call returned that judges whether something holds.
 abbrev pub Judges : ℕ → Type 0 → Result (Unit {0}) Error → Type 0

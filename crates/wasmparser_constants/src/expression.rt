@@ -1,12 +1,14 @@
 //! Whether a constant expression gives a value of a type (Core Specification 3.0, Validation, "Constant Expressions").
 
-ghost use Rattle.std.specs.Prelude.{◌≡◌};
-ghost use Rattle.wasm_validity.specs.ConstantTyping.{IsConstantOf, Leaves, effect};
+ghost use Rattle.std.specs.Prelude.{◌≡◌, IfSome, Some};
+ghost use Rattle.wasm_spec.specs.TypeReferences.{val_refs};
+ghost use Rattle.wasm_validity.specs.ConstantTyping.{IsConstantOf, Leaves, effect, puts};
 ghost use Rattle.wasmparser_const_exprs.specs.ConstExprs.{expression_of};
 ghost use Rattle.wasmparser_const_exprs.specs.ConstOperators.{const_operator};
 ghost use Rattle.wasmparser_constants.specs.Operands.{AreKnown, meant, meant_type};
 ghost use Rattle.wasmparser_constants.specs.Scopes.{context, features_of, known};
-ghost use Rattle.wasmparser_constants.specs.Steps.{IsWanted, Judges, Steps};
+ghost use Rattle.wasmparser_constants.specs.Steps.{IsAlone, IsWanted, Judges, Steps};
+ghost use Rattle.wasmparser_module_types.specs.ModuleTypes.{AreIds};
 ghost use Rattle.wasmparser_types.specs.ValTypes.{val_type};
 
 use crate::operands::Operands;
@@ -68,6 +70,34 @@ impl<'a> Scope<'a> {
         }
     }
 
+    // The type of what an operator gives that takes no operands, where it may stand.
+    fn type_given(&self, operator: &ConstOperator) -> Option<ValType>
+        ensures given { IfSome result (λ ty. effect (features_of self.now) (context self.now) (const_operator operator.now) ≡ Some (puts (meant_type (known self.now) (val_type ty)))) }
+        ensures ids { IfSome result (λ ty. AreIds (known self.now) (val_refs (val_type ty))) }
+    {
+        match operator {
+            ConstOperator::I32Const { .. } => Some(ValType::I32),
+            ConstOperator::I64Const { .. } => Some(ValType::I64),
+            ConstOperator::RefNull { hty } => self.null_type(hty),
+            ConstOperator::RefFunc { function_index } => self.function_type(*function_index),
+            ConstOperator::GlobalGet { global_index } => self.global_type(*global_index),
+            _ => None,
+        }
+    }
+
+    // The type of what an expression gives that is a single operator without operands, where that may stand.
+    #[tactic(auto, using(crate::proofs::AloneLaws::alone_steps))]
+    fn type_alone(&self, expression: &ConstExpr<'_>) -> Option<ValType>
+        ensures alone { IfSome result (λ ty. IsAlone (features_of self.now) (context self.now) (meant_type (known self.now) (val_type ty)) (expression_of expression.now.rest)) }
+        ensures ids { IfSome result (λ ty. AreIds (known self.now) (val_refs (val_type ty))) }
+    {
+        let mut operators = expression.operators();
+        match operators.next() {
+            Some(operator) if operators.is_empty() => self.type_given(&operator),
+            _ => None,
+        }
+    }
+
     // One operand is left, below this type.
     fn check_last(&self, operands: &mut Operands, wanted: &ValType) -> Result<(), Error>
         requires known { AreKnown (known self.now) operands.old }
@@ -81,12 +111,8 @@ impl<'a> Scope<'a> {
         Ok(())
     }
 
-    /// Judges that an expression gives a value of this type, which names types by ids. The operands are emptied first; what they are
-    /// afterwards is open.
-    ///
-    /// # Errors
-    /// `Invalid` where it doesn't, at the place of refusals; `Memory` where memory runs out.
-    pub fn check_constant(
+    // Judges an expression operator by operator.
+    fn check_operators(
         &self,
         operands: &mut Operands,
         expression: &ConstExpr<'_>,
@@ -101,5 +127,26 @@ impl<'a> Scope<'a> {
             self.step(operands, &operator)?;
         }
         self.check_last(operands, wanted)
+    }
+
+    /// Judges that an expression gives a value of this type, which names types by ids. What the operands are afterwards is open.
+    ///
+    /// # Errors
+    /// `Invalid` where it doesn't, at the place of refusals; `Memory` where memory runs out.
+    #[tactic(auto, using(crate::proofs::AloneLaws::alone_steps))]
+    pub fn check_constant(
+        &self,
+        operands: &mut Operands,
+        expression: &ConstExpr<'_>,
+        wanted: &ValType,
+    ) -> Result<(), Error>
+        requires wanted { IsWanted (known self.now) (val_type wanted.now) }
+        ensures { Judges self.now.offset (IsConstantOf (features_of self.now) (context self.now) (meant_type (known self.now) (val_type wanted.now)) (expression_of expression.now.rest)) result }
+    {
+        match self.type_alone(expression) {
+            Some(ty) if self.types.is_subtype(ty, *wanted) => Ok(()),
+            Some(_) => Err(self.broken()),
+            None => self.check_operators(operands, expression, wanted),
+        }
     }
 }

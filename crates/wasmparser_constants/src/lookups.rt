@@ -5,7 +5,8 @@ ghost use Rattle.std.specs.List.{AllByRecursion};
 ghost use Rattle.wasm_spec.specs.TypeReferences.{heap_map, val_map, val_refs};
 ghost use Rattle.wasm_spec.specs.Gates.{is_allowed};
 ghost use Rattle.wasm_spec.specs.Types as spec;
-ghost use Rattle.wasm_validity.specs.ConstantTyping.{element_at, fields_at, meant, provided, visible_global};
+ghost use Rattle.wasm_spec.specs.Constants.{GlobalGet, RefFunc, RefNull};
+ghost use Rattle.wasm_validity.specs.ConstantTyping.{effect, element_at, fields_at, meant, provided, puts, visible_global};
 ghost use Rattle.wasmparser_constants.specs.Operands.{meant_type};
 ghost use Rattle.wasmparser_constants.specs.Scopes.{context, features_of, field_values, known};
 ghost use Rattle.wasmparser_module_types.specs.ModuleTypes.{AreIds};
@@ -41,8 +42,16 @@ impl<'a> Scope<'a> {
     }
 
     // The type of null, as a reference to this, where it may be written.
-    #[tactic(auto, using(crate::proofs::Meanings::null_steps))]
     pub(crate) fn null_type(&self, heap: &HeapType) -> Option<ValType>
+        ensures same { option_map (λ ty. puts (meant_type (known self.now) (val_type ty))) result ≡ effect (features_of self.now) (context self.now) (RefNull (heap_map number_of (heap_type heap.now))) }
+        ensures ids { IfSome result (λ ty. AreIds (known self.now) (val_refs (val_type ty))) }
+    {
+        self.written_null(heap)
+    }
+
+    // The same, over what the type means.
+    #[tactic(auto, using(crate::proofs::Meanings::null_steps))]
+    fn written_null(&self, heap: &HeapType) -> Option<ValType>
         ensures same { option_map (λ ty. meant_type (known self.now) (val_type ty)) result ≡ provided (is_allowed (features_of self.now) (spec.Ref true (heap_type heap.now))) (meant (context self.now) (spec.Ref true (heap_map number_of (heap_type heap.now)))) }
         ensures ids { IfSome result (λ ty. AreIds (known self.now) (val_refs (val_type ty))) }
     {
@@ -52,6 +61,31 @@ impl<'a> Scope<'a> {
         if !is_allowed(self.types.features(), &ty) {
             return None;
         }
+        self.by_ids(&ty)
+    }
+
+    // The type of a reference to a function, if there is one and it may be written.
+    pub(crate) fn function_type(&self, function: u32) -> Option<ValType>
+        ensures same { option_map (λ ty. puts (meant_type (known self.now) (val_type ty))) result ≡ effect (features_of self.now) (context self.now) (RefFunc function) }
+        ensures ids { IfSome result (λ ty. AreIds (known self.now) (val_refs (val_type ty))) }
+    {
+        if !self.types.features().reference_types() {
+            return None;
+        }
+        let index = item_at(
+            self.imported_functions,
+            self.own_functions,
+            function as usize,
+        )?;
+        self.reference_to(index)
+    }
+
+    // The type of what a global holds, if an expression may see it.
+    pub(crate) fn global_type(&self, global: u32) -> Option<ValType>
+        ensures same { option_map (λ ty. puts (meant_type (known self.now) (val_type ty))) result ≡ effect (features_of self.now) (context self.now) (GlobalGet global) }
+        ensures ids { IfSome result (λ ty. AreIds (known self.now) (val_refs (val_type ty))) }
+    {
+        let ty = self.visible_global(global)?;
         self.by_ids(&ty)
     }
 

@@ -17,7 +17,7 @@ ghost use Rattle.wasmparser_types.specs.Index.{number_of};
 ghost use Rattle.wasmparser_types.specs.ValTypes.{val_type};
 
 use crate::operands::Operands;
-use crate::scope::{Scope, item_at};
+use crate::scope::Scope;
 use wasmparser_error::error::{Error, ErrorKind};
 use wasmparser_types::heap_type::{AbstractHeapType, HeapType};
 use wasmparser_types::ref_type::RefType;
@@ -101,34 +101,16 @@ impl<'a> Scope<'a> {
         requires known { AreKnown (known self.now) operands.old }
         ensures { Steps (known self.now) self.now.offset (effect (features_of self.now) (context self.now) (RefFunc function)) operands.old result operands.new }
     {
-        if !self.types.features().reference_types() {
-            return Err(self.broken());
-        }
-        let index = item_at(
-            self.imported_functions,
-            self.own_functions,
-            function as usize,
-        );
-        let Some(index) = index else {
-            return Err(self.broken());
-        };
-        match self.reference_to(index) {
-            Some(ty) => operands.push(ty),
-            None => Err(self.broken()),
-        }
+        let found = self.function_type(function);
+        self.put_found(operands, found)
     }
 
     pub(crate) fn put_global(&self, operands: &mut Operands, global: u32) -> Result<(), Error>
         requires known { AreKnown (known self.now) operands.old }
         ensures { Steps (known self.now) self.now.offset (effect (features_of self.now) (context self.now) (GlobalGet global)) operands.old result operands.new }
     {
-        let Some(ty) = self.visible_global(global) else {
-            return Err(self.broken());
-        };
-        match self.by_ids(&ty) {
-            Some(ty) => operands.push(ty),
-            None => Err(self.broken()),
-        }
+        let found = self.global_type(global);
+        self.put_found(operands, found)
     }
 
     pub(crate) fn put_scalar(&self, operands: &mut Operands) -> Result<(), Error>

@@ -1,5 +1,5 @@
 -- Names of modules, as strings and as their bytes.
-use Rattle.std.proofs.Common.{◌≡◌, Bool, true, false, List, [], ◌∷◌, ◌++◌, ℕ, Option, Some, None, map, refl, sym, ap, ◌∙◌}
+use Rattle.std.proofs.Common.{◌≡◌, Bool, true, false, List, [], ◌∷◌, ◌++◌, ℕ, zero, suc, Option, Some, None, map, refl, sym, ap, ◌∙◌}
 use Rattle.std.proofs.lemmas.Option.{slice_get-map}
 use Rattle.std.specs.Cmp.Lexicographic.{bytes_decides}
 use Rattle.std.specs.List.{AllByRecursion, IsDistinct, find, list_any}
@@ -64,3 +64,19 @@ distinct_names (key ∷ keys) distinct = (all keys distinct.0, distinct_names ke
     all : (others : List String) → AllByRecursion (λ other. string_eq key other ≡ false) others → AllByRecursion (λ other. bytes_eq (string_bytes key) other ≡ false) (map string_bytes others)
     all [] differ = tt
     all (other ∷ others) differ = (differ.0, all others differ.1)
+
+any_or : (b : Bool) → (b || true) ≡ true
+any_or true = refl
+any_or false = refl
+
+some_is : (x y : List ℕ) → Some x ≡ Some y → x ≡ y
+some_is x y e = cc
+
+is_there : (names : List (List ℕ)) (name : List ℕ) (n : ℕ) → slice_get names n ≡ Some name → list_any (bytes_eq name) names ≡ true
+is_there [] name n e = absurd cc
+is_there (x ∷ names) name zero e = rw ((bytes_decides name x).1 (sym (some_is x name e))) refl
+is_there (x ∷ names) name (suc n) e = rw (is_there names name n e) (any_or (bytes_eq name x))
+
+-- a name that has a number is there
+pub numbered_name : (names : List (List ℕ)) (name : List ℕ) (n : ℕ) → slice_get names n ≡ Some name → names ≡ with_name names name
+numbered_name names name n e = rw (is_there names name n e) refl

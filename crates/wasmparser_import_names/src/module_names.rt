@@ -1,6 +1,6 @@
 //! The names of the modules that imports come from.
 
-ghost use Rattle.std.specs.Prelude.{◌≡◌, [], Some, IfOk, OnErr, OnOk, bytes_eq, slice_get, length, nat_eq};
+ghost use Rattle.std.specs.Prelude.{◌≡◌, [], Some, IfOk, IsTrue, OnErr, OnOk, bytes_eq, slice_get, length, nat_eq};
 ghost use Rattle.std.specs.List.{IsDistinct};
 ghost use Rattle.std.specs.Option.{option_copied};
 ghost use Rattle.wasmparser_import_names.specs.ModuleNames.{with_name};
@@ -14,6 +14,8 @@ use wasmparser_export_names::name_hasher::NameHasher;
 #[derive(Debug, Drop)]
 pub struct ModuleNames {
     names: IndexSet<String, NameHasher>,
+    // the number that was given last: modules import many items of one module in a row
+    last: usize,
 }
 
 impl Model for ModuleNames {
@@ -35,6 +37,7 @@ impl ModuleNames {
     {
         ModuleNames {
             names: IndexSet::with_hasher(alloc, hasher),
+            last: 0,
         }
     }
 
@@ -49,7 +52,33 @@ impl ModuleNames {
     ///
     /// # Errors
     /// Where memory runs out; then nothing changes.
+    #[tactic(auto, using(crate::proofs::ModuleNames::numbered_name))]
     pub fn number(&mut self, name: &str) -> Result<usize, AllocError>
+        ensures found { IfOk result (λ number. slice_get self.new number ≡ Some name.now) }
+        ensures kept { OnOk result (self.new ≡ with_name self.old name.now) }
+        ensures refused { OnErr result (self.new ≡ self.old) }
+        ensures distinct { IsDistinct bytes_eq self.new }
+    {
+        let last = self.last;
+        if self.has(last, name) {
+            return Ok(last);
+        }
+        let number = self.find_or_keep(name)?;
+        self.last = number;
+        Ok(number)
+    }
+
+    // Whether a number is that of a name.
+    fn has(&self, number: usize, name: &str) -> bool
+        ensures { IsTrue result → slice_get self.now number ≡ Some name.now }
+    {
+        match self.get(number) {
+            Some(kept) => kept == name,
+            None => false,
+        }
+    }
+
+    fn find_or_keep(&mut self, name: &str) -> Result<usize, AllocError>
         ensures found { IfOk result (λ number. slice_get self.new number ≡ Some name.now) }
         ensures kept { OnOk result (self.new ≡ with_name self.old name.now) }
         ensures refused { OnErr result (self.new ≡ self.old) }

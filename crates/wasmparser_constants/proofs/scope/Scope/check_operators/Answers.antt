@@ -7,7 +7,7 @@ use Rattle.wasmparser_constants.proofs.TakingLaws.{refuses_on}
 use Rattle.wasmparser_constants.specs.Operands.{meant_type}
 use Rattle.wasmparser_constants.specs.Scopes.{context, features_of, known}
 use Rattle.wasmparser_types.specs.ValTypes.{val_type}
-use Rattle.wasmparser_constants.proofs.scope.Scope.check_constant.Goals as goal
+use Rattle.wasmparser_constants.proofs.scope.Scope.check_operators.Goals as goal
 
 pub operators-preserved : goal.operators-preserved
 operators-preserved c =

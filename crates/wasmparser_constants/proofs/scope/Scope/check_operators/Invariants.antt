@@ -4,7 +4,7 @@ use Rattle.wasmparser_constants.proofs.StepLaws.{IsAsGood}
 use Rattle.wasmparser_constants.specs.Operands.{meant_type}
 use Rattle.wasmparser_constants.specs.Scopes.{context, features_of, known}
 use Rattle.wasmparser_types.specs.ValTypes.{val_type}
-use Rattle.wasmparser_constants.proofs.scope.Scope.check_constant.Given as goal
+use Rattle.wasmparser_constants.proofs.scope.Scope.check_operators.Given as goal
 
 abbrev pub invariant-operators : goal.invariant-operators
 invariant-operators l =

@@ -1,15 +1,17 @@
 -- What is known after some entries of a module. Core Specification 3.0, Validation, "Conventions" (contexts) and "Modules". Types of items are
 -- kept as they are written, over type indexes; what an index stands for is in the context too.
-use Rattle.std.specs.Prelude.{ℕ, suc, false, ◌+◌, List, [], ◌∷◌, ◌++◌, length, Option, Some, None, map, slice_get}
-use Rattle.wasm_spec.specs.Syntax.{Export, ElementItems, FunctionItems, ExpressionItems, ImportEntry, Import, CompactItems, CompactNames, imported_by}
+use Rattle.std.specs.Prelude.{ℕ, suc, Bool, false, ◌+◌, ◌||◌, List, [], ◌∷◌, ◌++◌, length, Option, Some, None, map, nat_eq, slice_get}
+use Rattle.std.specs.List.{flat_map, list_any}
+use Rattle.wasm_spec.specs.Constants.{ConstantOperator, RefFunc, ConstantExpression}
+use Rattle.wasm_spec.specs.Syntax.{Export, ElementItems, FunctionItems, ExpressionItems, ElementMode, ActiveElement, PassiveElement, DeclaredElement, ElementSegment, DataMode, ActiveData, PassiveData, ImportEntry, Import, CompactItems, CompactNames, imported_by}
 use Rattle.wasm_spec.specs.Trees.{DefType, types_after}
 use Rattle.wasm_spec.specs.Types.{Func, Abstract, RefType, MemoryType, TableType, GlobalType, ExternalType, FuncExternal, TableExternal, MemoryExternal, GlobalExternal, TagExternal, ExternalKind, FuncKind, TableKind, MemoryKind, GlobalKind, TagKind, FuncType, kind_of}
 use Rattle.wasm_validity.specs.DefinedTypes.{func_type_at}
 use Rattle.wasm_validity.specs.Entries.{Entry, OfCustom, OfType, OfImport, OfFunction, OfTable, OfMemory, OfTags, OfTag, OfGlobal, OfExport, OfStart, OfElement, OfDataCount, OfBody, OfData}
 use Rattle.wasm_validity.specs.ImportedItems.{Imported, with_imports}
 
--- The index spaces, in which imported items stand first, the imports by their names, the exports, and what else limits count: the entries of type and
--- import sections, data segments, and the size of the types of all imports and exports.
+-- The index spaces, in which imported items stand first, the imports by their names, the exports, which functions are declared, the data count, and what
+-- else limits count: the entries of type and import sections, data segments, and the size of the types of all imports and exports.
 pub record Context : Type 0 where
   pub types : List DefType
   pub groups : ℕ
@@ -27,6 +29,10 @@ pub record Context : Type 0 where
   pub exports : List Export
   -- the type of each element segment
   pub elements : List (RefType ℕ)
+  -- whether a function is declared outside of bodies, which may name it as a reference then
+  pub declared : ℕ → Bool
+  -- how many data segments a data count section says there are
+  pub data_count : Option ℕ
   pub segments : ℕ
   pub type_size : ℕ
 
@@ -45,6 +51,8 @@ at_first = record {
   own_globals = [];
   exports = [];
   elements = [];
+  declared = λ function. false;
+  data_count = None;
   segments = 0;
   type_size = 1;
 }
@@ -92,6 +100,46 @@ item_at cx TagKind index = slice_get (map (λ x. TagExternal x) cx.tags) index
 abbrev pub size_of_export : Context → Option (ExternalType ℕ) → ℕ
 size_of_export cx None = 0
 size_of_export cx (Some type) = size_of cx type
+
+-- ---- functions that are declared (the references of a context, which are what the module names outside of bodies and of the start function)
+
+-- the functions that an expression names
+abbrev pub named_by : ConstantOperator → List ℕ
+named_by (RefFunc function) = function ∷ []
+named_by operator = []
+
+abbrev pub named_in : ConstantExpression → List ℕ
+named_in expression = flat_map named_by expression
+
+abbrev pub named_if : Option ConstantExpression → List ℕ
+named_if None = []
+named_if (Some expression) = named_in expression
+
+-- those that segments name, whatever their mode
+abbrev pub named_in_items : ElementItems → List ℕ
+named_in_items (FunctionItems functions) = functions
+named_in_items (ExpressionItems type expressions) = flat_map named_in expressions
+
+abbrev pub named_at_element : ElementMode → List ℕ
+named_at_element (ActiveElement table offset) = named_in offset
+named_at_element PassiveElement = []
+named_at_element DeclaredElement = []
+
+abbrev pub named_in_element : ElementSegment → List ℕ
+named_in_element segment = named_in_items segment.items ++ named_at_element segment.mode
+
+abbrev pub named_in_data : DataMode → List ℕ
+named_in_data (ActiveData memory offset) = named_in offset
+named_in_data PassiveData = []
+
+-- a function that is exported
+abbrev pub exported_function : ExternalKind → ℕ → List ℕ
+exported_function FuncKind index = index ∷ []
+exported_function kind index = []
+
+-- what is declared once these functions are too
+abbrev pub with_functions : (ℕ → Bool) → List ℕ → ℕ → Bool
+with_functions declared functions = λ function. list_any (nat_eq function) functions || declared function
 
 -- ---- one entry more
 
@@ -152,17 +200,21 @@ after cx (OfCustom name) = cx
 after cx (OfType group) = record cx { types = types_after cx.types group; groups = suc cx.groups }
 after cx (OfImport entry) = record (after_items (record cx { imports = suc cx.imports }) (imported_by entry)) { imported = with_imports cx.imported (imports_of cx entry) }
 after cx (OfFunction index) = record cx { own_functions = cx.own_functions ++ index ∷ [] }
-after cx (OfTable table) = record cx { tables = cx.tables ++ table.type ∷ [] }
+after cx (OfTable table) = record cx { tables = cx.tables ++ table.type ∷ []; declared = with_functions cx.declared (named_if table.initialiser) }
 after cx (OfMemory type) = record cx { memories = cx.memories ++ type ∷ [] }
 after cx OfTags = cx
 after cx (OfTag index) = record cx { tags = cx.tags ++ index ∷ [] }
-after cx (OfGlobal global) = record cx { own_globals = cx.own_globals ++ global.type ∷ [] }
-after cx (OfExport export) = record cx { exports = cx.exports ++ export ∷ []; type_size = cx.type_size + size_of_export cx (item_at cx export.kind export.index) }
+after cx (OfGlobal global) = record cx { own_globals = cx.own_globals ++ global.type ∷ []; declared = with_functions cx.declared (named_in global.initialiser) }
+after cx (OfExport export) = record cx {
+  exports = cx.exports ++ export ∷ [];
+  type_size = cx.type_size + size_of_export cx (item_at cx export.kind export.index);
+  declared = with_functions cx.declared (exported_function export.kind export.index);
+}
 after cx (OfStart function) = cx
-after cx (OfElement segment) = record cx { elements = cx.elements ++ element_type segment.items ∷ [] }
-after cx (OfDataCount count) = cx
+after cx (OfElement segment) = record cx { elements = cx.elements ++ element_type segment.items ∷ []; declared = with_functions cx.declared (named_in_element segment) }
+after cx (OfDataCount count) = record cx { data_count = Some count }
 after cx (OfBody body) = cx
-after cx (OfData segment) = record cx { segments = suc cx.segments }
+after cx (OfData segment) = record cx { segments = suc cx.segments; declared = with_functions cx.declared (named_in_data segment.mode) }
 
 abbrev pub after_all : Context → List Entry → Context
 after_all cx [] = cx

@@ -6,6 +6,7 @@
 pub mod body_examples;
 pub mod cause_examples;
 pub mod constant_examples;
+pub mod declared_examples;
 pub mod element_examples;
 pub mod import_examples;
 pub mod item_examples;

@@ -11,6 +11,7 @@ use Rattle.wasm_validity.specs.Context.{Context, item_at, size_of, size_of_func,
 use Rattle.wasm_validity.specs.Rules.{keeps_export, may_leave}
 use Rattle.wasmparser_export_names.specs.ExportNames.{is_exported}
 use Rattle.wasmparser_items.specs.declared.type_ref.TypeRef.{TypeRef}
+use Rattle.wasmparser_module_state.proofs.NamedFunctions.{export_there}
 use Rattle.wasmparser_module_state.proofs.SegmentLaws.{mapped_item}
 use Rattle.wasmparser_module_state.specs.Exports.{CountsAs}
 use Rattle.wasmparser_module_state.specs.Items.{IsTypeSize}
@@ -91,4 +92,4 @@ module _ (features : Features) (cx : Context) (export : Export) where
         | inr (t, within) ↦ omega (arith, lt, same, counted.exact (counted.large (omega (arith, within))))
       ]
 
-pub ruleset export_steps = (missing, stays, taken, keeps, exact_size, large_size)
+pub ruleset export_steps = (missing, stays, taken, keeps, exact_size, large_size, export_there)

@@ -1,3 +1,6 @@
+mod DeclaredItems
+mod DeclaredLaws
+mod ElementLaws
 mod EntryLaws
 mod ExportLaws
 mod FuncTypes
@@ -7,6 +10,7 @@ mod IdLaws
 mod ImportLaws
 mod ItemTypes
 mod Judged
+mod NamedFunctions
 mod NamedImports
 mod ReadItems
 mod SegmentLaws

@@ -1,9 +1,8 @@
 -- Items of an import section and their names: what is known of one doesn't rest on the other.
 use Rattle.std.proofs.Common.{◌≡◌, ℕ, suc, ◌+◌, ◌≤◌, true, List, [], ◌∷◌, ◌++◌, length, map, take, Some, refl, sym, ap, subst, ◌∙◌, arith, Err}
 use Rattle.std.proofs.lemmas.Bool.{and_parts}
-use Rattle.std.proofs.lemmas.Bool.Decides.{nat_tests}
 use Rattle.std.proofs.lemmas.List.{take-map}
-use Rattle.std.specs.Prelude.{◌&&◌, not, nat_lt}
+use Rattle.std.specs.Prelude.{◌&&◌}
 use Rattle.wasm_core_read.proofs.Forms.{some_is}
 use Rattle.wasm_core_read.specs.Reading.{ReadingOf, name_at}
 use Rattle.wasm_spec.specs.Features.{Features}

@@ -1,5 +1,5 @@
 -- Judging entries as they are read.
-use Rattle.std.specs.Prelude.{◌≡◌, ◌⊎◌, ⊤, ℕ, ◌<◌, ◌≤◌, List, [], ◌∷◌, length, Some, None, Result, Ok, Err}
+use Rattle.std.specs.Prelude.{◌≡◌, ◌⊎◌, ⊤, ℕ, ◌<◌, ◌≤◌, List, [], ◌∷◌, length, Some, None, Result, Ok, Err, Bool, true}
 use Rattle.std.proofs.Common.{inl, inr}
 use Rattle.std.specs.List.{AllByRecursion}
 use Rattle.std.proofs.Math.Nat.{not-le_of_lt}
@@ -11,8 +11,8 @@ use Rattle.wasm_spec.specs.Features.{Features}
 use Rattle.wasm_spec.specs.Limits.{Types, most, total_of_types}
 use Rattle.wasm_spec.specs.Syntax.{CompactItems, CompactNames}
 use Rattle.wasm_spec.specs.Trees.{DefType}
-use Rattle.wasm_validity.specs.Context.{Context, after, after_all}
-use Rattle.wasm_validity.specs.Entries.{Entry, OfType, OfImport}
+use Rattle.wasm_validity.specs.Context.{Context, after, after_all, named_in_element, with_functions}
+use Rattle.wasm_validity.specs.Entries.{Entry, OfType, OfImport, OfElement}
 use Rattle.wasm_validity.specs.Rules.{Keeps, KeepRules, measures, Passes, PassesByTypes, IsWithin as IsWithinLimits, KeepLimits, PassLimit}
 use Rattle.wasmparser_error.specs.declared.error.Error.{Error}
 use Rattle.wasmparser_error.specs.declared.error.ErrorKind.{ErrorKind}
@@ -53,12 +53,18 @@ HasItemsMore old new = new ≡ record old {
   type_size = new.type_size;
 }
 
+-- All of what was declared is so, and some of these functions may be.
+pub record MayDeclare (functions : List ℕ) (old new : ℕ → Bool) : Type 0 where
+  pub kept : (function : ℕ) → old function ≡ true → new function ≡ true
+  pub named : (function : ℕ) → new function ≡ true → with_functions old functions function ≡ true
+
 -- After a refusal all is as before, but the types where the entry is a recursive group, and imported items and their names where it is a group of imports: of
--- these it is open which stand.
+-- these it is open which stand. Where it is an element segment, some of the functions that it names may be declared.
 abbrev pub IsLeft : Context → Entry → Context → Type 0
 IsLeft old (OfType group) new = new ≡ record old { types = new.types; groups = new.groups }
 IsLeft old (OfImport (CompactItems origin items)) new = HasItemsMore old new
 IsLeft old (OfImport (CompactNames origin type names)) new = HasItemsMore old new
+IsLeft old (OfElement segment) new = (new ≡ record old { declared = new.declared }) × MayDeclare (named_in_element segment) old.declared new.declared
 IsLeft old _ new = new ≡ old
 
 -- What a call returned that judges an entry and adds it. held: what the list of types held before.

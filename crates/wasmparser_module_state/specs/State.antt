@@ -1,5 +1,6 @@
 -- What the state of the code knows.
-use Rattle.std.specs.Prelude.{◌≡◌, ℕ, [], Option, option_map, map, slice_get}
+use Rattle.std.specs.Prelude.{◌≡◌, ◌≤◌, ◌<◌, ◌+◌, ℕ, Bool, false, List, [], Option, get_or, length, option_map, map, slice_get}
+use Rattle.std.specs.List.{AllByRecursion}
 use Rattle.std.specs.Option.{option_and_then}
 use Rattle.wasm_spec.specs.Features.{Features}
 use Rattle.wasm_spec.specs.Trees.{DefType}
@@ -10,9 +11,10 @@ use Rattle.wasmparser_items.specs.declared.global_type.GlobalType.{GlobalType}
 use Rattle.wasmparser_items.specs.declared.table_type.TableType.{TableType}
 use Rattle.wasmparser_items.specs.declared.type_ref.TypeRef.{TypeRef}
 use Rattle.wasmparser_types.specs.Index.{Index, number_of}
-use Rattle.wasm_validity.specs.Context.{Context}
+use Rattle.wasm_validity.specs.Context.{Context, functions_in}
 use Rattle.wasm_validity.specs.DefinedTypes.{func_type_at}
 use Rattle.wasmparser_module_types.specs.ModuleTypes.{stands_for}
+use Rattle.wasmparser_module_state.specs.declared.function_set.FunctionSet.{FunctionSet}
 use Rattle.wasmparser_module_state.specs.declared.module_state.ModuleState.{ModuleState}
 
 abbrev pub features_of : ModuleState → Features
@@ -31,6 +33,14 @@ global type = global_map number_of (global_type type)
 abbrev pub item : TypeRef → spec.ExternalType ℕ
 item type = external_map number_of (type_ref type)
 
+-- whether a function is in a set
+abbrev pub members : FunctionSet → ℕ → Bool
+members set = λ function. get_or set.flags.items function false
+
+-- how many functions a set has room for
+abbrev pub room : FunctionSet → ℕ
+room set = length set.flags.items
+
 -- what is known but for the names of imports
 abbrev pub unnamed : ModuleState → Context
 unnamed s = record {
@@ -47,12 +57,22 @@ unnamed s = record {
   own_globals = map global s.own_globals.items;
   exports = s.exports;
   elements = map reference s.elements.items;
+  declared = members s.declared;
+  data_count = s.stated_data_count;
   segments = s.segments;
   type_size = s.type_size;
 }
 
 abbrev pub context : ModuleState → Context
 context s = record (unnamed s) { imported = s.imported.imports }
+
+-- there is room to declare each function
+abbrev pub HasRoom : ModuleState → Type 0
+HasRoom s = length (context s).imported_functions + length (context s).own_functions ≤ room s.declared
+
+-- there is each of these functions
+abbrev pub AreThere : Context → List ℕ → Type 0
+AreThere cx functions = AllByRecursion (λ function. function < length (functions_in cx)) functions
 
 -- the function type of a function of the module's own, by its place among these
 abbrev pub own_func_type : Context → ℕ → Option (spec.FuncType DefType)

@@ -1,16 +1,17 @@
 //! Data segments (Core Specification 3.0, Validation, "Data Segments").
 
-ghost use Rattle.std.specs.Prelude.{◌≡◌, refl, if◌then◌else◌, slice_get, true};
+ghost use Rattle.std.specs.Prelude.{◌≡◌, refl, IfErr, IfOk, if◌then◌else◌, slice_get, true};
 ghost use Rattle.wasm_spec.specs.Features.{BulkMemory, has};
 ghost use Rattle.wasm_spec.specs.TypeReferences.{val_map};
 ghost use Rattle.wasm_spec.specs.Types as spec;
+ghost use Rattle.wasm_validity.specs.Context.{named_in, named_in_data, with_functions};
 ghost use Rattle.wasm_validity.specs.Entries.{OfData};
 ghost use Rattle.wasm_validity.specs.Rules.{FitsMemory, KeepsData};
 ghost use Rattle.wasmparser_const_exprs.specs.ConstExprs.{expression_of};
 ghost use Rattle.wasmparser_constants.specs.Steps.{Judges};
 ghost use Rattle.wasmparser_entries.specs.Entries.{data_mode, data_segment};
 ghost use Rattle.wasmparser_module_entries.specs.EntryReading.{data_entry_at};
-ghost use Rattle.wasmparser_module_state.specs.State.{context, features_of};
+ghost use Rattle.wasmparser_module_state.specs.State.{HasRoom, context, features_of};
 ghost use Rattle.wasmparser_types.specs.Index.{number_of};
 ghost use Rattle.wasmparser_types.specs.ValTypes.{val_type};
 
@@ -41,27 +42,31 @@ impl ModuleState {
         Ok(())
     }
 
-    // Judges that there is this memory, and that an expression gives an address of it.
-    fn check_address(
+    // Judges that there is this memory, and that an expression gives an address of it, and declares the functions that this names.
+    fn add_address(
         &mut self,
         memory: u32,
         address: &ConstExpr<'_>,
         offset: u64,
     ) -> Result<(), Error>
+        requires room { HasRoom self.old }
         ensures judged { Judges offset (FitsMemory (features_of self.old) (context self.old) (expression_of address.now.rest) (slice_get (context self.old).memories memory)) result }
-        ensures same { context self.new ≡ context self.old }
+        ensures declared { IfOk result (λ _. context self.new ≡ record (context self.old) { declared = with_functions (context self.old).declared (named_in (expression_of address.now.rest)) }) }
+        ensures refused { IfErr result (λ _. context self.new ≡ context self.old) }
         ensures types { self.new.types ≡ self.old.types }
     {
         let Some(memory) = self.memory_at(memory) else {
             return Err(refusal(offset, ErrorKind::Invalid));
         };
-        self.check_initialiser(address, &index_type(memory.memory64), offset)
+        self.add_initialiser(address, &index_type(memory.memory64), offset)
     }
 
-    // Judges when a segment is used.
-    fn check_data_kind(&mut self, kind: &DataKind<'_>, offset: u64) -> Result<(), Error>
+    // Judges when a segment is used, and declares the functions that its address names.
+    fn add_data_kind(&mut self, kind: &DataKind<'_>, offset: u64) -> Result<(), Error>
+        requires room { HasRoom self.old }
         ensures judged { Judges offset (KeepsData (features_of self.old) (context self.old) (data_mode kind.now)) result }
-        ensures same { context self.new ≡ context self.old }
+        ensures declared { IfOk result (λ _. context self.new ≡ record (context self.old) { declared = with_functions (context self.old).declared (named_in_data (data_mode kind.now)) }) }
+        ensures refused { IfErr result (λ _. context self.new ≡ context self.old) }
         ensures types { self.new.types ≡ self.old.types }
     {
         match kind {
@@ -69,7 +74,7 @@ impl ModuleState {
             DataKind::Active {
                 memory_index,
                 offset_expr,
-            } => self.check_address(memory_index.unwrap_or(0), offset_expr, offset),
+            } => self.add_address(memory_index.unwrap_or(0), offset_expr, offset),
         }
     }
 }
@@ -85,7 +90,8 @@ impl<'a> Entry for Data<'a> {
         if u64::from(state.segments) >= MAX_WASM_DATA_SEGMENTS {
             return Err(refusal(offset, ErrorKind::Limit(Limit::DataSegments)));
         }
-        state.check_data_kind(&self.kind, offset)?;
+        state.make_room()?;
+        state.add_data_kind(&self.kind, offset)?;
         state.segments += 1;
         Ok(())
     }

@@ -11,17 +11,26 @@ use crate::module_state::{ModuleState, refusal};
 use wasmparser_error::error::{Error, ErrorKind};
 
 impl ModuleState {
-    /// Judges a data count. That there are as many segments is a matter of the binary format.
+    /// How many data segments a data count section says there are, where there was one.
+    pub fn stated_data_count(&self) -> Option<u32>
+        ensures { result ≡ (context self.now).data_count }
+    {
+        self.stated_data_count
+    }
+
+    /// Judges a data count, and keeps it. That there are as many segments is a matter of the binary format.
     ///
     /// # Errors
     /// `Invalid` where bulk memory is off.
-    pub fn data_count_section(&self, count: u32, offset: u64) -> Result<(), Error>
-        ensures judged { Adds (features_of self.now) (context self.now) (held self.now) (OfDataCount count) offset result (context self.now) }
+    pub fn data_count_section(&mut self, count: u32, offset: u64) -> Result<(), Error>
+        ensures judged { Adds (features_of self.old) (context self.old) (held self.old) (OfDataCount count) offset result (context self.new) }
         ensures memory { IfErr result (λ e. e.kind ≢ kinds.Memory) }
+        ensures types { self.new.types ≡ self.old.types }
     {
         if !self.features().bulk_memory() {
             return Err(refusal(offset, ErrorKind::Invalid));
         }
+        self.stated_data_count = Some(count);
         Ok(())
     }
 }

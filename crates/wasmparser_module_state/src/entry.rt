@@ -25,7 +25,8 @@ pub trait Entry: Item {
     ///
     /// # Errors
     /// `Invalid` where it breaks a rule, `Limit` where it passes that limit, `Total` where the list of types has no room for it, at the offset; `Memory` where memory
-    /// runs out. Then nothing is added; but the types may be gone, where it was a recursive group, and where it was a group of imports, it is open which of them stand.
+    /// runs out. Then nothing is added; but the types may be gone, where it was a recursive group, and where it was a group of imports, it is open which of them stand,
+    /// and of an element segment some of the functions may be declared that it names.
     fn add(self, state: &mut ModuleState, offset: u64) -> Result<(), Error>
         requires of_module { Self.Item.IsOfModule self }
         requires grows { grows state.old ≡ true }

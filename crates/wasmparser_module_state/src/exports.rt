@@ -75,6 +75,7 @@ impl ModuleState {
     fn push_export(&mut self, export: &Export<'_>, offset: u64) -> Result<(), Error>
         ensures pushed { IfOk result (λ _. (is_exported export.now.name.now (context self.old).exports ≡ false) × (context self.new ≡ record (context self.old) { exports = (context self.old).exports ++ export_item export.now ∷ [] })) }
         ensures refused { IfErr result (λ e. IsNameRefusal offset (is_exported export.now.name.now (context self.old).exports) e × (context self.new ≡ context self.old)) }
+        ensures declared { self.new.declared ≡ self.old.declared }
         ensures types { self.new.types ≡ self.old.types }
     {
         if !self.exports.insert(export)? {
@@ -113,8 +114,10 @@ impl<'a> Entry for Export<'a> {
         }
         let size = state.size_of_item(&ty);
         let type_size = state.grown_size(size, offset)?;
+        state.make_room()?;
         state.push_export(&self, offset)?;
         state.type_size = type_size;
+        state.declare_exported(self.kind, self.index);
         Ok(())
     }
 }

@@ -39,6 +39,7 @@ impl ModuleState {
     fn push_own_global(&mut self, content_type: ValType, mutable: bool) -> Result<(), Error>
         ensures pushed { IfOk result (λ _. context self.new ≡ record (context self.old) { own_globals = (context self.old).own_globals ++ global (record { content_type = content_type; mutable = mutable }) ∷ [] }) }
         ensures refused { IfErr result (λ e. (e ≡ record { offset = 0; kind = kinds.Memory }) × (context self.new ≡ context self.old)) }
+        ensures declared { self.new.declared ≡ self.old.declared }
         ensures types { self.new.types ≡ self.old.types }
     {
         self.own_globals.push(GlobalType {
@@ -63,7 +64,10 @@ impl<'a> Entry for Global<'a> {
         if state.has_all_globals() {
             return Err(refusal(offset, ErrorKind::Limit(Limit::Globals)));
         }
+        state.make_room()?;
         state.check_initialiser(&self.init_expr, &self.ty.content_type, offset)?;
-        state.push_own_global(self.ty.content_type, self.ty.mutable)
+        state.push_own_global(self.ty.content_type, self.ty.mutable)?;
+        state.declare_named(&self.init_expr);
+        Ok(())
     }
 }

@@ -1,12 +1,13 @@
 //! Constant expressions of a module, each of which is to give a value of a type (Core Specification 3.0, Validation, "Constant Expressions").
 
-ghost use Rattle.std.specs.Prelude.{◌≡◌, ◌↔◌, [], IsTrue};
+ghost use Rattle.std.specs.Prelude.{◌≡◌, ◌↔◌, [], IfErr, IfOk, IsTrue};
 ghost use Rattle.wasm_spec.specs.TypeReferences.{val_map};
 ghost use Rattle.wasm_validity.specs.ConstantTyping.{IsConstantFor};
+ghost use Rattle.wasm_validity.specs.Context.{named_in, with_functions};
 ghost use Rattle.wasm_validity.specs.Rules.{IsBelow};
 ghost use Rattle.wasmparser_const_exprs.specs.ConstExprs.{expression_of};
 ghost use Rattle.wasmparser_constants.specs.Steps.{CanBeWanted, Judges};
-ghost use Rattle.wasmparser_module_state.specs.State.{context, features_of};
+ghost use Rattle.wasmparser_module_state.specs.State.{AreThere, HasRoom, context, features_of};
 ghost use Rattle.wasmparser_types.specs.Index.{number_of};
 ghost use Rattle.wasmparser_types.specs.ValTypes.{val_type};
 
@@ -27,7 +28,9 @@ impl ModuleState {
     ) -> Result<(), Error>
         requires wanted { CanBeWanted (features_of self.old) (val_type ty.now) }
         ensures judged { Judges offset (IsConstantFor (features_of self.old) (context self.old) (val_map number_of (val_type ty.now)) (expression_of expression.now.rest)) result }
+        ensures named { IfOk result (λ _. AreThere (context self.old) (named_in (expression_of expression.now.rest))) }
         ensures same { context self.new ≡ context self.old }
+        ensures declared { self.new.declared ≡ self.old.declared }
         ensures types { self.new.types ≡ self.old.types }
     {
         let scope = Scope {
@@ -51,7 +54,9 @@ impl ModuleState {
     ) -> Result<(), Error>
         requires wanted { CanBeWanted (features_of self.old) (val_type ty.now) }
         ensures judged { Judges offset (IsConstantFor (features_of self.old) (record (context self.old) { own_globals = [] }) (val_map number_of (val_type ty.now)) (expression_of expression.now.rest)) result }
+        ensures named { IfOk result (λ _. AreThere (context self.old) (named_in (expression_of expression.now.rest))) }
         ensures same { context self.new ≡ context self.old }
+        ensures declared { self.new.declared ≡ self.old.declared }
         ensures types { self.new.types ≡ self.old.types }
     {
         let scope = Scope {
@@ -63,6 +68,26 @@ impl ModuleState {
             offset,
         };
         scope.check_initialiser(&mut self.operands, expression, ty)
+    }
+
+    /// Judges that an expression gives a value of this type, and declares the functions that it names.
+    pub(crate) fn add_initialiser(
+        &mut self,
+        expression: &ConstExpr<'_>,
+        ty: &ValType,
+        offset: u64,
+    ) -> Result<(), Error>
+        requires wanted { CanBeWanted (features_of self.old) (val_type ty.now) }
+        requires room { HasRoom self.old }
+        ensures judged { Judges offset (IsConstantFor (features_of self.old) (context self.old) (val_map number_of (val_type ty.now)) (expression_of expression.now.rest)) result }
+        ensures declared { IfOk result (λ _. context self.new ≡ record (context self.old) { declared = with_functions (context self.old).declared (named_in (expression_of expression.now.rest)) }) }
+        ensures refused { IfErr result (λ _. context self.new ≡ context self.old) }
+        ensures types { self.new.types ≡ self.old.types }
+        ensures room { HasRoom self.new }
+    {
+        self.check_initialiser(expression, ty, offset)?;
+        self.declare_named(expression);
+        Ok(())
     }
 
     /// Whether the first of two types is below the second.

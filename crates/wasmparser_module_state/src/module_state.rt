@@ -7,6 +7,7 @@ ghost use Rattle.wasm_validity.specs.Context.{at_first};
 ghost use Rattle.wasmparser_module_state.specs.History.{grows, held};
 ghost use Rattle.wasmparser_module_state.specs.State.{context, features_of};
 
+use crate::function_set::FunctionSet;
 use std::alloc::{AllocError, Global};
 use std::mem;
 use wasm_core_base::features::WasmFeatures;
@@ -35,6 +36,8 @@ pub struct ModuleState {
     pub(crate) own_globals: Vec<GlobalType>,
     pub(crate) exports: ExportNames,
     pub(crate) elements: Vec<RefType>,
+    pub(crate) declared: FunctionSet,
+    pub(crate) stated_data_count: Option<u32>,
     pub(crate) segments: u32,
     pub(crate) type_size: u32,
     // (kept for its room alone: contracts don't see it)
@@ -78,6 +81,8 @@ impl ModuleState {
             own_globals: Vec::new(alloc),
             exports: ExportNames::new(alloc),
             elements: Vec::new(alloc),
+            declared: FunctionSet::new(alloc),
+            stated_data_count: None,
             segments: 0,
             type_size: 1,
             operands: Operands::new(alloc),

@@ -1,14 +1,15 @@
 //! Tables of a module's own (Core Specification 3.0, Validation, "Tables").
 
-ghost use Rattle.std.specs.Prelude.{◌≡◌, refl, true, option_map, slice_get};
+ghost use Rattle.std.specs.Prelude.{◌≡◌, refl, true, IfOk, option_map, slice_get};
+ghost use Rattle.wasm_validity.specs.Context.{named_if, with_functions};
 ghost use Rattle.wasm_validity.specs.Entries.{OfTable};
 ghost use Rattle.wasm_validity.specs.Rules.{keeps_table};
 ghost use Rattle.wasmparser_constants.specs.Steps.{Judges};
-ghost use Rattle.wasmparser_entries.specs.Entries.{packed_table, table_of};
+ghost use Rattle.wasmparser_entries.specs.Entries.{initialiser, packed_table, table_of};
 ghost use Rattle.wasmparser_module_entries.specs.EntryReading.{table_entry_at};
 ghost use Rattle.wasmparser_module_state.specs.Initialisers.{IsFilled};
 ghost use Rattle.wasmparser_module_state.specs.LargeIndexes.{large_table};
-ghost use Rattle.wasmparser_module_state.specs.State.{context, features_of, table};
+ghost use Rattle.wasmparser_module_state.specs.State.{AreThere, HasRoom, context, features_of, table};
 
 use crate::entry::Entry;
 use crate::module_state::{ModuleState, refusal};
@@ -31,7 +32,9 @@ impl ModuleState {
     fn check_elements(&mut self, item: &Table<'_>, offset: u64) -> Result<(), Error>
         requires keeps { keeps_table (features_of self.old) (context self.old) (table item.now.ty) ≡ true }
         ensures judged { Judges offset (IsFilled (features_of self.old) (context self.old) (table_of (packed_table item.now))) result }
+        ensures named { IfOk result (λ _. AreThere (context self.old) (named_if (initialiser item.now.init))) }
         ensures same { context self.new ≡ context self.old }
+        ensures declared { self.new.declared ≡ self.old.declared }
         ensures types { self.new.types ≡ self.old.types }
     {
         let element_type = item.ty.element_type;
@@ -41,6 +44,19 @@ impl ModuleState {
                 self.check_table_initialiser(expression, &ValType::Ref(element_type), offset)
             }
             _ => Err(refusal(offset, ErrorKind::Invalid)),
+        }
+    }
+
+    // Declares the functions that an initialiser names.
+    fn declare_elements(&mut self, init: &TableInit<'_>)
+        requires room { HasRoom self.old }
+        requires named { AreThere (context self.old) (named_if (initialiser init.now)) }
+        ensures declared { context self.new ≡ record (context self.old) { declared = with_functions (context self.old).declared (named_if (initialiser init.now)) } }
+        ensures types { self.new.types ≡ self.old.types }
+    {
+        match init {
+            TableInit::RefNull => (),
+            TableInit::Expr(expression) => self.declare_named(expression),
         }
     }
 }
@@ -59,8 +75,10 @@ impl<'a> Entry for Table<'a> {
         if state.tables.len() as u64 >= MAX_WASM_TABLES {
             return Err(refusal(offset, ErrorKind::Limit(Limit::Tables)));
         }
+        state.make_room()?;
         state.check_elements(&self, offset)?;
         state.tables.push(self.ty)?;
+        state.declare_elements(&self.init);
         Ok(())
     }
 }

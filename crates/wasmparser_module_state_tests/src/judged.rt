@@ -70,6 +70,10 @@ impl JudgedState {
         add_entries(alloc, &mut self.state, section)
     }
 
+    fn state_data_count(&mut self, count: u32) -> Result<(), Error> {
+        self.state.data_count_section(count, OFFSET)
+    }
+
     fn import(&mut self, alloc: Global, reader: &mut BinaryReader<'_>) -> Result<(), Error> {
         let offset = reader.original_position();
         match TypeRef::from_reader(alloc, reader) {
@@ -144,7 +148,7 @@ pub fn answer(alloc: Global, state: &mut JudgedState, section: &str) -> Option<R
     let (name, content) = word_and_rest(section);
     match name {
         "tag_section" => Some(state.known().tag_section(OFFSET)),
-        "data_count" => Some(state.known().data_count_section(index_of(content)?, OFFSET)),
+        "data_count" => Some(state.state_data_count(index_of(content)?)),
         "start" => Some(state.known().start_section(index_of(content)?, OFFSET)),
         _ => {
             let bytes = bytes_of(alloc, content)?;

@@ -2,6 +2,8 @@
 #![tactic(auto)]
 
 #[cfg(test)]
+mod declared_functions;
+#[cfg(test)]
 mod import_sections;
 pub mod judged;
 #[cfg(test)]

@@ -17,6 +17,7 @@ use Rattle.wasmparser_module_entries.specs.PieceEntries.{items_of, said_first, w
 use Rattle.wasm_spec.specs.Trees.{DefType}
 use Rattle.wasmparser_module_state.specs.History.{EnterAll, EntersEntry, OneFindsNoRoom}
 use Rattle.wasmparser_module_state.specs.Judging.{Accepts, Adds, NamesEntry, IsAt, Fronts, NamesEntries, IsIn, AddsEntries}
+use Rattle.wasmparser_module_types.specs.ModuleTypes.{KnownTypes}
 use Rattle.wasmparser_payloads.specs.Pieces.{Piece, Place, Version, Types, Imports, Functions, Tables, Memories, Tags, Globals, Exports, Start, Elements, DataCount, CodeStart, Body, Segments, Custom, Unknown, End, Named}
 use Rattle.wasmparser_readers.specs.Sections.{Left, Limited, left_items}
 use Rattle.wasmparser_sections.specs.PieceJudging.{Says, by_itself, with_some, PieceBegins, IsFirstOf, IsAmong, IsInPiece, IsPlaced, NamesPiece, AddsPiece, RefusesAt}
@@ -74,9 +75,13 @@ pub adds_body : (features : Features) (old : Context) (held : List DefType) (bod
 unfolding said_first entries_said items_of IsFirstOf
 adds_body features old held body result none h = adds_one features old held (Body body) (OfBody body.rest) body.position result old refl refl refl refl none h
 
-pub adds_data_count : (features : Features) (old : Context) (held : List DefType) (count : ℕ) (place : Place) (result : Result (Unit {0}) Error) → TakesNone result → Adds features old held (OfDataCount count) place.start result old → AddsPiece features old held (DataCount count place) result old held
+-- which changes nothing of the types
+pub adds_data_count : (features : Features) (old new : Context) (types known : KnownTypes) (count : ℕ) (place : Place) (result : Result (Unit {0}) Error) → TakesNone result → known ≡ types
+    → Adds features old types.interned (OfDataCount count) place.start result new → AddsPiece features old types.interned (DataCount count place) result new known.interned
 unfolding said_first entries_said items_of IsFirstOf
-adds_data_count features old held count place result none h = adds_one features old held (DataCount count place) (OfDataCount count) place.start result old refl refl refl refl none h
+adds_data_count features old new types known count place result none same h =
+    subst (λ (held : List DefType). AddsPiece features old types.interned (DataCount count place) result new held) (sym (ap (λ (known : KnownTypes). known.interned) same))
+    (adds_one features old types.interned (DataCount count place) (OfDataCount count) place.start result new refl refl refl refl none h)
 
 -- ---- pieces that say nothing
 

@@ -73,7 +73,7 @@ few_after cx (OfStart function) few w = few
 few_after cx (OfElement segment) few w =
     let fits = within 100000 (suc (length cx.elements)) (and_parts _ _ w).0 in
     record { functions = few.functions; tables = few.tables; memories = few.memories; globals = few.globals; tags = few.tags; elements = omega (arith, fits, length-append cx.elements (element_type segment.items ∷ [])) }
-few_after cx (OfDataCount count) few w = few
+few_after cx (OfDataCount count) few w = record { functions = few.functions; tables = few.tables; memories = few.memories; globals = few.globals; tags = few.tags; elements = few.elements }
 few_after cx (OfBody body) few w = few
 few_after cx (OfData segment) few w = record { functions = few.functions; tables = few.tables; memories = few.memories; globals = few.globals; tags = few.tags; elements = few.elements }
 

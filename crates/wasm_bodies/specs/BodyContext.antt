@@ -27,8 +27,8 @@ pub record ModuleItems (R : Type 0) : Type 0 where
   pub elements : List (RefType R)
   -- how many data segments there are, where a data count says so
   pub data_count : Option ℕ
-  -- the functions that exports, element segments or constant expressions name
-  pub declared : List ℕ
+  -- whether an export, an element segment or a constant expression names the function
+  pub declared : ℕ → Bool
   -- whether the first type is below the second, as equal types are
   pub is_below : ValType R → ValType R → Bool
 

@@ -120,7 +120,7 @@ module_items = record {
   tags = [];
   elements = funcref ∷ external ∷ of_one_type ∷ [];
   data_count = Some 1;
-  declared = 2 ∷ [];
+  declared = λ function. nat_eq function 2;
   is_below = is_type_below;
 }
 

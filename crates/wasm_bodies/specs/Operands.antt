@@ -3,7 +3,7 @@
 use Rattle.std.specs.Prelude.{ℕ, Bool, true, false, not, ◌||◌, List, [], ◌∷◌, ◌++◌, map, reverse, Option, Some, None, option_map, if◌then◌else◌}
 use Rattle.std.specs.Option.{option_and_then}
 use Rattle.wasm_bodies.specs.BodyContext.{ModuleItems, Local, provided, is_among}
-use Rattle.wasm_spec.specs.Types.{AbstractHeapType, Abstract, ValType, I32, I64, F32, F64, V128, Ref, FuncType}
+use Rattle.wasm_spec.specs.Types.{AbstractHeapType, Abstract, ValType, I32, I64, F32, F64, V128, Ref, FuncType, is_ref}
 
 -- an operand: of a type, or unknown, or unknown but a reference that isn't null
 pub data Operand (R : Type 0) : Type 0 where
@@ -27,10 +27,6 @@ popped_from [] s = if s.is_open then Some (Unknown, s) else None
 
 abbrev pub popped : {R : Type 0} → State R → Option (Operand R × State R)
 popped s = popped_from s.known s
-
-abbrev pub is_ref : {R : Type 0} → ValType R → Bool
-is_ref (Ref nullable heap) = true
-is_ref type = false
 
 -- an unknown operand is below every type, an unknown reference below every reference type
 abbrev pub fits : {R : Type 0} → ModuleItems R → ValType R → Operand R → Bool

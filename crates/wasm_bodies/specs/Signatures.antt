@@ -4,7 +4,7 @@
 use Rattle.std.specs.Prelude.{◌^◌, ℕ, Bool, true, false, ◌&&◌, List, [], ◌∷◌, ◌++◌, map, replicate, nat_lt, nat_le, Option, Some, None, option_map, slice_get, if◌then◌else◌}
 use Rattle.std.specs.List.{list_all}
 use Rattle.std.specs.Option.{option_and_then}
-use Rattle.wasm_bodies.specs.BodyContext.{ModuleItems, BodyContext, provided, is_among, written, value_of, address_type, unpacked, is_defaultable, func_at, fields_at, element_at, function_at, reference_at}
+use Rattle.wasm_bodies.specs.BodyContext.{ModuleItems, BodyContext, provided, written, value_of, address_type, unpacked, is_defaultable, func_at, fields_at, element_at, function_at, reference_at}
 use Rattle.wasm_bodies.specs.OperatorRows.{AccessRow, value_type}
 use Rattle.wasm_bodies.specs.Operators.{MemoryArgument, Operator, Nop, Call, CallIndirect, CallRef, SelectTyped, GlobalGet, GlobalSet, I32Const, I64Const, F32Const, F64Const, V128Const, Scalar, Load, Store, MemorySize, MemoryGrow, MemoryFill, MemoryCopy, MemoryInit, DataDrop, TableGet, TableSet, TableSize, TableGrow, TableFill, TableCopy, TableInit, ElemDrop, RefNull, RefFunc, RefEq, StructNew, StructNewDefault, ArrayNew, ArrayNewDefault, ArrayNewFixed, RefI31}
 use Rattle.wasm_spec.specs.Types.{Eq, I31, Abstract, ValType, I32, I64, F32, F64, V128, Ref, FuncType, RefType, MemoryType, TableType, funcref}
@@ -132,7 +132,7 @@ signature_of cx (ElemDrop segment) = option_map (λ type. from_to [] []) (slice_
 signature_of cx (RefNull heap) = option_map gives_one (written cx.features cx.items (Ref true heap))
 -- a function that the module names outside of bodies
 signature_of cx (RefFunc function) =
-    provided (is_among cx.items.declared function) (option_map gives_one (option_and_then (reference_at cx.items false) (slice_get cx.items.functions function)))
+    provided (cx.items.declared function) (option_map gives_one (option_and_then (reference_at cx.items false) (slice_get cx.items.functions function)))
 signature_of cx RefEq = Some (from_to (Ref true (Abstract Eq) ∷ Ref true (Abstract Eq) ∷ []) (I32 ∷ []))
 signature_of cx (StructNew type) = option_and_then (λ fields. makes cx.items type (map unpacked fields)) (fields_at cx.items type)
 signature_of cx (StructNewDefault type) =

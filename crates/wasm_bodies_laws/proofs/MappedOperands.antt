@@ -3,12 +3,12 @@ use Rattle.std.proofs.Common.{true, false, ◌≡◌, ◌||◌, List, [], ◌∷
 use Rattle.std.proofs.lemmas.List.{map-append}
 use Rattle.std.specs.Option.{option_map}
 use Rattle.wasm_bodies.specs.BodyContext.{ModuleItems, Local, is_among}
-use Rattle.wasm_bodies.specs.Operands.{Operand, Known, Unknown, UnknownRef, State, popped_from, popped, is_ref, fits, taken, each_taken, all_taken, given, fresh, applied, with_assigned, is_plain, are_same_plain, selected, may_be_ref, non_null, converted}
+use Rattle.wasm_bodies.specs.Operands.{Operand, Known, Unknown, UnknownRef, State, popped_from, popped, fits, taken, each_taken, all_taken, given, fresh, applied, with_assigned, is_plain, are_same_plain, selected, may_be_ref, non_null, converted}
 use Rattle.wasm_bodies_laws.specs.References.{AgreeOn, AreAllWanted, Below, items_map, operand_map, local_map, state_map}
 use Rattle.wasm_bodies_laws.proofs.HeldOptions.{all_reverse}
 use Rattle.wasm_bodies_laws.proofs.MappedOptions.{if_map, provided_map, map_map, then_map, reverse_map}
 use Rattle.wasm_spec.specs.TypeReferences.{val_map, func_map}
-use Rattle.wasm_spec.specs.Types.{AbstractHeapType, Abstract, ValType, I32, I64, F32, F64, V128, Ref, FuncType}
+use Rattle.wasm_spec.specs.Types.{AbstractHeapType, Abstract, ValType, I32, I64, F32, F64, V128, Ref, FuncType, is_ref}
 
 -- what was popped
 abbrev pub popped_map : {R S : Type 0} → (R → S) → Operand R × State R → Operand S × State S

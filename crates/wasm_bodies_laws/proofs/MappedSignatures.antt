@@ -4,7 +4,7 @@ use Rattle.std.proofs.lemmas.List.{map-append}
 use Rattle.std.proofs.lemmas.Option.{slice_get-map}
 use Rattle.std.specs.List.{list_all, slice_get}
 use Rattle.std.specs.Option.{option_and_then, option_map}
-use Rattle.wasm_bodies.specs.BodyContext.{ModuleItems, BodyContext, provided, is_among, heap_meant, meant, written, value_of, address_type, unpacked, is_defaultable, func_in, fields_in, element_in, func_at, fields_at, element_at, function_at, reference_at}
+use Rattle.wasm_bodies.specs.BodyContext.{ModuleItems, BodyContext, provided, heap_meant, meant, written, value_of, address_type, unpacked, is_defaultable, func_in, fields_in, element_in, func_at, fields_at, element_at, function_at, reference_at}
 use Rattle.wasm_bodies.specs.OperatorRows.{NumberType, Int32, Int64, Float32, Float64, AccessRow, value_type}
 use Rattle.wasm_bodies.specs.Operators.{MemoryArgument, Operator, Nop, Call, CallIndirect, CallRef, SelectTyped, GlobalGet, GlobalSet, I32Const, I64Const, F32Const, F64Const, V128Const, Scalar, Load, Store, MemorySize, MemoryGrow, MemoryFill, MemoryCopy, MemoryInit, DataDrop, TableGet, TableSet, TableSize, TableGrow, TableFill, TableCopy, TableInit, ElemDrop, RefNull, RefFunc, RefEq, StructNew, StructNewDefault, ArrayNew, ArrayNewDefault, ArrayNewFixed, RefI31}
 use Rattle.wasm_bodies.specs.Signatures.{from_to, gives_one, after_one_more, memory_index, table_index, table_item, through_table, call_through, call_of_reference, memory_address, accessed, is_in_range, length_type, has_data, table_copy, table_init, makes, signature_of}
@@ -249,7 +249,7 @@ module _ {R S : Type 0} (Wanted : ValType R → Type 0) (f : R → S) (cx : Body
   signature_is (RefFunc function) =
       rw (then_same (val_map f) (reference_at cx.items false) _ (reference_at_is f cx.items below false) (slice_get cx.items.functions function))
       (rw (map_map (val_map f) (func_map f) gives_one gives_one (λ type. refl) (option_and_then (reference_at cx.items false) (slice_get cx.items.functions function)))
-      (provided_map (func_map f) (is_among cx.items.declared function) _))
+      (provided_map (func_map f) (cx.items.declared function) _))
   signature_is RefEq = refl
   signature_is (StructNew type) =
       rw (fields_at_is f cx.items below type)

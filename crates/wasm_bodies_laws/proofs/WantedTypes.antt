@@ -3,7 +3,7 @@ use Rattle.std.proofs.Common.{ℕ, Bool, true, false, ◌≡◌, ◌&&◌, List,
 use Rattle.std.proofs.lemmas.Bool.{and_parts}
 use Rattle.std.specs.List.{list_all, slice_get}
 use Rattle.std.specs.Option.{IfSome, option_and_then}
-use Rattle.wasm_bodies.specs.BodyContext.{ModuleItems, BodyContext, provided, is_among, written, address_type, unpacked, is_defaultable, func_at, fields_at, element_at, function_at, reference_at}
+use Rattle.wasm_bodies.specs.BodyContext.{ModuleItems, BodyContext, provided, written, address_type, unpacked, is_defaultable, func_at, fields_at, element_at, function_at, reference_at}
 use Rattle.wasm_bodies.specs.Bodies.{block_signature, entered_with, entered}
 use Rattle.wasm_bodies.specs.OperatorGates.{is_on}
 use Rattle.wasm_bodies.specs.OperatorRows.{NumberType, Int32, Int64, AccessRow, value_type}
@@ -151,7 +151,7 @@ module _ {R : Type 0} (Wanted : ValType R → Type 0) (cx : BodyContext R) (want
   signature_wanted (ElemDrop segment) on = held_by_all (Takes Wanted) _ (λ type. tt) (slice_get cx.items.elements segment)
   signature_wanted (RefNull heap) on = held_by_all (Takes Wanted) gives_one (λ type. tt) (written cx.features cx.items (Ref true heap))
   signature_wanted (RefFunc function) on =
-      held_provided (Takes Wanted) (is_among cx.items.declared function) _
+      held_provided (Takes Wanted) (cx.items.declared function) _
       (λ declared. held_by_all (Takes Wanted) gives_one (λ type. tt) (option_and_then (reference_at cx.items false) (slice_get cx.items.functions function)))
   signature_wanted RefEq on = (wanted.abstract_references Eq, (wanted.abstract_references Eq, tt))
   signature_wanted (StructNew type) on =

@@ -1,6 +1,6 @@
 -- Types, over any kind R of references to defined types: type indexes, as bytes have them, or the defined types that these stand for.
 -- Core Specification 3.0, Structure, "Types". Continuations, shared memories and pages of other sizes are proposals outside of the standard.
-use Rattle.std.specs.Prelude.{ℕ, Bool, true, List, Option}
+use Rattle.std.specs.Prelude.{ℕ, Bool, true, false, List, Option}
 
 -- (Types, "Heap Types")
 pub data AbstractHeapType : Type 0 where
@@ -40,6 +40,10 @@ pub data ValType (R : Type 0) : Type 0 where
   F64 : ValType R
   V128 : ValType R
   Ref : Bool → HeapType R → ValType R
+
+abbrev pub is_ref : {R : Type 0} → ValType R → Bool
+is_ref (Ref nullable heap) = true
+is_ref type = false
 
 -- what a field holds: a value or a packed number (Types, "Composite Types")
 pub data StorageType (R : Type 0) : Type 0 where

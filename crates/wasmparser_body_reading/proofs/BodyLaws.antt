@@ -161,7 +161,7 @@ module _ {R : Type 0} (features : Features) (items : ModuleItems R) (index : ℕ
   body_kind kinds.Memory outcome n = inr (inr (inr refl))
   body_kind _ outcome n = absurd n
 
-  -- a refusal of a body is for want of memory
+  -- a body is refused only where memory runs out
   fine_limit : (limit : Limit) (outcome : BodyOutcome) → outcome ≡ Fine → NamesFault (kinds.Limit limit) outcome → ⊥
   fine_limit core.Locals outcome e n = let f = sym n ∙ e in absurd cc
   fine_limit _ outcome e n = absurd n

@@ -4,7 +4,7 @@ use Rattle.std.specs.Bool.{IsTrue}
 use Rattle.wasm_bodies.specs.Bodies.{parameter}
 use Rattle.wasm_bodies.specs.BodyContext.{Local}
 use Rattle.wasm_bodies.specs.Operators.{Indexed, Operator}
-use Rattle.wasm_bodies_laws.specs.Machine.{Machine, at_start, frame_type, stepped}
+use Rattle.wasm_bodies_laws.specs.Machine.{Machine, frame_type, stepped}
 use Rattle.wasm_core_read.specs.Input.{Input, GoesOn, IsWithin}
 use Rattle.wasmparser_error.specs.declared.error.Error.{Error}
 use Rattle.wasmparser_error.specs.declared.error.ErrorKind.{ErrorKind}
@@ -13,7 +13,7 @@ use Rattle.wasmparser_types.specs.Index.{Index, packable}
 use Rattle.wasmparser_operators.specs.OperatorAnswers.{IsOperatorRefusal}
 use Rattle.wasmparser_operators.specs.OperatorReading.{operator_at}
 use Rattle.wasmparser_body_reading.specs.BodyAnswers.{IsPlacedIn, NamesFault, AnswersOutcome, with_code, body_outcome}
-use Rattle.wasmparser_body_reading.specs.BodyStates.{BodyState, with_locals_in, with_machine_in, context_in, IsRefusedStep, JudgesOperator, ReadsStep}
+use Rattle.wasmparser_body_reading.specs.BodyStates.{BodyState, with_locals_in, with_machine_in, context_in, IsAtStart, rest_outcome, HasEnded, IsRefusedStep, JudgesOperator, ReadsStep}
 use Rattle.wasmparser_body_reading.specs.CodeReading.{BodyOutcome, Broken, code_outcome}
 use Rattle.wasmparser_body_reading.specs.LocalsAnswers.{NamesLocalsFault}
 use Rattle.wasmparser_body_reading.specs.LocalsReading.{Locals, locals_outcome}
@@ -76,22 +76,29 @@ past_end start m from mid e offset all closed some g is o so_far =
 
 -- ---- the whole body
 
-pub code_answered : (old new : BodyState) (from mid : Input) (answer : Result (Unit {0}) Error) → old.locals ≡ map parameter (frame_type old.items (Indexed old.index)).params → old.machine ≡ at_start old.index
-    → locals_outcome old.features old.items old.locals from.rest ≡ Locals new.locals mid.rest → new ≡ with_locals_in new.locals old → GoesOn from mid
-    → AnswersOutcome mid answer (code_outcome (context_in new) new.machine mid.rest) → AnswersOutcome from answer (body_outcome old.features old.items old.index from.rest)
-unfolding body_outcome
-code_answered old new from mid answer params begins read same g h =
-    let code = λ (locals : List (Local Index)) (rest : List ℕ). code_outcome (context_in (with_locals_in locals old)) (at_start old.index) rest in
-    let all : body_outcome old.features old.items old.index from.rest ≡ code_outcome (context_in new) new.machine mid.rest =
-    ap (λ l. with_code (locals_outcome old.features old.items l from.rest) code) (sym params) ∙ ap (λ o. with_code o code) read ∙ ap (λ m. code_outcome (context_in (with_locals_in new.locals old)) m mid.rest) (sym begins)
-    ∙ ap (λ (s : BodyState). code_outcome (context_in s) s.machine mid.rest) (sym same) in
+pub code_answered : (old new : BodyState) (from mid : Input) (answer : Result (Unit {0}) Error) → locals_outcome old.features old.items old.locals from.rest ≡ Locals new.locals mid.rest → new ≡ with_locals_in new.locals old
+    → GoesOn from mid → AnswersOutcome mid answer (code_outcome (context_in new) new.machine mid.rest) → AnswersOutcome from answer (rest_outcome old from.rest)
+unfolding rest_outcome
+code_answered old new from mid answer read same g h =
+    let code = λ (locals : List (Local Index)) (rest : List ℕ). code_outcome (context_in (with_locals_in locals old)) old.machine rest in
+    let all : rest_outcome old from.rest ≡ code_outcome (context_in new) new.machine mid.rest =
+    ap (λ o. with_code o code) read ∙ ap (λ (s : BodyState). code_outcome (context_in s) s.machine mid.rest) (sym same) in
     answered_later from mid answer _ _ g (sym all) h
 
-pub locals_answered : (old : BodyState) (from : Input) (kind : ErrorKind) (offset : ℕ) → old.locals ≡ map parameter (frame_type old.items (Indexed old.index)).params
-    → NamesLocalsFault kind (locals_outcome old.features old.items old.locals from.rest) × IsPlacedIn kind from offset
-    → NamesFault kind (body_outcome old.features old.items old.index from.rest) × IsPlacedIn kind from offset
-unfolding body_outcome
-locals_answered old from kind offset params h = (
-  locals_refused kind _ _ (subst (λ l. NamesLocalsFault kind (locals_outcome old.features old.items l from.rest)) params h.0),
-  h.1,
-)
+pub locals_answered : (old : BodyState) (from : Input) (kind : ErrorKind) (offset : ℕ) → NamesLocalsFault kind (locals_outcome old.features old.items old.locals from.rest) × IsPlacedIn kind from offset
+    → NamesFault kind (rest_outcome old from.rest) × IsPlacedIn kind from offset
+unfolding rest_outcome
+locals_answered old from kind offset h = (locals_refused kind _ _ h.0, h.1)
+
+pub has_ended : (old mid new : BodyState) → mid ≡ with_locals_in mid.locals old → new.machine.frames ≡ [] → new ≡ with_machine_in new.machine mid → HasEnded old new
+has_ended old mid new locals closed code =
+    let more : new.locals ≡ mid.locals = ap (λ (s : BodyState). s.locals) code in
+    (closed, code ∙ ap (λ (s : BodyState). with_machine_in new.machine s) locals ∙ ap (λ l. with_machine_in new.machine (with_locals_in l old)) (sym more))
+
+-- where nothing was judged
+pub from_start : (s : BodyState) (bytes : List ℕ) → IsAtStart s → rest_outcome s bytes ≡ body_outcome s.features s.items s.index bytes
+unfolding rest_outcome body_outcome
+from_start s bytes start =
+    let code = λ (m : Machine Index) (locals : List (Local Index)) (rest : List ℕ). code_outcome (context_in (with_locals_in locals s)) m rest in
+    ap (λ l. with_code (locals_outcome s.features s.items l bytes) (code s.machine)) start.parameters
+    ∙ ap (λ m. with_code (locals_outcome s.features s.items (map parameter (frame_type s.items (Indexed s.index)).params) bytes) (code m)) start.begins

@@ -1,18 +1,21 @@
 -- A body that is being judged.
-use Rattle.std.specs.Prelude.{◌≡◌, ℕ, Bool, List, Option, Some, None, Result, Ok, Err}
+use Rattle.std.specs.Prelude.{◌≡◌, ℕ, Bool, List, [], map, Option, Some, None, Result, Ok, Err}
+use Rattle.wasm_bodies.specs.Bodies.{parameter}
 use Rattle.wasm_bodies.specs.BodyContext.{BodyContext, ModuleItems, Local}
 use Rattle.wasm_bodies.specs.Operators.{Indexed, Operator}
-use Rattle.wasm_bodies_laws.specs.Machine.{Machine, frame_type, stepped}
+use Rattle.wasm_bodies_laws.specs.Machine.{Machine, at_start, frame_type, stepped}
 use Rattle.wasm_core_read.specs.Input.{Input, GoesOn}
 use Rattle.wasm_spec.specs.Features.{Features}
 use Rattle.wasmparser_error.specs.declared.error.Error.{Error}
 use Rattle.wasmparser_error.specs.declared.error.ErrorKind.{ErrorKind}
 use Rattle.wasmparser_error.specs.declared.error.ErrorKind.TheVariants as kinds
 use Rattle.wasmparser_types.specs.Index.{Index}
-use Rattle.wasmparser_body_reading.specs.BodyAnswers.{IsPlacedIn, NamesFault, context_of}
-use Rattle.wasmparser_body_reading.specs.CodeReading.{code_outcome}
+use Rattle.wasmparser_body_reading.specs.BodyAnswers.{IsPlacedIn, NamesFault, context_of, with_code}
+use Rattle.wasmparser_body_reading.specs.CodeReading.{BodyOutcome, code_outcome}
+use Rattle.wasmparser_body_reading.specs.LocalsReading.{locals_outcome}
 
--- What it is judged in, the type index of its function, the locals and operators so far, and whether others may come: after a refusal none may.
+-- What it is judged in, the type index of its function, the locals that were added, what the operators led to, and whether others may come: after a
+-- refusal none may.
 pub record BodyState : Type 0 where
   pub features : Features
   pub items : ModuleItems Index
@@ -29,6 +32,22 @@ with_machine_in machine state = record state { machine = machine }
 
 abbrev pub context_in : BodyState → BodyContext Index
 context_in state = context_of state.features state.items (frame_type state.items (Indexed state.index)) state.locals
+
+-- ---- bodies
+
+-- nothing was added to what a body begins with: its locals are the parameters, and its own block alone is open
+pub record IsAtStart (state : BodyState) : Type 0 where
+  pub parameters : state.locals ≡ map parameter (frame_type state.items (Indexed state.index)).params
+  pub begins : state.machine ≡ at_start state.index
+
+-- locals and operators after those that were judged, up to the body's end
+unfoldable pub rest_outcome : BodyState → List ℕ → BodyOutcome
+rest_outcome state bytes =
+    with_code (locals_outcome state.features state.items state.locals bytes) (λ locals rest. code_outcome (context_in (with_locals_in locals state)) state.machine rest)
+
+-- all blocks have ended, and only locals were added
+abbrev pub HasEnded : BodyState → BodyState → Type 0
+HasEnded old new = (new.machine.frames ≡ []) × (new ≡ with_machine_in new.machine (with_locals_in new.locals old))
 
 -- ---- operators
 

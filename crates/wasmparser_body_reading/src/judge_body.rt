@@ -13,8 +13,13 @@ use wasmparser_types::val_type::ValType;
 
 /// Judges a body: first its locals, run by run, and then its operators. After a refusal it is done with.
 pub trait JudgeBody {
-    // The body so far.
+    // What the body is judged in, and what was judged of it.
     ghost state: { Self → BodyState };
+
+    // What stays the same, whatever is answered.
+    ghost Kept: { Type 0 };
+
+    ghost kept: { Self → Kept };
 
     /// Adds so many locals of a type, whose type index, if it has one, is one of the module.
     ///
@@ -24,7 +29,8 @@ pub trait JudgeBody {
     fn define_locals(&mut self, offset: u64, count: u32, ty: ValType) -> Result<(), Error>
         requires of_module { IsOfModule ty }
         requires ready { (state self.old).is_ready ≡ true }
-        ensures { DefinesRun offset count (written (state self.old).features (state self.old).items (module_type ty)) (state self.old) (state self.new) result };
+        ensures defined { DefinesRun offset count (written (state self.old).features (state self.old).items (module_type ty)) (state self.old) (state self.new) result }
+        ensures kept { kept self.new ≡ kept self.old };
 
     /// Judges the next operator, which is as a reader gives it.
     ///
@@ -33,7 +39,8 @@ pub trait JudgeBody {
     fn op(&mut self, offset: u64, it: &Operator<'_>) -> Result<(), Error>
         requires whole { IsWhole it.now }
         requires ready { (state self.old).is_ready ≡ true }
-        ensures { JudgesOperator offset (operator it.now) (state self.old) (state self.new) result };
+        ensures judged { JudgesOperator offset (operator it.now) (state self.old) (state self.new) result }
+        ensures kept { kept self.new ≡ kept self.old };
 
     /// Whether all blocks have ended, the body too.
     fn is_closed(&self) -> bool

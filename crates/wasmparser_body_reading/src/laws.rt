@@ -10,6 +10,7 @@ ghost use Rattle.wasm_spec.specs.Bytes.{AreBytes};
 ghost use Rattle.wasm_spec.specs.Features.{Features};
 ghost use Rattle.wasm_spec.specs.Types.{FuncType};
 ghost use Rattle.wasmparser_body_reading.specs.BodyAnswers.{AnswersOutcome, IsBodyValidated, body_outcome};
+ghost use Rattle.wasmparser_body_reading.specs.BodyStates.{BodyState, IsAtStart, rest_outcome};
 ghost use Rattle.wasmparser_body_reading.specs.CodeReading.{Broken, Fine, HasOther, IsCode, ManyLocals, OtherOperator, code_outcome};
 ghost use Rattle.wasmparser_body_reading.specs.LocalsReading.{Declares, Locals, TooMany, locals_outcome};
 ghost use Rattle.wasmparser_error.specs.declared.error.Error.{Error};
@@ -50,4 +51,9 @@ pub fn bodies<R>()
 pub fn answers<R>()
     ensures { (features : Features) (items : ModuleItems R) (index : ℕ) (type : FuncType R) (body : Input) (answer : Result (Unit {0}) Error) → func_at items index ≡ Some type → AreBytes body.rest
         → AnswersOutcome body answer (body_outcome features items index body.rest) → IsBodyValidated features items type body.rest body.position answer }
+{}
+
+/// Where nothing was judged, the rest is a whole body.
+pub fn starts()
+    ensures { (state : BodyState) (bytes : List ℕ) → IsAtStart state → rest_outcome state bytes ≡ body_outcome state.features state.items state.index bytes }
 {}

@@ -1,12 +1,9 @@
 //! Bodies, read from their bytes and judged (Core Specification 3.0, Binary Format, "Code Section").
 
-ghost use Rattle.std.specs.Prelude.{◌≡◌, ◌≢◌, ◌<◌, ◌≤◌, [], IfOk, length, map, true};
-ghost use Rattle.wasm_bodies.specs.Bodies.{parameter};
-ghost use Rattle.wasm_bodies.specs.Operators.{Indexed};
-ghost use Rattle.wasm_bodies_laws.specs.Machine.{at_start, frame_type};
+ghost use Rattle.std.specs.Prelude.{◌≡◌, ◌≢◌, ◌<◌, ◌≤◌, [], IfOk, length, true};
 ghost use Rattle.wasm_spec.specs.Limits as limits;
-ghost use Rattle.wasmparser_body_reading.specs.BodyAnswers.{AnswersOutcome, body_outcome};
-ghost use Rattle.wasmparser_body_reading.specs.BodyStates.{ReadsStep, context_in};
+ghost use Rattle.wasmparser_body_reading.specs.BodyAnswers.{AnswersOutcome};
+ghost use Rattle.wasmparser_body_reading.specs.BodyStates.{HasEnded, ReadsStep, context_in, rest_outcome, with_machine_in};
 ghost use Rattle.wasmparser_body_reading.specs.CodeReading.{code_outcome};
 ghost use Rattle.wasmparser_types.specs.Index.{packable};
 
@@ -23,6 +20,7 @@ fn read_step<B: JudgeBody>(reader: &mut OperatorsReader<'_>, body: &mut B) -> Re
     requires few { length (B.state body.old).items.types ≤ packable }
     requires open { (B.state body.old).machine.frames ≢ [] }
     requires same_features { reader.old.input.features ≡ (B.state body.old).features }
+    ensures kept { B.kept body.new ≡ B.kept body.old }
     ensures judged { ReadsStep (B.state body.old) (B.state body.new) reader.old.input reader.new.input result }
     ensures further { IfOk result (λ _. reader.old.input.position < reader.new.input.position) }
 {
@@ -38,7 +36,9 @@ fn read_code<B: JudgeBody>(reader: &mut OperatorsReader<'_>, body: &mut B) -> Re
     requires ready { (B.state body.old).is_ready ≡ true }
     requires few { length (B.state body.old).items.types ≤ packable }
     requires same_features { reader.old.input.features ≡ (B.state body.old).features }
-    ensures { AnswersOutcome reader.old.input result (code_outcome (context_in (B.state body.old)) (B.state body.old).machine reader.old.input.rest) }
+    ensures answers { AnswersOutcome reader.old.input result (code_outcome (context_in (B.state body.old)) (B.state body.old).machine reader.old.input.rest) }
+    ensures kept { B.kept body.new ≡ B.kept body.old }
+    ensures ended { IfOk result (λ _. ((B.state body.new).machine.frames ≡ []) × (B.state body.new ≡ with_machine_in (B.state body.new).machine (B.state body.old))) }
 {
     'operators: while !body.is_closed() {
         read_step(reader, body)?;
@@ -49,8 +49,8 @@ fn read_code<B: JudgeBody>(reader: &mut OperatorsReader<'_>, body: &mut B) -> Re
     Ok(())
 }
 
-/// Reads a body and judges it. The reader has the bytes of the body and no others, and the judge has the function's parameters as locals
-/// and begins with the body's own block.
+/// Reads a body and judges it. The reader has the bytes of the body and no others. What the judge had of locals and open blocks stands first: to judge
+/// a whole body it has the function's parameters, and the body's own block.
 ///
 /// # Errors
 /// `Limit` where there are too many locals, `Operator` where a code stands that no operator has, after locals and operators that a body may
@@ -59,10 +59,10 @@ pub fn read_body<B: JudgeBody>(reader: &mut BinaryReader<'_>, body: &mut B) -> R
     requires ready { (B.state body.old).is_ready ≡ true }
     requires few { length (B.state body.old).items.types ≤ packable }
     requires same_features { reader.old.features ≡ (B.state body.old).features }
-    requires parameters { (B.state body.old).locals ≡ map parameter (frame_type (B.state body.old).items (Indexed (B.state body.old).index)).params }
     requires within { length (B.state body.old).locals ≤ limits.most limits.Locals }
-    requires begins { (B.state body.old).machine ≡ at_start (B.state body.old).index }
-    ensures { AnswersOutcome reader.old result (body_outcome (B.state body.old).features (B.state body.old).items (B.state body.old).index reader.old.rest) }
+    ensures answers { AnswersOutcome reader.old result (rest_outcome (B.state body.old) reader.old.rest) }
+    ensures kept { B.kept body.new ≡ B.kept body.old }
+    ensures ended { IfOk result (λ _. HasEnded (B.state body.old) (B.state body.new)) }
 {
     read_locals(reader, body)?;
     let mut operators = OperatorsReader::new(fork(reader));

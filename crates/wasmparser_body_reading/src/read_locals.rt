@@ -28,7 +28,8 @@ fn read_local_type(reader: &mut BinaryReader<'_>) -> Option<ValType>
 fn read_run<B: JudgeBody>(reader: &mut BinaryReader<'_>, body: &mut B) -> Result<(), Error>
     requires ready { (B.state body.old).is_ready ≡ true }
     requires few { length (B.state body.old).items.types ≤ packable }
-    ensures { ReadsRun (B.state body.old) (B.state body.new) reader.old reader.new result }
+    ensures read { ReadsRun (B.state body.old) (B.state body.new) reader.old reader.new result }
+    ensures kept { B.kept body.new ≡ B.kept body.old }
 {
     let offset = reader.original_position();
     let Ok(count) = reader.read_var_u32() else {
@@ -49,7 +50,8 @@ pub fn read_locals<B: JudgeBody>(reader: &mut BinaryReader<'_>, body: &mut B) ->
     requires ready { (B.state body.old).is_ready ≡ true }
     requires few { length (B.state body.old).items.types ≤ packable }
     requires within { length (B.state body.old).locals ≤ limits.most limits.Locals }
-    ensures { ReadsLocals (B.state body.old) (B.state body.new) reader.old reader.new result }
+    ensures read { ReadsLocals (B.state body.old) (B.state body.new) reader.old reader.new result }
+    ensures kept { B.kept body.new ≡ B.kept body.old }
 {
     let offset = reader.original_position();
     let Ok(runs) = reader.read_var_u32() else {

@@ -1,3 +1,4 @@
+pub mod FromBytes
 pub mod NumericForms
 pub mod Refusals
 pub mod Steps

@@ -1,6 +1,5 @@
 -- What operators do to the stacks of a body, and when they are refused.
-use Rattle.std.specs.Prelude.{◌≡◌, ℕ, List, length, Option, Some, None, option_map, Result, Ok, Err}
-use Rattle.std.specs.List.{AllByRecursion}
+use Rattle.std.specs.Prelude.{◌≡◌, ℕ, List, Option, Some, None, option_map, Result, Ok, Err}
 use Rattle.std.specs.Option.{option_and_then}
 use Rattle.wasm_bodies.specs.BodyContext.{BodyContext, Local, ModuleItems}
 use Rattle.wasm_bodies.specs.Effects.{effect_of}
@@ -16,12 +15,6 @@ use Rattle.wasm_spec.specs.Types.{TableType, ValType, I32}
 use Rattle.wasmparser_func_validator.specs.declared.refusal.Refusal.{Refusal}
 use Rattle.wasmparser_func_validator.specs.declared.refusal.Refusal.TheVariants.{Invalid, Memory}
 use Rattle.wasmparser_resources.specs.Resources.{Resources}
-use Rattle.wasm_spec.specs.TypeReferences.{heap_refs}
-use Rattle.wasmparser_operators.specs.OperatorValues.{IsWhole}
-use Rattle.wasmparser_operators.specs.declared.operator.Operator.{Operator}
-use Rattle.wasmparser_operators.specs.declared.operator.Operator.TheVariants as ops
-use Rattle.wasmparser_readers.specs.ModuleIndexes.{IsModuleIndex}
-use Rattle.wasmparser_types.specs.HeapTypes.{heap_type}
 use Rattle.wasmparser_operators.specs.declared.immediates.BlockType.{BlockType}
 use Rattle.wasmparser_types.specs.Index.{Index}
 use Rattle.wasmparser_types.specs.ValTypes.{val_type}
@@ -84,11 +77,3 @@ opens cx kind type m = opens_from cx kind type m.frames m.now
 
 abbrev pub opened_if : BodyContext Index → operators.BlockType ℕ → Machine Index → Option (Machine Index)
 opened_if cx type m = option_and_then (opens_from cx machine.IfFrame type m.frames) (taken cx.items I32 m.now)
-
--- ---- operators
-
--- what an operator writes is as it is read: type indexes are those of the module, and a list of just one type has an operator of its own
-abbrev pub IsAsRead : Operator → Type 0
-IsAsRead (ops.RefNull heap) = AllByRecursion IsModuleIndex (heap_refs (heap_type heap))
-IsAsRead (ops.TypedSelectMulti types) = ¬ (length types ≡ 1)
-IsAsRead operator = IsWhole operator

@@ -1,5 +1,5 @@
 -- What calls of a validator of a body answer.
-use Rattle.std.specs.Prelude.{◌≡◌, ◌++◌, ◌+◌, ℕ, Bool, true, false, List, length, replicate, Option, Some, None, option_map, Result, Ok, Err, if◌then◌else◌}
+use Rattle.std.specs.Prelude.{◌≡◌, ◌++◌, ◌+◌, ℕ, Bool, true, false, List, length, replicate, Option, Some, None, is_some, option_map, Result, Ok, Err, if◌then◌else◌}
 use Rattle.wasm_bodies.specs.Bodies.{declared_local}
 use Rattle.wasm_bodies.specs.BodyContext.{Local}
 use Rattle.wasm_bodies.specs.Operands.{Operand, Known, Unknown, UnknownRef}
@@ -39,7 +39,7 @@ Tries failed offset wanted old new after (Err e) = IsRefusedAt e.kind e.offset f
 
 abbrev pub IsRefusedRun : ErrorKind → ℕ → Bool → ℕ → ℕ → Option (ValType Index) → Type 0
 IsRefusedRun kinds.Body at failed offset total type = (failed ≡ false) × (type ≡ None) × (at ≡ offset)
-IsRefusedRun (kinds.Limit Locals) at failed offset total type = (failed ≡ false) × limits.IsPassedBy limits.Locals total × (at ≡ offset)
+IsRefusedRun (kinds.Limit Locals) at failed offset total type = (failed ≡ false) × (is_some type ≡ true) × limits.IsPassedBy limits.Locals total × (at ≡ offset)
 IsRefusedRun kinds.Memory at failed offset total type = (failed ≡ false) × (at ≡ 0)
 IsRefusedRun kinds.Failed at failed offset total type = (failed ≡ true) × (at ≡ offset)
 IsRefusedRun _ at failed offset total type = ⊥

@@ -7,7 +7,7 @@ ghost use Rattle.wasm_bodies.specs.Operators.{Indexed};
 ghost use Rattle.wasm_bodies_laws.specs.Machine.{at_start, frame_type, stepped};
 ghost use Rattle.wasm_core_base.specs.Features.{feature_set};
 ghost use Rattle.wasmparser_error.specs.declared.error.ErrorKind.TheVariants as kinds;
-ghost use Rattle.wasmparser_func_validator.specs.Steps.{IsAsRead, context_of};
+ghost use Rattle.wasmparser_func_validator.specs.Steps.{context_of};
 ghost use Rattle.wasmparser_func_validator.specs.Validation.{Defines, IsRefusedStart, Judges, Tries, is_refused, known_type, locals_error, type_seen, unless_failed};
 ghost use Rattle.wasmparser_operators.specs.OperatorValues as code;
 ghost use Rattle.wasmparser_stacks.specs.LocalRuns.{local_seen};
@@ -42,7 +42,7 @@ pub struct FuncValidator<T> {
 }
 
 // What is refused after a refusal.
-fn failed(offset: u64) -> Error
+pub(crate) fn failed(offset: u64) -> Error
     ensures { result ≡ record { offset = offset; kind = kinds.Failed } }
 {
     Error {
@@ -82,7 +82,7 @@ impl<T: WasmModuleResources> FuncValidator<T> {
     /// # Errors
     /// `Body` at the offset, where it may not stand there, `Memory`, or `Failed` at the offset after a refusal.
     pub fn op(&mut self, offset: u64, operator: &Operator<'_>) -> Result<(), Error>
-        requires { IsAsRead operator.now }
+        requires { code.IsWhole operator.now }
         ensures judged { Judges self.old.failed offset (stepped (context_of (T.resources self.old.body.resources) (feature_set self.old.body.features) self.old.body.locals self.old.body.ty) self.old.stacks (code.operator operator.now)) self.new.stacks self.new.failed result }
         ensures body { self.new.body ≡ self.old.body }
         ensures index { self.new.index ≡ self.old.index }
@@ -104,7 +104,7 @@ impl<T: WasmModuleResources> FuncValidator<T> {
     /// # Errors
     /// Those of `op`.
     pub fn try_op(&mut self, offset: u64, operator: &Operator<'_>) -> Result<(), Error>
-        requires { IsAsRead operator.now }
+        requires { code.IsWhole operator.now }
         ensures tried { Tries self.old.failed offset (stepped (context_of (T.resources self.old.body.resources) (feature_set self.old.body.features) self.old.body.locals self.old.body.ty) self.old.stacks (code.operator operator.now)) self.old.stacks self.new.stacks self.new.failed result }
         ensures body { self.new.body ≡ self.old.body }
         ensures index { self.new.index ≡ self.old.index }

@@ -8,11 +8,9 @@ ghost use Rattle.wasm_bodies.specs.OperatorRows.{Int32, access};
 ghost use Rattle.wasm_bodies.specs.Signatures.{accessed, memory_index};
 ghost use Rattle.wasm_bodies_laws.specs.Machine.{block_meant, frame_type, label_types};
 ghost use Rattle.wasm_core_base.specs.Features.{feature_set};
-ghost use Rattle.wasm_spec.specs.TypeReferences.{heap_map, heap_refs, val_map};
+ghost use Rattle.wasm_spec.specs.TypeReferences.{heap_map, val_map};
 ghost use Rattle.wasm_spec.specs.Types as spec;
-ghost use Rattle.std.specs.List.{AllByRecursion};
-ghost use Rattle.wasmparser_readers.specs.ModuleIndexes.{IsModuleIndex};
-ghost use Rattle.wasmparser_operators.specs.OperatorValues.{IsBlockOfModule, IsOfModule, block_type, memory_argument, module_type};
+ghost use Rattle.wasmparser_operators.specs.OperatorValues.{IsBlockOfModule, IsHeapOfModule, IsOfModule, block_type, memory_argument, module_type};
 ghost use Rattle.wasmparser_stacks.specs.StackViews.{block_with_ids, frame_kind};
 ghost use Rattle.wasmparser_func_validator.specs.Steps.{context_of, pair_kept, table_seen};
 ghost use Rattle.wasmparser_types.specs.CompositeTypes.{func_type};
@@ -135,7 +133,7 @@ impl<R: WasmModuleResources> Body<R> {
 
     // The type of null, as a reference to this, if it may be written.
     pub(crate) fn null_type(&self, heap: &HeapType) -> Option<ValType>
-        requires { AllByRecursion IsModuleIndex (heap_refs (heap_type heap.now)) }
+        requires { IsHeapOfModule heap.now }
         ensures { option_map val_type result ≡ written (feature_set self.now.features) (R.resources self.now.resources).items (spec.Ref true (heap_map number_of (heap_type heap.now))) }
     {
         let mut heap = *heap;

@@ -1,13 +1,11 @@
 //! References (Core Specification 3.0, Validation, "Reference Instructions").
 
 ghost use Rattle.std.specs.Prelude.{◌≡◌, ◌∷◌, [], map, option_map};
-ghost use Rattle.std.specs.List.{AllByRecursion};
 ghost use Rattle.wasm_bodies.specs.Operands as operands;
-ghost use Rattle.wasm_spec.specs.TypeReferences.{heap_map, heap_refs};
+ghost use Rattle.wasm_spec.specs.TypeReferences.{heap_map};
 ghost use Rattle.wasm_spec.specs.Types as types;
 ghost use Rattle.wasmparser_stacks.specs.StackViews.{operand};
-ghost use Rattle.wasmparser_operators.specs.OperatorValues.{IsOfModule, module_type};
-ghost use Rattle.wasmparser_readers.specs.ModuleIndexes.{IsModuleIndex};
+ghost use Rattle.wasmparser_operators.specs.OperatorValues.{IsHeapOfModule, IsOfModule, module_type};
 ghost use Rattle.wasmparser_types.specs.HeapTypes.{abstract_heap_type, heap_type};
 ghost use Rattle.wasmparser_types.specs.Index.{number_of};
 ghost use Rattle.wasmparser_types.specs.ValTypes.{val_type};
@@ -120,7 +118,7 @@ impl<R: WasmModuleResources> Body<R> {
     }
 
     pub(crate) fn ref_null(&self, stacks: &mut Stacks, heap: &HeapType) -> Result<(), Refusal>
-        requires { AllByRecursion IsModuleIndex (heap_refs (heap_type heap.now)) }
+        requires { IsHeapOfModule heap.now }
         ensures { HasEffect (context_of (R.resources self.now.resources) (feature_set self.now.features) self.now.locals self.now.ty) (spec.RefNull (heap_map number_of (heap_type heap.now))) stacks.old stacks.new result }
     {
         match self.null_type(heap) {

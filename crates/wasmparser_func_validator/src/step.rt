@@ -8,8 +8,8 @@ ghost use Rattle.wasm_bodies.specs.Signatures.{gives_one};
 ghost use Rattle.wasm_bodies_laws.specs.Machine.{stepped};
 ghost use Rattle.wasm_core_base.specs.Features.{feature_set};
 ghost use Rattle.wasmparser_func_validator.specs.NumericForms.{number};
-ghost use Rattle.wasmparser_func_validator.specs.Steps.{HasEffect, IsAsRead, Steps, Takes, context_of};
-ghost use Rattle.wasmparser_operators.specs.OperatorValues.{operator};
+ghost use Rattle.wasmparser_func_validator.specs.Steps.{HasEffect, Steps, Takes, context_of};
+ghost use Rattle.wasmparser_operators.specs.OperatorValues.{IsWhole, operator};
 
 use crate::body::Body;
 use crate::gates::is_on;
@@ -39,7 +39,7 @@ impl<R: WasmModuleResources> Body<R> {
     // An operator that neither opens, parts nor ends a block.
     fn operate(&self, stacks: &mut Stacks, op: &Operator<'_>) -> Result<(), Refusal>
         requires open { stacks.old.frames ≢ [] }
-        requires as_read { IsAsRead op.now }
+        requires whole { IsWhole op.now }
         ensures { HasEffect (context_of (R.resources self.now.resources) (feature_set self.now.features) self.now.locals self.now.ty) (operator op.now) stacks.old stacks.new result }
     {
         match op {
@@ -163,7 +163,7 @@ impl<R: WasmModuleResources> Body<R> {
 
     // One operator. None may come after the end of the body.
     pub(crate) fn step(&self, stacks: &mut Stacks, op: &Operator<'_>) -> Result<(), Refusal>
-        requires { IsAsRead op.now }
+        requires { IsWhole op.now }
         ensures { Steps (stepped (context_of (R.resources self.now.resources) (feature_set self.now.features) self.now.locals self.now.ty) stacks.old (operator op.now)) stacks.old stacks.new result }
     {
         if stacks.is_closed() {

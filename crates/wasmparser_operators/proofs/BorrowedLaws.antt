@@ -165,4 +165,7 @@ list_read bytes vs rest many e = rw e (by_items vs (list_count val_type_at bytes
     by_items (v ∷ []) c = let f = rw c.1 at many in absurd cc
     by_items (v ∷ w ∷ ws) c = refl
 
-pub ruleset select_types = (one_unread, one_type_unread, one_type_read, list_unread, list_read)
+pub list_of_others : (bytes : List ℕ) (vs : List (ValType ℕ)) (rest : List ℕ) → begins_with_one (unsigned_at 32 bytes) ≡ false → list_at val_type_at bytes ≡ Some (vs, rest) → ¬ (length vs ≡ 1)
+list_of_others bytes vs rest many e one = let c = list_count val_type_at bytes vs rest e in let f = rw (c.1, one) at many in absurd cc
+
+pub ruleset select_types = (one_unread, one_type_unread, one_type_read, list_unread, list_read, list_of_others)

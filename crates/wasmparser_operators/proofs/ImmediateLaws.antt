@@ -8,7 +8,7 @@ use Rattle.wasm_core_read.specs.TypeReading.{heap_index_at, heap_type_at, val_ty
 use Rattle.wasm_core_read.proofs.Forms.{some_is}
 use Rattle.wasm_bodies.specs.Operators.{Indexed}
 use Rattle.wasm_spec.specs.Features.{Features, has, MultiValue}
-use Rattle.wasm_spec.specs.TypeReferences.{heap_map, val_map, val_refs}
+use Rattle.wasm_spec.specs.TypeReferences.{heap_map, heap_refs, val_map, val_refs}
 use Rattle.wasm_spec.specs.Types.{HeapType, Abstract, Concrete, ValType, I32, I64, F32, F64, V128, Ref}
 use Rattle.wasmparser_types.specs.Index.{Index, number_of, packable}
 use Rattle.wasmparser_types.specs.Index as indexes
@@ -173,4 +173,17 @@ heap_read bytes v rest e = by_read (heap_type_at bytes) e
         let p = some_is (heap_map indexes.Module x.0, x.1) (v, rest) h in
         ap (λ (y : HeapType ℕ). given y x.1) (sym (module_back x.0)) ∙ ap (λ (q : HeapType Index × List ℕ). given (heap_map number_of q.0) q.1) p
 
-pub ruleset heap_types = (heap_unread, heap_read)
+pub heap_of_module : (bytes : List ℕ) (v : HeapType Index) (rest : List ℕ) → module_heap_at bytes ≡ Some (v, rest) → AllByRecursion IsModuleIndex (heap_refs v)
+unfolding module_heap_at
+heap_of_module bytes v rest e = by_read (heap_type_at bytes) e
+  where
+    is_of : (heap : HeapType ℕ) → AllByRecursion IsModuleIndex (heap_refs (heap_map indexes.Module heap))
+    is_of (Abstract heap) = tt
+    is_of (Concrete n) = (tt, tt)
+
+    by_read : (read : Option (HeapType ℕ × List ℕ)) → (read >>= λ x. given (heap_map indexes.Module x.0) x.1) ≡ given v rest → AllByRecursion IsModuleIndex (heap_refs v)
+    by_read None h = absurd cc
+    by_read (Some x) h =
+        subst (λ (heap : HeapType Index). AllByRecursion IsModuleIndex (heap_refs heap)) (ap (λ (q : HeapType Index × List ℕ). q.0) (some_is (heap_map indexes.Module x.0, x.1) (v, rest) h)) (is_of x.0)
+
+pub ruleset heap_types = (heap_unread, heap_read, heap_of_module)

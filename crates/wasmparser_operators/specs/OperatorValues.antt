@@ -1,14 +1,15 @@
 -- Operators of the code as those of the specification. Each load and store is its row of a table.
-use Rattle.std.specs.Prelude.{◌≡◌, ⊤, ℕ, [], ◌∷◌, Option, Some, None}
+use Rattle.std.specs.Prelude.{◌≡◌, ⊤, ℕ, [], ◌∷◌, length, Option, Some, None}
 use Rattle.std.specs.List.{AllByRecursion}
 use Rattle.wasm_bodies.specs.OperatorRows.{Byte, Int32, AccessRow}
 use Rattle.wasm_bodies.specs.Operators as spec
-use Rattle.wasm_spec.specs.TypeReferences.{heap_map, val_map, val_refs}
+use Rattle.wasm_spec.specs.TypeReferences.{heap_map, heap_refs, val_map, val_refs}
 use Rattle.wasm_spec.specs.Types as types
 use Rattle.wasmparser_readers.specs.ModuleIndexes.{IsModuleIndex}
 use Rattle.wasmparser_types.specs.HeapTypes.{heap_type}
 use Rattle.wasmparser_types.specs.Index.{number_of}
 use Rattle.wasmparser_types.specs.ValTypes.{val_type}
+use Rattle.wasmparser_types.specs.declared.heap_type.HeapType.{HeapType}
 use Rattle.wasmparser_types.specs.declared.val_type.ValType.{ValType}
 use Rattle.wasmparser_operators.specs.declared.immediates.BlockType.{BlockType}
 use Rattle.wasmparser_operators.specs.declared.immediates.BlockType.TheVariants as blocks
@@ -35,6 +36,9 @@ block_type (blocks.FuncType index) = spec.Indexed index
 abbrev pub IsBlockOfModule : BlockType → Type 0
 IsBlockOfModule (blocks.Type type) = IsOfModule type
 IsBlockOfModule _ = ⊤
+
+abbrev pub IsHeapOfModule : HeapType → Type 0
+IsHeapOfModule type = AllByRecursion IsModuleIndex (heap_refs (heap_type type))
 
 abbrev pub memory_argument : MemArg → spec.MemoryArgument
 memory_argument memarg = record { exponent = memarg.align; memory = memarg.memory; offset = memarg.offset }
@@ -146,12 +150,14 @@ operator (operators.TableSize table) = spec.TableSize table
 operator (operators.TableFill table) = spec.TableFill table
 operator (operators.V128Const bytes) = spec.V128Const bytes
 
--- What an operator of the code says beside: value types have indexes of types in the module, and a load or store the exponent of its row.
+-- What an operator of the code says beside: value types and heap types have indexes of types in the module, a list of just one type has an operator of
+-- its own, and a load or store has the exponent of its row.
 abbrev pub IsWhole : Operator → Type 0
 IsWhole (operators.Block blockty) = IsBlockOfModule blockty
 IsWhole (operators.Loop blockty) = IsBlockOfModule blockty
 IsWhole (operators.If blockty) = IsBlockOfModule blockty
 IsWhole (operators.TypedSelect ty) = IsOfModule ty
+IsWhole (operators.TypedSelectMulti tys) = ¬ (length tys ≡ 1)
 IsWhole (operators.I32Load memarg) = memarg.max_align ≡ (load_row 0x28).exponent
 IsWhole (operators.I64Load memarg) = memarg.max_align ≡ (load_row 0x29).exponent
 IsWhole (operators.F32Load memarg) = memarg.max_align ≡ (load_row 0x2a).exponent
@@ -175,4 +181,5 @@ IsWhole (operators.I32Store16 memarg) = memarg.max_align ≡ (store_row 0x3b).ex
 IsWhole (operators.I64Store8 memarg) = memarg.max_align ≡ (store_row 0x3c).exponent
 IsWhole (operators.I64Store16 memarg) = memarg.max_align ≡ (store_row 0x3d).exponent
 IsWhole (operators.I64Store32 memarg) = memarg.max_align ≡ (store_row 0x3e).exponent
+IsWhole (operators.RefNull hty) = IsHeapOfModule hty
 IsWhole _ = ⊤

@@ -6,7 +6,7 @@ ghost use Rattle.wasm_core_read.specs.TypeReading.{heap_index_at, heap_type_at};
 ghost use Rattle.wasm_spec.specs.Features.{has, MultiMemory};
 ghost use Rattle.wasm_spec.specs.TypeReferences.{heap_map};
 ghost use Rattle.wasmparser_operators.specs.OperatorReading.{Packed, alignment_at, block_index_at, block_type_at, block_type_with, index_with_at, kept_type_at, memory_argument_at, offset_bits};
-ghost use Rattle.wasmparser_operators.specs.OperatorValues.{IsBlockOfModule, IsOfModule, block_type, memory_argument, module_type};
+ghost use Rattle.wasmparser_operators.specs.OperatorValues.{IsBlockOfModule, IsHeapOfModule, IsOfModule, block_type, memory_argument, module_type};
 ghost use Rattle.wasmparser_types.specs.HeapTypes.{heap_type};
 ghost use Rattle.wasmparser_types.specs.Index.{number_of};
 
@@ -179,7 +179,8 @@ pub(crate) fn read_memarg(max_align: u8, reader: &mut BinaryReader<'_>) -> Resul
 // Reads a heap type.
 #[tactic(auto, using(crate::proofs::ImmediateLaws::heap_types))]
 pub(crate) fn read_null_type(reader: &mut BinaryReader<'_>) -> Result<HeapType, Malformed>
-    ensures { Answers (λ type. heap_map number_of (heap_type type)) reader.old reader.new result (heap_type_at reader.old.rest) }
+    ensures read { Answers (λ type. heap_map number_of (heap_type type)) reader.old reader.new result (heap_type_at reader.old.rest) }
+    ensures in_module { IfOk result IsHeapOfModule }
 {
     read_heap_type(reader)
 }

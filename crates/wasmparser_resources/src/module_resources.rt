@@ -3,7 +3,7 @@
 ghost use Rattle.std.specs.Prelude.{◌≡◌, IfOk, IsSome, Some, length, option_map, slice_get};
 ghost use Rattle.std.specs.List.{AllByRecursion};
 ghost use Rattle.std.specs.Option.{option_copied};
-ghost use Rattle.wasm_bodies.specs.BodyContext.{heap_meant, is_among, meant, value_of, written};
+ghost use Rattle.wasm_bodies.specs.BodyContext.{heap_meant, meant, value_of, written};
 ghost use Rattle.wasm_core_base.specs.Features.{feature_set};
 ghost use Rattle.wasm_spec.specs.TypeReferences.{heap_map, heap_refs, ref_refs, val_map, val_refs};
 ghost use Rattle.wasm_spec.specs.Types as spec;
@@ -141,7 +141,7 @@ pub trait WasmModuleResources {
 
     /// Whether an export, an element segment or a constant expression names the function.
     fn is_function_referenced(&self, index: u32) -> bool
-        ensures { result ≡ is_among (resources self.now).items.declared index };
+        ensures { result ≡ (resources self.now).items.declared index };
 
     /// Whether the function's type is known exactly: it is not imported.
     fn has_function_exact_type(&self, index: u32) -> bool

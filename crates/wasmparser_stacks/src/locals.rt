@@ -190,7 +190,8 @@ impl Locals {
 
     /// How many locals there are.
     pub fn len(&self) -> u32
-        ensures { result ≡ length self.now }
+        ensures count { result ≡ length self.now }
+        ensures within { length self.now ≤ limits.most limits.Locals }
     {
         self.count
     }

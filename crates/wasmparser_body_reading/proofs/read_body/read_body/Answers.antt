@@ -8,17 +8,17 @@ use Rattle.wasmparser_body_reading.specs.CodeReading.{code_outcome}
 use Rattle.wasmparser_body_reading.proofs.BodySteps.{code_answered, locals_answered}
 use Rattle.wasmparser_body_reading.proofs.read_body.read_body.Goals as goal
 
-pub returns-in_err-read_locals : goal.returns-in_err-read_locals
-returns-in_err-read_locals g c =
+pub returns-in_err-read_locals-clause-answers : goal.returns-in_err-read_locals-clause-answers
+returns-in_err-read_locals-clause-answers g c =
     let p = err_from_is_err_and c.from_residual.result c.from_residual.ensures.1 in
-    rw (p.1, p.2) (locals_answered (g.B.JudgeBody.state c.args.body.now) c.args.reader.now _ _ c.requires.parameters c.in_err-read_locals.ensures)
+    rw (p.1, p.2) (locals_answered (g.B.JudgeBody.state c.args.body.now) c.args.reader.now _ _ c.in_err-read_locals.ensures.read)
 
-pub returns : goal.returns
-returns g c =
+pub returns-clause-answers : goal.returns-clause-answers
+returns-clause-answers g c =
     let old = g.B.JudgeBody.state c.args.body.now in
     let new = g.B.JudgeBody.state c.read_locals.new.body in
     let mid = c.read_locals.new.reader in
-    let read = c.in_ok-read_locals.ensures in
+    let read = c.in_ok-read_locals.ensures.read in
     let stands = ap (λ (left : OperatorsLeft). left.input) c.new-operators.ensures ∙ c.fork.ensures.same in
-    code_answered old new c.args.reader.now mid c.read_code.result c.requires.parameters c.requires.begins read.0 read.1 read.2
-    (subst (λ (i : Input). AnswersOutcome i c.read_code.result (code_outcome (context_in new) new.machine i.rest)) stands c.read_code.ensures)
+    code_answered old new c.args.reader.now mid c.read_code.result read.0 read.1 read.2
+    (subst (λ (i : Input). AnswersOutcome i c.read_code.result (code_outcome (context_in new) new.machine i.rest)) stands c.read_code.ensures.answers)

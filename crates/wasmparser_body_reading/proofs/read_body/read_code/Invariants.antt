@@ -11,6 +11,7 @@ invariant-operators g l = record {
       ≡ code_outcome (context_in (g.B.JudgeBody.state l.fn.body)) (g.B.JudgeBody.state l.fn.body).machine l.fn.reader.input.rest;
   same : g.B.JudgeBody.state l.body ≡ with_machine_in (g.B.JudgeBody.state l.body).machine (g.B.JudgeBody.state l.fn.body);
   goes_on : GoesOn l.fn.reader.input l.reader.input;
+  kept : g.B.JudgeBody.kept l.body ≡ g.B.JudgeBody.kept l.fn.body;
 }
 
 abbrev pub decreases-operators : goal.decreases-operators

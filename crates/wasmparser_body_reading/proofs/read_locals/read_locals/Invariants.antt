@@ -11,4 +11,5 @@ invariant-loop g l = record {
       ≡ locals_outcome (g.B.JudgeBody.state l.fn.body).features (g.B.JudgeBody.state l.fn.body).items (g.B.JudgeBody.state l.fn.body).locals l.fn.reader.rest;
   same : g.B.JudgeBody.state l.body ≡ with_locals_in (g.B.JudgeBody.state l.body).locals (g.B.JudgeBody.state l.fn.body);
   goes_on : GoesOn l.fn.reader l.reader;
+  kept : g.B.JudgeBody.kept l.body ≡ g.B.JudgeBody.kept l.fn.body;
 }

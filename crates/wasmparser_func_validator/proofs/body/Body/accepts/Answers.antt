@@ -1,5 +1,6 @@
 use Rattle.std.proofs.Common.{◌-◌, ◌+◌, sym, arith, get_or}
 use Rattle.std.proofs.lemmas.Option.{slice_get-get_or}
+use Rattle.wasm_bodies.specs.Operands.{fits}
 use Rattle.wasm_spec.specs.Types.{I32}
 use Rattle.wasmparser_types.specs.ValTypes.{val_type}
 use Rattle.wasmparser_stacks.specs.StackViews.{operand}
@@ -27,7 +28,7 @@ returns-then-not-fits g c =
     stops items types c.args.above c.args.stacks.now.now c.count-count.result c.loop-left.left
     c.count-count.ensures (omega arith) c.loop-left.invariant.within c.loop-left.invariant.same
     (val_type c.type_at.result) c.type_at.ensures
-    (unfit_below items (val_type c.type_at.result) c.args.stacks.now.now (c.args.above + (c.count-count.result - c.loop-left.left)) (operand c.in-Some.x) c.in-Some.ensures (sym c.if-not-fits.ensures))
+    (unfit_below items (val_type c.type_at.result) c.args.stacks.now.now (c.args.above + (c.count-count.result - c.loop-left.left)) (operand c.in-Some.x) c.in-Some.ensures (sym {b = fits items (val_type c.type_at.result) (operand c.in-Some.x)} c.if-not-fits.ensures))
 
 pub loop-left-preserved : goal.loop-left-preserved
 loop-left-preserved g c =
@@ -37,5 +38,5 @@ loop-left-preserved g c =
       within = omega (arith, c.loop-left.invariant.within);
       same = goes_on items types c.args.above c.args.stacks.now.now c.count-count.result c.loop-left.left
           c.count-count.ensures (omega arith) c.loop-left.invariant.within c.loop-left.invariant.same
-          (val_type c.type_at.result) (operand c.in-Some.x) c.type_at.ensures c.in-Some.ensures (sym c.if-not-fits.ensures);
+          (val_type c.type_at.result) (operand c.in-Some.x) c.type_at.ensures c.in-Some.ensures (sym {b = fits items (val_type c.type_at.result) (operand c.in-Some.x)} c.if-not-fits.ensures);
     }

@@ -1,0 +1,20 @@
+use Rattle.std.proofs.Common.{ap, subst, ◌∙◌}
+use Rattle.wasm_core_base.specs.Features.{feature_set}
+use Rattle.wasm_core_read.specs.Input.{Input}
+use Rattle.wasmparser_body_reading.specs.BodyAnswers.{AnswersOutcome}
+use Rattle.wasmparser_body_reading.specs.BodyStates.{rest_outcome}
+use Rattle.wasmparser_func_validator.specs.FromBytes.{state_of}
+use Rattle.wasmparser_func_validator.proofs.ReadBodies.{answered, validated}
+use Rattle.wasmparser_func_validator.proofs.func_validator.FuncValidator.validate.Goals as goal
+
+pub returns-clause-validated : goal.returns-clause-validated
+returns-clause-validated g c = λ ready start type named.
+    let v = c.args.self.now in
+    let body = c.args.body.now in
+    let f = feature_set v.body.features in
+    let items = (g.T.WasmModuleResources.resources v.body.resources).items in
+    let state = state_of f items v.body.ty v.body.locals v.stacks v.failed in
+    let is = c.set_features.ensures ∙ ap (λ (i : Input). record i { features = f }) c.get_binary_reader-reader.ensures.same in
+    let answers = subst (λ (i : Input). AnswersOutcome i c.read_body-result.result (rest_outcome state i.rest)) is c.read_body-result.ensures.answers in
+    validated f items type v.body.ty v.body.locals v.stacks v.failed body c.read_body-result.result c.get_binary_reader-reader.ensures.are start named
+    (answered body f c.read_body-result.result (rest_outcome state body.rest) answers)

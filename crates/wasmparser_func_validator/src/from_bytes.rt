@@ -1,0 +1,81 @@
+//! Bodies validated from their bytes.
+
+ghost use Rattle.std.specs.Prelude.{◌≡◌, ◌≤◌, [], Err, IfErr, IfOk, Some, false, length, map, true};
+ghost use Rattle.wasm_bodies.specs.Bodies.{parameter};
+ghost use Rattle.wasm_bodies.specs.BodyContext.{func_at};
+ghost use Rattle.wasm_core_base.specs.Features.{feature_set};
+ghost use Rattle.wasm_spec.specs.Types as types;
+ghost use Rattle.wasmparser_body_reading.specs.BodyAnswers.{AnswersOutcome, IsBodyValidated};
+ghost use Rattle.wasmparser_body_reading.specs.LocalsAnswers.{ReadsLocals};
+ghost use Rattle.wasmparser_body_reading.specs.BodyStates.{IsAtStart, rest_outcome};
+ghost use Rattle.wasmparser_func_validator.specs.FromBytes.{ReadsDeclared, failed_at};
+ghost use Rattle.wasmparser_func_validator.specs.Validation.{is_refused};
+ghost use Rattle.wasmparser_types.specs.Index.{Index, packable};
+
+use crate::func_validator::{FuncValidator, failed};
+use wasm_core_read::binary_reader::BinaryReader;
+use wasmparser_body_reading::judge_body::JudgeBody;
+use wasmparser_body_reading::read_body::read_body;
+use wasmparser_body_reading::read_locals::read_locals;
+use wasmparser_error::error::Error;
+use wasmparser_payloads::function_body::FunctionBody;
+use wasmparser_readers::passing::fork;
+use wasmparser_resources::module_resources::WasmModuleResources;
+
+impl<T: WasmModuleResources> FuncValidator<T> {
+    /// Reads the locals that a body declares, and adds them to those that there are. The reader stands at the body's first byte, and after a refusal
+    /// it stands there still. The module has no more types than indexes that can be packed.
+    ///
+    /// # Errors
+    /// `Body` where a run doesn't read, or its type is not allowed or there is none, `Limit` where there are too many locals, each at the run or
+    /// at the number of runs, `Memory`, or `Failed` at the body's first byte after a refusal.
+    pub fn read_locals(&mut self, reader: &mut BinaryReader<'_>) -> Result<(), Error>
+        requires { length (T.resources self.old.body.resources).items.types ≤ packable }
+        ensures read { self.old.failed ≡ false → ReadsLocals (⟦<FuncValidator<T> as JudgeBody>⟧.state self.old) (⟦<FuncValidator<T> as JudgeBody>⟧.state self.new) reader.old reader.new result }
+        ensures declared { self.old.failed ≡ false → (type : types.FuncType Index) → self.old.body.locals ≡ map parameter type.params → ReadsDeclared (feature_set self.old.body.features) (T.resources self.old.body.resources).items type reader.old reader.new self.new.body.locals result }
+        ensures after_refusal { self.old.failed ≡ true → (result ≡ Err (failed_at reader.old.position)) × (self.new ≡ self.old) }
+        ensures failed { self.new.failed ≡ is_refused result }
+        ensures stays { IfErr result (λ _. reader.new ≡ reader.old) }
+        ensures others { (self.new.body.ty ≡ self.old.body.ty) × (self.new.body.features ≡ self.old.body.features) × (self.new.body.resources ≡ self.old.body.resources) × (self.new.index ≡ self.old.index) }
+    {
+        if self.failed {
+            return Err(failed(reader.original_position()));
+        }
+        // (there are no more locals than the limit lets through)
+        let _ = self.body.locals.len();
+        let start = fork(reader);
+        let result = read_locals(reader, self);
+        self.failed = result.is_err();
+        if self.failed {
+            *reader = start;
+        }
+        result
+    }
+
+    /// Validates a body whole, under the validator's features. The module has no more types than indexes that can be packed.
+    ///
+    /// # Errors
+    /// `Limit` where there are too many locals, `Operator` where a code stands that no operator has, after locals and operators that a body
+    /// may begin with, and `Body` where the body is broken otherwise, each at a place of the body or its end. Or `Memory`, or `Failed` at the body's
+    /// first byte after a refusal.
+    pub fn validate(&mut self, body: &FunctionBody<'_>) -> Result<(), Error>
+        requires { length (T.resources self.old.body.resources).items.types ≤ packable }
+        ensures validated { self.old.failed ≡ false → IsAtStart (⟦<FuncValidator<T> as JudgeBody>⟧.state self.old) → (type : types.FuncType Index) → func_at (T.resources self.old.body.resources).items self.old.body.ty ≡ Some type → IsBodyValidated (feature_set self.old.body.features) (T.resources self.old.body.resources).items type body.now.rest body.now.position result }
+        ensures answers { self.old.failed ≡ false → AnswersOutcome body.now result (rest_outcome (⟦<FuncValidator<T> as JudgeBody>⟧.state self.old) body.now.rest) }
+        ensures after_refusal { self.old.failed ≡ true → (result ≡ Err (failed_at body.now.position)) × (self.new ≡ self.old) }
+        ensures failed { self.new.failed ≡ is_refused result }
+        ensures ended { IfOk result (λ _. self.new.stacks.frames ≡ []) }
+        ensures others { (self.new.body.ty ≡ self.old.body.ty) × (self.new.body.features ≡ self.old.body.features) × (self.new.body.resources ≡ self.old.body.resources) × (self.new.index ≡ self.old.index) }
+    {
+        let mut reader = body.get_binary_reader();
+        if self.failed {
+            return Err(failed(reader.original_position()));
+        }
+        // (there are no more locals than the limit lets through)
+        let _ = self.body.locals.len();
+        reader.set_features(self.body.features);
+        let result = read_body(&mut reader, self);
+        self.failed = result.is_err();
+        result
+    }
+}

@@ -1,0 +1,31 @@
+//! Validators of bodies as judges of what is read.
+
+use crate::func_validator::FuncValidator;
+use wasmparser_body_reading::judge_body::JudgeBody;
+use wasmparser_error::error::Error;
+use wasmparser_operators::operator::Operator;
+use wasmparser_resources::module_resources::WasmModuleResources;
+use wasmparser_types::val_type::ValType;
+
+impl<T: WasmModuleResources> JudgeBody for FuncValidator<T> {
+    ghost use Rattle.wasm_core_base.specs.Features.{feature_set};
+    ghost use Rattle.wasmparser_func_validator.specs.FromBytes.{Given, state_of};
+
+    ghost state = { λ v. state_of (feature_set v.body.features) (T.resources v.body.resources).items v.body.ty v.body.locals v.stacks v.failed };
+
+    ghost Kept = { Given T };
+
+    ghost kept = { λ v. record { resources = v.body.resources; features = v.body.features; ty = v.body.ty; index = v.index } };
+
+    fn define_locals(&mut self, offset: u64, count: u32, ty: ValType) -> Result<(), Error> {
+        FuncValidator::define_locals(self, offset, count, ty)
+    }
+
+    fn op(&mut self, offset: u64, it: &Operator<'_>) -> Result<(), Error> {
+        FuncValidator::op(self, offset, it)
+    }
+
+    fn is_closed(&self) -> bool {
+        self.stacks.is_closed()
+    }
+}

@@ -1,0 +1,130 @@
+//! An operator after others, in a body of a function of the example.
+
+use crate::running::{run, try_first};
+use crate::states::{has_failed, operands_of, state_of};
+use crate::validators::{define_locals, validator_in};
+use std::alloc::Global;
+use wasm_core_base::features::WasmFeatures;
+use wasmparser_error::error::{Error, ErrorKind};
+use wasmparser_func_validator::func_to_validate::FuncValidatorAllocations;
+use wasmparser_func_validator::func_validator::FuncValidator;
+use wasmparser_resources::module_resources::WasmModuleResources;
+use wasmparser_resources_tests::listed_resources::ListedResources;
+use wasmparser_types::ref_type::RefType;
+use wasmparser_types::val_type::ValType;
+
+/// What is told where an operator is refused.
+pub const REFUSED: &str = "refused";
+
+/// The validator of a body that takes an `i32` and an `i64` and gives an `i32`.
+pub fn validator_of(
+    alloc: Global,
+    resources: &ListedResources,
+    features: WasmFeatures,
+) -> Option<FuncValidator<&ListedResources>> {
+    let room = FuncValidatorAllocations::new(alloc);
+    match validator_in(resources, 1, features, room)? {
+        Ok(validator) => Some(validator),
+        Err(_) => None,
+    }
+}
+
+// Adds two locals, of which the second has no value at the start, under the default features.
+fn declare<R: WasmModuleResources>(validator: &mut FuncValidator<R>) -> Option<()> {
+    if *validator.features() != WasmFeatures::default() {
+        return Some(());
+    }
+    define_locals(validator, 0, 1, ValType::F64)?.ok()?;
+    define_locals(validator, 0, 1, ValType::Ref(RefType::FUNC))?.ok()
+}
+
+// Whether a refusal of an operator at this place changes nothing if it's tried, and is the last thing else.
+fn refusal_holds<R: WasmModuleResources>(
+    validator: &mut FuncValidator<R>,
+    error: Error,
+    operator: &[u8],
+    offset: u32,
+) -> bool {
+    if error.kind != ErrorKind::Body || error.offset < u64::from(offset) {
+        return false;
+    }
+    match run(validator, operator, offset) {
+        Ok(()) => false,
+        // (an operator that doesn't read never comes to the validator)
+        Err(again) => again == error && (error.offset > u64::from(offset) || has_failed(validator)),
+    }
+}
+
+fn outcome_in<R: WasmModuleResources>(
+    alloc: Global,
+    validator: &mut FuncValidator<R>,
+    before: &[u8],
+    operator: &[u8],
+) -> Option<String> {
+    declare(validator)?;
+    run(validator, before, 0).ok()?;
+    let offset = u32::try_from(before.len()).ok()?;
+    let state = state_of(alloc, validator)?;
+    match try_first(validator, operator, offset) {
+        Ok(()) => operands_of(alloc, validator),
+        Err(error) => {
+            let stays = state_of(alloc, validator)?.as_str() == state.as_str();
+            if !stays || !refusal_holds(validator, error, operator, offset) {
+                return None;
+            }
+            String::from_str(alloc, REFUSED).ok()
+        }
+    }
+}
+
+/// The operands after an operator that is tried after others, or `refused`. None where another one is refused, or where the refusal changes anything.
+pub fn outcome(
+    alloc: Global,
+    resources: &ListedResources,
+    features: WasmFeatures,
+    before: &[u8],
+    operator: &[u8],
+) -> Option<String> {
+    let mut validator = validator_of(alloc, resources, features)?;
+    let text = outcome_in(alloc, &mut validator, before, operator);
+    drop(validator);
+    text
+}
+
+/// Whether an operator after others is refused.
+pub fn is_refused(
+    alloc: Global,
+    resources: &ListedResources,
+    features: WasmFeatures,
+    before: &[u8],
+    operator: &[u8],
+) -> Option<bool> {
+    let text = outcome(alloc, resources, features, before, operator)?;
+    Some(text.as_str() == REFUSED)
+}
+
+fn after_in<R: WasmModuleResources>(
+    alloc: Global,
+    validator: &mut FuncValidator<R>,
+    before: &[u8],
+    operator: &[u8],
+) -> Option<String> {
+    declare(validator)?;
+    run(validator, before, 0).ok()?;
+    run(validator, operator, u32::try_from(before.len()).ok()?).ok()?;
+    operands_of(alloc, validator)
+}
+
+/// The operands after an operator that comes after others.
+pub fn after(
+    alloc: Global,
+    resources: &ListedResources,
+    features: WasmFeatures,
+    before: &[u8],
+    operator: &[u8],
+) -> Option<String> {
+    let mut validator = validator_of(alloc, resources, features)?;
+    let text = after_in(alloc, &mut validator, before, operator);
+    drop(validator);
+    text
+}

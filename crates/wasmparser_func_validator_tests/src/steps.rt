@@ -1,0 +1,113 @@
+//! What getters tell after each operator.
+
+use crate::cases::validator_of;
+use crate::running::run;
+use crate::states::{blocks_of, operands_of, state_of};
+use crate::validators::FUNCTION;
+use std::alloc::Global;
+use std::test::Fail;
+use wasm_core_base::features::WasmFeatures;
+use wasm_test_rows::fields::two_fields;
+use wasm_test_rows::values::bytes_of;
+use wasmparser_func_validator::func_validator::FuncValidator;
+use wasmparser_resources::module_resources::WasmModuleResources;
+use wasmparser_resources_tests::listed_resources::ListedResources;
+
+// Operators one after the other, and what stands after each: operands, and the open blocks with their types, heights, and a mark where the rest isn't reached.
+const STEPS: &str = "
+    4100 | i, b1:0
+    4200 | il, b1:0
+    0240 | il, b:2 b1:0
+    2000 | ili, b:2 b1:0
+    0440 | il, c:2 b:2 b1:0
+    00 | il, c:2! b:2 b1:0
+    4100 | ili, c:2! b:2 b1:0
+    1a | il, c:2! b:2 b1:0
+    05 | il, e:2 b:2 b1:0
+    0c00 | il, e:2! b:2 b1:0
+    d4 | il?, e:2! b:2 b1:0
+    1a | il, e:2! b:2 b1:0
+    0b | il, b:2 b1:0
+    0b | il, b1:0
+    0301 | il, o1:0 b1:0
+    2300 | ili, o1:0 b1:0
+    2300 | ilii, o1:0 b1:0
+    0407 | ili, c7:2 o1:0 b1:0
+    0b | ili, o1:0 b1:0
+    1a | il, o1:0 b1:0
+    1a | i, o1:0 b1:0
+    0b | i, b1:0
+    026309 | i, bp:1 b1:0
+    d009 | ip, bp:1 b1:0
+    0b | ip, b1:0
+    1a | i, b1:0
+    0f | , b1:0!
+    1b | ?, b1:0!
+    0b | i,
+";
+
+// Whether an operator leaves what a row says.
+fn step_holds<R: WasmModuleResources>(
+    alloc: Global,
+    validator: &mut FuncValidator<R>,
+    row: &str,
+) -> Option<bool> {
+    let (operator, state) = two_fields(row)?;
+    let (operands, blocks) = state.split_once(',')?;
+    run(validator, &bytes_of(alloc, operator)?, 0).ok()?;
+    let are_operands = operands_of(alloc, validator)?.as_str() == operands;
+    Some(are_operands && blocks_of(alloc, validator)?.as_str() == blocks.trim())
+}
+
+// The first row that doesn't hold.
+fn steps_hold<R: WasmModuleResources>(
+    alloc: Global,
+    validator: &mut FuncValidator<R>,
+) -> Result<(), &'static str> {
+    for row in STEPS.lines() {
+        if !row.trim().is_empty() && step_holds(alloc, validator, row) != Some(true) {
+            return Err(row);
+        }
+    }
+    Ok(())
+}
+
+// What is told from the start on.
+fn is_told(alloc: Global, validator: &FuncValidator<&ListedResources>) -> Option<bool> {
+    let is_told = validator.index() == FUNCTION
+        && *validator.features() == WasmFeatures::default()
+        && validator.resources().imported_functions == 1
+        && validator.len_locals() == 2
+        && validator.get_operand_type(0).is_none()
+        && validator.get_control_frame(1).is_none();
+    let state = state_of(alloc, validator)?;
+    Some(is_told && state.as_str() == " | b1:0 | il")
+}
+
+fn holds(alloc: Global, resources: &ListedResources) -> Result<(), &'static str> {
+    let features = WasmFeatures::default();
+    let Some(validator) = validator_of(alloc, resources, features) else {
+        return Err("no validator");
+    };
+    let mut validator = validator;
+    let is_told = is_told(alloc, &validator);
+    let answer = steps_hold(alloc, &mut validator);
+    drop(validator);
+    if is_told == Some(true) {
+        answer
+    } else {
+        Err("the start")
+    }
+}
+
+#[test]
+fn getters_tell_of_each_step(rt: HostRuntime) -> Result<(), Fail> {
+    let alloc = rt.alloc();
+    let Some(resources) = ListedResources::example(alloc) else {
+        assert!(rt; false);
+        return Ok(());
+    };
+    let answer = holds(alloc, &resources);
+    drop(resources);
+    Ok(answer?)
+}

@@ -1,4 +1,5 @@
 pub mod ContentLaws
+mod LocalLaws
 pub mod ModuleLaws
 pub mod PieceLaws
 pub mod Places

@@ -1,3 +1,4 @@
+pub mod Locals
 pub mod Modules
 pub mod Parsing
 pub mod Pieces

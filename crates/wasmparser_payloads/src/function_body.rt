@@ -3,10 +3,14 @@
 ghost use Rattle.std.specs.Prelude.{◌≡◌, ◌≤◌};
 ghost use Rattle.wasm_core_read.specs.Input.{end};
 ghost use Rattle.wasm_spec.specs.Bytes.{AreBytes};
+ghost use Rattle.wasmparser_payloads.specs.Locals.{IsPastLocals, ReadsPastLocals};
 
+use crate::locals::read_past_locals;
 use std::marker::Model;
 use std::ops::Range;
 use wasm_core_read::binary_reader::BinaryReader;
+use wasmparser_error::error::Error;
+use wasmparser_operators::operators_reader::OperatorsReader;
 use wasmparser_readers::passing::fork;
 
 /// The body of a function, without its size: its locals and its expression, unread.
@@ -37,6 +41,19 @@ impl<'a> FunctionBody<'a> {
         ensures are { AreBytes self.now.rest }
     {
         fork(&self.reader)
+    }
+
+    /// The operators of the body, which stand past its locals; none is read yet. The locals are read as the grammar has them: whether the
+    /// features allow their types, and whether there are too many, is not asked.
+    ///
+    /// # Errors
+    /// `Body` where the body doesn't begin with a list of locals.
+    #[tactic(auto, using(crate::proofs::LocalLaws::by_grammar))]
+    pub fn get_operators_reader(&self) -> Result<OperatorsReader<'a>, Error>
+        ensures exact { ReadsPastLocals self.now result }
+        ensures reads { IsPastLocals self.now result }
+    {
+        read_past_locals(&self.reader)
     }
 
     /// The bytes of the body.

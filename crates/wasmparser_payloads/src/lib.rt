@@ -4,6 +4,7 @@
 pub mod custom_section;
 pub mod function_body;
 pub mod laws;
+mod locals;
 pub mod parser;
 pub mod payload;
 pub mod payloads;

@@ -2,6 +2,8 @@
 #![tactic(auto)]
 
 #[cfg(test)]
+mod function_body;
+#[cfg(test)]
 mod payloads;
 #[cfg(test)]
 mod shown;

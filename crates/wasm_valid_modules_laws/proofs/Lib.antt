@@ -1,0 +1,10 @@
+pub mod BelowTest
+pub mod NamedWanted
+pub mod OneTest
+pub mod PlainItems
+pub mod PlainTypes
+pub mod Reaching
+pub mod SameTypes
+pub mod WantedBoth
+pub mod WrittenItems
+pub mod WrittenTypes

@@ -1,0 +1,4 @@
+pub mod ShapeCodes
+pub mod TreeCodes
+pub mod WantedTypes
+pub mod Written

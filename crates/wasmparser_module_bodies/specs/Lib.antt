@@ -1,0 +1,4 @@
+pub mod BodyVerdicts
+pub mod Examples
+pub mod LaterEntries
+pub mod TypesById

@@ -1,5 +1,5 @@
 -- The entries of made modules: their types, then their functions, then the bodies of these. Contexts are any of which lengths and types are known.
-use Rattle.std.proofs.Common.{◌≡◌, ℕ, zero, suc, ◌+◌, ◌<◌, ◌≤◌, true, List, [], ◌∷◌, length, map, is_some, Some, refl, ap, arith, inl, inr, length-append}
+use Rattle.std.proofs.Common.{◌≡◌, ℕ, zero, suc, ◌+◌, ◌<◌, ◌≤◌, true, List, [], ◌∷◌, length, map, is_some, refl, arith, inl, inr, length-append}
 use Rattle.std.specs.List.{AllByRecursion}
 use Rattle.std.proofs.lemmas.Bool.{le-ltb, lt-ltb}
 use Rattle.std.proofs.lemmas.Bool.Decides.{leb_tells}
@@ -7,17 +7,16 @@ use Rattle.wasm_spec.specs.Features.{Features}
 use Rattle.wasm_spec.specs.Gates.{is_allowed_sub}
 use Rattle.wasm_spec.specs.Limits.{Limit, Types, Functions}
 use Rattle.wasm_spec.specs.Trees.{DefType, types_after}
-use Rattle.wasm_spec.specs.Types.{FuncType, SubType, Single}
+use Rattle.wasm_spec.specs.Types.{SubType, Single}
 use Rattle.wasm_spec.proofs.GroupTrees.{length-types_after}
 use Rattle.wasm_validity.specs.Context.{Context, after, after_all}
 use Rattle.wasm_validity.specs.DefinedTypes.{func_type_at, PassesGroupLimit}
 use Rattle.wasm_validity.specs.Entries.{Entry, OfType, OfFunction, OfBody}
 use Rattle.wasm_validity.specs.Rules.{Keeps, PassLimit}
-use Rattle.wasm_smith.specs.Bounds.{IsSmall}
 use Rattle.wasm_smith.specs.Plain.{IsPlainFunction}
 use Rattle.wasm_gen_writer.proofs.EntryFolds.{Each, IsCounted, HasNoType}
 use Rattle.wasm_gen_writer.proofs.Forms.{all_append}
-use Rattle.wasm_gen_writer.proofs.MadeTypes.{lone, IsFewFunction, type_keeps, is_few_function}
+use Rattle.wasm_gen_writer.proofs.MadeTypes.{lone, IsFunction, type_keeps, is_function}
 
 -- ---- types
 
@@ -31,12 +30,12 @@ pub types_counted : (cx : Context) (types : List (SubType ℕ)) → length (afte
 types_counted cx [] = omega arith
 types_counted cx (type ∷ types) = omega (arith, types_counted (after cx (OfType (Single type))) types, one_more_type cx type)
 
-pub types_are_functions : (cx : Context) (types : List (SubType ℕ)) → AllByRecursion IsSmall types → AllByRecursion IsPlainFunction types
-    → AllByRecursion IsFewFunction cx.types → AllByRecursion IsFewFunction (after_all cx (of_types types)).types
-types_are_functions cx [] small plain h = h
-types_are_functions cx (type ∷ types) small plain h =
-    types_are_functions (after cx (OfType (Single type))) types small.1 plain.1
-    (all_append IsFewFunction cx.types (lone cx.types type ∷ []) h (is_few_function cx.types type small.0 plain.0, tt))
+pub types_are_functions : (cx : Context) (types : List (SubType ℕ)) → AllByRecursion IsPlainFunction types
+    → AllByRecursion IsFunction cx.types → AllByRecursion IsFunction (after_all cx (of_types types)).types
+types_are_functions cx [] plain h = h
+types_are_functions cx (type ∷ types) plain h =
+    types_are_functions (after cx (OfType (Single type))) types plain.1
+    (all_append IsFunction cx.types (lone cx.types type ∷ []) h (is_function cx.types type plain.0, tt))
 
 -- functions are counted as before
 pub functions_as_before : (cx : Context) (types : List (SubType ℕ))
@@ -82,23 +81,17 @@ types_past cx (type ∷ types) few many = elim (leb_tells (length cx.types + 1) 
 abbrev pub of_functions : List ℕ → List Entry
 of_functions functions = map (λ x. OfFunction x) functions
 
--- an index below the number of types names a function type with few parameters
-pub record NamesFunction (types : List DefType) (index : ℕ) : Type 0 where
-  pub func : FuncType DefType
-  pub named : func_type_at types index ≡ Some func
-  pub few : length func.params ≤ 20
+-- an index below the number of types names a function type
+function_named : (types : List DefType) (index : ℕ) → AllByRecursion IsFunction types → index < length types → is_some (func_type_at types index) ≡ true
+function_named [] index h within = absurd (omega (arith, within))
+function_named (type ∷ types) zero h within = h.0
+function_named (type ∷ types) (suc index) h within = function_named types index h.1 (omega (arith, within))
 
-pub names_function : (types : List DefType) (index : ℕ) → AllByRecursion IsFewFunction types → index < length types → NamesFunction types index
-names_function [] index h within = absurd (omega (arith, within))
-names_function (type ∷ types) zero h within = record { func = h.0.func; named = h.0.is; few = h.0.few }
-names_function (type ∷ types) (suc index) h within =
-    let n = names_function types index h.1 (omega (arith, within)) in record { func = n.func; named = n.named; few = n.few }
-
-pub functions_keep : (features : Features) (cx : Context) (functions : List ℕ) → AllByRecursion IsFewFunction cx.types
+pub functions_keep : (features : Features) (cx : Context) (functions : List ℕ) → AllByRecursion IsFunction cx.types
     → AllByRecursion (λ index. index < length cx.types) functions → Each (Keeps features) cx (of_functions functions)
 functions_keep features cx [] types h = tt
 functions_keep features cx (index ∷ functions) types h =
-    (ap is_some (names_function cx.types index types h.0).named, functions_keep features (after cx (OfFunction index)) functions types h.1)
+    (function_named cx.types index types h.0, functions_keep features (after cx (OfFunction index)) functions types h.1)
 
 -- one function more
 one_more_function : (cx : Context) (index : ℕ) → length (after cx (OfFunction index)).own_functions ≡ length cx.own_functions + 1
@@ -126,10 +119,6 @@ functions_past cx (index ∷ functions) few many =
       | inr past ↦ inl (inl (refl, lt-ltb 1000000 (suc n) past.1))
     ]
 
-pub types_kept : (cx : Context) (functions : List ℕ) → (after_all cx (of_functions functions)).types ≡ cx.types
-types_kept cx [] = refl
-types_kept cx (index ∷ functions) = types_kept (after cx (OfFunction index)) functions
-
 -- ---- bodies
 
 abbrev pub of_bodies : List (List ℕ) → List Entry
@@ -146,7 +135,3 @@ bodies_within cx (body ∷ bodies) h = (rw (le-ltb 7654321 (length body) h.0) re
 pub bodies_have_none : (limit : Limit) (cx : Context) (bodies : List (List ℕ)) → Each (HasNoType limit) cx (of_bodies bodies)
 bodies_have_none limit cx [] = tt
 bodies_have_none limit cx (body ∷ bodies) = (λ p. p, bodies_have_none limit cx bodies)
-
-pub unchanged : (cx : Context) (bodies : List (List ℕ)) → after_all cx (of_bodies bodies) ≡ cx
-unchanged cx [] = refl
-unchanged cx (body ∷ bodies) = unchanged cx bodies

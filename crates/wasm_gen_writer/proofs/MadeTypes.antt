@@ -1,14 +1,13 @@
 -- The types of made modules, each by itself after others: they keep the rules on types, pass no limit, and are function types.
-use Rattle.std.proofs.Common.{◌≡◌, ℕ, zero, suc, ◌<◌, ◌≤◌, ◌⊎◌, Bool, true, false, List, [], ◌∷◌, length, Some, refl, sym, subst, ap, arith, inl, inr}
+use Rattle.std.proofs.Common.{◌≡◌, ℕ, zero, suc, ◌<◌, ◌≤◌, ◌⊎◌, Bool, true, false, List, [], ◌∷◌, length, is_some, Some, refl, sym, subst, ap, arith, inl, inr}
 use Rattle.std.specs.List.{AllByRecursion, flat_map, slice_get}
 use Rattle.std.specs.Option.{option_and_then, option_map}
-use Rattle.std.proofs.lemmas.List.{length-map}
 use Rattle.wasm_spec.specs.Features.{Features}
 use Rattle.wasm_spec.specs.Gates.{is_allowed_sub}
 use Rattle.wasm_spec.specs.Groups.{PassesLimit, many_items, many_links, items_in, reference_bound}
 use Rattle.wasm_spec.specs.Limits.{Limit, Types, Groups, Functions, Params, Results, Depth, IsPassedBy, most, total_of_types}
 use Rattle.wasm_spec.specs.Trees.{DefType, reference_of, seen_from, tree_of, unrolled}
-use Rattle.wasm_spec.specs.TypeReferences.{val_refs, func_refs, composite_map, func_map, sub_map, subs_map, val_map}
+use Rattle.wasm_spec.specs.TypeReferences.{val_refs, func_refs, composite_map, sub_map, subs_map}
 use Rattle.wasm_spec.specs.Types.{Abstract, Concrete, ValType, I32, I64, F32, F64, V128, Ref, FuncType, CompositeType, FuncComposite, StructComposite, ArrayComposite, ContComposite, SubType, Single}
 use Rattle.wasm_spec.proofs.GroupTrees.{opened-roll}
 use Rattle.wasm_spec.proofs.MappedTypes.{items_in_map}
@@ -16,6 +15,7 @@ use Rattle.wasm_spec.proofs.TypeLimits.{depth_zero, passes_none}
 use Rattle.wasm_validity.specs.Context.{Context}
 use Rattle.wasm_validity.specs.DefinedTypes.{func_in, func_type_of, PassesGroupLimit}
 use Rattle.wasm_validity.specs.Rules.{KeepsTypeRules}
+use Rattle.wasm_valid_modules.specs.ModuleBodies.{func_type_in}
 use Rattle.wasm_smith.specs.Bounds.{IsSmall}
 use Rattle.wasm_smith.specs.Plain.{IsPlain, IsPlainFunction}
 
@@ -88,25 +88,31 @@ lone_unrolls : (before : List DefType) (type : SubType ℕ) → unrolled (lone b
 lone_unrolls before type =
     ap (λ types. option_map (sub_map (seen_from (tree_of before (Single type)))) (slice_get types 0)) (opened-roll (subs_map (reference_of before) (type ∷ [])))
 
--- a function type with few parameters
-pub record IsFewFunction (type : DefType) : Type 0 where
-  pub func : FuncType DefType
-  pub is : func_type_of type ≡ Some func
+-- a function type
+abbrev pub IsFunction : DefType → Type 0
+IsFunction type = is_some (func_type_of type) ≡ true
+
+lone_function : (before : List DefType) (func : FuncType ℕ) → IsFunction (lone before (of_func func))
+lone_function before func = ap (λ o. is_some (option_and_then (λ sub. func_in sub.composite_type) o)) (lone_unrolls before (of_func func))
+
+pub is_function : (before : List DefType) (type : SubType ℕ) → IsPlainFunction type → IsFunction (lone before type)
+is_function before type plain = by_form (λ t. IsFunction (lone before t)) (λ func params results. lone_function before func) type plain
+
+-- what an index names among types as they are written: a function type with few parameters
+pub record NamesFunction (types : List (SubType ℕ)) (index : ℕ) : Type 0 where
+  pub func : FuncType ℕ
+  pub named : func_type_in types index ≡ Some func
   pub few : length func.params ≤ 20
 
-lone_function : (before : List DefType) (func : FuncType ℕ) → length func.params ≤ 20 → IsFewFunction (lone before (of_func func))
-lone_function before func few =
-    let seen = seen_from (tree_of before (Single (of_func func))) in
-    let written = func_map (reference_of before) func in
-    record {
-      func = func_map seen written;
-      is = ap (λ o. option_and_then (λ sub. func_in sub.composite_type) o) (lone_unrolls before (of_func func));
-      few = omega (arith, few, length-map func.params (val_map (reference_of before)), length-map written.params (val_map seen));
-    }
+names_first : (type : SubType ℕ) (types : List (SubType ℕ)) → IsSmall type → IsPlainFunction type → NamesFunction (type ∷ types) 0
+names_first type types small plain =
+    by_form (λ t. IsSmall t → NamesFunction (t ∷ types) 0) (λ func params results few. record { func = func; named = refl; few = few.0 }) type plain small
 
-pub is_few_function : (before : List DefType) (type : SubType ℕ) → IsSmall type → IsPlainFunction type → IsFewFunction (lone before type)
-is_few_function before type small plain =
-    by_form (λ t. IsSmall t → IsFewFunction (lone before t)) (λ func params results few. lone_function before func few.0) type plain small
+pub names_function : (types : List (SubType ℕ)) (index : ℕ) → AllByRecursion IsSmall types → AllByRecursion IsPlainFunction types → index < length types → NamesFunction types index
+names_function [] index small plain within = absurd (omega (arith, within))
+names_function (type ∷ types) zero small plain within = names_first type types small.0 plain.0
+names_function (type ∷ types) (suc index) small plain within =
+    let n = names_function types index small.1 plain.1 (omega (arith, within)) in record { func = n.func; named = n.named; few = n.few }
 
 -- ---- limits
 

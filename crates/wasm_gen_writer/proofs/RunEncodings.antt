@@ -2,7 +2,7 @@
 use Rattle.std.proofs.Common.{◌≡◌, ◌≢◌, ℕ, ◌+◌, ◌*◌, ◌<◌, ◌≤◌, ◌^◌, true, false, List, [], ◌∷◌, ◌++◌, length, replicate, refl, sym, ap, ◌∙◌, arith, append_assoc, length-append, inl, inr}
 use Rattle.std.specs.List.{AllByRecursion, flat_map}
 use Rattle.std.proofs.lemmas.List.{replicate_more}
-use Rattle.wasm_spec.specs.Bodies.{Run, IsRun}
+use Rattle.wasm_bodies.specs.Bodies.{Run, IsRun}
 use Rattle.wasm_spec.specs.Bytes.{IsByte, AreBytes, IsList}
 use Rattle.wasm_spec.specs.Types.{ValType}
 use Rattle.wasm_spec.specs.Shortest.{unsigned_encoding, list_encoding}
@@ -13,7 +13,7 @@ use Rattle.wasm_gen_writer.specs.Encodings.{is_same_type, run_encoding, runs_fro
 use Rattle.wasm_gen_writer.specs.Written.{AreMerged}
 use Rattle.wasm_gen_writer.proofs.Forms.{all_append, list_is, list_bytes, list_length}
 use Rattle.wasm_gen_writer.proofs.Numbers.{number_is, number_bytes}
-use Rattle.wasm_gen_writer.proofs.Values.{same_type, other_type, same_or_other, local_is, value_bytes, plain_length}
+use Rattle.wasm_gen_writer.proofs.Values.{same_type, other_type, same_or_other, value_is, value_bytes, plain_length}
 
 -- ---- a run goes on or ends
 
@@ -110,7 +110,7 @@ plain_runs (first ∷ others) h few = plain_from 1 first others h.0 h.1 (omega (
 
 run_is : (run : Run) → IsPlainRun run → IsRun (run_encoding run) run
 unfolding run_encoding
-run_is run h = (unsigned_encoding run.count, val_encoding run.type, refl, number_is run.count h.0, local_is run.type h.1)
+run_is run h = (unsigned_encoding run.count, val_encoding run.type, refl, number_is run.count h.0, value_is run.type h.1)
 
 pub runs_encoding_is : (locals : List (ValType ℕ)) → AllByRecursion IsPlain locals → length locals < 2 ^ 32 → IsList IsRun (list_encoding run_encoding (runs_of locals)) (runs_of locals)
 runs_encoding_is locals h few = list_is IsRun run_encoding IsPlainRun run_is (runs_of locals) (plain_runs locals h few) (omega (arith, few, few_runs locals))

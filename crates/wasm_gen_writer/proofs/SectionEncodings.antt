@@ -1,12 +1,12 @@
 -- The encoding of a made module reads as its sections.
 use Rattle.std.proofs.Common.{◌≡◌, ℕ, ◌<◌, ◌≤◌, ◌^◌, Bool, List, [], ◌∷◌, ◌++◌, length, map, refl, sym, subst, ap, ◌∙◌, arith, append_assoc}
-use Rattle.std.specs.List.{AllByRecursion}
+use Rattle.std.specs.List.{AllByRecursion, flat_map}
 use Rattle.std.proofs.lemmas.List.{append-nil, length-map, nil_from_length}
 use Rattle.wasm_spec.specs.Bytes.{IsU32, IsItems}
 use Rattle.wasm_spec.specs.Grammar.{IsSection, IsModule, AreOrdered}
 use Rattle.wasm_spec.specs.Limits.{Types, Functions, most}
 use Rattle.wasm_spec.specs.ModuleParts.{IsBody}
-use Rattle.wasm_spec.specs.Syntax.{Section, TypeSection, FunctionSection, CodeSection, functions_of, bodies_of, data_counts_of}
+use Rattle.wasm_spec.specs.Syntax.{Section, TypeSection, FunctionSection, CodeSection, members, types_of, functions_of, bodies_of, data_counts_of}
 use Rattle.wasm_spec.specs.TypeGrammar.{IsRecGroup}
 use Rattle.wasm_spec.specs.Types.{ValType, SubType, Single}
 use Rattle.wasm_spec.specs.Shortest.{unsigned_encoding, list_encoding, section_encoding}
@@ -28,6 +28,16 @@ use Rattle.wasm_gen_writer.proofs.TypeEncodings.{IsSmallPlain, type_is, type_len
 abbrev pub sections : List (SubType ℕ) → List ℕ → List (List ℕ) → List Section
 sections types funcs bodies =
     unless_empty types (TypeSection (map Single types)) ++ unless_empty funcs (FunctionSection funcs) ++ unless_empty funcs (CodeSection bodies)
+
+one_by_one : (types : List (SubType ℕ)) → flat_map members (map Single types) ≡ types
+one_by_one [] = refl
+one_by_one (type ∷ types) = ap (λ l. type ∷ l) (one_by_one types)
+
+pub all_types_are : (types : List (SubType ℕ)) (funcs : List ℕ) (bodies : List (List ℕ)) → types_of (sections types funcs bodies) ≡ types
+all_types_are [] [] bodies = refl
+all_types_are [] (f ∷ fs) bodies = refl
+all_types_are (t ∷ ts) [] bodies = append-nil (flat_map members (map Single (t ∷ ts))) ∙ one_by_one (t ∷ ts)
+all_types_are (t ∷ ts) (f ∷ fs) bodies = append-nil (flat_map members (map Single (t ∷ ts))) ∙ one_by_one (t ∷ ts)
 
 pub functions_are : (types : List (SubType ℕ)) (funcs : List ℕ) (bodies : List (List ℕ)) → functions_of (sections types funcs bodies) ≡ funcs
 functions_are [] [] bodies = refl

@@ -11,18 +11,19 @@ use Rattle.wasm_spec.specs.Types.{ValType, SubType}
 use Rattle.wasm_validity.specs.Context.{Context, after_all, at_first}
 use Rattle.wasm_validity.specs.Entries.{Entry, entries_of}
 use Rattle.wasm_validity.specs.Rules.{Keeps, KeepRules, KeepLimits, PassLimit}
-use Rattle.wasm_validity.specs.Validity.{BodyAt, IsTypedBody, IsValid}
+use Rattle.wasm_valid_modules.specs.ModuleBodies.{BodyAt, func_type_in}
+use Rattle.wasm_valid_modules.specs.Validity.{IsTypedBody, IsValid}
 use Rattle.wasm_smith.specs.Bounds.{IsSmall, IsWithinBounds}
 use Rattle.wasm_smith.specs.Made.{Made}
-use Rattle.wasm_smith.specs.Plain.{IsPlainFunction, IsPlainModule}
+use Rattle.wasm_smith.specs.Plain.{IsPlain, IsPlainFunction, IsPlainModule}
 use Rattle.wasm_smith.specs.Parts.{Config}
 use Rattle.wasm_smith.specs.Validity.{IsValidByIndex, func_type_at as written_at}
 use Rattle.wasm_gen_writer.specs.Written.{IsUnreachableBody, AreUnreachableBodies, sections_with}
-use Rattle.wasm_gen_writer.proofs.EntryFolds.{Each, IsCounted, HasNoType, each_append, after_append, rules_of, limits_of, not_passed, passed_first, passed_later}
+use Rattle.wasm_gen_writer.proofs.EntryFolds.{Each, IsCounted, HasNoType, each_append, rules_of, limits_of, not_passed, passed_first, passed_later}
 use Rattle.wasm_gen_writer.proofs.Forms.{all_are, all_at, both}
-use Rattle.wasm_gen_writer.proofs.MadeEntries.{of_types, of_functions, of_bodies, types_counted, types_are_functions, functions_as_before, types_keep, types_within, types_have_none, types_past, NamesFunction, names_function, functions_keep, functions_within, functions_have_none, functions_past, types_kept, bodies_keep, bodies_within, bodies_have_none, unchanged}
-use Rattle.wasm_gen_writer.proofs.MadeTypes.{group_passes_none, CountsNoItems, no_items_pass}
-use Rattle.wasm_gen_writer.proofs.SectionEncodings.{functions_are, bodies_are, sections}
+use Rattle.wasm_gen_writer.proofs.MadeEntries.{of_types, of_functions, of_bodies, types_counted, types_are_functions, functions_as_before, types_keep, types_within, types_have_none, types_past, functions_keep, functions_within, functions_have_none, functions_past, bodies_keep, bodies_within, bodies_have_none}
+use Rattle.wasm_gen_writer.proofs.MadeTypes.{group_passes_none, CountsNoItems, no_items_pass, names_function}
+use Rattle.wasm_gen_writer.proofs.SectionEncodings.{all_types_are, functions_are, bodies_are, sections}
 use Rattle.wasm_gen_writer.proofs.Typed.{bodies_length, as_many, body_is_typed}
 
 -- ---- what the sections say
@@ -59,7 +60,6 @@ in_turn P types functions bodies t f b =
 
 -- what is asked of the types and the functions of a module
 record IsNamed (features : Features) (types : List (SubType ℕ)) (functions : List ℕ) : Type 0 where
-  small : AllByRecursion IsSmall types
   plain : AllByRecursion IsPlainFunction types
   allowed : AllByRecursion (λ type. is_allowed_sub features type ≡ true) types
   named : AllByRecursion (λ index. index < length types) functions
@@ -67,7 +67,7 @@ record IsNamed (features : Features) (types : List (SubType ℕ)) (functions : L
 rules_kept : (features : Features) (types : List (SubType ℕ)) (functions : List ℕ) (bodies : List (List ℕ)) → IsNamed features types functions
     → KeepRules features at_first (said types functions bodies)
 rules_kept features types functions bodies h =
-    let known = types_are_functions at_first types h.small h.plain tt in
+    let known = types_are_functions at_first types h.plain tt in
     let named = all_are (λ index. index < length types) (λ index. index < length (typed types).types)
     (λ index below. omega (arith, below, types_counted at_first types)) functions h.named in
     rules_of features at_first (said types functions bodies) (in_turn (Keeps features) types functions bodies
@@ -181,47 +181,33 @@ pair_at (types ∷ others) (body ∷ bodies) (suc i) h within =
     let p = pair_at others bodies i h.1 (omega (arith, within)) in
     record { types = p.types; body = p.body; declared = p.declared; has = p.has; is = p.is }
 
--- what is known after all sections of types, of functions and of bodies of these
-types_of_all : (types : List (SubType ℕ)) (functions : List ℕ) (bodies : List (List ℕ)) → (after_all at_first (said types functions bodies)).types ≡ (typed types).types
-types_of_all types functions bodies =
-    ap (λ (cx : Context). cx.types) (after_append at_first (of_types types) (of_functions functions ++ of_bodies bodies) ∙ after_append (typed types) (of_functions functions) (of_bodies bodies)
-    ∙ unchanged (after_all (typed types) (of_functions functions)) bodies)
-    ∙ types_kept (typed types) functions
-
 -- a valid module's locals and bodies
 record HasBodies (features : Features) (m : Made) (bodies : List (List ℕ)) : Type 0 where
   small : AllByRecursion IsSmall m.types
-  plain : AllByRecursion IsPlainFunction m.types
+  plain : IsPlainModule m
   few_locals : AllByRecursion (λ ls. length ls ≤ 100) m.locals
   many : length bodies ≡ length m.funcs
   unreachable : AreUnreachableBodies m.locals bodies
   valid : IsValidByIndex features m
 
-type_named : (m : Made) (bodies : List (List ℕ)) (index : ℕ) → AllByRecursion IsSmall m.types → AllByRecursion IsPlainFunction m.types → index < length m.types
-    → length bodies ≡ length m.funcs → NamesFunction (after_all at_first (entries_of (sections_with m bodies))).types index
-type_named m bodies index small plain below many =
-    let entries = entries_are m.types m.funcs bodies (no_bodies m.funcs bodies many) in
-    let same = ap (λ l. (after_all at_first l).types) entries ∙ types_of_all m.types m.funcs bodies in
-    subst (λ types. NamesFunction types index) (sym same)
-    (names_function (typed m.types).types index (types_are_functions at_first m.types small plain tt) (omega (arith, below, types_counted at_first m.types)))
-
 body_at : (features : Features) (m : Made) (bodies : List (List ℕ)) → HasBodies features m bodies
-    → (place : ℕ) → place < length m.funcs → BodyAt (IsTypedBody features) (sections_with m bodies) place
+    → (place : ℕ) → place < length m.funcs → BodyAt (IsTypedBody features (sections_with m bodies)) (sections_with m bodies) place
 body_at features m bodies h place below =
     let index = at m.funcs place below in
     let named = all_at (λ index. is_some (written_at m.types index) ≡ true) m.funcs place index.0 h.valid.funcs index.1 in
-    let type = type_named m bodies index.0 h.small h.plain (within m.types index.0 named) h.many in
+    let type = names_function m.types index.0 h.small h.plain.types (within m.types index.0 named) in
     let pair = pair_at m.locals bodies place h.unreachable (omega (arith, below, h.valid.bodies)) in
     let few : length pair.types ≤ 100 = all_at (λ (ls : List (ValType ℕ)). length ls ≤ 100) m.locals place pair.types h.few_locals pair.declared in
+    let plain = all_at (AllByRecursion IsPlain) m.locals place pair.types h.plain.locals pair.declared in
     let allowed = all_at (AllByRecursion (λ (t : ValType ℕ). is_allowed features t ≡ true)) m.locals place pair.types h.valid.locals pair.declared in
     record {
       index = index.0;
       type = type.func;
       body = pair.body;
       indexed = ap (λ (l : List ℕ). slice_get l place) (functions_are m.types m.funcs bodies) ∙ index.1;
-      named = type.named;
+      named = ap (λ (l : List (SubType ℕ)). func_type_in l index.0) (all_types_are m.types m.funcs bodies) ∙ type.named;
       has = ap (λ (l : List (List ℕ)). slice_get l place) (bodies_are m.types m.funcs bodies h.many) ∙ pair.has;
-      holds = λ is_below. body_is_typed features is_below type.func pair.types pair.body type.few few allowed pair.is;
+      holds = λ is_below tells. body_is_typed features _ type.func pair.types pair.body type.few few plain allowed pair.is;
     }
 
 -- ---- modules
@@ -232,12 +218,12 @@ is_valid c m features bodies b plain few_types few_funcs v h =
     let many = as_many m.locals bodies h ∙ v.bodies in
     let entries = entries_are m.types m.funcs bodies (no_bodies m.funcs bodies many) in
     let named = all_are (λ index. is_some (written_at m.types index) ≡ true) (λ index. index < length m.types) (within m.types) m.funcs v.funcs in
-    let asked : IsNamed features m.types m.funcs = record { small = b.small_types; plain = plain.types; allowed = v.types; named = named } in
-    let short = all_are (λ (body : List ℕ). length body ≤ 707) (λ body. length body ≤ 7654321) (λ body p. omega (arith, p)) bodies (bodies_length m.locals bodies b.few_locals h) in
+    let asked : IsNamed features m.types m.funcs = record { plain = plain.types; allowed = v.types; named = named } in
+    let short = all_are (λ (body : List ℕ). length body ≤ 707) (λ body. length body ≤ 7654321) (λ body p. omega (arith, p)) bodies (bodies_length m.locals bodies b.few_locals plain.locals h) in
     let few : HasFew m.types m.funcs bodies = record { few_types = few_types; few_functions = few_funcs; short = short } in
     let has : HasBodies features m bodies = record {
       small = b.small_types;
-      plain = plain.types;
+      plain = plain;
       few_locals = b.few_locals;
       many = many;
       unreachable = h;

@@ -1,7 +1,6 @@
 -- Encodings of value types.
 use Rattle.std.proofs.Common.{◌≡◌, ◌≢◌, ◌⊎◌, ℕ, ◌<◌, ◌≤◌, Bool, true, false, List, length, Option, Some, refl, sym, subst, ap, ◌∙◌, arith, inl, inr}
 use Rattle.std.proofs.lemmas.Bool.{eq-eqb, eqb-true}
-use Rattle.wasm_spec.specs.Bodies.{IsLocalType}
 use Rattle.wasm_spec.specs.TypeGrammar.{heap_code, IsValType}
 use Rattle.wasm_spec.specs.Types.{AbstractHeapType, Func, Extern, Any, None, NoExtern, NoFunc, Eq, Struct, Array, I31, Exn, NoExn, Cont, NoCont, HeapType, Abstract, Concrete, ValType, I32, I64, F32, F64, V128, Ref}
 use Rattle.wasm_core.specs.TypeReading.{look_up, val_type_codes}
@@ -21,30 +20,19 @@ value_is (Ref true (Abstract heap)) h = inr refl
 value_is (Ref false (Abstract heap)) h = absurd cc
 value_is (Ref nullable (Concrete index)) h = absurd h
 
--- it is the type of a local
-pub local_is : (type : ValType ℕ) → IsPlain type → IsLocalType (val_encoding type) type
-local_is I32 h = (value_is I32 h, refl)
-local_is I64 h = (value_is I64 h, refl)
-local_is F32 h = (value_is F32 h, refl)
-local_is F64 h = (value_is F64 h, refl)
-local_is V128 h = (value_is V128 h, refl)
-local_is (Ref true (Abstract heap)) h = (value_is (Ref true (Abstract heap)) h, refl)
-local_is (Ref false (Abstract heap)) h = absurd cc
-local_is (Ref nullable (Concrete index)) h = absurd h
-
--- each encoding of the type of a local is one byte, or two
-pub value_length : (bytes : List ℕ) (type : ValType ℕ) → IsLocalType bytes type → length bytes ≤ 2
-value_length bytes I32 h = omega (arith, ap length h.0)
-value_length bytes I64 h = omega (arith, ap length h.0)
-value_length bytes F32 h = omega (arith, ap length h.0)
-value_length bytes F64 h = omega (arith, ap length h.0)
-value_length bytes V128 h = omega (arith, ap length h.0)
-value_length bytes (Ref true (Abstract heap)) h = elim h.0 [
+-- each encoding of such a type is one byte, or two
+pub value_length : (bytes : List ℕ) (type : ValType ℕ) → IsPlain type → IsValType bytes type → length bytes ≤ 2
+value_length bytes I32 plain h = omega (arith, ap length h)
+value_length bytes I64 plain h = omega (arith, ap length h)
+value_length bytes F32 plain h = omega (arith, ap length h)
+value_length bytes F64 plain h = omega (arith, ap length h)
+value_length bytes V128 plain h = omega (arith, ap length h)
+value_length bytes (Ref true (Abstract heap)) plain h = elim h [
   | inl m ↦ omega (arith, ap length m.1, ap length m.2)
   | inr e ↦ omega (arith, ap length e)
 ]
-value_length bytes (Ref true (Concrete index)) h = let f = h.1 in absurd cc
-value_length bytes (Ref false heap) h = let f = h.1 in absurd cc
+value_length bytes (Ref false (Abstract heap)) plain h = absurd cc
+value_length bytes (Ref nullable (Concrete index)) plain h = absurd plain
 
 -- the one that is written is one byte
 pub plain_length : (type : ValType ℕ) → IsPlain type → length (val_encoding type) ≡ 1

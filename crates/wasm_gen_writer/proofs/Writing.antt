@@ -3,7 +3,7 @@ use Rattle.std.proofs.Common.{◌≡◌, ◌↔◌, ℕ, zero, suc, true, false,
 use Rattle.std.proofs.lemmas.Bool.{eqb-true}
 use Rattle.std.proofs.lemmas.List.{append-nil}
 use Rattle.std.specs.List.{AllByRecursion, flat_map}
-use Rattle.wasm_spec.specs.Bodies.{Run}
+use Rattle.wasm_bodies.specs.Bodies.{Run}
 use Rattle.wasm_spec.specs.Shortest.{unsigned_encoding, list_encoding, framed_encoding, section_encoding}
 use Rattle.wasm_spec.specs.Types.{ValType}
 use Rattle.wasm_core.specs.CoreTypes.{val_type}

@@ -1,6 +1,6 @@
 -- The encoding of a made module: each number is in as few bytes as there can be, and neighbouring locals of one type are one run.
 use Rattle.std.specs.Prelude.{ℕ, ◌+◌, Bool, true, false, List, [], ◌∷◌, ◌++◌, nat_eq, if◌then◌else◌}
-use Rattle.wasm_spec.specs.Bodies.{Run}
+use Rattle.wasm_bodies.specs.Bodies.{Run}
 use Rattle.wasm_spec.specs.Grammar.{header}
 use Rattle.wasm_spec.specs.Shortest.{unsigned_encoding, list_encoding, framed_encoding, section_encoding}
 use Rattle.wasm_spec.specs.TypeGrammar.{heap_code}

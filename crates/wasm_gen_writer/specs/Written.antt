@@ -1,13 +1,13 @@
 -- The sections of a made module, and what it means that they are written.
 use Rattle.std.specs.Prelude.{◌≡◌, ◌≢◌, ⊤, ℕ, Bool, ◌<◌, List, [], ◌∷◌, ◌++◌, map, replicate}
 use Rattle.std.specs.List.{AllZip, flat_map}
-use Rattle.wasm_spec.specs.Bodies.{Run, IsRun}
+use Rattle.wasm_bodies.specs.Bodies.{Run, IsRun}
 use Rattle.wasm_spec.specs.Bytes.{IsList}
 use Rattle.wasm_spec.specs.Features.{Features}
 use Rattle.wasm_spec.specs.Grammar.{IsModule}
 use Rattle.wasm_spec.specs.Syntax.{Section, TypeSection, FunctionSection, CodeSection}
 use Rattle.wasm_spec.specs.Types.{ValType, Single}
-use Rattle.wasm_validity.specs.Validity.{IsValid}
+use Rattle.wasm_valid_modules.specs.Validity.{IsValid}
 use Rattle.wasm_smith.specs.Bounds.{IsWithinBounds}
 use Rattle.wasm_smith.specs.Config.{AreFeaturesOf}
 use Rattle.wasm_smith.specs.Made.{Made}

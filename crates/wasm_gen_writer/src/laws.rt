@@ -16,7 +16,7 @@ ghost use Rattle.wasm_spec.specs.Limits.{Limit, Types, Functions, most};
 ghost use Rattle.wasm_validity.specs.Context.{at_first};
 ghost use Rattle.wasm_validity.specs.Entries.{entries_of};
 ghost use Rattle.wasm_validity.specs.Rules.{PassLimit};
-ghost use Rattle.wasm_validity.specs.Validity.{IsValid};
+ghost use Rattle.wasm_valid_modules.specs.Validity.{IsValid};
 
 /// A made module of plain types that is valid by index is valid, whatever the encodings of its bodies, unless it has too
 /// many types or functions.

@@ -21,7 +21,7 @@ pub struct Run {
 
 impl Model for Run {
     ghost use Rattle.wasm_core.specs.CoreTypes.{val_type};
-    ghost use Rattle.wasm_spec.specs.Bodies as spec;
+    ghost use Rattle.wasm_bodies.specs.Bodies as spec;
 
     ghost Value = { spec.Run };
 

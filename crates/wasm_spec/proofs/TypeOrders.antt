@@ -1,11 +1,10 @@
 -- Subtyping and matching are reflexive and transitive, and where rules are kept a type matches what it is below.
 use Rattle.std.proofs.Common.{◌≡◌, true, false, List, [], ◌∷◌, refl, sym, ◌∙◌, subst, Option, Some}
 use Rattle.std.specs.List.{AllByRecursion, Contains}
-use Rattle.wasm_spec.specs.Bodies.{is_ref}
 use Rattle.wasm_spec.specs.Groups.{Extends, ExtendsSupertypes}
 use Rattle.wasm_spec.specs.Matching.{Pairwise, FrontPairwise, StorageBelow, FieldMatches, ResultsMatch, CompositeMatches}
 use Rattle.wasm_spec.specs.Subtyping.{Closure, same, step, abstract_of, Declared, Link, HeapBelow, RefBelow, ValBelow}
-use Rattle.wasm_spec.specs.Types.{Concrete, RefType, ValType, I32, I64, F32, F64, V128, Ref, StorageType, I8, I16, Val, FieldType, CompositeType, FuncComposite, StructComposite, ArrayComposite, ContComposite, SubType}
+use Rattle.wasm_spec.specs.Types.{Concrete, RefType, ValType, I32, I64, F32, F64, V128, Ref, StorageType, I8, I16, Val, FieldType, CompositeType, FuncComposite, StructComposite, ArrayComposite, ContComposite, SubType, is_ref}
 use Rattle.wasm_spec.proofs.Closures.{joined, complete, same_defined}
 use Rattle.wasm_spec.proofs.Elements.{all_contains}
 

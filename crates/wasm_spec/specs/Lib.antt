@@ -1,4 +1,3 @@
-pub mod Bodies
 pub mod Bytes
 pub mod ConstantGrammar
 pub mod Constants
@@ -10,13 +9,11 @@ pub mod Groups
 pub mod Limits
 pub mod Matching
 pub mod ModuleParts
-pub mod Operators
 pub mod ReferenceMaps
 pub mod Shortest
 pub mod SmallIndexes
 pub mod Spaces
 pub mod Subtyping
-pub mod Supported
 pub mod Syntax
 pub mod Trees
 pub mod TypeEncodings

@@ -1,11 +1,9 @@
 //! Laws of the definitions, and worked examples.
 
 ghost use Rattle.std.specs.Prelude.{◌≡◌, ◌≤◌, ◌++◌, ℕ, Bool, List, [], ◌∷◌, length, true, false, map};
-ghost use Rattle.wasm_spec.specs.Bodies.{Context, Run, AreLocals, IsBodyOf, IsFunctionBody};
 ghost use Rattle.wasm_spec.specs.Bytes.{IsByte, AreBytes, IsItems, IsUnsigned};
 ghost use Rattle.wasm_spec.specs.Features.{Flag, FunctionReferences, Gc, StackSwitching, bit_of, has, default_features, is_default, needs_type_canonicalization};
 ghost use Rattle.wasm_spec.specs.Grammar.{AreOrdered, IsModule, header};
-ghost use Rattle.wasm_spec.specs.Operators.{End};
 ghost use Rattle.wasm_spec.specs.Spaces.{sizes_of, together};
 ghost use Rattle.wasm_spec.specs.Syntax.{Section, Custom, TypeSection, FunctionSection, CodeSection};
 ghost use Rattle.wasm_spec.specs.TypeGrammar.{IsValType, IsFuncType};
@@ -91,18 +89,4 @@ pub fn small_numbers()
     ensures another { ¬ (IsUnsigned 32 (0x84 ∷ 0x80 ∷ 0x80 ∷ 0x80 ∷ 0x00 ∷ []) 5) }
     ensures too_long { (n : ℕ) → ¬ (IsUnsigned 32 (0x84 ∷ 0x80 ∷ 0x80 ∷ 0x80 ∷ 0x80 ∷ 0x00 ∷ []) n) }
     ensures unused_bits { (n : ℕ) → ¬ (IsUnsigned 32 (0x84 ∷ 0x80 ∷ 0x80 ∷ 0x80 ∷ 0x10 ∷ []) n) }
-{}
-
-/// Small bodies: a body may end at once where it has no results, and with any results after `unreachable`.
-pub fn bodies()
-    ensures empty { (cx : Context ℕ) → IsFunctionBody cx (record { params = []; results = [] }) (0x00 ∷ 0x0b ∷ []) }
-    ensures unreachable { (cx : Context ℕ) (type : FuncType ℕ) → length type.params ≤ 50000 → IsFunctionBody cx type (0x00 ∷ 0x00 ∷ 0x0b ∷ []) }
-    ensures locals { (cx : Context ℕ) → IsFunctionBody cx (record { params = []; results = [] }) (0x01 ∷ 0x02 ∷ 0x7f ∷ 0x0b ∷ []) }
-    ensures nothing { (cx : Context ℕ) (type : FuncType ℕ) → ¬ (IsFunctionBody cx type []) }
-    ensures no_result { (cx : Context ℕ) (runs : List Run)
-        → ¬ (IsBodyOf cx (record { params = []; results = I32 ∷ [] }) runs (End ∷ [])) }
-
-    // The 50,000 locals that a function may have count its parameters.
-    ensures many_locals { (cx : Context ℕ) (type : FuncType ℕ) (bytes : List ℕ) → length type.params ≡ 1
-        → ¬ (AreLocals cx type bytes (record { count = 50000; type = I32 } ∷ [])) }
 {}

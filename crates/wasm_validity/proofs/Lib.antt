@@ -1,10 +1,8 @@
-mod BodyKinds
 mod ConstantSubtypes
 mod FirstSections
 mod FrontParts
 mod GroupFronts
 mod ManyMemories
 mod RelatedTypes
-mod SmallBodies
 mod SmallModules
 mod ZeroMemories

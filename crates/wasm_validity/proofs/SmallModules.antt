@@ -1,61 +1,19 @@
 -- Small modules, and what worked examples say of them.
-use Rattle.std.proofs.Common.{◌≡◌, ◌≤◌, ◌<◌, ℕ, zero, suc, List, [], ◌∷◌, ◌++◌, length, slice_get, Some, refl, sym, subst, ap, arith, length-append}
+use Rattle.std.proofs.Common.{◌≡◌, ◌≤◌, ◌<◌, ℕ, zero, suc, List, [], ◌∷◌, ◌++◌, length, slice_get, Some, refl, sym, subst, ap, arith}
 use Rattle.std.specs.Option.{option_map}
 use Rattle.std.proofs.lemmas.List.{length-map}
-use Rattle.wasm_spec.specs.Bodies.{Context as BodyContext, simple, done, all_taken, nothing_known, at_start, IsFunctionBody}
-use Rattle.wasm_spec.specs.Bytes.{IsU32}
 use Rattle.wasm_spec.specs.Groups.{PassesLimit, many_items, items_in}
 use Rattle.wasm_spec.specs.Limits.{Limit, Fields, Params, Results, most}
-use Rattle.wasm_spec.specs.Operators.{Unreachable, End}
-use Rattle.wasm_spec.specs.Syntax.{Section, functions_of, bodies_of}
 use Rattle.wasm_spec.specs.Trees.{DefType, reference_of, seen_from, tree_of, unrolled}
 use Rattle.wasm_spec.specs.TypeReferences.{func_map, sub_map, subs_map, val_map}
 use Rattle.wasm_spec.specs.TypeExamples.{empty_function, empty_structure, final_type, gives}
-use Rattle.wasm_spec.specs.Types.{I32, ValType, FuncType, FuncComposite, RecGroup, Group, Single, SubType}
-use Rattle.wasm_spec.proofs.Encodings.{small}
+use Rattle.wasm_spec.specs.Types.{I32, FuncType, FuncComposite, RecGroup, Group, Single, SubType}
 use Rattle.wasm_spec.proofs.GroupTrees.{opened-roll}
 use Rattle.wasm_spec.proofs.TypeLimits.{depth_zero, passes_none}
 use Rattle.wasm_validity.specs.Context.{Context, after, after_all}
-use Rattle.wasm_validity.specs.DefinedTypes.{PassesGroupLimit, func_type_at}
+use Rattle.wasm_validity.specs.DefinedTypes.{PassesGroupLimit}
 use Rattle.wasm_validity.specs.Entries.{Entry}
 use Rattle.wasm_validity.specs.Rules.{KeepLimits}
-use Rattle.wasm_validity.specs.Validity.{BodyAt, context_of}
-
--- ---- bodies
-
--- a number has a byte
-some_byte : (bytes : List ℕ) (n : ℕ) → IsU32 bytes n → 0 < length bytes
-some_byte [] n h = absurd h
-some_byte (b ∷ bs) n h = omega arith
-
--- so a body has one
-pub no_body : {R : Type 0} (cx : BodyContext R) (type : FuncType R) → ¬ (IsFunctionBody cx type [])
-no_body cx type b =
-    let l = b.locals.declared in
-    omega (arith, ap length b.begins, length-append b.locals_encoding b.code_encoding, ap length l.2, length-append l.0 l.1, some_byte l.0 _ l.3)
-
--- an open list supplies whatever is taken
-supplied : {R : Type 0} (cx : BodyContext R) (types : List (ValType R)) → all_taken cx types (nothing_known (at_start R)) ≡ Some (nothing_known (at_start R))
-supplied cx [] = refl
-supplied cx (type ∷ types) = supplied cx types
-
-pub unreachable_body : {R : Type 0} (cx : BodyContext R) (type : FuncType R) → length type.params ≤ 50000 → IsFunctionBody cx type (0x00 ∷ 0x00 ∷ 0x0b ∷ [])
-unreachable_body {R} cx type few = record {
-  runs = [];
-  operators = Unreachable ∷ End ∷ [];
-  locals_encoding = 0x00 ∷ [];
-  code_encoding = 0x00 ∷ 0x0b ∷ [];
-  begins = refl;
-  locals = record { declared = (0x00 ∷ [], [], refl, small 0 (omega arith), refl); allowed = tt; within = λ h. omega (arith, few, h) };
-  spelled = (0x00 ∷ [], 0x0b ∷ [], refl, refl, (0x0b ∷ [], [], refl, refl, refl));
-  typed = record {
-    code = simple Unreachable done;
-    last = nothing_known (at_start R);
-    is_flat = refl;
-    judged = (nothing_known (at_start R), refl, refl);
-    ends = rw (supplied cx _) refl;
-  };
-}
 
 -- ---- the type of functions that take and give nothing, first of all
 
@@ -103,18 +61,6 @@ many_params func many =
 pub limits_after : (cx : Context) (xs ys : List Entry) → KeepLimits cx (xs ++ ys) → KeepLimits (after_all cx xs) ys
 limits_after cx [] ys h = h
 limits_after cx (x ∷ xs) ys h = limits_after (after cx x) xs ys h.1
-
--- ---- functions at their places
-
--- what holds at a place holds of the type and the body that are there
-pub held : (Holds : FuncType DefType → List ℕ → Type 0) (sections : List Section) (place index : ℕ) (type : FuncType DefType) (body : List ℕ) → BodyAt Holds sections place
-    → slice_get (functions_of sections) place ≡ Some index → func_type_at (context_of sections).types index ≡ Some type → slice_get (bodies_of sections) place ≡ Some body → Holds type body
-held Holds sections place index type body b indexed named has =
-    let same_index : b.index ≡ index = cc (b.indexed, indexed) in
-    let named' = subst (λ i. func_type_at (context_of sections).types i ≡ Some b.type) same_index b.named in
-    let same_type : b.type ≡ type = cc (named', named) in
-    let same_body : b.body ≡ body = cc (b.has, has) in
-    subst (λ t. Holds t body) same_type (subst (λ l. Holds b.type l) same_body b.holds)
 
 -- ---- types that pass no limit
 

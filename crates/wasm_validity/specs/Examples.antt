@@ -4,15 +4,20 @@ use Rattle.std.specs.List.{list_all}
 use Rattle.wasm_spec.specs.Examples.{at_least}
 use Rattle.wasm_spec.specs.Features.{Flag, Features, has}
 use Rattle.wasm_spec.specs.Limits.{Limit}
-use Rattle.wasm_spec.specs.Syntax.{ElementItems, ElementSegment, Export, ExpressionItems, FunctionItems, Import, PassiveElement, Table}
+use Rattle.wasm_spec.specs.Syntax.{Section, ElementItems, ElementSegment, Export, ExpressionItems, FunctionItems, Import, PassiveElement, Table}
 use Rattle.wasm_spec.specs.TypeExamples.{empty_structure, final_type, gives, takes}
 use Rattle.wasm_spec.specs.Types.{HeapType, Concrete, F32, I32, I64, RefType, ValType, FuncComposite, Single, Limits, TableType, GlobalType, ExternalType, ExternalKind, FuncExternal, FuncKind, GlobalExternal, TagKind, funcref}
 use Rattle.wasm_validity.specs.Context.{Context, after_all, at_first}
 use Rattle.wasm_validity.specs.ImportedItems.{Imported}
-use Rattle.wasm_validity.specs.Entries.{Entry, OfElement, OfExport, OfFunction, OfGlobal, OfImport, OfMemory, OfTable, OfTag, OfType}
+use Rattle.wasm_validity.specs.Entries.{Entry, OfElement, OfExport, OfFunction, OfGlobal, OfImport, OfMemory, OfTable, OfTag, OfType, entries_of}
 use Rattle.wasm_validity.specs.Rules.{Keeps, Passes, measures}
+use Rattle.wasm_validity.specs.Validity.{AreFine}
 
 -- ---- what is said
+
+-- what the sections of a module say is fine
+abbrev pub IsFine : Features → List Section → Type 0
+IsFine features sections = AreFine features (entries_of sections)
 
 -- an entry keeps its rule exactly where these flags are all on
 abbrev pub KeptWith : List Flag → Context → Entry → Type 0

@@ -8,13 +8,14 @@ ghost use Rattle.wasm_spec.specs.Limits.{Tags};
 ghost use Rattle.wasm_spec.specs.Syntax.{TypeSection, FunctionSection, MemorySection, StartSection, CodeSection};
 ghost use Rattle.wasm_spec.specs.TypeExamples.{final_type, gives};
 ghost use Rattle.wasm_spec.specs.Types.{I32, FuncComposite, Single};
+ghost use Rattle.wasm_validity.specs.Examples.{IsFine};
 ghost use Rattle.wasm_validity.specs.Entries.{entries_of};
-ghost use Rattle.wasm_validity.specs.Validity.{AreFine, BeginsInvalid, BeginsPast, HasBody, IsBrokenBody, IsValid};
+ghost use Rattle.wasm_validity.specs.Validity.{AreFine, BeginsInvalid, BeginsPast};
 
 /// A module may have 100 memories, and not 101.
 pub fn many_memories()
-    ensures most { (features : Features) → has features MultiMemory ≡ true → IsValid features (MemorySection (replicate 100 (at_least 0)) ∷ []) }
-    ensures past { (features : Features) → ¬ (IsValid features (MemorySection (replicate 101 (at_least 0)) ∷ [])) }
+    ensures most { (features : Features) → has features MultiMemory ≡ true → IsFine features (MemorySection (replicate 100 (at_least 0)) ∷ []) }
+    ensures past { (features : Features) → ¬ (IsFine features (MemorySection (replicate 101 (at_least 0)) ∷ [])) }
     ensures not_fine { (features : Features) → ¬ (AreFine features (entries_of (MemorySection (replicate 101 (at_least 0)) ∷ []))) }
 {}
 
@@ -30,14 +31,6 @@ pub fn start_functions()
 pub fn cut_sections()
     ensures crossed { (features : Features) (rest : List ℕ) → BeginsInvalid features
         (header ++ (0x05 ∷ 0x06 ∷ 0x02 ∷ 0x01 ∷ 0x02 ∷ 0x01 ∷ 0xff ∷ 0xff ∷ rest)) }
-{}
-
-/// Where the sections break a rule, as one for tags does without exceptions, nothing is said of bodies.
-pub fn bodies_of_broken_modules()
-    ensures none { (features : Features) (rest : List ℕ) → has features Exceptions ≡ false → ¬ (HasBody features (λ type body. ⊤)
-        (header ++ (0x01 ∷ 0x04 ∷ 0x01 ∷ 0x60 ∷ 0x00 ∷ 0x00 ∷ 0x03 ∷ 0x02 ∷ 0x01 ∷ 0x00 ∷ 0x0d ∷ 0x01 ∷ 0x00 ∷ rest))) }
-    ensures broken { (features : Features) (rest : List ℕ) → has features Exceptions ≡ false → ¬ (HasBody features (IsBrokenBody features)
-        (header ++ (0x01 ∷ 0x04 ∷ 0x01 ∷ 0x60 ∷ 0x00 ∷ 0x00 ∷ 0x03 ∷ 0x02 ∷ 0x01 ∷ 0x00 ∷ 0x0d ∷ 0x01 ∷ 0x00 ∷ rest))) }
 {}
 
 /// Bytes of 101 memories break no rule where there may be several, and pass no limit on tags.

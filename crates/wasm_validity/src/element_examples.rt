@@ -10,8 +10,8 @@ ghost use Rattle.wasm_spec.specs.Types.{Abstract, Extern, Func, GlobalExternal, 
 ghost use Rattle.wasm_validity.specs.ConstantExamples.{element, element_of, function_globals, globals, i32_number, i64_number};
 ghost use Rattle.wasm_validity.specs.Context.{after, after_all, at_first};
 ghost use Rattle.wasm_validity.specs.Entries.{IsItem, OfElement, OfFunction};
-ghost use Rattle.wasm_validity.specs.Examples.{IsBroken, KeptWith, constant, imports, one_table, own_table, reference, table_of, wide, with_types};
-ghost use Rattle.wasm_validity.specs.Validity.{BeginsInvalid, IsValid};
+ghost use Rattle.wasm_validity.specs.Examples.{IsBroken, IsFine, KeptWith, constant, imports, one_table, own_table, reference, table_of, wide, with_types};
+ghost use Rattle.wasm_validity.specs.Validity.{BeginsInvalid};
 
 use wasm_spec::grammar_examples::{element_segments, tables_and_globals};
 
@@ -50,10 +50,10 @@ pub fn parts_of_segments()
 
 /// Modules with such a segment of no items: valid where its table holds references of its type, and else invalid by their bytes.
 pub fn modules_with_tables()
-    ensures valid { (features : Features) → has features ReferenceTypes ≡ true → has features GcTypes ≡ true → IsValid features
+    ensures valid { (features : Features) → has features ReferenceTypes ≡ true → has features GcTypes ≡ true → IsFine features
         (TableSection (one_table ∷ record { type = table_of (reference true (Abstract Extern)) (at_least 1); initialiser = None } ∷ [])
         ∷ ElementSection (record { mode = ActiveElement (Some 1) (i32_number ∷ []); items = ExpressionItems (reference true (Abstract Extern)) [] } ∷ []) ∷ []) }
-    ensures other_table { (features : Features) → ¬ (IsValid features
+    ensures other_table { (features : Features) → ¬ (IsFine features
         (TableSection (one_table ∷ record { type = table_of (reference true (Abstract Extern)) (at_least 1); initialiser = None } ∷ [])
         ∷ ElementSection (record { mode = ActiveElement (Some 0) (i32_number ∷ []); items = ExpressionItems (reference true (Abstract Extern)) [] } ∷ []) ∷ [])) }
     ensures by_bytes { (features : Features) (rest : List ℕ) → BeginsInvalid features

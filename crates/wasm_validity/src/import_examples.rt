@@ -10,37 +10,37 @@ ghost use Rattle.wasm_spec.specs.TypeExamples.{empty_function, final_type, gives
 ghost use Rattle.wasm_spec.specs.Types.{I32, Concrete, FuncComposite, FuncExternal, FuncKind, GlobalKind, MemoryExternal, MemoryKind, MemoryType, RecGroup, Ref, Single, TableExternal, TableKind, TagExternal, TagKind, GlobalExternal};
 ghost use Rattle.wasm_validity.specs.Context.{after_all, at_first};
 ghost use Rattle.wasm_validity.specs.Entries.{Entry, OfFunction, OfImport};
-ghost use Rattle.wasm_validity.specs.Examples.{IsBroken, IsKept, between, constant, named, reference, table_of};
+ghost use Rattle.wasm_validity.specs.Examples.{IsBroken, IsFine, IsKept, between, constant, named, reference, table_of};
 ghost use Rattle.wasm_validity.specs.Fronts.{BeginsWith};
-ghost use Rattle.wasm_validity.specs.Validity.{BeginsInvalid, IsValid};
+ghost use Rattle.wasm_validity.specs.Validity.{BeginsInvalid};
 
 use wasm_spec::grammar_examples::imports_and_exports;
 
 /// A module may start with a function that it imports. That one has no body: the bodies are those of the module's own functions.
 pub fn imported_functions()
-    ensures starts { (features : Features) (origin name : List ℕ) → length origin ≡ 3 → length name ≡ 3 → IsValid features
+    ensures starts { (features : Features) (origin name : List ℕ) → length origin ≡ 3 → length name ≡ 3 → IsFine features
         (TypeSection (Single (final_type empty_function) ∷ []) ∷ ImportSection (Import origin name (FuncExternal 0) ∷ []) ∷ StartSection 0 ∷ []) }
-    ensures own_after_it { (features : Features) → IsValid features
+    ensures own_after_it { (features : Features) → IsFine features
         (TypeSection (Single (final_type empty_function) ∷ Single (final_type (FuncComposite (gives (I32 ∷ [])))) ∷ []) ∷ ImportSection (Import [] [] (FuncExternal 1) ∷ [])
         ∷ FunctionSection (0 ∷ []) ∷ CodeSection ((0x00 ∷ 0x0b ∷ []) ∷ []) ∷ []) }
-    ensures starts_with_a_parameter { (features : Features) (origin name : List ℕ) → ¬ (IsValid features
+    ensures starts_with_a_parameter { (features : Features) (origin name : List ℕ) → ¬ (IsFine features
         (TypeSection (Single (final_type (FuncComposite (takes (I32 ∷ [])))) ∷ []) ∷ ImportSection (Import origin name (FuncExternal 0) ∷ []) ∷ StartSection 0 ∷ [])) }
-    ensures no_type { (features : Features) (origin name : List ℕ) (index : ℕ) → ¬ (IsValid features (ImportSection (Import origin name (FuncExternal index) ∷ []) ∷ [])) }
-    ensures later_type { (features : Features) (origin name : List ℕ) (groups : List (RecGroup ℕ)) → ¬ (IsValid features
+    ensures no_type { (features : Features) (origin name : List ℕ) (index : ℕ) → ¬ (IsFine features (ImportSection (Import origin name (FuncExternal index) ∷ []) ∷ [])) }
+    ensures later_type { (features : Features) (origin name : List ℕ) (groups : List (RecGroup ℕ)) → ¬ (IsFine features
         (ImportSection (Import origin name (FuncExternal 0) ∷ []) ∷ TypeSection groups ∷ [])) }
 {}
 
 /// Groups of imports, which read with a feature alone (`grammar_examples` of the specification), are valid where each import in them is. Of an empty
 /// one nothing is asked but the length of its module's name, and that the index of a type is one for which there is room.
 pub fn groups()
-    ensures items { (features : Features) → IsValid features
+    ensures items { (features : Features) → IsFine features
         (ImportSection (CompactItems (0x6d ∷ []) (record { name = 0x61 ∷ []; type = MemoryExternal (at_least 1) } ∷ []) ∷ []) ∷ []) }
-    ensures second_item { (features : Features) (name : List ℕ) (type : MemoryType) → ¬ (IsValid features
+    ensures second_item { (features : Features) (name : List ℕ) (type : MemoryType) → ¬ (IsFine features
         (ImportSection (CompactItems [] (record { name = []; type = GlobalExternal (constant I32) } ∷ record { name = name; type = MemoryExternal (between 2 1) } ∷ []) ∷ []) ∷ [])) }
-    ensures second_name { (features : Features) (name : List ℕ) (type : MemoryType) → length name ≡ 100001 → ¬ (IsValid features
+    ensures second_name { (features : Features) (name : List ℕ) (type : MemoryType) → length name ≡ 100001 → ¬ (IsFine features
         (ImportSection (CompactNames [] (MemoryExternal type) ([] ∷ name ∷ []) ∷ []) ∷ [])) }
-    ensures empty { (features : Features) → IsValid features (ImportSection (CompactNames [] (MemoryExternal (between 2 1)) [] ∷ CompactItems [] [] ∷ []) ∷ []) }
-    ensures module_of_none { (features : Features) (origin : List ℕ) → length origin ≡ 100001 → ¬ (IsValid features (ImportSection (CompactItems origin [] ∷ []) ∷ [])) }
+    ensures empty { (features : Features) → IsFine features (ImportSection (CompactNames [] (MemoryExternal (between 2 1)) [] ∷ CompactItems [] [] ∷ []) ∷ []) }
+    ensures module_of_none { (features : Features) (origin : List ℕ) → length origin ≡ 100001 → ¬ (IsFine features (ImportSection (CompactItems origin [] ∷ []) ∷ [])) }
     ensures greatest_index { IsKept at_first (OfImport (CompactNames [] (TableExternal (table_of (reference true (Concrete 1048575)) (at_least 1))) [])) }
     ensures larger_index { IsBroken at_first (OfImport (CompactNames [] (TableExternal (table_of (reference true (Concrete total_of_types)) (at_least 1))) [])) }
     ensures larger_in_a_global { IsBroken at_first (OfImport (CompactNames [] (GlobalExternal (constant (Ref true (Concrete total_of_types)))) [])) }

@@ -1,9 +1,8 @@
-//! Which modules are valid: what sections say, entry by entry, and the rules on an entry in the context of those before it.
+//! What sections say, entry by entry, and the rules on an entry in the context of those before it.
 //!
 //! Everything that this crate says stands in `specs/`.
 #![tactic(auto)]
 
-pub mod body_examples;
 pub mod cause_examples;
 pub mod constant_examples;
 pub mod declared_examples;

@@ -13,6 +13,7 @@ mod Judged
 mod NamedFunctions
 mod NamedImports
 mod ReadItems
+mod ResourceLaws
 mod SegmentLaws
 mod Sizes
 mod TypeCounts

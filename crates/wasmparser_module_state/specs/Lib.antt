@@ -6,3 +6,4 @@ pub mod Items
 pub mod Judging
 pub mod LargeIndexes
 pub mod State
+pub mod StateResources

@@ -89,8 +89,7 @@ impl ModuleState {
     pub fn element_type_at(&self, index: u32) -> Option<RefType>
         ensures { option_map reference result ≡ slice_get (context self.now).elements index }
     {
-        let ty = self.elements.get(index as usize)?;
-        Some(*ty)
+        self.elements.get(index)
     }
 
     // Judges that each of some expressions gives a value of this type, and declares the functions that they name.

@@ -35,6 +35,15 @@ impl FunctionSet {
         self.flags.get(function as usize).copied().unwrap_or(false)
     }
 
+    /// A copy.
+    pub(crate) fn copy(&self, alloc: Global) -> Result<FunctionSet, AllocError>
+        ensures { IfOk result (λ copy. members copy ≡ members self.now) }
+    {
+        Ok(FunctionSet {
+            flags: Vec::from_slice(alloc, &self.flags)?,
+        })
+    }
+
     /// Makes room for the first functions, so many.
     #[tactic(auto, using(crate::proofs::DeclaredLaws::room_steps))]
     pub(crate) fn make_room(&mut self, count: usize) -> Result<(), AllocError>

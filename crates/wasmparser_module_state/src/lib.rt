@@ -3,10 +3,12 @@
 
 pub mod body;
 pub mod by_ids;
+pub mod copies;
 pub mod custom_section;
 pub mod data;
 pub mod data_count;
 pub mod declared;
+mod element_types;
 pub mod elements;
 pub mod entity_type;
 pub mod entry;
@@ -23,6 +25,7 @@ pub mod laws;
 pub mod memories;
 pub mod module_state;
 mod names;
+pub mod resources;
 pub mod start;
 pub mod tables;
 pub mod tags;

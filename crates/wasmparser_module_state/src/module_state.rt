@@ -7,6 +7,7 @@ ghost use Rattle.wasm_validity.specs.Context.{at_first};
 ghost use Rattle.wasmparser_module_state.specs.History.{grows, held};
 ghost use Rattle.wasmparser_module_state.specs.State.{context, features_of};
 
+use crate::element_types::ElementTypes;
 use crate::function_set::FunctionSet;
 use std::alloc::{AllocError, Global};
 use std::mem;
@@ -19,7 +20,6 @@ use wasmparser_items::global_type::GlobalType;
 use wasmparser_items::memory_type::MemoryType;
 use wasmparser_items::table_type::TableType;
 use wasmparser_module_types::module_types::ModuleTypes;
-use wasmparser_types::ref_type::RefType;
 
 /// The index spaces after the entries so far.
 #[derive(Drop)]
@@ -35,7 +35,7 @@ pub struct ModuleState {
     pub(crate) imported_globals: Vec<GlobalType>,
     pub(crate) own_globals: Vec<GlobalType>,
     pub(crate) exports: ExportNames,
-    pub(crate) elements: Vec<RefType>,
+    pub(crate) elements: ElementTypes,
     pub(crate) declared: FunctionSet,
     pub(crate) stated_data_count: Option<u32>,
     pub(crate) segments: u32,
@@ -65,9 +65,17 @@ impl ModuleState {
     /// What is known before the first entry, with the list of types of earlier modules.
     pub fn with_list(alloc: Global, mut types: ModuleTypes) -> ModuleState
         ensures nothing { context result ≡ at_first }
-        ensures list { result.types ≡ record types { types = []; groups = 0 } }
+        ensures list { result.types ≡ record types { types = []; groups = 0; ids = [] } }
     {
         types.forget_module();
+        ModuleState::with_types(alloc, types)
+    }
+
+    // What is known of a module that has these types alone.
+    pub(crate) fn with_types(alloc: Global, types: ModuleTypes) -> ModuleState
+        ensures types_alone { context result ≡ record at_first { types = types.types; groups = types.groups } }
+        ensures types { result.types ≡ types }
+    {
         ModuleState {
             types,
             imports: 0,
@@ -80,7 +88,7 @@ impl ModuleState {
             imported_globals: Vec::new(alloc),
             own_globals: Vec::new(alloc),
             exports: ExportNames::new(alloc),
-            elements: Vec::new(alloc),
+            elements: ElementTypes::new(alloc),
             declared: FunctionSet::new(alloc),
             stated_data_count: None,
             segments: 0,
@@ -96,7 +104,7 @@ impl ModuleState {
     pub fn end_module(&mut self) -> Result<ModuleState, AllocError>
         ensures ended { IfOk result (λ ended. (context ended ≡ context self.old) × (ended.types ≡ record self.old.types { grows = false })) }
         ensures next { IfOk result (λ _. context self.new ≡ at_first) }
-        ensures kept { IfOk result (λ _. self.new.types ≡ record self.old.types { types = []; groups = 0 }) }
+        ensures kept { IfOk result (λ _. self.new.types ≡ record self.old.types { types = []; groups = 0; ids = [] }) }
         ensures refused { IfErr result (λ _. self.new ≡ self.old) }
     {
         let ended = self.types.end_module()?;
@@ -173,7 +181,7 @@ impl ModuleState {
     pub fn element_count(&self) -> usize
         ensures { result ≡ length (context self.now).elements }
     {
-        self.elements.len()
+        self.elements.len() as usize
     }
 
     /// The number of data segments.

@@ -59,6 +59,20 @@ impl JudgedState {
         &self.state
     }
 
+    /// What holds of a copy for bodies; none where memory runs out.
+    pub fn on_copy<F: Fn(&ModuleState, &str) -> Option<bool>>(
+        &mut self,
+        row: &str,
+        holds: F,
+    ) -> Option<bool>
+        requires { F.IsAlwaysCallable holds }
+    {
+        match self.state.copy_resources() {
+            Ok(copy) => holds(&copy, row),
+            Err(_) => None,
+        }
+    }
+
     fn add<'a, T: FromReader<'a> + Entry>(
         &mut self,
         alloc: Global,

@@ -7,4 +7,6 @@ mod declared_functions;
 mod import_sections;
 pub mod judged;
 #[cfg(test)]
+mod resources;
+#[cfg(test)]
 mod sections;

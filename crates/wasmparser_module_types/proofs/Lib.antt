@@ -3,6 +3,7 @@ pub mod Comparisons
 mod EnteredGroups
 mod FuncTypes
 mod GroupIds
+mod KeptSubTypes
 mod KnownIds
 mod Refusals
 mod ReplacedIndexes

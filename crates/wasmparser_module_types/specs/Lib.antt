@@ -1,3 +1,4 @@
+pub mod Greatest
 pub mod History
 pub mod ModuleTypes
 pub mod ShapeCodes

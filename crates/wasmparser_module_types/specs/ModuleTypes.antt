@@ -1,7 +1,7 @@
 -- The types of a module that is read group by group, and the list that knows them.
 use Rattle.std.specs.Prelude.{◌≡◌, ℕ, suc, ◌<◌, ◌≤◌, ◌⊎◌, Bool, true, List, [], length, map, slice_get, Option, Some, option_map, IsSome, is_some, refl}
 use Rattle.std.specs.List.{AllByRecursion}
-use Rattle.std.specs.Option.{unwrap_or}
+use Rattle.std.specs.Option.{option_and_then, unwrap_or}
 use Rattle.std.specs.declared.ops.Range.{Range}
 use Rattle.std.specs.Coded.{Coded, code_by, coded×, coded_ℕ, coded_bool, coded_list}
 use Rattle.wasm_core_base.specs.Limits.{limit}
@@ -9,9 +9,9 @@ use Rattle.wasm_core_base.specs.declared.limits.Limit.TheVariants as limits
 use Rattle.wasm_spec.specs.Features.{Features, needs_type_canonicalization}
 use Rattle.wasm_spec.specs.Groups.{KeepsGroupRules}
 use Rattle.wasm_spec.specs.Limits.{Limit, Groups, Types, IsPassedBy, most}
-use Rattle.wasm_spec.specs.Trees.{AreDistinct, DefType, type_at, types_after, types_of_group}
-use Rattle.wasm_spec.specs.TypeReferences.{func_map}
-use Rattle.wasm_spec.specs.Types.{FuncType, RecGroup}
+use Rattle.wasm_spec.specs.Trees.{AreDistinct, DefType, type_at, types_after, types_of_group, unrolled}
+use Rattle.wasm_spec.specs.TypeReferences.{func_map, sub_map, sub_refs}
+use Rattle.wasm_spec.specs.Types.{FuncType, RecGroup, SubType}
 use Rattle.wasm_validity.specs.DefinedTypes.{PassesGroupLimit, func_type_at}
 use Rattle.wasmparser_chains.specs.Chains.{AreBelowEarlier}
 use Rattle.wasmparser_error.specs.declared.error.Error.{Error}
@@ -20,13 +20,16 @@ use Rattle.wasmparser_error.specs.declared.error.ErrorKind.TheVariants as kinds
 use Rattle.wasmparser_interning.specs.TypeTables.{TablesAgree, TypeTables, ids_in, sub_types}
 use Rattle.wasmparser_interning_laws.specs.IdTypes.{AreFoundByKey, RefersToNoModule, id_types}
 use Rattle.wasmparser_module_types.specs.History.{Enters, HasNoRoom}
+use Rattle.wasmparser_module_types.specs.ShapeCodes.{index_code, sub_code}
 use Rattle.wasmparser_module_types.specs.TreeCodes.{def_type_code}
 use Rattle.wasmparser_rec_group_laws.specs.Contexts.{types_of}
 use Rattle.wasmparser_rec_groups.specs.Interning.{AreKnown}
-use Rattle.wasmparser_types.specs.Index.{Index, Module, RecGroup as Place, Id, number_of}
+use Rattle.wasmparser_types.specs.CompositeTypes.{func_of}
+use Rattle.wasmparser_types.specs.Index.{Index, Module, RecGroup as Place, Id, number_of, packable}
 
--- the types of a module, by type index, the features by which they were judged, how many groups they came in, the types that ids stand for, by id, the ids of
--- each group that these came in, by the group's id, and whether groups can be added to these
+-- The types of a module, by type index, the features by which they were judged, how many groups they came in, the types that ids stand for, by id, the ids of
+-- each group that these came in, by the group's id, and whether groups can be added to these. Then how the list keeps them: the ids of the module's types, by type
+-- index, and the sub types that ids stand for, by id, which name others by ids.
 pub record KnownTypes : Type 0 where
   pub features : Features
   pub types : List DefType
@@ -34,13 +37,25 @@ pub record KnownTypes : Type 0 where
   pub interned : List DefType
   pub interned_groups : List (List ℕ)
   pub grows : Bool
+  pub ids : List ℕ
+  pub sub_types : List (SubType Index)
 
 abbrev pub known_types_code : Coded KnownTypes
 known_types_code =
-    code_by (ℕ × (List DefType × (ℕ × (List DefType × (List (List ℕ) × Bool)))))
-    (coded× coded_ℕ (coded× (coded_list def_type_code) (coded× coded_ℕ (coded× (coded_list def_type_code) (coded× (coded_list (coded_list coded_ℕ)) coded_bool)))))
-    (λ known. (known.features, (known.types, (known.groups, (known.interned, (known.interned_groups, known.grows))))))
-    (λ p. record { features = p.0; types = p.1.0; groups = p.1.1.0; interned = p.1.1.1.0; interned_groups = p.1.1.1.1.0; grows = p.1.1.1.1.1 }) (λ _. refl)
+    code_by (ℕ × (List DefType × (ℕ × (List DefType × (List (List ℕ) × (Bool × (List ℕ × List (SubType Index))))))))
+    (coded× coded_ℕ (coded× (coded_list def_type_code) (coded× coded_ℕ (coded× (coded_list def_type_code) (coded× (coded_list (coded_list coded_ℕ)) (coded× coded_bool (coded× (coded_list coded_ℕ) (coded_list (sub_code index_code)))))))))
+    (λ known. (known.features, (known.types, (known.groups, (known.interned, (known.interned_groups, (known.grows, (known.ids, known.sub_types))))))))
+    (λ p. record {
+      features = p.0;
+      types = p.1.0;
+      groups = p.1.1.0;
+      interned = p.1.1.1.0;
+      interned_groups = p.1.1.1.1.0;
+      grows = p.1.1.1.1.1.0;
+      ids = p.1.1.1.1.1.1.0;
+      sub_types = p.1.1.1.1.1.1.1;
+    })
+    (λ _. refl)
 
 -- what an index stands for that is an id
 abbrev pub stands_for : KnownTypes → Index → DefType
@@ -91,6 +106,8 @@ known_types features list ids groups =
       interned = interned_types list;
       interned_groups = interned_groups list;
       grows = is_some list.known;
+      ids = ids;
+      sub_types = sub_types list;
     }
 
 -- The list knows the module's types by these ids. Where types are canonicalized, a list that grows finds each of its groups, and no type has two ids.
@@ -102,6 +119,19 @@ pub record KnowsModule (features : Features) (list : TypeTables) (ids : List ℕ
   pub found : needs_type_canonicalization features ≡ true → IsSome list.known → AreFoundByKey all_groups list
   pub distinct : needs_type_canonicalization features ≡ true → AreDistinct (interned_types list)
   pub within : length ids ≤ most Types
+
+-- What is always so of a module's types and the list: the types are those that their ids stand for, each id has a sub type, which names ids and is below earlier ones,
+-- and an id unrolls to what its sub type stands for. Where types are canonicalized, no type has two ids.
+pub record AreKnownTypes (known : KnownTypes) : Type 0 where
+  pub types : known.types ≡ map (type_at known.interned) known.ids
+  pub within : AllByRecursion (λ id. id < length known.interned) known.ids
+  pub count : length known.sub_types ≡ length known.interned
+  pub unrolled : (id : ℕ) (sub : SubType Index) → slice_get known.sub_types id ≡ Some sub
+      → (unrolled (type_at known.interned id) ≡ Some (sub_map (stands_for known) sub)) × AreIds known (sub_refs sub)
+  pub earlier : AreBelowEarlier (slice_get known.sub_types)
+  pub distinct : needs_type_canonicalization known.features ≡ true → AreDistinct known.interned
+  pub few : length known.ids ≤ most Types
+  pub packable : AllByRecursion (λ id. id < packable) known.ids
 
 -- Indexes of two types can be compared: where types aren't canonicalized, two ids may stand for equal types, so there no id is compared with another one.
 abbrev pub CanCompare : Features → List Index → List Index → Type 0
@@ -153,7 +183,15 @@ pub record RefusesGroup (old : KnownTypes) (group : RecGroup ℕ) (offset : ℕ)
   pub cause : IsCause old group e.kind
   pub place : e.offset ≡ place_of e.kind offset
 
--- ---- function types
+-- ---- what a type index names
+
+-- the sub type, as the list keeps it, if the index names one
+abbrev pub sub_type_of_index : KnownTypes → ℕ → Option (SubType Index)
+sub_type_of_index known index = option_and_then (slice_get known.sub_types) (slice_get known.ids index)
+
+-- the function type, if it is one
+abbrev pub func_type_of_index : KnownTypes → ℕ → Option (FuncType Index)
+func_type_of_index known index = option_and_then (λ sub. func_of sub.composite_type) (sub_type_of_index known index)
 
 -- A function type as a list keeps it, by ids, if the index names one: with its ids replaced by what they stand for, it is the type that is named.
 abbrev pub IsFuncTypeAt : KnownTypes → ℕ → Option (FuncType Index) → Type 0

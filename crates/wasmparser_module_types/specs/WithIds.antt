@@ -1,8 +1,8 @@
 -- Types that name others by type indexes, and by ids in place of these.
-use Rattle.std.specs.Prelude.{ℕ, Bool, true, List, length, nat_lt, slice_get, Option, Some, option_map}
+use Rattle.std.specs.Prelude.{ℕ, Bool, true, List, length, nat_lt, slice_get, Option, Some, None, option_map}
 use Rattle.wasm_spec.specs.Trees.{DefType}
 use Rattle.wasm_spec.specs.Types.{HeapType, Abstract, Concrete, RefType, ValType, Ref}
-use Rattle.wasmparser_types.specs.Index.{Index, Id, number_of}
+use Rattle.wasmparser_types.specs.Index.{Index, Module, Id, number_of}
 
 -- ---- with type indexes
 
@@ -28,3 +28,14 @@ ref_by_ids ids type = option_map (λ heap. record { nullable = type.nullable; he
 abbrev pub val_by_ids : List ℕ → ValType Index → Option (ValType Index)
 val_by_ids ids (Ref nullable heap) = option_map (λ heap. Ref nullable heap) (heap_by_ids ids heap)
 val_by_ids ids type = Some type
+
+-- ---- an id where there is one
+
+-- an id, and a type index where there is none
+abbrev pub id_or : ℕ → Option ℕ → Index
+id_or index (Some id) = Id id
+id_or index None = Module index
+
+-- the id of the type with this index; an index without one is itself
+abbrev pub index_at : List ℕ → ℕ → Index
+index_at ids index = id_or index (slice_get ids index)

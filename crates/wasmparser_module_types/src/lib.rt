@@ -4,5 +4,6 @@
 mod kept_types;
 pub mod laws;
 pub mod module_types;
+mod tops;
 mod type_space;
 mod with_ids;

@@ -14,8 +14,9 @@ ghost use Rattle.wasmparser_types.specs.RecGroups as spec;
 ghost use Rattle.wasmparser_types.specs.RecGroups.{members};
 
 use crate::kept_types::{func_type_in, id_at, sub_type_in};
+use crate::tops::{abstract_top, composite_top};
 use crate::type_space::TypeSpace;
-use crate::with_ids::{heap_with_ids, val_with_ids};
+use crate::with_ids::{heap_with_ids, listed_ref, listed_val, ref_with_ids, val_with_ids};
 use std::alloc::{AllocError, Global};
 use std::marker::Model;
 use std::mem;
@@ -29,8 +30,9 @@ use wasmparser_rec_group_laws::laws::{
 };
 use wasmparser_rec_groups::intern::InternRecGroup;
 use wasmparser_types::composite_type::FuncType;
-use wasmparser_types::heap_type::HeapType;
-use wasmparser_types::index::{CoreTypeId, RecGroupId};
+use wasmparser_types::heap_type::{AbstractHeapType, HeapType};
+use wasmparser_types::index::{CoreTypeId, RecGroupId, UnpackedIndex};
+use wasmparser_types::ref_type::RefType;
 use wasmparser_types::sub_type::{RecGroup, SubType};
 use wasmparser_types::val_type::ValType;
 
@@ -144,7 +146,7 @@ impl Model for ModuleTypes {
 }
 
 impl ModuleTypes {
-    ghost use Rattle.std.specs.Prelude.{◌≡◌, ◌<◌, ◌≤◌, ◌↔◌, [], IfErr, IfOk, IfSome, IsSome, IsTrue, Some, false, is_some, length, option_map, slice_get, true};
+    ghost use Rattle.std.specs.Prelude.{◌≡◌, ◌<◌, ◌≤◌, [], IfErr, IfOk, IfSome, IsSome, IsTrue, Some, false, is_some, length, option_map, slice_get, true};
     ghost use Rattle.std.specs.List.{flat_map, range_with_len};
     ghost use Rattle.std.specs.Option.{option_copied};
     ghost use Rattle.wasm_core_base.specs.Features.{feature_set};
@@ -152,23 +154,29 @@ impl ModuleTypes {
     ghost use Rattle.wasm_spec.specs.Subtyping.{ValBelow};
     ghost use Rattle.wasm_spec.specs.Features.{needs_type_canonicalization};
     ghost use Rattle.wasm_spec.specs.Trees.{AreDistinct, type_at, unrolled};
-    ghost use Rattle.wasm_spec.specs.TypeReferences.{func_refs, heap_map, heap_refs, sub_map, sub_refs, val_map, val_refs};
-    ghost use Rattle.wasmparser_module_types.specs.ModuleTypes.{AddsGroup, AreIds, CanCompare, IsFuncTypeAt, IsGroupOf, RefusesGroup, ids_of_group, stands_for};
+    ghost use Rattle.wasm_spec.specs.TypeReferences.{func_refs, heap_map, heap_refs, ref_map, sub_map, sub_refs, val_map, val_refs};
+    ghost use Rattle.wasm_spec.specs.Types.{Concrete};
+    ghost use Rattle.wasmparser_chains.specs.Chains.{by_id};
+    ghost use Rattle.wasmparser_matching.specs.Tops.{top_above};
+    ghost use Rattle.wasmparser_module_types.specs.Greatest.{greatest_above};
+    ghost use Rattle.wasmparser_module_types.specs.ModuleTypes.{AddsGroup, AreIds, AreKnownTypes, CanCompare, IsFuncTypeAt, IsGroupOf, RefusesGroup, func_type_of_index, ids_of_group, stands_for, sub_type_of_index};
+    ghost use Rattle.wasmparser_subtype_decision.specs.Decision.{is_val_below};
     ghost use Rattle.wasmparser_interning_laws.specs.IdTypes.{IsWholeGroup};
-    ghost use Rattle.wasmparser_module_types.specs.WithIds.{names_only, names_only_heap};
+    ghost use Rattle.wasmparser_module_types.specs.WithIds.{heap_by_ids, index_at, names_only, names_only_heap, ref_by_ids, val_by_ids};
     ghost use Rattle.wasmparser_rec_group_laws.specs.Contexts.{in_section};
     ghost use Rattle.wasmparser_rec_groups.specs.Interning.{NamesModuleTypes};
     ghost use Rattle.wasmparser_types.specs.CompositeTypes.{func_type};
-    ghost use Rattle.wasmparser_types.specs.HeapTypes.{heap_type};
+    ghost use Rattle.wasmparser_types.specs.HeapTypes.{abstract_heap_type, heap_type};
     ghost use Rattle.wasmparser_types.specs.Index.{number_of};
     ghost use Rattle.wasmparser_types.specs.RecGroups as spec;
     ghost use Rattle.wasmparser_types.specs.SubTypes.{sub_type};
+    ghost use Rattle.wasmparser_types.specs.UnpackedIndex as unpacked;
     ghost use Rattle.wasmparser_types.specs.ValTypes.{val_type};
 
     /// A module without types, and a list without types.
     #[tactic(auto, using(crate::proofs::AddedGroups::knows_nothing))]
     pub fn new(alloc: Global, features: WasmFeatures) -> ModuleTypes
-        ensures { result ≡ record { features = feature_set features; types = []; groups = 0; interned = []; interned_groups = []; grows = true } }
+        ensures { result ≡ record { features = feature_set features; types = []; groups = 0; interned = []; interned_groups = []; grows = true; ids = []; sub_types = [] } }
     {
         ModuleTypes {
             alloc,
@@ -205,7 +213,7 @@ impl ModuleTypes {
     #[tactic(auto, using(crate::proofs::AddedGroups::copies))]
     pub fn end_module(&mut self) -> Result<ModuleTypes, AllocError>
         ensures ended { IfOk result (λ ended. ended ≡ record self.old { grows = false }) }
-        ensures kept { IfOk result (λ _. self.new ≡ record self.old { types = []; groups = 0 }) }
+        ensures kept { IfOk result (λ _. self.new ≡ record self.old { types = []; groups = 0; ids = [] }) }
         ensures refused { IfErr result (λ _. self.new ≡ self.old) }
     {
         let list = self.list.commit()?;
@@ -218,10 +226,37 @@ impl ModuleTypes {
         })
     }
 
+    /// A copy of the module's types, with a copy of the list that shares the types and doesn't grow.
+    ///
+    /// # Errors
+    /// Where memory runs out.
+    #[tactic(auto, using(crate::proofs::AddedGroups::copies))]
+    pub fn copy(&mut self) -> Result<ModuleTypes, AllocError>
+        ensures copied { IfOk result (λ copy. copy ≡ record self.old { grows = false }) }
+        ensures same { self.new ≡ self.old }
+    {
+        let list = self.list.commit()?;
+        let space = self.space.copy(self.alloc)?;
+        Ok(ModuleTypes {
+            alloc: self.alloc,
+            space,
+            list,
+            groups: self.groups,
+        })
+    }
+
+    /// What is always so, which the contract tells.
+    pub fn are_known(&self)
+        ensures { AreKnownTypes self.now }
+    {
+        // (whose invariant it is)
+        let _ = &self.list;
+    }
+
     /// Goes on with the list, and without the module.
     #[tactic(auto, using(crate::proofs::AddedGroups::copies))]
     pub fn forget_module(&mut self)
-        ensures { self.new ≡ record self.old { types = []; groups = 0 } }
+        ensures { self.new ≡ record self.old { types = []; groups = 0; ids = [] } }
     {
         self.space = TypeSpace::new(self.alloc, self.space.features());
         self.groups = 0;
@@ -231,6 +266,7 @@ impl ModuleTypes {
     pub fn func_type(&self, index: u32) -> Option<&FuncType>
         ensures named { IsFuncTypeAt self.now index (option_map func_type (option_copied result)) }
         ensures ids { IfSome result (λ ty. AreIds self.now (func_refs (func_type ty.now))) }
+        ensures exact { option_map func_type (option_copied result) ≡ func_type_of_index self.now index }
     {
         func_type_in(&self.list, self.space.type_ids(), index)
     }
@@ -239,6 +275,7 @@ impl ModuleTypes {
     pub fn type_id(&self, index: u32) -> Option<CoreTypeId>
         ensures named { slice_get self.now.types index ≡ option_map (type_at self.now.interned) result }
         ensures known { IfSome result (λ id. id < length self.now.interned) }
+        ensures exact { result ≡ slice_get self.now.ids index }
 
         // Where types are canonicalized, no type has two ids.
         ensures distinct { needs_type_canonicalization self.now.features ≡ true → AreDistinct self.now.interned }
@@ -251,6 +288,7 @@ impl ModuleTypes {
         requires { id < length self.now.interned }
         ensures unrolled { unrolled (type_at self.now.interned id) ≡ Some (sub_map (stands_for self.now) (sub_type result.now)) }
         ensures ids { AreIds self.now (sub_refs (sub_type result.now)) }
+        ensures exact { Some (sub_type result.now) ≡ slice_get self.now.sub_types id }
     {
         sub_type_in(&self.list, id)
     }
@@ -274,24 +312,22 @@ impl ModuleTypes {
         self.list.rec_group_elements(id)
     }
 
-    // Whether the list knows an id.
-    fn knows(&self, id: CoreTypeId) -> bool
-        ensures { IsTrue result ↔ (id < length self.now.interned) }
-    {
-        self.list.get(id).is_some()
-    }
-
     /// The same of any id, or None where the list doesn't know it.
     pub fn get(&self, id: CoreTypeId) -> Option<&SubType>
         ensures all { id < length self.now.interned → IsSome result }
         ensures known { IfSome result (λ _. id < length self.now.interned) }
         ensures unrolled { IfSome result (λ ty. unrolled (type_at self.now.interned id) ≡ Some (sub_map (stands_for self.now) (sub_type ty.now))) }
         ensures ids { IfSome result (λ ty. AreIds self.now (sub_refs (sub_type ty.now))) }
+        ensures exact { option_map sub_type (option_copied result) ≡ slice_get self.now.sub_types id }
     {
-        if !self.knows(id) {
-            return None;
-        }
-        Some(self.sub_type(id))
+        self.list.get(id)
+    }
+
+    /// The sub type that a type index names, or None where the index names none. It names others by ids.
+    pub fn sub_type_at(&self, index: u32) -> Option<&SubType>
+        ensures { option_map sub_type (option_copied result) ≡ sub_type_of_index self.now index }
+    {
+        self.get(self.type_id(index)?)
     }
 
     /// A heap type with an id in place of the type index that it has, or None where the module has no type of that index. An index of any kind counts as a type
@@ -300,8 +336,16 @@ impl ModuleTypes {
         ensures named { is_some result ≡ names_only_heap self.now.types (heap_map number_of (heap_type ty)) }
         ensures same { IfSome result (λ new. heap_map (stands_for self.now) (heap_type new) ≡ heap_map (type_at self.now.types) (heap_map number_of (heap_type ty))) }
         ensures ids { IfSome result (λ new. AreIds self.now (heap_refs (heap_type new))) }
+        ensures exact { option_map heap_type result ≡ heap_by_ids self.now.ids (heap_type ty) }
     {
         heap_with_ids(self.space.type_ids(), ty)
+    }
+
+    /// A reference type, likewise.
+    pub fn ref_with_ids(&self, ty: RefType) -> Option<RefType>
+        ensures { result ≡ ref_by_ids self.now.ids ty }
+    {
+        ref_with_ids(self.space.type_ids(), ty)
     }
 
     /// A value type with an id in place of the type index that it has, as [`ModuleTypes::heap_with_ids`] gives heap types.
@@ -309,8 +353,45 @@ impl ModuleTypes {
         ensures named { is_some result ≡ names_only self.now.types (val_map number_of (val_type ty)) }
         ensures same { IfSome result (λ new. val_map (stands_for self.now) (val_type new) ≡ val_map (type_at self.now.types) (val_map number_of (val_type ty))) }
         ensures ids { IfSome result (λ new. AreIds self.now (val_refs (val_type new))) }
+        ensures exact { option_map val_type result ≡ val_by_ids self.now.ids (val_type ty) }
     {
         val_with_ids(self.space.type_ids(), ty)
+    }
+
+    /// A reference type with an id in place of the type index that it has, if the module has a type of that index. An index of any kind counts as a type index, by
+    /// its number.
+    pub fn listed_ref(&self, ty: RefType) -> RefType
+        ensures { result ≡ ref_map (index_at self.now.ids) (ref_map number_of ty) }
+    {
+        listed_ref(self.space.type_ids(), ty)
+    }
+
+    /// A value type, likewise.
+    pub fn listed_val(&self, ty: ValType) -> ValType
+        ensures { val_type result ≡ val_map (index_at self.now.ids) (val_map number_of (val_type ty)) }
+    {
+        listed_val(self.space.type_ids(), ty)
+    }
+
+    /// The greatest type above a heap type that names a type by its id: the type itself, where an index stands for no known type.
+    pub fn top_type(&self, ty: &HeapType) -> HeapType
+        ensures { heap_type result ≡ greatest_above (by_id (slice_get self.now.sub_types)) (heap_type ty.now) }
+    {
+        match ty {
+            HeapType::Abstract(heap) => HeapType::Abstract(abstract_top(*heap)),
+            HeapType::Concrete(index) => match self.top_of_index(index) {
+                Some(top) => HeapType::Abstract(top),
+                None => *ty,
+            },
+        }
+    }
+
+    // The greatest type above the type that an index stands for, if it stands for one.
+    fn top_of_index(&self, index: &UnpackedIndex) -> Option<AbstractHeapType>
+        ensures { option_map abstract_heap_type result ≡ top_above (by_id (slice_get self.now.sub_types)) (Concrete (unpacked.index index.now)) }
+    {
+        let ty = self.get(index.as_core_type_id()?)?;
+        Some(composite_top(&ty.composite_type))
     }
 
     /// Whether a value type is below another one, where both name types by ids. Where types aren't canonicalized, equal types may have several ids, which count as
@@ -319,6 +400,7 @@ impl ModuleTypes {
         ensures below { IsTrue result → ValBelow unrolled (val_map (stands_for self.now) (val_type a)) (val_map (stands_for self.now) (val_type b)) }
         ensures all { AreIds self.now (val_refs (val_type a)) → AreIds self.now (val_refs (val_type b)) → CanCompare self.now.features (val_refs (val_type a)) (val_refs (val_type b))
             → ValBelow unrolled (val_map (stands_for self.now) (val_type a)) (val_map (stands_for self.now) (val_type b)) → IsTrue result }
+        ensures exact { result ≡ is_val_below (by_id (slice_get self.now.sub_types)) (val_type a) (val_type b) }
     {
         self.list.valtype_is_subtype(a, b)
     }

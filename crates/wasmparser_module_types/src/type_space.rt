@@ -13,7 +13,7 @@ pub(crate) struct TypeSpace {
 }
 
 impl TypeSpace {
-    ghost use Rattle.std.specs.Prelude.{◌≡◌, []};
+    ghost use Rattle.std.specs.Prelude.{◌≡◌, [], IfOk};
 
     // A module without types.
     pub(crate) fn new(alloc: Global, features: WasmFeatures) -> TypeSpace
@@ -24,6 +24,17 @@ impl TypeSpace {
             features,
             ids: Vec::new(alloc),
         }
+    }
+
+    // A copy, whose room is that of its types.
+    pub(crate) fn copy(&self, alloc: Global) -> Result<TypeSpace, AllocError>
+        ensures features { IfOk result (λ copy. copy.features ≡ self.now.features) }
+        ensures ids { IfOk result (λ copy. copy.ids.items ≡ self.now.ids.items) }
+    {
+        Ok(TypeSpace {
+            features: self.features,
+            ids: Vec::from_slice(alloc, &self.ids)?,
+        })
     }
 }
 

@@ -2,9 +2,10 @@
 
 ghost use Rattle.std.specs.Prelude.{◌≡◌, ◌<◌, option_map};
 ghost use Rattle.std.specs.List.{AllByRecursion};
-ghost use Rattle.wasmparser_module_types.specs.WithIds.{heap_by_ids, ref_by_ids, val_by_ids};
+ghost use Rattle.wasm_spec.specs.TypeReferences.{ref_map, val_map};
+ghost use Rattle.wasmparser_module_types.specs.WithIds.{heap_by_ids, index_at, ref_by_ids, val_by_ids};
 ghost use Rattle.wasmparser_types.specs.HeapTypes.{heap_type};
-ghost use Rattle.wasmparser_types.specs.Index.{number_of, packable};
+ghost use Rattle.wasmparser_types.specs.Index.{Module, number_of, packable};
 ghost use Rattle.wasmparser_types.specs.UnpackedIndex as unpacked;
 ghost use Rattle.wasmparser_types.specs.ValTypes.{val_type};
 
@@ -39,7 +40,7 @@ pub(crate) fn heap_with_ids(ids: &[CoreTypeId], ty: HeapType) -> Option<HeapType
 }
 
 // A reference type, likewise.
-fn ref_with_ids(ids: &[CoreTypeId], ty: RefType) -> Option<RefType>
+pub(crate) fn ref_with_ids(ids: &[CoreTypeId], ty: RefType) -> Option<RefType>
     requires { AllByRecursion (λ id. id < packable) ids.now }
     ensures { result ≡ ref_by_ids ids.now ty }
 {
@@ -59,5 +60,40 @@ pub(crate) fn val_with_ids(ids: &[CoreTypeId], ty: ValType) -> Option<ValType>
     match ty {
         ValType::Ref(ty) => Some(ValType::Ref(ref_with_ids(ids, ty)?)),
         _ => Some(ty),
+    }
+}
+
+// The type index that an index counts as, by its number.
+fn as_type_index(it: PackedIndex) -> PackedIndex
+    ensures { result ≡ Module (number_of it) }
+{
+    // (whose clauses tell that the number is small)
+    let _ = it.bits();
+    PackedIndex::from_module_index(number_of(it.unpack()) as u32).unwrap()
+}
+
+// A reference type with an id in place of the index that it has; an index without an id becomes a type index.
+pub(crate) fn listed_ref(ids: &[CoreTypeId], ty: RefType) -> RefType
+    requires { AllByRecursion (λ id. id < packable) ids.now }
+    ensures { result ≡ ref_map (index_at ids.now) (ref_map number_of ty) }
+{
+    let Some(index) = ty.type_index() else {
+        return ty;
+    };
+    let listed = match id_at(ids, number_of(index.unpack())) {
+        Some(id) => PackedIndex::from_id(id).unwrap(),
+        None => as_type_index(index),
+    };
+    RefType::concrete(ty.is_nullable(), listed)
+}
+
+// A value type, likewise.
+pub(crate) fn listed_val(ids: &[CoreTypeId], ty: ValType) -> ValType
+    requires { AllByRecursion (λ id. id < packable) ids.now }
+    ensures { val_type result ≡ val_map (index_at ids.now) (val_map number_of (val_type ty)) }
+{
+    match ty {
+        ValType::Ref(ty) => ValType::Ref(listed_ref(ids, ty)),
+        _ => ty,
     }
 }

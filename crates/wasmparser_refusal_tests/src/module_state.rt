@@ -6,6 +6,7 @@ use wasm_core_base::features::{Flags, WasmFeatures};
 use wasm_test_rows::fields::three_fields;
 use wasm_test_rows::rows::check_rows;
 use wasmparser_error::error::{Error, ErrorKind};
+use wasmparser_module_state::module_state::ModuleState;
 use wasmparser_module_state_tests::judged::{JudgedState, answer, on_new_state};
 
 // Sections, all of which are accepted.
@@ -116,4 +117,38 @@ fn items_hold(alloc: Global, row: &str) -> Option<bool> {
 #[test]
 fn items_that_were_refused_are_not_added(rt: HostRuntime) -> Result<(), Fail> {
     Ok(check_rows(rt.alloc(), ITEMS, 9, items_hold)?)
+}
+
+// Sections, all of which are accepted, and of whose state a copy is made.
+const COPIED: &str = "
+    types 02 60 00 00 5f 00; imports 0000 037f00; functions 01 00; globals 01 7f 00 41000b; tables 01 700000; memories 01 00 01; tags 01 00 00; exports 01 01 61 00 01; elements 01 05 70 00
+    types 03 60 00 00 50 00 5f 00 50 01 01 5f 00; tables 01 63 02 00 01
+";
+
+fn is_there(_known: &ModuleState, row: &str) -> Option<bool> {
+    Some(!row.is_empty())
+}
+
+// Whether a copy is made, at the second time where memory ran out.
+fn is_copied(alloc: Global, state: &mut JudgedState, sections: &str) -> Option<bool> {
+    if !accepts_all(alloc, state, sections)? {
+        return Some(false);
+    }
+    match state.on_copy(sections, is_there) {
+        Some(is_there) => Some(is_there),
+        None => Some(state.on_copy(sections, is_there) == Some(true)),
+    }
+}
+
+fn copies_hold(alloc: Global, row: &str) -> Option<bool> {
+    let features = WasmFeatures::default();
+    match on_new_state(alloc, features, row, is_copied) {
+        Some(is_copied) => Some(is_copied),
+        None => on_new_state(alloc, features, row, is_copied),
+    }
+}
+
+#[test]
+fn copies_are_made_once_there_is_memory(rt: HostRuntime) -> Result<(), Fail> {
+    Ok(check_rows(rt.alloc(), COPIED, 2, copies_hold)?)
 }

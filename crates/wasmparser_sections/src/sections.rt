@@ -81,7 +81,7 @@ impl<'a> ValidSections<'a> {
     // What is known of nothing, with a list of types.
     fn new(alloc: Global, types: ModuleTypes) -> ValidSections<'a>
         ensures nothing { context result.state ≡ at_first }
-        ensures list { result.state.types ≡ record types { types = []; groups = 0 } }
+        ensures list { result.state.types ≡ record types { types = []; groups = 0; ids = [] } }
         ensures none { result.bodies.items ≡ [] }
         ensures no_counts { result.data_counts.items ≡ [] }
     {

@@ -1,18 +1,17 @@
 //! Function bodies.
 
-use std::alloc::Global;
+use std::alloc::{AllocError, Global};
 use std::test::Fail;
-use wasm_core::binary_reader::BinaryReader;
 use wasm_core::features::{Flags, WasmFeatures};
 use wasm_test_rows::fields::four_fields;
 use wasm_test_rows::rows::check_rows;
 use wasm_test_rows::values::bytes_of;
-use wasmparser::body::validate_body;
 use wasmparser::error::{Error, ErrorKind};
-use wasmparser::function_body::FunctionBody;
+use wasmparser::validator::{Validator, validate};
+use wasmparser::validator_id::ValidatorId;
 
-// How many parameters and results a function has, the features, a body, and the kind of its refusal, or `valid`. `all SIMD` are all features
-// but that one.
+// How many parameters and results, numbers all of them, a function has, the features, its body, and the kind of its refusal, or `valid`. `all SIMD` are all
+// features but that one. The function's type is the only one of its module.
 const BODIES: &str = "
     // A function that has to leave nothing, and one that has to leave a number.
     0 0 | default | 00 00 0b | valid
@@ -21,6 +20,7 @@ const BODIES: &str = "
     1 1 | default | 00 00 00 0b | valid
     0 0 | default | 00 0b | valid
     1 1 | default | 00 0b | Body
+    1 1 | default | 00 20 00 0b | valid
     0 0 | default | 00 | Body
     1 1 | default | 00 | Body
     0 0 | default | | Body
@@ -29,10 +29,13 @@ const BODIES: &str = "
     1 1 | default | 00 00 0b 0b | Body
     0 0 | default | 00 fe 03 00 0b | Operator
     1 1 | default | 00 fe 03 00 0b | Operator
-    0 0 | default | 00 01 0b | Operator
-    1 1 | default | 00 01 0b | Operator
+    0 0 | default | 00 06 0b | Operator
+    0 0 | default | 00 01 06 0b | Operator
+    0 0 | default | 00 1a 06 0b | Body
     0 0 | default | 00 0b 06 | Body
-    1 1 | default | 00 0b 06 | Body
+    // An addition of what is unknown and a number, in code that is never reached, leaves a number.
+    0 0 | default | 00 00 41 00 7c 1a 0b | Body
+    0 0 | default | 00 00 41 00 6a 1a 0b | valid
     // Locals that ask for a feature. A run of none asks too.
     0 0 | all | 01 01 7b 00 0b | valid
     0 0 | all SIMD | 01 01 7b 00 0b | Body
@@ -40,9 +43,11 @@ const BODIES: &str = "
     0 0 | all SIMD | 01 00 7b 00 0b | Body
     0 0 | all | 01 02 63 70 00 0b | valid
     0 0 | all REFERENCE_TYPES | 01 02 63 70 00 0b | Body
-    // Types of locals that can't be, under all features.
-    0 0 | all | 01 02 63 00 00 0b | Body
-    0 0 | all | 01 02 64 70 00 0b | Body
+    // References to the function's own type, and to one that isn't there; and ones that aren't null, which can't be read before they are set.
+    0 0 | all | 01 02 63 00 00 0b | valid
+    0 0 | all | 01 02 63 01 00 0b | Body
+    0 0 | all | 01 02 64 70 00 0b | valid
+    0 0 | all | 01 02 64 70 20 00 1a 0b | Body
     0 0 | all | 01 02 63 | Body
     // 50,000 locals in one run and in two, and one more.
     0 0 | default | 01 d0 86 03 7f 00 0b | valid
@@ -52,10 +57,9 @@ const BODIES: &str = "
     // A run of 2^32 - 1, whatever follows.
     0 0 | default | 02 ff ff ff ff 0f 7f ff ff ff ff 0f 7f 0b | Limit(Locals)
     0 0 | default | 01 ff ff ff ff 0f | Body
-    // Parameters are locals: 49,000 and 49,001 more, and parameters alone.
+    // Parameters are locals: 49,000 and 49,001 more.
     1000 0 | default | 01 e8 fe 02 7f 0b | valid
     1000 0 | default | 01 e9 fe 02 7f 0b | Limit(Locals)
-    50001 0 | default | 00 0b | Limit(Locals)
 ";
 
 fn features_of(field: &str) -> Option<WasmFeatures> {
@@ -79,24 +83,66 @@ fn is_answer(alloc: Global, answer: Result<(), Error>, expected: &str) -> bool {
     }
 }
 
+// A number in five bytes.
+fn put_number(bytes: &mut Vec<u8>, number: u64) -> Result<(), AllocError> {
+    for shift in 0..4u32 {
+        bytes.push(((number >> (7 * shift)) & 0x7f) as u8 | 0x80)?;
+    }
+    bytes.push(((number >> 28) & 0x0f) as u8)
+}
+
+// So many times the type of a number.
+fn put_numbers(bytes: &mut Vec<u8>, count: u16) -> Result<(), AllocError> {
+    put_number(bytes, u64::from(count))?;
+    for _ in 0..count {
+        bytes.push(0x7f)?;
+    }
+    Ok(())
+}
+
+// A module with one type, so many parameters and results, and one function of it with this body.
+fn module_of(alloc: Global, params: u16, results: u16, body: &[u8]) -> Result<Vec<u8>, AllocError> {
+    let mut bytes = Vec::new(alloc);
+    bytes.extend_from_slice(b"\0asm\x01\0\0\0\x01")?;
+    put_number(&mut bytes, 12 + u64::from(params) + u64::from(results))?;
+    bytes.extend_from_slice(&[1, 0x60])?;
+    put_numbers(&mut bytes, params)?;
+    put_numbers(&mut bytes, results)?;
+    bytes.extend_from_slice(&[3, 2, 1, 0, 10])?;
+    let length = body.len() as u64;
+    put_number(&mut bytes, length.saturating_add(6))?;
+    bytes.push(1)?;
+    put_number(&mut bytes, length)?;
+    bytes.extend_from_slice(body)?;
+    Ok(bytes)
+}
+
+// What is answered to a module under these features.
+fn answer_to(alloc: Global, features: WasmFeatures, bytes: &[u8]) -> Result<(), Error> {
+    let mut validator = Validator::new_with_features(alloc, features, ValidatorId::new(0));
+    let _ = validator.validate_all(bytes)?;
+    Ok(())
+}
+
 fn holds(alloc: Global, row: &str) -> Option<bool> {
     let (counts, features, bytes, expected) = four_fields(row)?;
     let features = features_of(features)?;
-    let bytes = bytes_of(alloc, bytes)?;
+    let body = bytes_of(alloc, bytes)?;
     let (params, results) = counts.split_once(' ')?;
-    let body = FunctionBody::new(BinaryReader::new(&bytes, 0));
-    let answer = validate_body(params.parse().ok()?, results == "0", &body, features);
-    Some(is_answer(alloc, answer, expected))
+    let module = module_of(alloc, params.parse().ok()?, results.parse().ok()?, &body).ok()?;
+    Some(is_answer(alloc, answer_to(alloc, features, &module), expected))
 }
 
 #[test]
 fn bodies_have_their_answers(rt: HostRuntime) -> Result<(), Fail> {
-    Ok(check_rows(rt.alloc(), BODIES, 36, holds)?)
+    Ok(check_rows(rt.alloc(), BODIES, 40, holds)?)
 }
 
 #[test]
-fn refusal_stands_in_the_body(rt: HostRuntime) {
-    let body = FunctionBody::new(BinaryReader::new(b"\0\0\xfe", 100));
-    let refusal = validate_body(0, true, &body, WasmFeatures::default());
-    assert!(rt; refusal.is_err_and(|it| it.offset == 102 && it.kind == ErrorKind::Operator));
+fn refusal_stands_in_the_body(rt: HostRuntime) -> Result<(), Fail> {
+    let module = module_of(rt.alloc(), 0, 0, b"\0\0\xfe")?;
+    let refusal = validate(rt.alloc(), &module);
+    let end = module.len() as u64;
+    assert!(rt; refusal.is_err_and(|it| it.offset < end && end - it.offset == 1 && it.kind == ErrorKind::Operator));
+    Ok(())
 }

@@ -9,7 +9,7 @@ use wasm_test_rows::fields::two_fields;
 use wasm_test_rows::rows::check_rows;
 use wasm_test_rows::values::bytes_of;
 use wasmparser::error::Error;
-use wasmparser::func::FuncValidatorAllocations;
+use wasmparser::func_to_validate::FuncValidatorAllocations;
 use wasmparser::function_body::FunctionBody;
 use wasmparser::parser::Parser;
 use wasmparser::payload::Payload;
@@ -220,7 +220,7 @@ const MODULES: &str = "
     0061736d01000000 | 0 0
     0061736d01000000 01 04 01 60 00 00 03 02 01 00 0a 04 01 02 00 0b | 1 1
     0061736d01000000 01 04 01 60 00 00 03 03 02 00 00 0a 07 02 02 00 0b 02 00 0b | 2 1
-    0061736d01000000 01 04 01 60 00 00 03 03 02 00 00 0a 07 02 02 00 0b 02 00 6a | operator
+    0061736d01000000 01 04 01 60 00 00 03 03 02 00 00 0a 07 02 02 00 0b 02 00 06 | operator
     0061736d01000000 01 08 02 60 00 00 60 00 01 7f 03 03 02 00 01 0a 07 02 02 00 0b 02 00 0b | body
     0061736d01000000 01 04 01 60 00 00 03 02 01 00 0a 07 02 02 00 0b 02 00 0b | malformed
     0061736d01000000 0a 04 01 02 00 0b | malformed
@@ -231,46 +231,24 @@ const MODULES: &str = "
     0061736d01000000 05 03 01 00 01 0c 01 02 0b 06 01 00 41 00 0b 00 | malformed
 ";
 
-// Validates a body by the function that was given for it.
-fn is_fine(alloc: Global, given: &ValidPayload<'_>) -> Result<(), Error> {
-    match given {
-        ValidPayload::Func(function, body) => {
-            let mut validator = function.into_validator(FuncValidatorAllocations::new(alloc));
-            validator.validate(body)
-        }
-        _ => Ok(()),
-    }
-}
-
-fn sizes_of(given: &ValidPayload<'_>) -> Option<(u32, u32)> {
-    match given {
-        ValidPayload::End(types) => {
-            let view = types.as_ref();
-            Some((view.function_count(), view.core_type_count_in_module()))
-        }
-        _ => None,
-    }
-}
-
-// What is shown at the end, where a body is fine.
-fn sizes_of_fine(alloc: Global, given: &ValidPayload<'_>) -> Result<Option<(u32, u32)>, Error> {
-    is_fine(alloc, given)?;
-    Ok(sizes_of(given))
-}
-
 // Judges a payload, and the body that it is.
 fn judge(
     alloc: Global,
     validator: &mut Validator,
     payload: &Payload<'_>,
 ) -> Result<Option<(u32, u32)>, Error> {
-    let given = validator.payload(payload);
-    let sizes = match &given {
-        Ok(given) => sizes_of_fine(alloc, given),
-        Err(e) => Err(*e),
-    };
-    drop(given);
-    sizes
+    match validator.payload(payload)? {
+        ValidPayload::Ok => Ok(None),
+        ValidPayload::Func(function, body) => {
+            let mut validator = function.into_validator(FuncValidatorAllocations::new(alloc))?;
+            validator.validate(&body)?;
+            Ok(None)
+        }
+        ValidPayload::End(types) => {
+            let view = types.as_ref();
+            Ok(Some((view.function_count(), view.core_type_count_in_module())))
+        }
+    }
 }
 
 fn is_answered(alloc: Global, validator: &mut Validator, row: &str) -> Option<bool> {

@@ -1,15 +1,18 @@
 -- How a validator goes from piece to piece.
-use Rattle.std.proofs.Common.{◌≡◌, inl, inr, ◌<◌, ℕ, true, false, List, length, refl, arith}
+use Rattle.std.proofs.Common.{◌≡◌, inl, inr, ◌<◌, ℕ, true, false, List, [], ◌∷◌, length, Ok, refl, sym, ap, ◌∙◌, arith}
 use Rattle.std.proofs.lemmas.Bool.Decides.{nat_tests}
 use Rattle.wasm_core_read.specs.Input.{Input}
 use Rattle.wasm_spec.specs.Trees.{DefType}
-use Rattle.wasm_validity.specs.Context.{Context}
+use Rattle.wasm_spec.specs.Features.{Features}
+use Rattle.wasm_validity.specs.Context.{Context, after_all}
+use Rattle.wasm_validity.specs.Entries.{OfBody}
+use Rattle.wasmparser_module_entries.specs.PieceEntries.{entries_said, items_of, said_first}
 use Rattle.wasmparser_error.specs.declared.error.Error.{Error}
 use Rattle.wasmparser_error.specs.declared.error.ErrorKind.{ErrorKind}
 use Rattle.wasmparser_error.specs.declared.error.ErrorKind.TheVariants as kinds
 use Rattle.wasmparser_payloads.specs.Pieces.{Piece, Body, End}
-use Rattle.wasmparser_sections.specs.PieceJudging.{IsPlaced, NamesPiece, Says}
-use Rattle.wasmparser_validator.specs.Judges.{AcceptsPiece, IsOutOfOrder, IsWaitedAt, Judge, NamesWaited, RefusesPiece, after_piece, agrees, follows_bodies, is_end, may_stand_between, is_version, place_of, waiting, waits_for, waits_in}
+use Rattle.wasmparser_sections.specs.PieceJudging.{AddsPiece, IsPlaced, NamesPiece, Says}
+use Rattle.wasmparser_validator.specs.Judges.{AcceptsPiece, IsOutOfOrder, IsWaitedAt, Judge, NamesWaited, RefusesPiece, after_piece, agrees, follows_bodies, is_body, is_end, may_stand_between, is_version, place_of, waiting, waits_for, waits_in}
 use Rattle.wasmparser_validator.specs.declared.validator.Stage.{Stage}
 use Rattle.wasmparser_validator.specs.declared.validator.Stage.TheVariants as stages
 
@@ -67,10 +70,24 @@ piece_accepted old piece known held waited agreed says = record { waited = waite
 
 pub ruleset judge_steps = (piece_refused, piece_accepted)
 
-pub ruleset body_steps = (body_waited)
-
 -- memory runs out at the end
 pub end_refused : (old new : Judge) (position : ℕ) (e : Error) → waits_for old (End position) ≡ true → e ≡ record { offset = 0; kind = kinds.Memory } → new ≡ waiting old stages.Failed
     → RefusesPiece (waits_for old (End position)) old (End position) e new
 unfolding is_end
-end_refused old new position e waited memory failed = rw (waited, memory) (inr refl, refl, failed)
+end_refused old new position e waited memory failed = rw (waited, memory) (inr (inl refl), refl, failed)
+
+-- memory runs out at a body
+pub body_refused : (old new : Judge) (piece : Piece) (e : Error) → waits_for old piece ≡ true → is_body piece ≡ true → e ≡ record { offset = 0; kind = kinds.Memory } → new ≡ waiting old stages.Failed
+    → RefusesPiece (waits_for old piece) old piece e new
+body_refused old new piece e waited is memory failed = rw (waited, memory) (inr (inr is), refl, failed)
+
+-- a body adds nothing to what is known
+pub body_adds_nothing : (features : Features) (old new : Context) (old_held new_held : List DefType) (body : Input) (x : Unit {0}) → AddsPiece features old old_held (Body body) (Ok x) new new_held → new ≡ old
+unfolding entries_said said_first items_of
+body_adds_nothing features old new old_held new_held body x says =
+    let entries : OfBody body.rest ∷ [] ≡ says.entries = cc in
+    says.known ∙ ap (after_all old) (sym entries)
+
+pub ruleset body_steps = (body_waited)
+
+pub ruleset refusal_steps = (body_refused)

@@ -1,11 +1,12 @@
-pub mod BodyLaws
-pub mod BodyValidationLaws
 pub mod Counts
 mod ExportLaws
-pub mod LocalTypeLaws
+pub mod FewParameters
 pub mod LocalsLimit
 pub mod VerdictLaws
 pub mod BodiesLaws
 mod SpaceLaws
 mod ReachedLaws
 mod JudgeLaws
+mod EndedLaws
+mod OwnLaws
+mod ResourceLaws

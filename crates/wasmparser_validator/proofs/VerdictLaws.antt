@@ -1,6 +1,5 @@
 -- The whole promise: from what sections and bodies are judged to what is answered.
 use Rattle.std.proofs.Common.{◌≡◌, ◌≢◌, ◌⊎◌, inl, inr, ◌↔◌, ℕ, zero, suc, ◌<◌, ◌≤◌, Bool, true, false, List, [], ◌∷◌, ◌++◌, map, length, Some, is_some, Result, Ok, Err, option_map, refl, sym, ap, subst, ◌∙◌, arith, slice_get}
-use Rattle.std.specs.Prelude.{IfErr, IfOk}
 use Rattle.std.proofs.lemmas.List.{length-map}
 use Rattle.std.proofs.lemmas.Option.{slice_get-map}
 use Rattle.wasm_core_base.specs.declared.limits.Limit.TheVariants as limits
@@ -11,7 +10,7 @@ use Rattle.wasm_core_read.proofs.ReadingLaws.{module_one, some_is}
 use Rattle.wasm_spec.specs.Features.{Features, CompactImports, has}
 use Rattle.wasm_spec.specs.Grammar.{IsModule}
 use Rattle.wasm_spec.specs.Limits.{Limit}
-use Rattle.wasm_spec.specs.Syntax.{Section, functions_of, bodies_of}
+use Rattle.wasm_spec.specs.Syntax.{Section, types_of, functions_of, bodies_of}
 use Rattle.wasm_spec.specs.Trees.{DefType}
 use Rattle.wasm_spec.specs.Types.{FuncType}
 use Rattle.wasm_validity.specs.Context.{Context, after_all, at_first}
@@ -20,18 +19,20 @@ use Rattle.wasm_validity.specs.Entries.{Entry, entries_of}
 use Rattle.wasm_validity.specs.Fronts.{BeginsWith}
 use Rattle.wasm_validity.specs.IndexSpaces.{spaces_in}
 use Rattle.wasm_validity.specs.Rules.{KeepLimits, KeepRules, PassLimit}
-use Rattle.wasm_validity.specs.Validity.{BodyAt, IsTypedBody, IsBodyPast, IsOtherBody, IsBrokenBody, HasBody, context_of}
+use Rattle.wasm_valid_modules.specs.ModuleBodies.{BodyAt, func_type_in}
+use Rattle.wasm_valid_modules.specs.Validity.{IsTypedBody, IsBodyPast, IsOtherBody, IsBrokenBody, HasBody}
+use Rattle.wasm_validity.specs.Validity.{context_of}
 use Rattle.wasmparser_error.specs.declared.error.Error.{Error}
 use Rattle.wasmparser_error.specs.declared.error.ErrorKind.{ErrorKind}
 use Rattle.wasmparser_error.specs.declared.error.ErrorKind.TheVariants as kinds
 use Rattle.wasmparser_module_state.specs.History.{EnterAll, OneFindsNoRoom, held}
-use Rattle.wasmparser_module_state.specs.State.{context, features_of}
+use Rattle.wasmparser_module_state.specs.State.{context}
 use Rattle.wasmparser_module_types.specs.ModuleTypes.{KnownTypes}
-use Rattle.wasmparser_module_state.specs.declared.module_state.ModuleState.{ModuleState}
 use Rattle.wasmparser_sections.specs.Sections.{AreAccepted, EndBy, NamesSections}
 use Rattle.wasmparser_sections.specs.declared.sections.ValidSections.{ValidSections}
-use Rattle.wasmparser_validator.specs.Bodies.{AreNamed, HasBodyAt, ValidatesBodies}
-use Rattle.wasmparser_validator.specs.Judges.{HoldsAfter, is_in_body}
+use Rattle.wasmparser_module_bodies.specs.BodyVerdicts.{IsBodyJudged}
+use Rattle.wasmparser_validator.specs.Bodies.{AreNamed}
+use Rattle.wasmparser_validator.specs.Judges.{GoesOn, GoesOnAfter, EndsInBody}
 use Rattle.wasmparser_validator.specs.KnownSpaces.{KnownModule}
 use Rattle.wasmparser_validator.specs.Validation.{IsAccepted, IsNamed, IsValidated}
 use Rattle.wasmparser_validator.proofs.LocalsLimit.{no_locals}
@@ -52,7 +53,7 @@ LimitsInTurn = (cx : Context) (a b : List Entry) → KeepLimits cx (a ++ b) ↔ 
 abbrev NoneWithin : Type 0
 NoneWithin = (limit : Limit) (cx : Context) (entries : List Entry) → KeepLimits cx entries → ¬ (PassLimit limit cx entries)
 
-abbrev OwnFunctions : Type 0
+abbrev pub OwnFunctions : Type 0
 OwnFunctions = (sections : List Section) → (context_of sections).own_functions ≡ functions_of sections
 
 abbrev FirstFindRoom : Type 0
@@ -110,23 +111,38 @@ refused_sections features old_held bytes e fronts rules bounds within room named
 
 -- ---- bodies
 
-in_sections : (Holds : FuncType DefType → List ℕ → Type 0) (sections : List Section) (cx : Context) (bodies : List Input) (place : ℕ) (type : FuncType DefType) (body : Input) → OwnFunctions
-    → cx ≡ context_of sections → map (λ (b : Input). b.rest) bodies ≡ bodies_of sections → HasBodyAt cx bodies place type body → Holds type body.rest → BodyAt Holds sections place
-in_sections Holds sections cx bodies place type body own known bodies_are h holds = record {
-  index = h.index;
-  type = type;
-  body = body.rest;
-  indexed = ap (λ (l : List ℕ). slice_get l place) (sym (own sections)) ∙ ap (λ (c : Context). slice_get c.own_functions place) (sym known) ∙ h.indexed;
-  named = ap (λ (c : Context). func_type_at c.types h.index) (sym known) ∙ h.named;
-  has = ap (λ (l : List (List ℕ)). slice_get l place) (sym bodies_are) ∙ slice_get-map (λ (b : Input). b.rest) bodies place ∙ ap (option_map (λ (b : Input). b.rest)) h.has;
+-- The body of the function of the module's own at a place is judged so.
+pub record JudgedAt (features : Features) (sections : List Section) (bodies : List Input) (answer : Result (Unit {0}) Error) (place : ℕ) : Type 0 where
+  pub index : ℕ
+  pub type : FuncType ℕ
+  pub body : Input
+  pub indexed : slice_get (functions_of sections) place ≡ Some index
+  pub named : func_type_in (types_of sections) index ≡ Some type
+  pub has : slice_get bodies place ≡ Some body
+  pub judged : IsBodyJudged features sections type body.rest body.position answer
+
+-- each is fine, or one is refused
+abbrev pub JudgeBodies : Features → List Section → List Input → Result (Unit {0}) Error → Type 0
+JudgeBodies features sections bodies (Ok x) = (place : ℕ) → place < length (functions_of sections) → JudgedAt features sections bodies (Ok x) place
+JudgeBodies features sections bodies (Err e) = (place : ℕ) × (place < length (functions_of sections)) × JudgedAt features sections bodies (Err e) place
+
+in_sections : (Holds : FuncType ℕ → List ℕ → Type 0) (features : Features) (sections : List Section) (bodies : List Input) (answer : Result (Unit {0}) Error) (place : ℕ)
+    → map (λ (b : Input). b.rest) bodies ≡ bodies_of sections → (j : JudgedAt features sections bodies answer place) → Holds j.type j.body.rest → BodyAt Holds sections place
+in_sections Holds features sections bodies answer place bodies_are j holds = record {
+  index = j.index;
+  type = j.type;
+  body = j.body.rest;
+  indexed = j.indexed;
+  named = j.named;
+  has = ap (λ (l : List (List ℕ)). slice_get l place) (sym bodies_are) ∙ slice_get-map (λ (b : Input). b.rest) bodies place ∙ ap (option_map (λ (b : Input). b.rest)) j.has;
   holds = holds;
 }
 
 -- a function has one type and one body
-same_body : (P Q : FuncType DefType → List ℕ → Type 0) (sections : List Section) (place : ℕ) (a : BodyAt P sections place) (b : BodyAt Q sections place) → (a.type ≡ b.type) × (a.body ≡ b.body)
+same_body : (P Q : FuncType ℕ → List ℕ → Type 0) (sections : List Section) (place : ℕ) (a : BodyAt P sections place) (b : BodyAt Q sections place) → (a.type ≡ b.type) × (a.body ≡ b.body)
 same_body P Q sections place a b =
     let index : a.index ≡ b.index = some_is a.index b.index (sym a.indexed ∙ b.indexed) in
-    (some_is a.type b.type (sym a.named ∙ ap (func_type_at (context_of sections).types) index ∙ b.named), some_is a.body b.body (sym a.has ∙ b.has))
+    (some_is a.type b.type (sym a.named ∙ ap (func_type_in (types_of sections)) index ∙ b.named), some_is a.body b.body (sym a.has ∙ b.has))
 
 -- as many own functions as the sections have
 own_count : (sections : List Section) (cx : Context) → OwnFunctions → cx ≡ context_of sections → length cx.own_functions ≡ length (functions_of sections)
@@ -134,69 +150,70 @@ own_count sections cx own known = ap (λ (c : Context). length c.own_functions) 
 
 -- ---- a module of which all is fine
 
-pub accepted_module : (features : Features) (old_held : List DefType) (bytes : List ℕ) (m : ValidSections) (shown : KnownModule) → OwnFunctions → AreAccepted features old_held bytes m
-    → ValidatesBodies features (context m.state) m.bodies.items (Ok tt) → context shown.state ≡ context m.state → shown.state.types ≡ record m.state.types { grows = false } → IsValidated features old_held bytes (Ok shown)
-accepted_module features old_held bytes m shown own w validated shows types =
-    let n : length (context m.state).own_functions ≡ length (functions_of w.sections) = own_count w.sections (context m.state) own w.known in
+pub accepted_module : (features : Features) (old_held : List DefType) (bytes : List ℕ) (m : ValidSections) (shown : KnownModule) → (w : AreAccepted features old_held bytes m)
+    → JudgeBodies features w.sections m.bodies.items (Ok tt) → context shown.state ≡ context m.state → shown.state.types ≡ record m.state.types { grows = false } → IsValidated features old_held bytes (Ok shown)
+accepted_module features old_held bytes m shown w judged shows types = record {
+  right = (
+    w.sections,
     record {
-      right = (
-        w.sections,
-        record {
-          reads = w.reads;
-          valid = record {
-            fine = w.fine;
-            bodies = λ place lt.
-                let j = validated place (omega (arith, lt, n)) in
-                in_sections (IsTypedBody features) w.sections (context m.state) m.bodies.items place j.0 j.1 own w.known w.bodies j.2 j.3.right;
-          };
-        },
-        ap spaces_in shows ∙ ap spaces_in w.known,
-        subst (EnterAll features at_first old_held (entries_of w.sections)) (sym (ap (λ (t : KnownTypes). t.interned) types)) w.entered,
-        ap (λ (t : KnownTypes). t.features) types ∙ w.same_features,
-        ap (λ (t : KnownTypes). t.grows) types,
-      );
-      complete = λ sections h. tt;
-      malformed = tt;
-      invalid = tt;
-      limit = tt;
-      locals = tt;
-      total = tt;
-      first = λ none. tt;
-      operator = tt;
-      body = tt;
-      others = tt;
-      place = tt;
-      memory = tt;
-    }
+      reads = w.reads;
+      valid = record {
+        fine = w.fine;
+        bodies = λ place lt. let j = judged place lt in in_sections (IsTypedBody features w.sections) features w.sections m.bodies.items (Ok tt) place w.bodies j j.judged.right;
+      };
+    },
+    ap spaces_in shows ∙ ap spaces_in w.known,
+    subst (EnterAll features at_first old_held (entries_of w.sections)) (sym (ap (λ (t : KnownTypes). t.interned) types)) w.entered,
+    ap (λ (t : KnownTypes). t.features) types ∙ w.same_features,
+    ap (λ (t : KnownTypes). t.grows) types,
+  );
+  complete = λ sections h. tt;
+  malformed = tt;
+  invalid = tt;
+  limit = tt;
+  locals = tt;
+  total = tt;
+  first = λ none. tt;
+  operator = tt;
+  body = tt;
+  others = tt;
+  place = tt;
+  memory = tt;
+}
 
 -- ---- refusals of bodies
 
-abbrev IsBodyKind : ErrorKind → Type 0
-IsBodyKind kind = (kind ≡ kinds.Operator) ⊎ (kind ≡ kinds.Limit limits.Locals) ⊎ (kind ≡ kinds.Body)
+-- what a body can be refused for
+abbrev is_of_body : ErrorKind → Bool
+is_of_body kinds.Operator = true
+is_of_body (kinds.Limit limits.Locals) = true
+is_of_body kinds.Body = true
+is_of_body kinds.Memory = true
+is_of_body kind = false
 
-not_malformed : (kind : ErrorKind) → IsBodyKind kind → kind ≢ kinds.Malformed
-not_malformed kind h e = elim h [ inl a ↦ let f = sym e ∙ a in absurd cc | inr b ↦ elim b [ inl a ↦ let f = sym e ∙ a in absurd cc | inr a ↦ let f = sym e ∙ a in absurd cc ] ]
-
-not_invalid : (kind : ErrorKind) → IsBodyKind kind → kind ≢ kinds.Invalid
-not_invalid kind h e = elim h [ inl a ↦ let f = sym e ∙ a in absurd cc | inr b ↦ elim b [ inl a ↦ let f = sym e ∙ a in absurd cc | inr a ↦ let f = sym e ∙ a in absurd cc ] ]
-
-not_memory : (kind : ErrorKind) → IsBodyKind kind → kind ≢ kinds.Memory
-not_memory kind h e = elim h [ inl a ↦ let f = sym e ∙ a in absurd cc | inr b ↦ elim b [ inl a ↦ let f = sym e ∙ a in absurd cc | inr a ↦ let f = sym e ∙ a in absurd cc ] ]
-
-not_total : (kind : ErrorKind) → IsBodyKind kind → kind ≢ kinds.Total
-not_total kind h e = elim h [ inl a ↦ let f = sym e ∙ a in absurd cc | inr b ↦ elim b [ inl a ↦ let f = sym e ∙ a in absurd cc | inr a ↦ let f = sym e ∙ a in absurd cc ] ]
-
-not_limit : (kind : ErrorKind) (l : core.Limit) → IsBodyKind kind → l ≢ limits.Locals → kind ≢ kinds.Limit l
-not_limit kind l h other e = elim h [
-  | inl a ↦ let f = sym e ∙ a in absurd cc
-  | inr b ↦ elim b [ inl a ↦ absurd (other (inside l limits.Locals (sym e ∙ a))) | inr a ↦ let f = sym e ∙ a in absurd cc ]
+of_body : (kind : ErrorKind) → (kind ≡ kinds.Operator) ⊎ (kind ≡ kinds.Limit limits.Locals) ⊎ (kind ≡ kinds.Body) ⊎ (kind ≡ kinds.Memory) → is_of_body kind ≡ true
+of_body kind h = elim h [
+  | inl a ↦ ap is_of_body a
+  | inr b ↦ elim b [ inl a ↦ ap is_of_body a | inr c ↦ elim c [ inl a ↦ ap is_of_body a | inr a ↦ ap is_of_body a ] ]
 ]
-  where
-    inside : (a b : core.Limit) → kinds.Limit a ≡ kinds.Limit b → a ≡ b
-    inside a b e = cc
 
-of_body : (kind : ErrorKind) → IsBodyKind kind → IsNamed kind
-of_body kind h = elim h [ inl a ↦ subst IsNamed (sym a) tt | inr b ↦ elim b [ inl a ↦ subst IsNamed (sym a) tt | inr a ↦ subst IsNamed (sym a) tt ] ]
+not_other : (kind other : ErrorKind) → is_of_body kind ≡ true → is_of_body other ≡ false → kind ≢ other
+not_other kind other is not e = let f = sym is ∙ ap is_of_body e ∙ not in absurd cc
+
+only_locals : (l : core.Limit) → is_of_body (kinds.Limit l) ≡ true → l ≡ limits.Locals
+only_locals limits.Locals h = refl
+only_locals _ h = absurd cc
+
+is_named : (kind : ErrorKind) → is_of_body kind ≡ true → IsNamed kind
+is_named kinds.Operator h = tt
+is_named (kinds.Limit l) h = tt
+is_named kinds.Body h = tt
+is_named kinds.Memory h = tt
+is_named kinds.Malformed h = absurd cc
+is_named kinds.Invalid h = absurd cc
+is_named kinds.Total h = absurd cc
+is_named kinds.Order h = absurd cc
+is_named kinds.Failed h = absurd cc
 
 -- a body that stands in a list ends where all of the list end
 ends_by : (last : ℕ) (bodies : List Input) (place : ℕ) (body : Input) → EndBy last bodies → slice_get bodies place ≡ Some body → end body ≤ last
@@ -204,43 +221,55 @@ ends_by last [] place body all e = absurd cc
 ends_by last (x ∷ bodies) zero body all e = subst (λ (b : Input). end b ≤ last) (some_is x body e) all.0
 ends_by last (x ∷ bodies) (suc place) body all e = ends_by last bodies place body all.1 e
 
-pub refused_body : (features : Features) (old_held : List DefType) (bytes : List ℕ) (m : ValidSections) (e : Error) → OwnFunctions
-    → AreAccepted features old_held bytes m → ValidatesBodies features (context m.state) m.bodies.items (Err e) → IsValidated features old_held bytes (Err e)
-unfolding in_sections
-refused_body features old_held bytes m e own w refused =
-    let j = refused.2 in
-    let kind = j.3.others in
-    let n : length (context m.state).own_functions ≡ length (functions_of w.sections) = own_count w.sections (context m.state) own w.known in
-    let lt : refused.0 < length (functions_of w.sections) = omega (arith, refused.1, n) in
-    let at : (Holds : FuncType DefType → List ℕ → Type 0) → Holds j.0 j.1.rest → BodyAt Holds w.sections refused.0 =
-    λ Holds holds. in_sections Holds w.sections (context m.state) m.bodies.items refused.0 j.0 j.1 own w.known w.bodies j.2 holds in
-    let some : (Holds : FuncType DefType → List ℕ → Type 0) → Holds j.0 j.1.rest → HasBody features Holds bytes = λ Holds holds. record {
-      sections = w.sections;
-      reads = w.reads;
-      fine = w.fine;
-      some = (refused.0, lt, at Holds holds);
-    } in
-    record {
-      right = tt;
-      complete = λ sections h.
-          let same : sections ≡ w.sections = module_one (has features CompactImports) bytes sections w.sections h.reads w.reads in
-          let there = (subst (λ (l : List Section). (place : ℕ) → place < length (functions_of l) → BodyAt (IsTypedBody features) l place) same h.valid.bodies) refused.0 lt in
-          let here = at (λ type body. Unit {0}) tt in
-          let one = same_body _ _ w.sections refused.0 there here in
-          let body : IsTypedBody features j.0 j.1.rest = subst (λ body. IsTypedBody features j.0 body) one.1 (subst (λ type. IsTypedBody features type there.body) one.0 there.holds) in
-          let no = j.3.complete body in absurd cc;
-      malformed = λ is. absurd (not_malformed e.kind kind is);
-      invalid = λ is. absurd (not_invalid e.kind kind is);
-      limit = λ l other is. absurd (not_limit e.kind l kind other is);
-      locals = λ is. some (IsBodyPast features) (j.3.limit is);
-      total = λ is. absurd (not_total e.kind kind is);
-      first = λ none. not_total e.kind kind;
-      operator = λ is. some (IsOtherBody features) (j.3.operator is);
-      body = λ is. some (IsBrokenBody features) (j.3.broken is);
-      others = of_body e.kind kind;
-      place = omega (arith, j.3.to, ends_by (length bytes) m.bodies.items refused.0 j.1 w.inside j.2.has);
-      memory = λ is. absurd (not_memory e.kind kind is);
-    }
+module _ (features : Features) (old_held : List DefType) (bytes : List ℕ) (m : ValidSections) (e : Error) (w : AreAccepted features old_held bytes m)
+    (refused : JudgeBodies features w.sections m.bodies.items (Err e)) where
+  abbrev judged_there : JudgedAt features w.sections m.bodies.items (Err e) refused.0
+  judged_there = refused.2
+
+  abbrev kind_there : is_of_body e.kind ≡ true
+  kind_there = of_body e.kind judged_there.judged.others
+
+  there_is : (Holds : List Section → FuncType ℕ → List ℕ → Type 0) → Holds w.sections judged_there.type judged_there.body.rest → HasBody features Holds bytes
+  there_is Holds holds = record {
+    sections = w.sections;
+    reads = w.reads;
+    fine = w.fine;
+    some = (refused.0, refused.1, in_sections (Holds w.sections) features w.sections m.bodies.items (Err e) refused.0 w.bodies judged_there holds);
+  }
+
+  -- a module that is to be accepted has this body too, which is then refused only where memory runs out
+  accepted_there : (sections : List Section) → IsAccepted features bytes sections → e.kind ≡ kinds.Memory
+  unfolding in_sections
+  accepted_there sections h =
+      let same : sections ≡ w.sections = module_one (has features CompactImports) bytes sections w.sections h.reads w.reads in
+      let there = (subst (λ (l : List Section). (place : ℕ) → place < length (functions_of l) → BodyAt (IsTypedBody features l) l place) same h.valid.bodies) refused.0 refused.1 in
+      let here = in_sections (λ type body. Unit {0}) features w.sections m.bodies.items (Err e) refused.0 w.bodies judged_there tt in
+      let one = same_body _ _ w.sections refused.0 there here in
+      judged_there.judged.complete (subst (λ body. IsTypedBody features w.sections judged_there.type body) one.1
+      (subst (λ type. IsTypedBody features w.sections type there.body) one.0 there.holds))
+
+  ends_there : e.offset ≤ length bytes
+  ends_there = elim judged_there.judged.to [
+    | inl memory ↦ let at : e.offset ≡ 0 = judged_there.judged.nowhere memory in omega (arith, at)
+    | inr within ↦ omega (arith, within, ends_by (length bytes) m.bodies.items refused.0 judged_there.body w.inside judged_there.has)
+  ]
+
+  pub refused_body : IsValidated features old_held bytes (Err e)
+  refused_body = record {
+    right = tt;
+    complete = λ sections h. inl (accepted_there sections h);
+    malformed = λ is. absurd (not_other e.kind kinds.Malformed kind_there refl is);
+    invalid = λ is. absurd (not_other e.kind kinds.Invalid kind_there refl is);
+    limit = λ l other is. absurd (other (only_locals l (sym (ap is_of_body is) ∙ kind_there)));
+    locals = λ is. there_is (IsBodyPast features) (judged_there.judged.limit is);
+    total = λ is. absurd (not_other e.kind kinds.Total kind_there refl is);
+    first = λ none is. not_other e.kind kinds.Total kind_there refl is;
+    operator = λ is. there_is (IsOtherBody features) (judged_there.judged.operator is);
+    body = λ is. there_is (IsBrokenBody features) (judged_there.judged.broken is);
+    others = is_named e.kind kind_there;
+    place = ends_there;
+    memory = judged_there.judged.nowhere;
+  }
 
 -- ---- what the code asks of what it knows
 
@@ -256,60 +285,44 @@ are_paired features old_held bytes m own w =
 
 -- ---- what the list holds afterwards
 
--- sections are refused by no kind of refusal that is one of a body
-pub not_in_body : (features : Features) (old_held : List DefType) (bytes : List ℕ) (kind : ErrorKind) → NamesSections features old_held bytes kind → is_in_body kind ≡ false
-not_in_body features old_held bytes kinds.Malformed n = refl
-not_in_body features old_held bytes kinds.Invalid n = refl
-not_in_body features old_held bytes (kinds.Limit l) n = by_limit l n where
-  by_limit : (l : core.Limit) → NamesSections features old_held bytes (kinds.Limit l) → is_in_body (kinds.Limit l) ≡ false
+lost : (features : Features) (old_held : List DefType) (bytes : List ℕ) (kind : ErrorKind) (new_held : List DefType) → NamesSections features old_held bytes kind → new_held ≡ []
+    → GoesOnAfter kind features old_held bytes false new_held
+lost features old_held bytes kinds.Malformed new_held n none = record { may_not = refl; nothing = none }
+lost features old_held bytes kinds.Invalid new_held n none = record { may_not = refl; nothing = none }
+lost features old_held bytes (kinds.Limit l) new_held n none = by_limit l n where
+  by_limit : (l : core.Limit) → NamesSections features old_held bytes (kinds.Limit l) → GoesOnAfter (kinds.Limit l) features old_held bytes false new_held
   by_limit limits.Locals n = absurd (no_locals at_first n.entries n.passes)
-  by_limit _ n = refl
-not_in_body features old_held bytes kinds.Operator n = absurd n
-not_in_body features old_held bytes kinds.Body n = absurd n
-not_in_body features old_held bytes kinds.Total n = refl
-not_in_body features old_held bytes kinds.Order n = absurd n
-not_in_body features old_held bytes kinds.Failed n = absurd n
-not_in_body features old_held bytes kinds.Memory n = refl
+  by_limit _ n = record { may_not = refl; nothing = none }
+lost features old_held bytes kinds.Operator new_held n none = absurd n
+lost features old_held bytes kinds.Body new_held n none = absurd n
+lost features old_held bytes kinds.Total new_held n none = record { may_not = refl; nothing = none }
+lost features old_held bytes kinds.Order new_held n none = absurd n
+lost features old_held bytes kinds.Failed new_held n none = absurd n
+lost features old_held bytes kinds.Memory new_held n none = inl (record { may_not = refl; nothing = none })
 
+-- sections were refused
 pub nothing_held : (features : Features) (old_held : List DefType) (bytes : List ℕ) (e : Error) (new_held : List DefType) → NamesSections features old_held bytes e.kind → new_held ≡ []
-    → HoldsAfter features old_held bytes (Err e) new_held
-nothing_held features old_held bytes e new_held n none = rw (not_in_body features old_held bytes e.kind n) none
+    → GoesOn features old_held bytes (Err e) false new_held
+nothing_held features old_held bytes e new_held n none = lost features old_held bytes e.kind new_held n none
 
-in_body : (kind : ErrorKind) → IsBodyKind kind → is_in_body kind ≡ true
-in_body kind h = elim h [ inl a ↦ rw a refl | inr b ↦ elim b [ inl a ↦ rw a refl | inr a ↦ rw a refl ] ]
+in_body : (features : Features) (old_held : List DefType) (bytes : List ℕ) (kind : ErrorKind) (new_held : List DefType) → is_of_body kind ≡ true → EndsInBody features old_held bytes true new_held
+    → GoesOnAfter kind features old_held bytes true new_held
+in_body features old_held bytes kinds.Operator new_held of ends = ends
+in_body features old_held bytes (kinds.Limit l) new_held of ends = by_limit l of where
+  by_limit : (l : core.Limit) → is_of_body (kinds.Limit l) ≡ true → GoesOnAfter (kinds.Limit l) features old_held bytes true new_held
+  by_limit limits.Locals of = ends
+  by_limit _ of = absurd cc
+in_body features old_held bytes kinds.Body new_held of ends = ends
+in_body features old_held bytes kinds.Memory new_held of ends = inr ends
+in_body features old_held bytes kinds.Malformed new_held of ends = absurd cc
+in_body features old_held bytes kinds.Invalid new_held of ends = absurd cc
+in_body features old_held bytes kinds.Total new_held of ends = absurd cc
+in_body features old_held bytes kinds.Order new_held of ends = absurd cc
+in_body features old_held bytes kinds.Failed new_held of ends = absurd cc
 
-pub groups_held : (features : Features) (old_held : List DefType) (bytes : List ℕ) (m : ValidSections) (e : Error) (new_held : List DefType) → AreAccepted features old_held bytes m
-    → ValidatesBodies features (context m.state) m.bodies.items (Err e) → new_held ≡ held m.state → HoldsAfter features old_held bytes (Err e) new_held
+-- a body was refused
+pub groups_held : (features : Features) (old_held : List DefType) (bytes : List ℕ) (m : ValidSections) (e : Error) (new_held : List DefType) (w : AreAccepted features old_held bytes m)
+    → JudgeBodies features w.sections m.bodies.items (Err e) → new_held ≡ held m.state → GoesOn features old_held bytes (Err e) true new_held
 groups_held features old_held bytes m e new_held w refused same =
-    rw (in_body e.kind refused.2.3.others) (w.sections, w.reads, subst (EnterAll features at_first old_held (entries_of w.sections)) (sym same) w.entered)
-
--- ---- a module that has ended
-
--- Bodies are judged by what is known of a module that has ended, which is what its sections say.
-pub as_judged : (features judged : Features) (old_held : List DefType) (bytes : List ℕ) (m : ValidSections) (ended : ModuleState) (given : List Input) (answer : Result (Unit {0}) Error)
-    → AreAccepted features old_held bytes m → (context ended ≡ context m.state) × (ended.types ≡ record m.state.types { grows = false }) → judged ≡ features_of ended → given ≡ m.bodies.items
-    → ValidatesBodies judged (context ended) given answer → ValidatesBodies features (context m.state) m.bodies.items answer
-as_judged features judged old_held bytes m ended given answer w so same bodies h =
-    let one : judged ≡ features = same ∙ ap (λ (t : KnownTypes). t.features) so.1 ∙ w.same_features in
-    subst (λ f. ValidatesBodies f (context m.state) m.bodies.items answer) one
-    (subst (λ cx. ValidatesBodies judged cx m.bodies.items answer) so.0 (subst (λ b. ValidatesBodies judged (context ended) b answer) bodies h))
-
--- it is answered so, where bodies are judged so, and shown where all are fine
-module _ (features : Features) (old_held : List DefType) (bytes : List ℕ) (m : ValidSections) (ended : ModuleState) (given : List Input) (id : ℕ) (own : OwnFunctions)
-    (w : AreAccepted features old_held bytes m) (so : (context ended ≡ context m.state) × (ended.types ≡ record m.state.types { grows = false })) (bodies : given ≡ m.bodies.items) where
-  judged_so : (answer : Result (Unit {0}) Error) → ValidatesBodies (features_of ended) (context ended) given answer → ValidatesBodies features (context m.state) m.bodies.items answer
-  judged_so answer h = as_judged features (features_of ended) old_held bytes m ended given answer w so refl bodies h
-
-  pub shown_so : (result : Result KnownModule Error) → IfOk result (λ shown. shown ≡ record { id = id; state = ended })
-      → IfOk result (λ _. ValidatesBodies (features_of ended) (context ended) given (Ok tt)) → IfErr result (λ e. ValidatesBodies (features_of ended) (context ended) given (Err e))
-      → IsValidated features old_held bytes result
-  shown_so (Ok shown) shows fine refused =
-      let is = ap (λ (k : KnownModule). k.state) shows in
-      accepted_module features old_held bytes m shown own w (judged_so (Ok tt) fine) (ap context is ∙ so.0) (ap (λ (s : ModuleState). s.types) is ∙ so.1)
-  shown_so (Err e) shows fine refused = refused_body features old_held bytes m e own w (judged_so (Err e) refused)
-
-  pub held_so : (result : Result KnownModule Error) (new_held : List DefType) → IfOk result (λ shown. shown ≡ record { id = id; state = ended })
-      → IfErr result (λ e. ValidatesBodies (features_of ended) (context ended) given (Err e)) → new_held ≡ held m.state → HoldsAfter features old_held bytes result new_held
-  held_so (Ok shown) new_held shows refused same =
-      same ∙ sym (ap (λ (t : KnownTypes). t.interned) (ap (λ (k : KnownModule). k.state.types) shows ∙ so.1))
-  held_so (Err e) new_held shows refused same = groups_held features old_held bytes m e new_held w (judged_so (Err e) refused) same
+    in_body features old_held bytes e.kind new_held (of_body e.kind refused.2.judged.others)
+    (record { may = refl; sections = w.sections; reads = w.reads; entered = subst (EnterAll features at_first old_held (entries_of w.sections)) (sym same) w.entered })

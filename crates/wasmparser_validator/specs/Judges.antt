@@ -19,8 +19,8 @@ use Rattle.wasmparser_sections.specs.PieceJudging.{IsInPiece, NamesPiece, Says, 
 use Rattle.wasmparser_validator.specs.Functions.{HasFunction}
 use Rattle.wasmparser_validator.specs.KnownSpaces.{IsEndOf, KnownModule}
 use Rattle.wasmparser_validator.specs.Validation.{IsValidated}
-use Rattle.wasmparser_validator.specs.declared.func.FuncToValidate.{FuncToValidate}
-use Rattle.wasmparser_validator.specs.declared.func.ValidatorResources.{ValidatorResources}
+use Rattle.wasmparser_func_validator.specs.declared.func_to_validate.FuncToValidate.{FuncToValidate}
+use Rattle.wasmparser_validator.specs.declared.resources.ValidatorResources.{ValidatorResources}
 use Rattle.wasmparser_validator.specs.declared.valid_payload.ValidPayload.{ValidPayload}
 use Rattle.wasmparser_validator.specs.declared.valid_payload.ValidPayload.TheVariants as valid
 use Rattle.wasmparser_validator.specs.declared.validator.Stage.{Stage}
@@ -105,6 +105,10 @@ unfoldable pub is_end : Piece → Bool
 is_end (End position) = true
 is_end piece = false
 
+unfoldable pub is_body : Piece → Bool
+is_body (Body body) = true
+is_body piece = false
+
 unfoldable pub bodies_with : Piece → ℕ → ℕ
 bodies_with (Body body) bodies = bodies + 1
 bodies_with piece bodies = bodies
@@ -159,10 +163,10 @@ IsOutOfOrder stages.Failed place old e new = (e ≡ record { offset = place; kin
 IsOutOfOrder stages.End place old e new = (e ≡ record { offset = place; kind = kinds.Order }) × (new ≡ old)
 IsOutOfOrder stage place old e new = (e ≡ record { offset = place; kind = kinds.Order }) × (new ≡ waiting old stages.Failed)
 
--- what a refusal of a piece names that was waited for; items and the end take memory
+-- what a refusal of a piece names that was waited for; items, bodies and the end take memory
 abbrev pub NamesWaited : Judge → Piece → ErrorKind → Type 0
 NamesWaited j piece kinds.Malformed = (agrees j piece ≡ false) ⊎ (entries_said piece ≡ None)
-NamesWaited j piece kinds.Memory = IsSome (items_of piece) ⊎ (is_end piece ≡ true)
+NamesWaited j piece kinds.Memory = IsSome (items_of piece) ⊎ (is_end piece ≡ true) ⊎ (is_body piece ≡ true)
 NamesWaited j piece kind = NamesPiece j.features j.known j.held piece kind
 
 -- the place of a refusal of a piece that was waited for
@@ -254,25 +258,37 @@ is_in_body kinds.Body = true
 is_in_body (kinds.Limit limits.Locals) = true
 is_in_body kind = false
 
--- a validator goes on so after a whole module: one that is refused in a body has ended too
-abbrev pub stage_after_all : Result KnownModule Error → Stage
-stage_after_all (Ok shown) = stages.End
-stage_after_all (Err e) = if is_in_body e.kind then stages.End else stages.Failed
+-- A module was refused in a body: its groups are in the list, and another module may come.
+pub record EndsInBody (features : Features) (old_held : List DefType) (bytes : List ℕ) (goes_on : Bool) (new_held : List DefType) : Type 0 where
+  pub may : goes_on ≡ true
+  pub sections : List Section
+  pub reads : IsModule (has features CompactImports) bytes sections
+  pub entered : EnterAll features at_first old_held (entries_of sections) new_held
 
--- What a list holds after a module that was refused: its groups too where that was in a body, and else nothing.
-abbrev pub HoldsAfterRefusal : Bool → Features → List DefType → List ℕ → List DefType → Type 0
-HoldsAfterRefusal true features old_held bytes new_held =
-    (sections : List Section) × IsModule (has features CompactImports) bytes sections × EnterAll features at_first old_held (entries_of sections) new_held
-HoldsAfterRefusal false features old_held bytes new_held = new_held ≡ []
+-- A module was refused before its bodies: nothing is held, and no other module may come.
+pub record IsLost (goes_on : Bool) (new_held : List DefType) : Type 0 where
+  pub may_not : goes_on ≡ false
+  pub nothing : new_held ≡ []
 
--- What a list holds after a whole module.
-abbrev pub HoldsAfter : Features → List DefType → List ℕ → Result KnownModule Error → List DefType → Type 0
-HoldsAfter features old_held bytes (Ok shown) new_held = new_held ≡ held shown.state
-HoldsAfter features old_held bytes (Err e) new_held = HoldsAfterRefusal (is_in_body e.kind) features old_held bytes new_held
+-- Memory may run out in sections and in bodies; any other refusal tells which it is one of.
+abbrev pub GoesOnAfter : ErrorKind → Features → List DefType → List ℕ → Bool → List DefType → Type 0
+GoesOnAfter kinds.Operator features old_held bytes goes_on new_held = EndsInBody features old_held bytes goes_on new_held
+GoesOnAfter kinds.Body features old_held bytes goes_on new_held = EndsInBody features old_held bytes goes_on new_held
+GoesOnAfter (kinds.Limit limits.Locals) features old_held bytes goes_on new_held = EndsInBody features old_held bytes goes_on new_held
+GoesOnAfter kinds.Memory features old_held bytes goes_on new_held = IsLost goes_on new_held ⊎ EndsInBody features old_held bytes goes_on new_held
+GoesOnAfter kind features old_held bytes goes_on new_held = IsLost goes_on new_held
+
+-- Whether another module may come after a whole one, and which types the list holds then.
+abbrev pub GoesOn : Features → List DefType → List ℕ → Result KnownModule Error → Bool → List DefType → Type 0
+GoesOn features old_held bytes (Ok shown) goes_on new_held = (goes_on ≡ true) × (new_held ≡ held shown.state)
+GoesOn features old_held bytes (Err e) goes_on new_held = GoesOnAfter e.kind features old_held bytes goes_on new_held
+
+abbrev pub stage_after_all : Bool → Stage
+stage_after_all goes_on = if goes_on then stages.End else stages.Failed
 
 -- What a call returned that is handed a whole module, which is validated where one may begin.
 abbrev pub JudgesAll : Stage → Judge → List ℕ → Result KnownModule Error → Judge → Type 0
 JudgesAll stages.Header old bytes result new =
     IsValidated old.features old.held bytes result × IfOk result (λ shown. shown.id ≡ old.id)
-    × (new_held : List DefType) × HoldsAfter old.features old.held bytes result new_held × (new ≡ record (waiting old (stage_after_all result)) { held = new_held })
+    × (goes_on : Bool) × (new_held : List DefType) × GoesOn old.features old.held bytes result goes_on new_held × (new ≡ record (waiting old (stage_after_all goes_on)) { held = new_held })
 JudgesAll stage old bytes result new = IsErrAnd result (λ e. IsOutOfOrder stage 0 old e new)

@@ -1,9 +1,8 @@
 pub mod Bodies
-pub mod BodyReading
-pub mod BodyValidation
 pub mod KnownSpaces
 pub mod Shown
 pub mod ShownImports
 pub mod Validation
 pub mod Judges
 pub mod Functions
+pub mod Modules

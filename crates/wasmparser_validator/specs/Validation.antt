@@ -10,7 +10,8 @@ use Rattle.wasm_spec.specs.Trees.{DefType}
 use Rattle.wasm_validity.specs.Context.{at_first}
 use Rattle.wasm_validity.specs.Entries.{entries_of}
 use Rattle.wasm_validity.specs.IndexSpaces.{spaces_of}
-use Rattle.wasm_validity.specs.Validity.{IsValid, BeginsPast, BeginsInvalid, HasBody, IsBodyPast, IsOtherBody, IsBrokenBody}
+use Rattle.wasm_valid_modules.specs.Validity.{IsValid, HasBody, IsBodyPast, IsOtherBody, IsBrokenBody}
+use Rattle.wasm_validity.specs.Validity.{BeginsPast, BeginsInvalid}
 use Rattle.wasmparser_error.specs.declared.error.Error.{Error}
 use Rattle.wasmparser_error.specs.declared.error.ErrorKind.{ErrorKind}
 use Rattle.wasmparser_error.specs.declared.error.ErrorKind.TheVariants as kinds
@@ -55,7 +56,7 @@ pub record IsValidated (features : Features) (old_held : List DefType) (bytes : 
   pub total : IfErr verdict (λ e. e.kind ≡ kinds.Total → BeginsWithoutRoom features old_held bytes)
   -- there is room for the first module of a list
   pub first : old_held ≡ [] → IfErr verdict (λ e. e.kind ≢ kinds.Total)
-  -- bodies are refused only where all else is fine: where a code is no supported operator's, or the body is broken otherwise (a local's type that isn't supported counts as broken)
+  -- bodies are refused only where all else is fine: where a code is no operator's of the table, or the body is broken otherwise
   pub operator : IfErr verdict (λ e. e.kind ≡ kinds.Operator → HasBody features (IsOtherBody features) bytes)
   pub body : IfErr verdict (λ e. e.kind ≡ kinds.Body → HasBody features (IsBrokenBody features) bytes)
   -- no other refusal comes

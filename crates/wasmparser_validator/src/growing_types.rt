@@ -5,33 +5,55 @@ ghost use Rattle.wasm_core_base.specs.Features.{feature_set};
 ghost use Rattle.wasm_validity.specs.Context.{at_first};
 ghost use Rattle.wasmparser_module_state.specs.History.{grows, held};
 ghost use Rattle.wasmparser_module_state.specs.State.{context, features_of};
+ghost use Rattle.wasmparser_module_state.specs.StateResources.{state_resources};
 ghost use Rattle.wasmparser_payloads.specs.Parsing.{piece};
 ghost use Rattle.wasmparser_sections.specs.PieceJudging.{AddsPiece};
 ghost use Rattle.wasmparser_validator.specs.Bodies.{AreNamed};
+ghost use Rattle.wasmparser_validator.specs.Functions.{TellsModule, resources_of};
 ghost use Rattle.wasmparser_validator.specs.KnownSpaces.{CanBeShown, IsEndOf};
 
+use crate::resources::ValidatorResources;
 use crate::types::Types;
 use crate::valid_state::ValidState;
 use crate::validator_id::ValidatorId;
 use std::alloc::{AllocError, Global};
 use std::marker::Model;
 use std::mem;
+use std::rc::Rc;
 use wasm_core_base::features::WasmFeatures;
 use wasmparser_error::error::Error;
 use wasmparser_module_state::module_state::ModuleState;
 use wasmparser_module_types::module_types::ModuleTypes;
 use wasmparser_payloads::payload::Payload;
 
+// A copy of what is known, as what bodies may ask.
+fn share_copy(alloc: Global, copy: ModuleState) -> Result<ValidatorResources, AllocError>
+    ensures { IfOk result (λ r. resources_of r ≡ state_resources copy) }
+{
+    match Rc::new(alloc, copy) {
+        Ok(module) => Ok(ValidatorResources::new(module)),
+        Err(failed) => {
+            // (dropped by a call, which is cheaper to prove)
+            drop(failed);
+            Err(AllocError)
+        }
+    }
+}
+
 // What is known of a module so far, by a list to which groups can be added.
 #[derive(Drop)]
 pub(crate) struct GrowingTypes {
     types: Types,
+    // What bodies may ask of the module, once one was handed in.
+    resources: Option<ValidatorResources>,
 }
 
 impl Model for GrowingTypes {
-    ghost use Rattle.std.specs.Prelude.{◌≡◌, true};
+    ghost use Rattle.std.specs.Prelude.{◌≡◌, IfSome, true};
     ghost use Rattle.wasmparser_module_state.specs.History.{grows};
+    ghost use Rattle.wasmparser_module_state.specs.State.{context, features_of};
     ghost use Rattle.wasmparser_module_state.specs.contracts.module_state.ModuleState as kept;
+    ghost use Rattle.wasmparser_validator.specs.Functions.{TellsModule, resources_of};
     ghost use Rattle.wasmparser_validator.specs.KnownSpaces.{KnownModule, known_module_code};
 
     ghost Value = { KnownModule };
@@ -40,7 +62,7 @@ impl Model for GrowingTypes {
 
     ghost view = { λ it. it.types };
 
-    ghost invariant = { λ it. grows it.types.state ≡ true };
+    ghost invariant = { λ it. (grows it.types.state ≡ true) × IfSome it.resources (λ r. TellsModule (features_of it.types.state) (context it.types.state) (resources_of r)) };
 }
 
 impl GrowingTypes {
@@ -53,6 +75,7 @@ impl GrowingTypes {
     {
         GrowingTypes {
             types: Types::without_entries(alloc, features, id),
+            resources: None,
         }
     }
 
@@ -79,7 +102,27 @@ impl GrowingTypes {
         ensures features { features_of self.new.state ≡ features_of self.old.state }
         ensures id { self.new.id ≡ self.old.id }
     {
-        self.types.add(alloc, payload)
+        let resources = self.resources.take();
+        self.types.add(alloc, payload)?;
+        // Bodies add nothing that others may ask.
+        match payload {
+            Payload::CodeSectionEntry(_) => self.resources = resources,
+            _ => drop(resources),
+        }
+        Ok(())
+    }
+
+    // What bodies may ask of the module: a copy of what is known, made for the first that asks.
+    pub(crate) fn resources(&mut self, alloc: Global) -> Result<ValidatorResources, AllocError>
+        ensures tells { IfOk result (λ r. TellsModule (features_of self.old.state) (context self.old.state) (resources_of r)) }
+        ensures same { self.new ≡ self.old }
+    {
+        if let Some(resources) = &self.resources {
+            return resources.clone();
+        }
+        let resources = share_copy(alloc, self.types.copy_resources()?)?;
+        self.resources = Some(resources.clone()?);
+        Ok(resources)
     }
 
     // Gives what is known of a module that ends, and goes on with the list and no module.
@@ -90,6 +133,7 @@ impl GrowingTypes {
         ensures features { features_of self.new.state ≡ features_of self.old.state }
         ensures id { self.new.id ≡ self.old.id }
     {
+        drop(self.resources.take());
         self.types.end_module()
     }
 
@@ -102,6 +146,7 @@ impl GrowingTypes {
         ensures features { features_of self.new.state ≡ features_of self.old.state }
         ensures id { self.new.id ≡ self.old.id }
     {
+        drop(self.resources.take());
         self.types.take_list(alloc)
     }
 
@@ -113,6 +158,7 @@ impl GrowingTypes {
         ensures state { self.new.state ≡ state }
         ensures id { self.new.id ≡ self.old.id }
     {
+        drop(self.resources.take());
         let next = Types::new(self.id(), ValidState::of(state));
         // (dropped by a call, which is cheaper to prove)
         drop(mem::replace(&mut self.types, next));

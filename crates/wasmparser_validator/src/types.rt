@@ -7,9 +7,11 @@ ghost use Rattle.wasm_validity.specs.Context.{at_first};
 ghost use Rattle.wasmparser_items.specs.Exports.{export_item};
 ghost use Rattle.wasmparser_module_state.specs.History.{grows, held};
 ghost use Rattle.wasmparser_module_state.specs.State.{context, features_of};
+ghost use Rattle.wasmparser_module_state.specs.StateResources.{state_resources};
 ghost use Rattle.wasmparser_payloads.specs.Parsing.{piece};
 ghost use Rattle.wasmparser_sections.specs.PieceJudging.{AddsPiece};
 ghost use Rattle.wasmparser_validator.specs.Bodies.{AreNamed};
+ghost use Rattle.wasmparser_validator.specs.Functions.{TellsModule};
 ghost use Rattle.wasmparser_validator.specs.KnownSpaces.{CanBeShown, IsEndOf};
 ghost use Rattle.wasmparser_validator.specs.Shown.{exports_left, spaces};
 
@@ -90,7 +92,7 @@ impl Types {
     pub(crate) fn end_module(&mut self) -> Result<Types, AllocError>
         ensures ended { IfOk result (IsEndOf self.old) }
         ensures next { IfOk result (λ _. context self.new.state ≡ at_first) }
-        ensures kept { IfOk result (λ _. self.new.state.types ≡ record self.old.state.types { types = []; groups = 0 }) }
+        ensures kept { IfOk result (λ _. self.new.state.types ≡ record self.old.state.types { types = []; groups = 0; ids = [] }) }
         ensures refused { IfErr result (λ _. self.new ≡ self.old) }
         ensures id { self.new.id ≡ self.old.id }
     {
@@ -98,6 +100,14 @@ impl Types {
             id: self.id,
             state: self.state.end_module()?,
         })
+    }
+
+    // A copy of what bodies may ask of the module, by a list that doesn't grow.
+    pub(crate) fn copy_resources(&mut self) -> Result<ModuleState, AllocError>
+        ensures tells { IfOk result (λ copy. TellsModule (features_of self.old.state) (context self.old.state) (state_resources copy)) }
+        ensures same { self.new ≡ self.old }
+    {
+        self.state.copy_resources()
     }
 
     // Gives the list of types, and goes on with one without types and without a module.

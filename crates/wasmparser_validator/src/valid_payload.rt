@@ -1,7 +1,8 @@
 //! What a validator gives for a payload.
 
-use crate::func::{FuncToValidate, ValidatorResources};
+use crate::resources::ValidatorResources;
 use crate::types::Types;
+use wasmparser_func_validator::func_to_validate::FuncToValidate;
 use wasmparser_payloads::function_body::FunctionBody;
 
 /// What a validator gives for a payload that it accepts.

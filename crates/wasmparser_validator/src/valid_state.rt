@@ -5,9 +5,11 @@ ghost use Rattle.wasm_core_base.specs.Features.{feature_set};
 ghost use Rattle.wasm_validity.specs.Context.{at_first};
 ghost use Rattle.wasmparser_module_state.specs.History.{grows, held};
 ghost use Rattle.wasmparser_module_state.specs.State.{context, features_of};
+ghost use Rattle.wasmparser_module_state.specs.StateResources.{state_resources};
 ghost use Rattle.wasmparser_payloads.specs.Parsing.{piece};
 ghost use Rattle.wasmparser_sections.specs.PieceJudging.{AddsPiece};
 ghost use Rattle.wasmparser_validator.specs.Bodies.{AreNamed};
+ghost use Rattle.wasmparser_validator.specs.Functions.{TellsModule};
 ghost use Rattle.wasmparser_validator.specs.KnownSpaces.{CanBeShown, IsReached};
 
 use std::alloc::{AllocError, Global};
@@ -101,12 +103,21 @@ impl ValidState {
     pub(crate) fn end_module(&mut self) -> Result<ValidState, AllocError>
         ensures ended { IfOk result (λ ended. (context ended ≡ context self.old) × (ended.types ≡ record self.old.types { grows = false })) }
         ensures next { IfOk result (λ _. context self.new ≡ at_first) }
-        ensures kept { IfOk result (λ _. self.new.types ≡ record self.old.types { types = []; groups = 0 }) }
+        ensures kept { IfOk result (λ _. self.new.types ≡ record self.old.types { types = []; groups = 0; ids = [] }) }
         ensures refused { IfErr result (λ _. self.new ≡ self.old) }
     {
         Ok(ValidState {
             state: self.state.end_module()?,
         })
+    }
+
+    // A copy of what bodies may ask of the module, by a list that doesn't grow.
+    pub(crate) fn copy_resources(&mut self) -> Result<ModuleState, AllocError>
+        ensures tells { IfOk result (λ copy. TellsModule (features_of self.old) (context self.old) (state_resources copy)) }
+        ensures same { self.new ≡ self.old }
+    {
+        self.state.types().are_known();
+        self.state.copy_resources()
     }
 
     // Gives the list of types, and goes on with one without types and without a module.

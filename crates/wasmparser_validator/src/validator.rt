@@ -7,18 +7,19 @@ ghost use Rattle.wasm_validity.specs.Context.{at_first};
 ghost use Rattle.wasmparser_payloads.specs.Parsing.{piece};
 ghost use Rattle.wasmparser_payloads.specs.Pieces as pieces;
 ghost use Rattle.wasmparser_validator.specs.Functions.{HasFunction};
-ghost use Rattle.wasmparser_validator.specs.Judges.{EndsModule, GivesFunction, IsOutOfOrder, JudgesAll, JudgesPayload, JudgesPiece, Opens, ShowsAll, after_piece, agrees, follows_bodies, is_in_body, is_middle, agrees_with_stated, judge, may_begin, place_of, stage_after_all, waiting, waits_for};
+ghost use Rattle.wasmparser_validator.specs.Judges.{EndsModule, GivesFunction, IsOutOfOrder, JudgesAll, JudgesPayload, JudgesPiece, Opens, RefusesPiece, ShowsAll, after_piece, agrees, follows_bodies, is_body, is_in_body, is_middle, agrees_with_stated, judge, may_begin, place_of, stage_after_all, waiting, waits_for};
 ghost use Rattle.wasmparser_validator.specs.KnownSpaces.{IsEndOf};
+ghost use Rattle.wasmparser_validator.specs.Modules.{goes_on};
 ghost use Rattle.wasmparser_validator.specs.Validation.{IsValidated};
 ghost use Rattle.wasmparser_validator.specs.declared.validator.Stage.TheVariants as stages;
 
-use crate::func::{FuncToValidate, ValidatorResources};
 use crate::growing_types::GrowingTypes;
-use crate::modules::validate_module;
+use crate::modules::{Refusal, validate_module};
+use crate::resources::ValidatorResources;
 use crate::types::{Types, TypesRef};
 use crate::valid_payload::ValidPayload;
 use crate::validator_id::ValidatorId;
-use std::alloc::Global;
+use std::alloc::{AllocError, Global};
 use std::mem;
 use std::ops::Range;
 use thiserror::Error as ThisError;
@@ -29,6 +30,7 @@ use wasmparser_entries::element::Element;
 use wasmparser_entries::global::Global as GlobalItem;
 use wasmparser_entries::table::Table;
 use wasmparser_error::error::{Error, ErrorKind};
+use wasmparser_func_validator::func_to_validate::FuncToValidate;
 use wasmparser_imports::imports::Imports;
 use wasmparser_items::export::Export;
 use wasmparser_items::memory_type::MemoryType;
@@ -104,11 +106,11 @@ fn place_of(payload: &Payload<'_>) -> u64
 }
 
 // What is waited for after a whole module.
-fn stage_after(verdict: &Result<Types, Error>) -> Stage
-    ensures { result ≡ stage_after_all verdict.now }
+fn stage_after(verdict: &Result<Types, Refusal>) -> Stage
+    ensures { result ≡ stage_after_all (goes_on verdict.now) }
 {
     match verdict {
-        Err(e) if !is_in_body(e.kind) => Stage::Failed,
+        Err(refusal) if !refusal.in_body => Stage::Failed,
         _ => Stage::End,
     }
 }
@@ -325,21 +327,36 @@ impl Validator {
     }
 
     // The function of the module's own at a place among these, whose body is to be validated.
-    fn function_at(&self, place: usize) -> FuncToValidate<ValidatorResources>
-        requires { place < length (judge self.now).known.own_functions }
-        ensures { HasFunction (judge self.now).features (judge self.now).known place result }
+    fn function_at(
+        &mut self,
+        place: usize,
+    ) -> Result<FuncToValidate<ValidatorResources>, AllocError>
+        requires { place < length (judge self.old).known.own_functions }
+        ensures function { IfOk result (HasFunction (judge self.old).features (judge self.old).known place) }
+        ensures same { self.new ≡ self.old }
     {
+        let resources = self.types.resources(self.alloc)?;
         let state = self.types.state();
         let imported = state.function_count() - state.own_function_count();
-        let ty = state.own_func_type(place).unwrap();
-        FuncToValidate {
-            resources: ValidatorResources {
-                params: ty.params().len(),
-                gives_nothing: ty.results().is_empty(),
-            },
+        Ok(FuncToValidate {
+            resources,
             index: (imported + place) as u32,
             ty: state.type_of_own_function(place).unwrap(),
             features: state.features(),
+        })
+    }
+
+    // Refuses a body for which memory runs out.
+    #[tactic(auto, using(crate::proofs::JudgeLaws::refusal_steps))]
+    fn refuse_memory(&mut self, payload: &Payload<'_>) -> Error
+        requires waited { waits_for (judge self.old) (piece payload.now) ≡ true }
+        requires body { is_body (piece payload.now) ≡ true }
+        ensures { RefusesPiece (waits_for (judge self.old) (piece payload.now)) (judge self.old) (piece payload.now) result (judge self.new) }
+    {
+        self.wait_for(Stage::Failed);
+        Error {
+            offset: 0,
+            kind: ErrorKind::Memory,
         }
     }
 
@@ -503,8 +520,9 @@ impl Validator {
     /// Judges the size of a body, and gives its function, by which it is to be validated.
     ///
     /// # Errors
-    /// `Limit` where the body has more bytes than its limit; `Order` before the code section begins and past the functions, `Failed` after a refusal.
-    #[tactic(auto, using(crate::proofs::JudgeLaws::body_steps), unfolding(wasmparser_payloads::specs::Parsing::piece))]
+    /// `Limit` where the body has more bytes than its limit; `Memory` where memory runs out; `Order` before the code section begins and past the functions, `Failed`
+    /// after a refusal.
+    #[tactic(auto, using(crate::proofs::JudgeLaws::body_steps), unfolding(wasmparser_payloads::specs::Parsing::piece, crate::specs::Judges::is_body))]
     pub fn code_section_entry(
         &mut self,
         body: &FunctionBody<'_>,
@@ -513,9 +531,13 @@ impl Validator {
     {
         let payload = Payload::CodeSectionEntry(body.clone()?);
         self.open(&payload)?;
-        let function = self.function_at(self.bodies);
-        self.judge(&payload)?;
-        Ok(function)
+        match self.function_at(self.bodies) {
+            Ok(function) => {
+                self.judge(&payload)?;
+                Ok(function)
+            }
+            Err(_) => Err(self.refuse_memory(&payload)),
+        }
     }
 
     /// Refuses a section of an id that the format doesn't have.
@@ -613,8 +635,9 @@ impl Validator {
         }
     }
 
-    /// Validates the bytes of a module, bodies after all sections, and shows the index spaces of a valid one. After a refusal of a body the validator can be
-    /// made ready for another module. The types of a module that is valid, or refused in a body, stay in the validator's list; any other refusal empties it.
+    /// Validates the bytes of a module, bodies after all sections, and shows the index spaces of a valid one. After a refusal of a body, running out of memory there too, the
+    /// validator can be made ready for another module. The types of a module that is valid, or refused in a body, stay in the validator's list; any other refusal
+    /// empties it.
     ///
     /// # Errors
     /// `Malformed` where the bytes are no module. `Invalid` and `Limit` where what stands at their front breaks a rule or passes a limit. `Total` where the list has no
@@ -628,6 +651,9 @@ impl Validator {
         }
         let verdict = validate_module(self.alloc, &mut self.types, bytes);
         self.go_to(stage_after(&verdict));
-        verdict
+        match verdict {
+            Ok(types) => Ok(types),
+            Err(refusal) => Err(refusal.error),
+        }
     }
 }

@@ -5,10 +5,7 @@ use Rattle.wasm_validity.proofs.cause_examples.many_memories.Goals as goal
 
 pub returns : goal.returns
 returns c = record {
-  most = λ features several. record {
-    fine = record { rules = keep_rules features at_first 100 several; limits = keep_limits at_first 100 (omega arith) };
-    bodies = λ i h. absurd (omega (arith, h));
-  };
-  past = λ features v. pass_limits at_first 100 (omega arith) v.fine.limits;
+  most = λ features several. record { rules = keep_rules features at_first 100 several; limits = keep_limits at_first 100 (omega arith) };
+  past = λ features v. pass_limits at_first 100 (omega arith) v.limits;
   not_fine = λ features f. pass_limits at_first 100 (omega arith) f.limits;
 }

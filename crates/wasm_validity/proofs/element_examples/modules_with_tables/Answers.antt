@@ -14,21 +14,18 @@ use Rattle.wasm_validity.proofs.element_examples.modules_with_tables.Goals as go
 
 pub returns-clause-valid : goal.returns-clause-valid
 returns-clause-valid c = λ features references gc_types. record {
-  fine = record {
-    rules = (
-      record { type = refl; filled = refl; initialiser = tt },
-      (record { type = rw references rw gc_types refl; filled = refl; initialiser = tt }, (record { items = (rw references rw gc_types refl, tt); mode = (itself, tt) }, tt)),
-    );
-    limits = (
-      record { numbers = refl; types = λ limit p. p },
-      (record { numbers = refl; types = λ limit p. p }, (record { numbers = refl; types = λ limit p. p }, tt)),
-    );
-  };
-  bodies = λ i h. absurd (omega (arith, h));
+  rules = (
+    record { type = refl; filled = refl; initialiser = tt },
+    (record { type = rw references rw gc_types refl; filled = refl; initialiser = tt }, (record { items = (rw references rw gc_types refl, tt); mode = (itself, tt) }, tt)),
+  );
+  limits = (
+    record { numbers = refl; types = λ limit p. p },
+    (record { numbers = refl; types = λ limit p. p }, (record { numbers = refl; types = λ limit p. p }, tt)),
+  );
 }
 
 pub returns-clause-other_table : goal.returns-clause-other_table
-returns-clause-other_table c = λ features v. apart Extern Func refl v.fine.rules.1.1.0.mode.0.heap
+returns-clause-other_table c = λ features v. apart Extern Func refl v.rules.1.1.0.mode.0.heap
 
 -- no references to what is outside, for the first table
 abbrev segment : ElementSegment

@@ -1,4 +1,4 @@
-use Rattle.std.proofs.Common.{◌≡◌, ℕ, List, [], ◌∷◌, ◌++◌, map, None, refl, ◌∙◌, subst, arith}
+use Rattle.std.proofs.Common.{◌≡◌, ℕ, List, [], ◌∷◌, ◌++◌, map, None, refl, ◌∙◌, subst}
 use Rattle.std.proofs.lemmas.List.Concat.{flat_map-append}
 use Rattle.wasm_spec.specs.Features.{Features}
 use Rattle.wasm_spec.specs.Syntax.{Section, ExportSection, Export}
@@ -40,21 +40,15 @@ among features before after exports export none h =
 pub returns : goal.returns
 returns c = record {
   two_names = λ features. record {
-    fine = record {
-      rules = (refl, (refl, (refl, tt)));
-      limits = (record { numbers = refl; types = λ limit p. p }, (record { numbers = refl; types = λ limit p. p }, (record { numbers = refl; types = λ limit p. p }, tt)));
-    };
-    bodies = λ i h. absurd (omega (arith, h));
+    rules = (refl, (refl, (refl, tt)));
+    limits = (record { numbers = refl; types = λ limit p. p }, (record { numbers = refl; types = λ limit p. p }, (record { numbers = refl; types = λ limit p. p }, tt)));
   };
-  one_name = λ features v. let f = v.fine.rules.1.1.0 in absurd cc;
-  nothing = λ features before after exports export none v. among features before after exports export none v.fine.rules;
+  one_name = λ features v. let f = v.rules.1.1.0 in absurd cc;
+  nothing = λ features before after exports export none v. among features before after exports export none v.rules;
   variable = λ features on. record {
-    fine = record {
-      rules = (record { type = refl; initialiser = tt }, (rw on refl, tt));
-      limits = (record { numbers = refl; types = λ limit p. p }, (record { numbers = refl; types = λ limit p. p }, tt));
-    };
-    bodies = λ i h. absurd (omega (arith, h));
+    rules = (record { type = refl; initialiser = tt }, (rw on refl, tt));
+    limits = (record { numbers = refl; types = λ limit p. p }, (record { numbers = refl; types = λ limit p. p }, tt));
   };
-  variable_without = λ features off v. let f = rw off at v.fine.rules.1.0 in absurd cc;
-  empty = λ features. record { fine = record { rules = tt; limits = tt }; bodies = λ i h. absurd (omega (arith, h)) };
+  variable_without = λ features off v. let f = rw off at v.rules.1.0 in absurd cc;
+  empty = λ features. record { rules = tt; limits = tt };
 }

@@ -1,31 +1,16 @@
-use Rattle.std.proofs.Common.{refl, sym, ◌∙◌, arith}
+use Rattle.std.proofs.Common.{refl, sym, ◌∙◌}
 use Rattle.wasm_spec.specs.Subtyping.{same}
 use Rattle.wasm_validity.proofs.validity_examples.kinds_of_entries.Goals as goal
 
 pub returns : goal.returns
 returns c = record {
-  table = λ features. record {
-    fine = record { rules = (record { type = refl; filled = refl; initialiser = tt }, tt); limits = (record { numbers = refl; types = λ limit p. p }, tt) };
-    bodies = λ i h. absurd (omega (arith, h));
-  };
-  global = λ features. record {
-    fine = record { rules = (record { type = refl; initialiser = tt }, tt); limits = (record { numbers = refl; types = λ limit p. p }, tt) };
-    bodies = λ i h. absurd (omega (arith, h));
-  };
+  table = λ features. record { rules = (record { type = refl; filled = refl; initialiser = tt }, tt); limits = (record { numbers = refl; types = λ limit p. p }, tt) };
+  global = λ features. record { rules = (record { type = refl; initialiser = tt }, tt); limits = (record { numbers = refl; types = λ limit p. p }, tt) };
   element = λ features. record {
-    fine = record {
-      rules = (record { type = refl; filled = refl; initialiser = tt }, (record { items = tt; mode = (record { null = λ e. refl; heap = same }, tt) }, tt));
-      limits = (record { numbers = refl; types = λ limit p. p }, (record { numbers = refl; types = λ limit p. p }, tt));
-    };
-    bodies = λ i h. absurd (omega (arith, h));
+    rules = (record { type = refl; filled = refl; initialiser = tt }, (record { items = tt; mode = (record { null = λ e. refl; heap = same }, tt) }, tt));
+    limits = (record { numbers = refl; types = λ limit p. p }, (record { numbers = refl; types = λ limit p. p }, tt));
   };
-  «data» = λ features. record {
-    fine = record { rules = (refl, (tt, tt)); limits = (record { numbers = refl; types = λ limit p. p }, (record { numbers = refl; types = λ limit p. p }, tt)) };
-    bodies = λ i h. absurd (omega (arith, h));
-  };
-  data_count = λ features on. record {
-    fine = record { rules = (on, tt); limits = (record { numbers = refl; types = λ limit p. p }, tt) };
-    bodies = λ i h. absurd (omega (arith, h));
-  };
-  data_count_without = λ features count off v. let f = sym off ∙ v.fine.rules.0 in absurd cc;
+  «data» = λ features. record { rules = (refl, (tt, tt)); limits = (record { numbers = refl; types = λ limit p. p }, (record { numbers = refl; types = λ limit p. p }, tt)) };
+  data_count = λ features on. record { rules = (on, tt); limits = (record { numbers = refl; types = λ limit p. p }, tt) };
+  data_count_without = λ features count off v. let f = sym off ∙ v.rules.0 in absurd cc;
 }

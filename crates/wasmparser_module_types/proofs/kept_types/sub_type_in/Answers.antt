@@ -1,4 +1,4 @@
-use Rattle.std.proofs.Common.{◌≡◌, Some, ap, ◌∙◌, slice_get, arith}
+use Rattle.std.proofs.Common.{◌≡◌, Some, ap, ◌∙◌, slice_get, arith, sym}
 use Rattle.std.proofs.lemmas.Option.{slice_get-map}
 use Rattle.std.specs.Option.{option_map}
 use Rattle.wasmparser_interning.specs.TypeTables.{sub_types}
@@ -17,4 +17,5 @@ returns c =
     record {
       unrolled = kept_unrolls list c.requires.agree c.requires.no_module c.args.id (sub_type type) at;
       ids = kept_ids list c.requires.agree c.requires.no_module c.args.id (sub_type type) at;
+      exact = sym at;
     }

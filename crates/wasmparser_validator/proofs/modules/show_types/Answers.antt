@@ -1,8 +1,8 @@
 use Rattle.std.proofs.Common.{ap, ◌∙◌}
 use Rattle.wasmparser_module_state.specs.History.{held}
 use Rattle.wasmparser_module_types.specs.ModuleTypes.{KnownTypes}
+use Rattle.wasmparser_validator.proofs.EndedLaws.{held_so, shown_so}
 use Rattle.wasmparser_validator.proofs.ReachedLaws.{reached_end, reached_so}
-use Rattle.wasmparser_validator.proofs.VerdictLaws.{held_so, shown_so}
 use Rattle.wasmparser_validator.proofs.modules.show_types.Goals as goal
 
 pub show_ended-requires-clause-reached : goal.show_ended-requires-clause-reached
@@ -11,10 +11,10 @@ show_ended-requires-clause-reached c =
 
 pub returns-in-Ok-clause-validated : goal.returns-in-Ok-clause-validated
 returns-in-Ok-clause-validated c = λ old_held bytes accepted.
-    shown_so _ old_held bytes c.args.sections c.in-Ok.ended _ _ c.known_spaces.ensures.own_functions accepted c.in-Ok.ensures.ended c.deref.ensures.value c.show_ended.result
+    shown_so _ old_held bytes c.args.sections c.in-Ok.ended _ c.known_spaces.ensures.own_functions c.bodies.ensures.judged c.bodies.ensures.functions accepted c.in-Ok.ensures.ended c.show_ended.ensures.known c.deref.ensures.value _ c.show_ended.result
     c.show_ended.ensures.shown c.show_ended.ensures.fine c.show_ended.ensures.refused
 
 pub returns-in-Ok-clause-holds : goal.returns-in-Ok-clause-holds
 returns-in-Ok-clause-holds c = λ old_held bytes accepted.
-    held_so _ old_held bytes c.args.sections c.in-Ok.ended _ _ c.known_spaces.ensures.own_functions accepted c.in-Ok.ensures.ended c.deref.ensures.value c.show_ended.result _
+    held_so _ old_held bytes c.args.sections c.in-Ok.ended _ c.known_spaces.ensures.own_functions c.bodies.ensures.judged c.bodies.ensures.functions accepted c.in-Ok.ensures.ended c.show_ended.ensures.known c.deref.ensures.value _ c.show_ended.result _
     c.show_ended.ensures.shown c.show_ended.ensures.refused (ap held c.keep.ensures.state ∙ ap (λ (t : KnownTypes). t.interned) c.in-Ok.ensures.kept)

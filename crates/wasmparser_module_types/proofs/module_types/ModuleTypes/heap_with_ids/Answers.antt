@@ -1,4 +1,4 @@
-use Rattle.std.proofs.Common.{ap, subst, ◌∙◌}
+use Rattle.std.proofs.Common.{◌≡◌, ap, option_map, subst, ◌∙◌}
 use Rattle.wasm_core_base.specs.Features.{feature_set}
 use Rattle.wasmparser_module_types.proofs.ReplacedIndexes.{HeapAnswer, heap_answered}
 use Rattle.wasmparser_module_types.specs.ModuleTypes.{KnownTypes}
@@ -10,6 +10,7 @@ pub returns : goal.returns
 returns c =
     let it = c.self.inside in
     let type = heap_type c.args.ty in
+    let is = c.heap_with_ids.ensures ∙ ap (λ ids. heap_by_ids ids type) c.type_ids.ensures in
     let answer = subst (λ (known : KnownTypes). HeapAnswer heap_type known type c.heap_with_ids.result) c.self.view_is
-    (heap_answered (feature_set it.space.features) it.list it.space.ids.items it.groups c.self.invariant.0 heap_type type c.heap_with_ids.result (c.heap_with_ids.ensures ∙ ap (λ ids. heap_by_ids ids type) c.type_ids.ensures)) in
-    record { named = answer.named; same = answer.same; ids = answer.ids }
+    (heap_answered (feature_set it.space.features) it.list it.space.ids.items it.groups c.self.invariant.0 heap_type type c.heap_with_ids.result is) in
+    record { named = answer.named; same = answer.same; ids = answer.ids; exact = subst (λ (known : KnownTypes). option_map heap_type c.heap_with_ids.result ≡ heap_by_ids known.ids type) c.self.view_is is }

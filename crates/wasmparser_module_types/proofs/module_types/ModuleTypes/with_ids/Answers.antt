@@ -1,4 +1,4 @@
-use Rattle.std.proofs.Common.{ap, subst, ◌∙◌}
+use Rattle.std.proofs.Common.{◌≡◌, ap, option_map, subst, ◌∙◌}
 use Rattle.wasm_core_base.specs.Features.{feature_set}
 use Rattle.wasmparser_module_types.proofs.ReplacedIndexes.{ValAnswer, val_answered}
 use Rattle.wasmparser_module_types.specs.ModuleTypes.{KnownTypes}
@@ -10,6 +10,7 @@ pub returns : goal.returns
 returns c =
     let it = c.self.inside in
     let type = val_type c.args.ty in
+    let is = c.val_with_ids.ensures ∙ ap (λ ids. val_by_ids ids type) c.type_ids.ensures in
     let answer = subst (λ (known : KnownTypes). ValAnswer val_type known type c.val_with_ids.result) c.self.view_is
-    (val_answered (feature_set it.space.features) it.list it.space.ids.items it.groups c.self.invariant.0 val_type type c.val_with_ids.result (c.val_with_ids.ensures ∙ ap (λ ids. val_by_ids ids type) c.type_ids.ensures)) in
-    record { named = answer.named; same = answer.same; ids = answer.ids }
+    (val_answered (feature_set it.space.features) it.list it.space.ids.items it.groups c.self.invariant.0 val_type type c.val_with_ids.result is) in
+    record { named = answer.named; same = answer.same; ids = answer.ids; exact = subst (λ (known : KnownTypes). option_map val_type c.val_with_ids.result ≡ val_by_ids known.ids type) c.self.view_is is }

@@ -143,6 +143,10 @@ fn refusal_stands_in_the_body(rt: HostRuntime) -> Result<(), Fail> {
     let module = module_of(rt.alloc(), 0, 0, b"\0\0\xfe")?;
     let refusal = validate(rt.alloc(), &module);
     let end = module.len() as u64;
-    assert!(rt; refusal.is_err_and(|it| it.offset < end && end - it.offset == 1 && it.kind == ErrorKind::Operator));
+    assert!(rt;
+        refusal.is_err_and(|it| it.offset < end
+            && end - it.offset == 1
+            && it.kind == ErrorKind::Operator)
+    );
     Ok(())
 }

@@ -9,3 +9,4 @@ pub mod LocalsMeaning
 pub mod LocalsSteps
 mod NoOperators
 mod OperatorLengths
+pub mod Runs

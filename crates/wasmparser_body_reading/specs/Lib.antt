@@ -3,3 +3,4 @@ pub mod BodyStates
 pub mod CodeReading
 pub mod LocalsAnswers
 pub mod LocalsReading
+pub mod Runs

@@ -1,9 +1,10 @@
 //! What judges a body, as a reader of bodies sees it.
 
-ghost use Rattle.std.specs.Prelude.{◌≡◌, ◌↔◌, [], IsTrue, true};
+ghost use Rattle.std.specs.Prelude.{◌≡◌, ◌≢◌, ◌↔◌, [], IsTrue, true};
 ghost use Rattle.wasm_bodies.specs.BodyContext.{written};
 ghost use Rattle.wasmparser_body_reading.specs.BodyStates.{BodyState, JudgesOperator};
 ghost use Rattle.wasmparser_body_reading.specs.LocalsAnswers.{DefinesRun};
+ghost use Rattle.wasmparser_body_reading.specs.Runs.{RunsOn};
 ghost use Rattle.wasmparser_error.specs.declared.error.ErrorKind.TheVariants as kinds;
 ghost use Rattle.wasmparser_operators.specs.OperatorValues.{IsOfModule, IsWhole, module_type, operator};
 
@@ -40,6 +41,14 @@ pub trait JudgeBody {
         requires whole { IsWhole it.now }
         requires ready { (state self.old).is_ready ≡ true }
         ensures judged { JudgesOperator offset (operator it.now) (state self.old) (state self.new) result }
+        ensures kept { kept self.new ≡ kept self.old };
+
+    /// Judges operators at the front of the bytes, as many as it likes, up to the body's last one, and gives the bytes that are left. What it would
+    /// refuse it leaves.
+    fn run<'a>(&mut self, code: &'a [u8]) -> &'a [u8]
+        requires ready { (state self.old).is_ready ≡ true }
+        requires open { (state self.old).machine.frames ≢ [] }
+        ensures runs { RunsOn (state self.old) (state self.new) code.now result.now }
         ensures kept { kept self.new ≡ kept self.old };
 
     /// Whether all blocks have ended, the body too.

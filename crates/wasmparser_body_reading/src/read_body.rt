@@ -1,6 +1,7 @@
 //! Bodies, read from their bytes and judged (Core Specification 3.0, Binary Format, "Code Section").
 
 ghost use Rattle.std.specs.Prelude.{◌≡◌, ◌≢◌, ◌<◌, ◌≤◌, [], IfOk, length, true};
+ghost use Rattle.wasm_core_read.specs.Input.{GoesOn};
 ghost use Rattle.wasm_spec.specs.Limits as limits;
 ghost use Rattle.wasmparser_body_reading.specs.BodyAnswers.{AnswersOutcome};
 ghost use Rattle.wasmparser_body_reading.specs.BodyStates.{HasEnded, ReadsStep, context_in, rest_outcome, with_machine_in};
@@ -31,6 +32,34 @@ fn read_step<B: JudgeBody>(reader: &mut OperatorsReader<'_>, body: &mut B) -> Re
     }
 }
 
+// The operators of these bytes, which are the last ones of a reader's.
+fn operators_of<'a>(reader: &OperatorsReader<'a>, rest: &'a [u8]) -> OperatorsReader<'a>
+    requires { length rest.now ≤ length reader.now.input.rest }
+    ensures rest { result.input.rest ≡ rest.now }
+    ensures goes_on { GoesOn reader.now.input result.input }
+{
+    let from = reader.get_binary_reader();
+    let passed = from.bytes_remaining() - rest.len();
+    let mut to = BinaryReader::new(rest, from.original_position() + passed as u64);
+    to.set_features(from.features());
+    OperatorsReader::new(to)
+}
+
+// Lets operators be judged at once, and then reads the next one, which is judged.
+fn read_on<B: JudgeBody>(reader: &mut OperatorsReader<'_>, body: &mut B) -> Result<(), Error>
+    requires ready { (B.state body.old).is_ready ≡ true }
+    requires few { length (B.state body.old).items.types ≤ packable }
+    requires open { (B.state body.old).machine.frames ≢ [] }
+    requires same_features { reader.old.input.features ≡ (B.state body.old).features }
+    ensures kept { B.kept body.new ≡ B.kept body.old }
+    ensures judged { ReadsStep (B.state body.old) (B.state body.new) reader.old.input reader.new.input result }
+    ensures further { IfOk result (λ _. reader.old.input.position < reader.new.input.position) }
+{
+    let rest = body.run(reader.get_binary_reader().remaining_buffer());
+    *reader = operators_of(reader, rest);
+    read_step(reader, body)
+}
+
 // Reads operators up to the end of the body, after which nothing may stand.
 fn read_code<B: JudgeBody>(reader: &mut OperatorsReader<'_>, body: &mut B) -> Result<(), Error>
     requires ready { (B.state body.old).is_ready ≡ true }
@@ -41,7 +70,7 @@ fn read_code<B: JudgeBody>(reader: &mut OperatorsReader<'_>, body: &mut B) -> Re
     ensures ended { IfOk result (λ _. ((B.state body.new).machine.frames ≡ []) × (B.state body.new ≡ with_machine_in (B.state body.new).machine (B.state body.old))) }
 {
     'operators: while !body.is_closed() {
-        read_step(reader, body)?;
+        read_on(reader, body)?;
     }
     if !reader.eof() {
         return Err(broken(reader.original_position()));

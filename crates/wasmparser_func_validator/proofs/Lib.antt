@@ -2,6 +2,8 @@ mod BlockLaws
 mod BranchLaws
 mod LookupLaws
 mod OperandLaws
+mod PlainLaws
+mod PlainNumbers
 mod ReadBodies
 mod Stepping
 mod Taking

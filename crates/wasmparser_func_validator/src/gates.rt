@@ -1,14 +1,16 @@
 //! Which operators features allow.
 
-ghost use Rattle.std.specs.Prelude.{◌≡◌, ◌∷◌, ◌++◌};
+ghost use Rattle.std.specs.Prelude.{◌≡◌, ◌∷◌, ◌++◌, []};
 ghost use Rattle.std.specs.List.{list_all};
 ghost use Rattle.wasm_bodies.specs.OperatorGates.{block_gate, float_gate};
 ghost use Rattle.wasm_bodies.specs.OperatorGates as gates;
 ghost use Rattle.wasm_core_base.specs.Features.{feature_set};
 ghost use Rattle.wasm_spec.specs.Features.{has};
+ghost use Rattle.wasmparser_func_validator.specs.NumericForms.{form_gives, form_takes, number};
 ghost use Rattle.wasmparser_operators.specs.OperatorValues.{block_type, operator};
 ghost use Rattle.wasmparser_operators.specs.ScalarValues.{scalar_row};
 
+use crate::number_type::NumberType;
 use crate::numeric::{NumericForm, form_of};
 use wasm_core_base::features::WasmFeatures;
 use wasmparser_operators::immediates::BlockType;
@@ -49,20 +51,29 @@ fn is_proposal_on(features: WasmFeatures, operator: ScalarOperator) -> bool
 }
 
 // Whether an operator of this form is allowed, as far as floats go.
-fn are_floats_on(features: WasmFeatures, operator: ScalarOperator) -> bool
-    ensures { result ≡ list_all (has (feature_set features)) (float_gate ((scalar_row operator).gives ∷ (scalar_row operator).takes)) }
+#[inline(always)]
+pub(crate) fn are_floats_on(features: WasmFeatures, form: NumericForm) -> bool
+    ensures { result ≡ list_all (has (feature_set features)) (float_gate (form_gives form ∷ form_takes form)) }
 {
-    let has_floats = match form_of(operator) {
+    let has_floats = match form {
         NumericForm::Unary(from, to) => from.is_float() || to.is_float(),
         NumericForm::Binary(from, to) => from.is_float() || to.is_float(),
     };
     !has_floats || features.floats()
 }
 
+// Whether a number of the type is allowed.
+#[inline(always)]
+pub(crate) fn is_number_on(features: WasmFeatures, ty: NumberType) -> bool
+    ensures { result ≡ list_all (has (feature_set features)) (float_gate (number ty ∷ [])) }
+{
+    !ty.is_float() || features.floats()
+}
+
 fn is_scalar_on(features: WasmFeatures, operator: ScalarOperator) -> bool
     ensures { result ≡ list_all (has (feature_set features)) ((scalar_row operator).gate ++ float_gate ((scalar_row operator).gives ∷ (scalar_row operator).takes)) }
 {
-    is_proposal_on(features, operator) && are_floats_on(features, operator)
+    is_proposal_on(features, operator) && are_floats_on(features, form_of(operator))
 }
 
 // Whether the features allow the operator.

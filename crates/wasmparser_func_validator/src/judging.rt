@@ -25,6 +25,10 @@ impl<T: WasmModuleResources> JudgeBody for FuncValidator<T> {
         FuncValidator::op(self, offset, it)
     }
 
+    fn run<'a>(&mut self, code: &'a [u8]) -> &'a [u8] {
+        self.body.run(&mut self.stacks, code)
+    }
+
     fn is_closed(&self) -> bool {
         self.stacks.is_closed()
     }

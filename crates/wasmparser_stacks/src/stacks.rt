@@ -220,6 +220,18 @@ impl Stacks {
         Ok(())
     }
 
+    /// Puts an operand of a type in place of so many known ones of the innermost list, of one at least.
+    #[inline(always)]
+    pub fn exchange(&mut self, count: usize, value_type: ValType)
+        requires some { 0 < count }
+        requires known { count ≤ length self.old.now.known }
+        ensures { self.new ≡ at_list (replaced_by count (val_type value_type ∷ []) self.old.now) self.old }
+    {
+        let at = self.operands.len() - count;
+        self.operands[at] = Operand::Known(value_type);
+        self.operands.truncate(at + 1);
+    }
+
     /// Opens a block. It takes so many operands, as `lower` does, and its list begins with operands of these types.
     pub fn enter(
         &mut self,

@@ -3,7 +3,7 @@ use Rattle.std.proofs.Math.ListN.{set}
 use Rattle.std.proofs.lemmas.List.{length-append}
 use Rattle.wasm_bodies.specs.BodyContext.{is_among}
 use Rattle.wasmparser_stacks.specs.StackChanges.{at_list, marked}
-use Rattle.wasmparser_stacks.specs.StackViews.{ArePlaced, AreWithin, all_of, base_of, operand}
+use Rattle.wasmparser_stacks.specs.StackViews.{ArePlaced, all_of, base_of, operand}
 use Rattle.wasmparser_stacks.proofs.Places.{placed}
 use Rattle.wasmparser_stacks.proofs.Stacked.{base_within, more_assigned, replaced, replaced_within, within_more}
 use Rattle.wasmparser_stacks.proofs.stacks.Stacks.replace_and_assign.Goals as goal

@@ -31,6 +31,7 @@ use wasmparser_types::ref_type::RefType;
 use wasmparser_types::val_type::{FieldType, ValType};
 
 // The type of addresses of a memory, or of indexes of a table.
+#[inline(always)]
 pub(crate) fn address_type(is_64: bool) -> ValType
     ensures { val_type result ≡ (if is_64 then spec.I64 else spec.I32) }
 {
@@ -56,6 +57,7 @@ pub(crate) fn func_type_in<R: WasmModuleResources>(resources: &R, index: u32) ->
 }
 
 // Whether a memory has this address.
+#[inline(always)]
 fn is_offset(is_64: bool, offset: u64) -> bool
     ensures { result ≡ nat_lt offset (2 ^ (if is_64 then 64 else 32)) }
 {
@@ -233,6 +235,7 @@ impl<R: WasmModuleResources> Body<R> {
     }
 
     // What an access to a memory is addressed by, whose greatest alignment this is.
+    #[inline(always)]
     pub(crate) fn accessed(&self, memarg: &MemArg, max_align: u8) -> Option<ValType>
         ensures { option_map val_type result ≡ accessed (R.resources self.now.resources).items (access 0 Int32 max_align) (memory_argument memarg.now) }
     {

@@ -18,6 +18,7 @@ pub(crate) enum NumberType {
 
 impl NumberType {
     // It as a value type.
+    #[inline(always)]
     pub(crate) fn val_type(self) -> ValType
         ensures { val_type result ≡ value_type (number self) }
     {
@@ -29,6 +30,7 @@ impl NumberType {
         }
     }
 
+    #[inline(always)]
     pub(crate) fn is_float(self) -> bool
         ensures { result ≡ is_float (number self) }
     {

@@ -13,6 +13,7 @@ use wasmparser_resources::module_resources::WasmModuleResources;
 use wasmparser_stacks::stacks::Stacks;
 
 impl<R: WasmModuleResources> Body<R> {
+    #[inline(always)]
     pub(crate) fn local_get(&self, stacks: &mut Stacks, index: u32) -> Result<(), Refusal>
         ensures { HasEffect (context_of (R.resources self.now.resources) (feature_set self.now.features) self.now.locals self.now.ty) (spec.LocalGet index) stacks.old stacks.new result }
     {

@@ -197,6 +197,7 @@ impl Locals {
     }
 
     /// The local of an index.
+    #[inline(always)]
     pub fn get(&self, index: u32) -> Option<&Local>
         ensures { option_map (λ local. local_seen local.now) result ≡ slice_get self.now index }
     {

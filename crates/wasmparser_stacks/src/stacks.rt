@@ -46,6 +46,7 @@ impl Model for Stacks {
 }
 
 // How many operands are below the innermost list.
+#[inline(always)]
 fn base(frames: &[Frame]) -> usize
     ensures { result ≡ base_of (reverse frames.now) }
 {
@@ -56,6 +57,7 @@ fn base(frames: &[Frame]) -> usize
 }
 
 // Whether the innermost list is open.
+#[inline(always)]
 fn is_open(frames: &[Frame]) -> bool
     ensures { result ≡ is_open_of (reverse frames.now) }
 {
@@ -66,6 +68,7 @@ fn is_open(frames: &[Frame]) -> bool
 }
 
 // Where the last operands begin, as many as are known of the innermost list.
+#[inline(always)]
 fn start_of(frames: &[Frame], len: usize, count: usize) -> usize
     requires { base_of (reverse frames.now) ≤ len }
     ensures { result ≡ base_of (reverse frames.now) + (len - base_of (reverse frames.now) - count) }
@@ -79,6 +82,7 @@ fn start_of(frames: &[Frame], len: usize, count: usize) -> usize
 }
 
 // The place that is kept at an index.
+#[inline(always)]
 fn place_of(places: &[usize], index: usize) -> usize
     ensures { result ≡ slice_index places.now index }
 {
@@ -136,6 +140,7 @@ impl Stacks {
     }
 
     /// Puts an operand of a type on top.
+    #[inline(always)]
     pub fn push_known(&mut self, value_type: ValType) -> Result<(), AllocError>
         ensures ok { OnOk result (self.new ≡ at_list (put (Known (val_type value_type)) self.old.now) self.old) }
         ensures refused { OnErr result (self.new ≡ self.old) }
@@ -159,6 +164,7 @@ impl Stacks {
     }
 
     /// Takes the last operand if it is known and of exactly this type.
+    #[inline(always)]
     pub fn pop_known(&mut self, value_type: &ValType) -> bool
         ensures taken { OnTrue result (popped self.old.now ≡ Some (Known (val_type value_type.now), self.new.now)) }
         ensures other { OnFalse result ((below : State Index) → popped self.old.now ≢ Some (Known (val_type value_type.now), below)) }
@@ -174,6 +180,7 @@ impl Stacks {
 
     /// Whether the operands below so many others of the innermost list are known and of exactly these types, that of the
     /// last type on top.
+    #[inline(always)]
     pub fn are_known(&self, depth: usize, types: &[ValType]) -> bool
         ensures exact { IsTrue result ↔ (take (length types.now) (drop depth self.now.now.known) ≡ reverse (all_of types.now)) }
         ensures taken { IsTrue result → (items : ModuleItems Index) → IsBelowItself items → all_taken items (map val_type types.now) (lowered depth self.now.now) ≡ Some (lowered (depth + length types.now) self.now.now) }
@@ -188,6 +195,7 @@ impl Stacks {
     }
 
     /// Takes so many operands at once. Where fewer are known, these alone.
+    #[inline(always)]
     pub fn lower(&mut self, count: usize)
         ensures { self.new ≡ at_list (lowered count self.old.now) self.old }
     {
@@ -314,6 +322,7 @@ impl Stacks {
     }
 
     /// How many operands of the innermost list are known.
+    #[inline(always)]
     pub fn known_len(&self) -> usize
         ensures { result ≡ length self.now.now.known }
     {
@@ -334,6 +343,7 @@ impl Stacks {
     }
 
     /// Whether no block is open, as after the end of a body.
+    #[inline(always)]
     pub fn is_closed(&self) -> bool
         ensures { IsTrue result ↔ (self.now.frames ≡ []) }
     {
@@ -341,6 +351,7 @@ impl Stacks {
     }
 
     /// How many blocks are open, the body itself among them.
+    #[inline(always)]
     pub fn frame_count(&self) -> usize
         ensures { result ≡ length self.now.frames }
     {
@@ -348,6 +359,7 @@ impl Stacks {
     }
 
     /// The open block at a depth, the innermost one at 0.
+    #[inline(always)]
     pub fn frame_at(&self, depth: usize) -> Option<&Frame>
         ensures block { option_map (λ f. block_kept f.now) result ≡ option_map block_seen (slice_get self.now.frames depth) }
         ensures place { option_map (λ f. place_kept f.now) result ≡ slice_get (places_of self.now) depth }
@@ -378,6 +390,7 @@ impl Stacks {
     }
 
     /// Whether a local without a value at the start was assigned.
+    #[inline(always)]
     pub fn is_assigned(&self, local: u32) -> bool
         ensures { result ≡ is_among self.now.now.assigned local }
     {

@@ -53,6 +53,7 @@ pub(crate) fn replace_tail_with(
 }
 
 // Whether an operand is known and of this type.
+#[inline(always)]
 fn is_of(x: &Operand, value_type: &ValType) -> bool
     ensures { IsTrue result ↔ (operand x.now ≡ Known (val_type value_type.now)) }
 {
@@ -64,6 +65,7 @@ fn is_of(x: &Operand, value_type: &ValType) -> bool
 }
 
 // Whether operands are known and of these types, one by one.
+#[inline(always)]
 pub(crate) fn are_of(operands: &[Operand], types: &[ValType]) -> bool
     requires { length operands.now ≡ length types.now }
     ensures { IsTrue result ↔ (map operand operands.now ≡ all_of types.now) }

@@ -1,15 +1,17 @@
 -- Plain operators: what is read of them, and where they lead.
-use Rattle.std.proofs.Common.{◌≡◌, ◌≢◌, ℕ, ℤ, ◌<◌, ◌≤◌, Bool, true, false, List, [], ◌∷◌, length, map, drop, take, reverse, Option, Some, None, Result, Ok, Err, refl, sym, ap, subst, ◌∙◌, arith}
-use Rattle.std.specs.Prelude.{if◌then◌else◌, is_ok, slice_get}
+use Rattle.std.proofs.Common.{◌≡◌, ◌≢◌, ℕ, ℤ, ◌<◌, ◌≤◌, Bool, true, false, List, [], ◌∷◌, length, map, drop, take, reverse, Option, Some, None, Result, Ok, Err, refl, sym, ap, subst, ◌∙◌, arith, inl, inr}
+use Rattle.std.specs.Prelude.{◌==◌, if◌then◌else◌, is_ok, slice_get}
+use Rattle.std.specs.Bool.{OnFalse, OnTrue}
 use Rattle.std.specs.List.{list_all}
 use Rattle.std.specs.Option.{option_and_then, option_map}
-use Rattle.std.proofs.lemmas.List.{length-reverse, length-take}
+use Rattle.std.proofs.lemmas.Bool.Decides.{eqb_tells}
+use Rattle.std.proofs.lemmas.List.{length-reverse, length-take, nil_from_length}
 use Rattle.wasm_bodies.specs.BodyContext.{BodyContext, ModuleItems, provided}
 use Rattle.wasm_bodies.specs.Effects.{effect_of}
 use Rattle.wasm_bodies.specs.OperatorGates.{float_gate, is_on}
-use Rattle.wasm_bodies.specs.OperatorRows.{AccessRow, NumberType, Int32, Int64, access, value_type}
-use Rattle.wasm_bodies.specs.Operands.{Known, Operand, State, all_taken, applied, each_taken, given, put}
-use Rattle.wasm_bodies.specs.Operators.{BlockType, MemoryArgument, Operator, Else, End, I32Const, I64Const, Load, Store}
+use Rattle.wasm_bodies.specs.OperatorRows.{AccessRow, Byte, NumberType, Int32, Int64, access, value_type}
+use Rattle.wasm_bodies.specs.Operands.{Known, Operand, State, all_taken, applied, each_taken, given, popped, put, taken}
+use Rattle.wasm_bodies.specs.Operators.{BlockType, MemoryArgument, Operator, BrIf, Else, End, I32Const, I64Const, Load, Scalar, Store}
 use Rattle.wasm_bodies.specs.Signatures.{accessed, from_to, is_in_range, memory_index}
 use Rattle.wasm_bodies_laws.specs.Machine.{Frame, Machine, is_structural, labels_of, opened, stepped, stepped_in, structural, with_block}
 use Rattle.wasm_bodies_laws.proofs.HeldOptions.{all_reverse}
@@ -20,10 +22,14 @@ use Rattle.wasm_spec.specs.Features.{Features, has}
 use Rattle.wasm_spec.specs.Types.{MemoryType, ValType, I32, I64}
 use Rattle.wasmparser_body_reading.proofs.Runs.{leads_further, leaves_less}
 use Rattle.wasmparser_body_reading.specs.Runs.{LeadsOn}
+use Rattle.wasmparser_operators.specs.CodeTables.{row_of}
+use Rattle.wasmparser_operators.specs.ScalarValues.{row_or_none}
+use Rattle.wasmparser_func_validator.specs.NumericForms.{form_gives, form_takes}
+use Rattle.wasmparser_func_validator.specs.declared.numeric.NumericForm.{NumericForm}
 use Rattle.wasmparser_operators.specs.OperatorReading.{Access, All, Bare, Number, OfBlock, Shape, Signed, block_type_at, code_at, kept_operator_at, memory_argument_at, operator_at, shape_at, shape_of}
 use Rattle.wasmparser_stacks.specs.StackChanges.{at_list, lowered}
 use Rattle.wasmparser_types.specs.Index.{Index}
-use Rattle.wasmparser_func_validator.specs.Plain.{AreItself, IsCoded, IsNumber, IsPast, IsStep, LeadsTo, NumbersFit, TriesBare, TriesBlock, TriesEffect, TriesNumber}
+use Rattle.wasmparser_func_validator.specs.Plain.{AreItself, IsCoded, IsNumber, IsPast, IsScalarForm, IsStep, LeadsTo, NumbersFit, TriesBare, TriesBlock, TriesEffect, TriesNumber}
 use Rattle.wasmparser_func_validator.specs.Steps.{Steps, Takes}
 use Rattle.wasmparser_func_validator.specs.declared.refusal.Refusal.{Refusal}
 use Rattle.wasmparser_func_validator.specs.declared.refusal.Refusal.TheVariants.{Invalid, Memory}
@@ -167,6 +173,23 @@ module _ (cx : BodyContext Index) (old new : Machine Index) (code exponent : ℕ
       ap (λ o. option_and_then (λ signature. applied cx.items signature old.now) (option_map (λ a. from_to (a ∷ value_type type ∷ []) []) o)) (sym is) in
       (Store row argument, coded_reads cx.features code (Access (λ a. Store row a)) bytes coded ∙ rw reads refl, leads cx old new (Store row argument) inside refl on (effect ∙ h.0, h.1))
 
+-- an operator on numbers, of this form
+pub scalar_step : (cx : BodyContext Index) (old new : Machine Index) (code : ℕ) (form : NumericForm) (rest : List ℕ) → old.frames ≢ [] → IsScalarForm code form → true ≡ list_all (has cx.features) (float_gate (form_gives form ∷ form_takes form))
+    → TriesEffect (applied cx.items (from_to (map value_type (form_takes form)) (value_type (form_gives form) ∷ [])) old.now) old new true → IsStep cx old new (code ∷ rest) rest
+scalar_step cx old new code form rest inside is on h =
+    let row = row_or_none (row_of (Byte code)) in
+    let allowed : is_on {R = ℕ} cx.features (Scalar (row_or_none (row_of (Byte code)))) ≡ true = rw is.3 (rw (is.1, is.2) at (sym on)) in
+    let does : TriesEffect (applied cx.items (from_to (map value_type (row_or_none (row_of (Byte code))).takes) (value_type (row_or_none (row_of (Byte code))).gives ∷ [])) old.now) old new true = rw (is.1, is.2) at h in
+    bare_step cx old new code rest (Scalar row, is.0, leads cx old new (Scalar row) inside refl allowed does)
+
+-- a jump to a label that takes nothing, if it is made
+pub jump_tried : (cx : BodyContext Index) (old new : Machine Index) (label : ℕ) (b : Bool) → cx.items.is_below I32 I32 ≡ true → slice_get (labels_of cx.items old.frames) label ≡ Some [] → OnTrue b (popped old.now ≡ Some (Known I32, new.now)) → new.frames ≡ old.frames
+    → OnFalse b (new ≡ old) → TriesEffect (effect_of cx (labels_of cx.items old.frames) old.now (BrIf label)) old new b
+jump_tried cx old new label true itself at is frames same =
+    let taking : taken cx.items I32 old.now ≡ Some new.now = rw (is, itself) refl in
+    (rw (taking, at) refl, frames)
+jump_tried cx old new label false itself at is frames same = same
+
 pub int32_coded : IsCoded 0x41 (Signed 32 (λ value. I32Const value))
 unfolding shape_of
 int32_coded = (refl, refl)
@@ -201,6 +224,13 @@ module _ (items : ModuleItems Index) where
       let len : length (reverse types) ≡ length types = length-reverse types in
       let e' : take (length (reverse types)) s.known ≡ map (λ type. Known type) (reverse types) = rw len (e ∙ reverse_map (λ type. Known type) types) in
       each_known (reverse types) s.known s.is_open s.assigned (all_reverse (λ type. items.is_below type type ≡ true) types fit) e' ∙ ap (λ m. Some (lowered m s)) len
+
+-- a list of length 0
+pub none_left : {X : Type 0} (xs : List X) → true ≡ (length xs == 0) → xs ≡ []
+none_left xs e = elim (eqb_tells (length xs) 0) [
+  | inl (t, none) ↦ nil_from_length xs none
+  | inr (t, some) ↦ let f = e ∙ t in absurd cc
+]
 
 pub many_known : (types known : List (Operand Index)) → take (length types) known ≡ reverse types → length types ≤ length known
 many_known types known e = omega (arith, ap length e, length-take (length types) known, length-reverse types)

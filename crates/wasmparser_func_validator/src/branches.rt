@@ -32,7 +32,8 @@ use wasmparser_types::val_type::ValType;
 impl<R: WasmModuleResources> Body<R> {
     // The block that a label is of.
     #[tactic(auto, using(crate::proofs::BranchLaws::labels))]
-    fn target(&self, stacks: &Stacks, label: u32) -> Option<(FrameKind, BlockType)>
+    #[inline(always)]
+    pub(crate) fn target(&self, stacks: &Stacks, label: u32) -> Option<(FrameKind, BlockType)>
         ensures { option_map (label_kept (R.resources self.now.resources).items) result ≡ slice_get (labels_of (R.resources self.now.resources).items stacks.now.frames) label }
     {
         match stacks.frame_at(label as usize) {

@@ -15,6 +15,7 @@ mod memories;
 mod number_type;
 mod numeric;
 mod plain;
+mod plain_classes;
 mod plain_numbers;
 mod plain_rows;
 mod plain_scalars;

@@ -173,6 +173,7 @@ impl<R: WasmModuleResources> Body<R> {
     }
 
     // The types that a block takes.
+    #[inline(always)]
     pub(crate) fn block_params<'a>(&'a self, block_type: &'a BlockType) -> &'a [ValType]
         ensures { map val_type result.now ≡ (frame_type (R.resources self.now.resources).items (block_with_ids block_type.now)).params }
     {
@@ -187,6 +188,7 @@ impl<R: WasmModuleResources> Body<R> {
     }
 
     // The types that a block gives.
+    #[inline(always)]
     pub(crate) fn block_results<'a>(&'a self, block_type: &'a BlockType) -> &'a [ValType]
         ensures { map val_type result.now ≡ (frame_type (R.resources self.now.resources).items (block_with_ids block_type.now)).results }
     {
@@ -211,6 +213,7 @@ impl<R: WasmModuleResources> Body<R> {
     }
 
     // The types that a jump to a block takes.
+    #[inline(always)]
     pub(crate) fn label<'a>(&'a self, kind: FrameKind, block_type: &'a BlockType) -> &'a [ValType]
         ensures { map val_type result.now ≡ label_types (frame_kind kind) (frame_type (R.resources self.now.resources).items (block_with_ids block_type.now)) }
     {

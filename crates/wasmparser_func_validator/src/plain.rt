@@ -16,7 +16,7 @@ ghost use Rattle.wasm_bodies_laws.specs.Machine.{labels_of};
 ghost use Rattle.wasm_core_base.specs.Features.{feature_set};
 ghost use Rattle.wasmparser_body_reading.specs.Runs.{LeadsOn};
 ghost use Rattle.wasmparser_func_validator.specs.NumericForms.{form_gives, form_takes};
-ghost use Rattle.wasmparser_func_validator.specs.Plain.{AreItself, IsNumber, IsStep, NumbersFit, TriesBare, TriesBlock, TriesEffect, TriesNumber};
+ghost use Rattle.wasmparser_func_validator.specs.Plain.{AreItself, IsNumber, IsScalarForm, IsStep, NumbersFit, TriesBare, TriesBlock, TriesEffect, TriesNumber};
 ghost use Rattle.wasmparser_func_validator.specs.Steps.{context_of};
 ghost use Rattle.wasmparser_operators.specs.OperatorReading.{memory_argument_at};
 ghost use Rattle.wasmparser_operators.specs.OperatorValues.{IsBlockOfModule, block_type, memory_argument};
@@ -26,9 +26,10 @@ use crate::body::Body;
 use crate::gates::{are_floats_on, is_number_on};
 use crate::number_type::NumberType;
 use crate::numeric::NumericForm;
+use crate::plain_classes::{Class, class_of};
 use crate::plain_numbers::{offset_front, past_i32, past_i64, u32_front};
 use crate::plain_rows::{load_form, plain_block_type, store_form};
-use crate::plain_scalars::scalar_form;
+use crate::plain_scalars::{conversion_form, f32_form, f64_form, i32_form, i64_form};
 use std::slice;
 use wasmparser_operators::immediates::{BlockType, MemArg};
 use wasmparser_resources::module_resources::WasmModuleResources;
@@ -100,6 +101,35 @@ impl<R: WasmModuleResources> Body<R> {
         stacks.are_known(0, slice::from_ref(&local.value_type))
     }
 
+    #[inline(always)]
+    fn set_global(&self, stacks: &mut Stacks, index: u32) -> bool
+        requires fit { NumbersFit (R.resources self.now.resources).items }
+        ensures { TriesEffect (effect_of (context_of (R.resources self.now.resources) (feature_set self.now.features) self.now.locals self.now.ty) (labels_of (R.resources self.now.resources).items stacks.old.frames) stacks.old.now (spec.GlobalSet index)) stacks.old stacks.new result }
+    {
+        let Some(global) = self.resources.global_at(index) else {
+            return false;
+        };
+        if !global.mutable || !is_number(&global.content_type) {
+            return false;
+        }
+        stacks.pop_known(&global.content_type)
+    }
+
+    // A jump to a label that takes nothing.
+    #[inline(always)]
+    fn jump_if(&self, stacks: &mut Stacks, label: u32) -> bool
+        requires fit { NumbersFit (R.resources self.now.resources).items }
+        ensures { TriesEffect (effect_of (context_of (R.resources self.now.resources) (feature_set self.now.features) self.now.locals self.now.ty) (labels_of (R.resources self.now.resources).items stacks.old.frames) stacks.old.now (spec.BrIf label)) stacks.old stacks.new result }
+    {
+        let Some((kind, block_type)) = self.target(stacks, label) else {
+            return false;
+        };
+        if !self.label(kind, &block_type).is_empty() {
+            return self.br_if(stacks, label).is_ok();
+        }
+        stacks.pop_known(&ValType::I32)
+    }
+
     // An operator after whose code a number stands.
     #[inline(always)]
     fn with_number(&self, code: u8, stacks: &mut Stacks, number: u32) -> bool
@@ -109,13 +139,13 @@ impl<R: WasmModuleResources> Body<R> {
     {
         match code {
             0x0c => self.br(stacks, number).is_ok(),
-            0x0d => self.br_if(stacks, number).is_ok(),
+            0x0d => self.jump_if(stacks, number),
             0x10 => self.call(stacks, number).is_ok(),
             0x20 => self.local_get(stacks, number).is_ok(),
             0x21 => self.set_local(stacks, number),
             0x22 => self.tee_local(stacks, number),
             0x23 => self.global_get(stacks, number).is_ok(),
-            0x24 => self.global_set(stacks, number).is_ok(),
+            0x24 => self.set_global(stacks, number),
             _ => false,
         }
     }
@@ -138,14 +168,23 @@ impl<R: WasmModuleResources> Body<R> {
 
     // An operator on numbers.
     #[inline(always)]
-    fn scalar_of(&self, code: u8, stacks: &mut Stacks) -> bool
+    fn plain_scalar<'a>(
+        &self,
+        code: u8,
+        form: Option<NumericForm>,
+        stacks: &mut Stacks,
+        rest: &'a [u8],
+    ) -> Option<&'a [u8]>
         requires inside { stacks.old.frames ≢ [] }
         requires fit { NumbersFit (R.resources self.now.resources).items }
-        ensures { TriesBare (context_of (R.resources self.now.resources) (feature_set self.now.features) self.now.locals self.now.ty) stacks.old stacks.new code result }
+        requires formed { IfSome form (IsScalarForm code) }
+        ensures { MatchOption result (stacks.new ≡ stacks.old) (λ after. IsStep (context_of (R.resources self.now.resources) (feature_set self.now.features) self.now.locals self.now.ty) stacks.old stacks.new (code ∷ rest.now) after.now) }
     {
-        match scalar_form(code) {
-            Some(form) => are_floats_on(self.features, form) && self.compute(stacks, form),
-            None => false,
+        let form = form?;
+        if are_floats_on(self.features, form) && self.compute(stacks, form) {
+            Some(rest)
+        } else {
+            None
         }
     }
 
@@ -250,13 +289,16 @@ impl<R: WasmModuleResources> Body<R> {
         ensures { TriesBare (context_of (R.resources self.now.resources) (feature_set self.now.features) self.now.locals self.now.ty) stacks.old stacks.new code result }
     {
         match code {
+            0x00 => {
+                stacks.mark_unreachable();
+                true
+            }
             0x01 => true,
             0x05 => self.turn(stacks).is_ok(),
             0x0b => stacks.frame_count() > 1 && self.close(stacks).is_ok(),
             0x0f => self.return_(stacks).is_ok(),
             0x1a => self.drop_one(stacks).is_ok(),
             0x1b => self.select(stacks).is_ok(),
-            0x45..=0xc4 => self.scalar_of(code, stacks),
             _ => false,
         }
     }
@@ -309,19 +351,26 @@ impl<R: WasmModuleResources> Body<R> {
         let [first, rest @ ..] = code else {
             return None;
         };
-        match *first {
-            0x02..=0x04 => self.plain_block(*first, stacks, rest),
-            0x0c | 0x0d | 0x10 | 0x20..=0x24 => self.plain_number(*first, stacks, rest),
-            0x28..=0x35 => self.plain_load(*first, stacks, rest),
-            0x36..=0x3e => self.plain_store(*first, stacks, rest),
-            0x41 | 0x42 => self.plain_constant(*first, stacks, rest),
-            _ => {
-                if self.bare(*first, stacks) {
+        let code = *first;
+        match class_of(code) {
+            Class::Bare => {
+                if self.bare(code, stacks) {
                     Some(rest)
                 } else {
                     None
                 }
             }
+            Class::Block => self.plain_block(code, stacks, rest),
+            Class::Number => self.plain_number(code, stacks, rest),
+            Class::Load => self.plain_load(code, stacks, rest),
+            Class::Store => self.plain_store(code, stacks, rest),
+            Class::Constant => self.plain_constant(code, stacks, rest),
+            Class::I32 => self.plain_scalar(code, i32_form(code), stacks, rest),
+            Class::I64 => self.plain_scalar(code, i64_form(code), stacks, rest),
+            Class::F32 => self.plain_scalar(code, f32_form(code), stacks, rest),
+            Class::F64 => self.plain_scalar(code, f64_form(code), stacks, rest),
+            Class::Conversion => self.plain_scalar(code, conversion_form(code), stacks, rest),
+            Class::Other => None,
         }
     }
 

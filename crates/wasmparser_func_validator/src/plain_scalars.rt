@@ -10,7 +10,7 @@ use crate::numeric::NumericForm;
 // The form of an operator on integers of 32 bits.
 #[tactic(auto, unfolding(wasmparser_operators::specs::CodeTables::row_of, wasmparser_operators::specs::OperatorReading::shape_of))]
 #[inline(always)]
-fn i32_form(code: u8) -> Option<NumericForm>
+pub(crate) fn i32_form(code: u8) -> Option<NumericForm>
     ensures { IfSome result (IsScalarForm code) }
 {
     match code {
@@ -50,7 +50,7 @@ fn i32_form(code: u8) -> Option<NumericForm>
 // The form of an operator on integers of 64 bits.
 #[tactic(auto, unfolding(wasmparser_operators::specs::CodeTables::row_of, wasmparser_operators::specs::OperatorReading::shape_of))]
 #[inline(always)]
-fn i64_form(code: u8) -> Option<NumericForm>
+pub(crate) fn i64_form(code: u8) -> Option<NumericForm>
     ensures { IfSome result (IsScalarForm code) }
 {
     match code {
@@ -90,7 +90,7 @@ fn i64_form(code: u8) -> Option<NumericForm>
 // The form of an operator on floats of 32 bits.
 #[tactic(auto, unfolding(wasmparser_operators::specs::CodeTables::row_of, wasmparser_operators::specs::OperatorReading::shape_of))]
 #[inline(always)]
-fn f32_form(code: u8) -> Option<NumericForm>
+pub(crate) fn f32_form(code: u8) -> Option<NumericForm>
     ensures { IfSome result (IsScalarForm code) }
 {
     match code {
@@ -121,7 +121,7 @@ fn f32_form(code: u8) -> Option<NumericForm>
 // The form of an operator on floats of 64 bits.
 #[tactic(auto, unfolding(wasmparser_operators::specs::CodeTables::row_of, wasmparser_operators::specs::OperatorReading::shape_of))]
 #[inline(always)]
-fn f64_form(code: u8) -> Option<NumericForm>
+pub(crate) fn f64_form(code: u8) -> Option<NumericForm>
     ensures { IfSome result (IsScalarForm code) }
 {
     match code {
@@ -152,7 +152,7 @@ fn f64_form(code: u8) -> Option<NumericForm>
 // The form of an operator on numbers that become numbers of another type.
 #[tactic(auto, unfolding(wasmparser_operators::specs::CodeTables::row_of, wasmparser_operators::specs::OperatorReading::shape_of))]
 #[inline(always)]
-fn conversion_form(code: u8) -> Option<NumericForm>
+pub(crate) fn conversion_form(code: u8) -> Option<NumericForm>
     ensures { IfSome result (IsScalarForm code) }
 {
     match code {
@@ -182,19 +182,5 @@ fn conversion_form(code: u8) -> Option<NumericForm>
         0xbe => Some(NumericForm::Unary(NumberType::I32, NumberType::F32)),
         0xbf => Some(NumericForm::Unary(NumberType::I64, NumberType::F64)),
         _ => None,
-    }
-}
-
-// The form of an operator on numbers, if the code is of one.
-#[inline(always)]
-pub(crate) fn scalar_form(code: u8) -> Option<NumericForm>
-    ensures { IfSome result (IsScalarForm code) }
-{
-    match code {
-        0x45..=0x4f | 0x67..=0x78 => i32_form(code),
-        0x50..=0x5a | 0x79..=0x8a => i64_form(code),
-        0x5b..=0x60 | 0x8b..=0x98 => f32_form(code),
-        0x61..=0x66 | 0x99..=0xa6 => f64_form(code),
-        _ => conversion_form(code),
     }
 }

@@ -65,7 +65,10 @@ impl<R: WasmModuleResources> Body<R> {
         ensures { HasEffect (context_of (R.resources self.now.resources) (feature_set self.now.features) self.now.locals self.now.ty) (spec.GlobalGet index) stacks.old stacks.new result }
     {
         match self.resources.global_at(index) {
-            Some(global) => self.apply(stacks, &[], slice::from_ref(&global.content_type)),
+            Some(global) => {
+                stacks.push_known(global.content_type)?;
+                Ok(())
+            }
             None => Err(Refusal::Invalid),
         }
     }

@@ -1,11 +1,17 @@
-use Rattle.std.proofs.Common.{◌<◌, length, true, refl, arith}
-use Rattle.wasm_bodies.specs.Operators.{Nop, Else, End, Return, Drop, Select}
+use Rattle.std.proofs.Common.{◌<◌, Some, length, true, refl, sym, ap, arith}
+use Rattle.wasm_bodies.specs.Operators.{Unreachable, Nop, Else, End, Return, Drop, Select}
+use Rattle.wasm_bodies_laws.specs.Machine.{Machine}
 use Rattle.wasm_core_base.specs.Features.{feature_set}
+use Rattle.wasmparser_types.specs.Index.{Index}
 use Rattle.wasmparser_operators.specs.OperatorReading.{Bare, shape_of}
 use Rattle.wasmparser_func_validator.specs.Plain.{IsCoded}
 use Rattle.wasmparser_func_validator.specs.Steps.{context_of}
 use Rattle.wasmparser_func_validator.proofs.PlainLaws.{bare_tried, ended_inside, stepped_tried, tried, turned_inside}
 use Rattle.wasmparser_func_validator.proofs.body.Body.bare.Goals as goal
+
+unreachable_coded : IsCoded 0 (Bare Unreachable)
+unfolding shape_of
+unreachable_coded = (refl, refl)
 
 nop_coded : IsCoded 1 (Bare Nop)
 unfolding shape_of
@@ -30,6 +36,11 @@ drop_coded = (refl, refl)
 select_coded : IsCoded 27 (Bare Select)
 unfolding shape_of
 select_coded = (refl, refl)
+
+pub returns-in-0 : goal.returns-in-0
+returns-in-0 g c =
+    let cx = context_of (g.R.WasmModuleResources.resources c.args.self.now.resources) (feature_set c.args.self.now.features) c.args.self.now.locals c.args.self.now.ty in
+    rw c.in-0.is (bare_tried cx c.args.stacks.now c.mark_unreachable.new.self 0 Unreachable true unreachable_coded refl refl c.requires.inside (ap (λ (m : Machine Index). Some m.now) (sym c.mark_unreachable.ensures), ap (λ (m : Machine Index). m.frames) c.mark_unreachable.ensures))
 
 pub returns-in-1 : goal.returns-in-1
 returns-in-1 g c =

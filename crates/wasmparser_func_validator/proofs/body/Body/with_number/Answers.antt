@@ -47,7 +47,7 @@ returns-in-12 g c =
 pub returns-in-13 : goal.returns-in-13
 returns-in-13 g c =
     let cx = context_of (g.R.WasmModuleResources.resources c.args.self.now.resources) (feature_set c.args.self.now.features) c.args.self.now.locals c.args.self.now.ty in
-    rw c.in-13.is (number_tried cx c.args.stacks.now c.br_if.new.stacks 13 c.args.number (λ n. BrIf n) c.is_ok-in-13.result br_if_coded refl refl c.requires.inside (tried _ _ _ c.br_if.result c.is_ok-in-13.result c.is_ok-in-13.ensures.value c.br_if.ensures))
+    rw c.in-13.is (number_tried cx c.args.stacks.now c.jump_if.new.stacks 13 c.args.number (λ n. BrIf n) c.jump_if.result br_if_coded refl refl c.requires.inside c.jump_if.ensures)
 
 pub returns-in-16 : goal.returns-in-16
 returns-in-16 g c =
@@ -77,4 +77,4 @@ returns-in-35 g c =
 pub returns-in-36 : goal.returns-in-36
 returns-in-36 g c =
     let cx = context_of (g.R.WasmModuleResources.resources c.args.self.now.resources) (feature_set c.args.self.now.features) c.args.self.now.locals c.args.self.now.ty in
-    rw c.in-36.is (number_tried cx c.args.stacks.now c.global_set.new.stacks 36 c.args.number (λ n. GlobalSet n) c.is_ok-in-36.result global_set_coded refl refl c.requires.inside (tried _ _ _ c.global_set.result c.is_ok-in-36.result c.is_ok-in-36.ensures.value c.global_set.ensures))
+    rw c.in-36.is (number_tried cx c.args.stacks.now c.set_global.new.stacks 36 c.args.number (λ n. GlobalSet n) c.set_global.result global_set_coded refl refl c.requires.inside c.set_global.ensures)

@@ -2,11 +2,12 @@
 use Rattle.std.proofs.Common.{◌≡◌, ℕ, ◌-◌, ◌<◌, ◌≤◌, ◌^◌, pos, negsuc, List, [], ◌∷◌, Some, length, take, drop, refl, sym, ap, subst, arith, inl, inr}
 use Rattle.std.specs.Prelude.{slice_index_or}
 use Rattle.std.proofs.lemmas.List.{take_all}
+use Rattle.std.proofs.Math.Pow.{pow_mono}
 use Rattle.std.proofs.lemmas.Bool.{lt-ltb}
 use Rattle.wasm_core_read.proofs.Forms.{ltb_tells}
 use Rattle.wasm_spec.specs.Features.{Features}
 use Rattle.wasmparser_operators.specs.OperatorReading.{alignment_at, memory_argument_at, offset_bits}
-use Rattle.wasm_core_read.specs.Reading.{unsigned_at, signed_at, last_signed}
+use Rattle.wasm_core_read.specs.Reading.{above, unsigned_at, signed_at, last_signed}
 use Rattle.wasmparser_func_validator.specs.Plain.{IsPast}
 
 -- the first byte, and those after it
@@ -42,6 +43,22 @@ unsigned_front bits n bytes some lt le e =
 pub signed_front : (bits : ℕ) (bytes : List ℕ) → 1 ≤ length bytes → slice_index_or bytes 0 0 < 128 → 64 ≤ 2 ^ (bits - 1) → IsPast bits bytes (take (length bytes - 1) (drop 1 bytes))
 signed_front bits bytes some lt le =
     subst (λ l. IsPast bits l (take (length bytes - 1) (drop 1 bytes))) (sym (front_is bytes some)) (one_signed bits (slice_index_or bytes 0 0) (take (length bytes - 1) (drop 1 bytes)) lt le)
+
+-- one byte more
+more_signed : (bits a : ℕ) (bytes rest : List ℕ) → 128 ≤ a → 7 < bits → IsPast (bits - 7) bytes rest → IsPast bits (a ∷ bytes) rest
+unfolding signed_at
+more_signed bits a bytes rest le lt past = elim (ltb_tells a 128) [
+  | inl (t, low) ↦ absurd (omega (arith, low, le))
+  | inr (t, high) ↦ (above (a - 128) 128 past.0, rw (t, lt-ltb 7 bits lt, past.1) refl)
+]
+
+-- seven bits are room for a byte
+pub room : (bits : ℕ) → 7 ≤ bits → 64 ≤ 2 ^ (bits - 1)
+room bits le = pow_mono {i = 6} {j = bits - 1} (omega (arith, le))
+
+pub longer_signed : (bits : ℕ) (bytes rest : List ℕ) → 1 ≤ length bytes → 128 ≤ slice_index_or bytes 0 0 → 7 < bits → IsPast (bits - 7) (take (length bytes - 1) (drop 1 bytes)) rest → IsPast bits bytes rest
+longer_signed bits bytes rest some le lt past =
+    subst (λ l. IsPast bits l rest) (sym (front_is bytes some)) (more_signed bits (slice_index_or bytes 0 0) (take (length bytes - 1) (drop 1 bytes)) rest le lt past)
 
 -- the first memory, and an offset
 pub memory_reads : (features : Features) (exponent offset : ℕ) (bytes rest : List ℕ) → exponent < 64 → unsigned_at (offset_bits features) bytes ≡ Some (offset, rest)

@@ -1,6 +1,6 @@
 //! Numbers at the front of some bytes, of which most are a byte long.
 
-ghost use Rattle.std.specs.Prelude.{◌≡◌, IfSome, Some, if◌then◌else◌};
+ghost use Rattle.std.specs.Prelude.{◌≡◌, ◌≤◌, IfSome, Some, if◌then◌else◌};
 ghost use Rattle.wasm_core_read.specs.Reading.{unsigned_at};
 ghost use Rattle.wasmparser_func_validator.specs.Plain.{IsPast};
 
@@ -85,14 +85,74 @@ fn long_offset(is_64: bool, code: &[u8]) -> Option<(u64, &[u8])>
     }
 }
 
+// The bytes after a signed number of so many bits that is one byte long.
+#[inline(always)]
+fn past_one_byte(bits: u32, code: &[u8]) -> Option<&[u8]>
+    requires { 7 ≤ bits }
+    ensures { IfSome result (λ after. IsPast bits code.now after.now) }
+{
+    match code {
+        [byte, rest @ ..] if *byte < 0x80 => Some(rest),
+        _ => None,
+    }
+}
+
+// The same of one that is two bytes long at most.
+#[inline(always)]
+fn past_two_bytes(bits: u32, code: &[u8]) -> Option<&[u8]>
+    requires { 14 ≤ bits }
+    ensures { IfSome result (λ after. IsPast bits code.now after.now) }
+{
+    match code {
+        [byte, rest @ ..] if *byte < 0x80 => Some(rest),
+        [_, rest @ ..] => {
+            let after = past_one_byte(bits - 7, rest)?;
+            Some(after)
+        }
+        [] => None,
+    }
+}
+
+// The same of three bytes.
+#[inline(always)]
+fn past_three_bytes(bits: u32, code: &[u8]) -> Option<&[u8]>
+    requires { 21 ≤ bits }
+    ensures { IfSome result (λ after. IsPast bits code.now after.now) }
+{
+    match code {
+        [byte, rest @ ..] if *byte < 0x80 => Some(rest),
+        [_, rest @ ..] => {
+            let after = past_two_bytes(bits - 7, rest)?;
+            Some(after)
+        }
+        [] => None,
+    }
+}
+
+// The same of four bytes.
+#[inline(always)]
+fn past_four_bytes(bits: u32, code: &[u8]) -> Option<&[u8]>
+    requires { 28 ≤ bits }
+    ensures { IfSome result (λ after. IsPast bits code.now after.now) }
+{
+    match code {
+        [byte, rest @ ..] if *byte < 0x80 => Some(rest),
+        [_, rest @ ..] => {
+            let after = past_three_bytes(bits - 7, rest)?;
+            Some(after)
+        }
+        [] => None,
+    }
+}
+
 // The bytes after a signed number of 32 bits.
 #[inline(always)]
 pub(crate) fn past_i32(code: &[u8]) -> Option<&[u8]>
     ensures { IfSome result (λ after. IsPast 32 code.now after.now) }
 {
-    match code {
-        [byte, rest @ ..] if *byte < 0x80 => Some(rest),
-        _ => past_long_i32(code),
+    match past_four_bytes(32, code) {
+        Some(rest) => Some(rest),
+        None => past_long_i32(code),
     }
 }
 
@@ -101,8 +161,8 @@ pub(crate) fn past_i32(code: &[u8]) -> Option<&[u8]>
 pub(crate) fn past_i64(code: &[u8]) -> Option<&[u8]>
     ensures { IfSome result (λ after. IsPast 64 code.now after.now) }
 {
-    match code {
-        [byte, rest @ ..] if *byte < 0x80 => Some(rest),
-        _ => past_long_i64(code),
+    match past_four_bytes(64, code) {
+        Some(rest) => Some(rest),
+        None => past_long_i64(code),
     }
 }

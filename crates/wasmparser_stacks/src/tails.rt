@@ -30,6 +30,10 @@ pub(crate) fn replace_tail(
     ensures ok { OnOk result (map operand operands.new.items ≡ take at (map operand operands.old.items) ++ all_of types.now) }
     ensures refused { OnErr result (operands.new.items ≡ operands.old.items) }
 {
+    if types.is_empty() {
+        operands.truncate(at);
+        return Ok(());
+    }
     operands.resize(at + types.len(), Operand::Unknown)?;
     write_types(operands, at, types);
     Ok(())

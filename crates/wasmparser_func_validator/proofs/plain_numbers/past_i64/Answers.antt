@@ -1,6 +1,0 @@
-use Rattle.std.proofs.Common.{arith}
-use Rattle.wasmparser_func_validator.proofs.PlainNumbers.{signed_front}
-use Rattle.wasmparser_func_validator.proofs.plain_numbers.past_i64.Goals as goal
-
-pub returns-in-len1-up : goal.returns-in-len1-up
-returns-in-len1-up c = signed_front 64 c.args.code.now c.in-len1-up.len_at_least c.if-byte-lt128.true (omega arith)

@@ -304,6 +304,19 @@ impl<R: WasmModuleResources> Body<R> {
     }
 
     #[inline(always)]
+    fn plain_bare<'a>(&self, code: u8, stacks: &mut Stacks, rest: &'a [u8]) -> Option<&'a [u8]>
+        requires inside { stacks.old.frames ≢ [] }
+        requires fit { NumbersFit (R.resources self.now.resources).items }
+        ensures { MatchOption result (stacks.new ≡ stacks.old) (λ after. IsStep (context_of (R.resources self.now.resources) (feature_set self.now.features) self.now.locals self.now.ty) stacks.old stacks.new (code ∷ rest.now) after.now) }
+    {
+        if self.bare(code, stacks) {
+            Some(rest)
+        } else {
+            None
+        }
+    }
+
+    #[inline(always)]
     fn plain_number<'a>(&self, code: u8, stacks: &mut Stacks, rest: &'a [u8]) -> Option<&'a [u8]>
         requires inside { stacks.old.frames ≢ [] }
         requires fit { NumbersFit (R.resources self.now.resources).items }
@@ -353,13 +366,14 @@ impl<R: WasmModuleResources> Body<R> {
         };
         let code = *first;
         match class_of(code) {
-            Class::Bare => {
-                if self.bare(code, stacks) {
-                    Some(rest)
-                } else {
-                    None
-                }
-            }
+            Class::LocalGet if code == 0x20 => self.plain_number(0x20, stacks, rest),
+            Class::LocalSet if code == 0x21 => self.plain_number(0x21, stacks, rest),
+            Class::LocalTee if code == 0x22 => self.plain_number(0x22, stacks, rest),
+            Class::GlobalGet if code == 0x23 => self.plain_number(0x23, stacks, rest),
+            Class::GlobalSet if code == 0x24 => self.plain_number(0x24, stacks, rest),
+            Class::BrIf if code == 0x0d => self.plain_number(0x0d, stacks, rest),
+            Class::End if code == 0x0b => self.plain_bare(0x0b, stacks, rest),
+            Class::Bare => self.plain_bare(code, stacks, rest),
             Class::Block => self.plain_block(code, stacks, rest),
             Class::Number => self.plain_number(code, stacks, rest),
             Class::Load => self.plain_load(code, stacks, rest),
@@ -370,7 +384,7 @@ impl<R: WasmModuleResources> Body<R> {
             Class::F32 => self.plain_scalar(code, f32_form(code), stacks, rest),
             Class::F64 => self.plain_scalar(code, f64_form(code), stacks, rest),
             Class::Conversion => self.plain_scalar(code, conversion_form(code), stacks, rest),
-            Class::Other => None,
+            _ => None,
         }
     }
 

@@ -145,6 +145,38 @@ fn past_four_bytes(bits: u32, code: &[u8]) -> Option<&[u8]>
     }
 }
 
+// The same of five bytes.
+#[inline(always)]
+fn past_five_bytes(bits: u32, code: &[u8]) -> Option<&[u8]>
+    requires { 35 ≤ bits }
+    ensures { IfSome result (λ after. IsPast bits code.now after.now) }
+{
+    match code {
+        [byte, rest @ ..] if *byte < 0x80 => Some(rest),
+        [_, rest @ ..] => {
+            let after = past_four_bytes(bits - 7, rest)?;
+            Some(after)
+        }
+        [] => None,
+    }
+}
+
+// The same of six bytes.
+#[inline(always)]
+fn past_six_bytes(bits: u32, code: &[u8]) -> Option<&[u8]>
+    requires { 42 ≤ bits }
+    ensures { IfSome result (λ after. IsPast bits code.now after.now) }
+{
+    match code {
+        [byte, rest @ ..] if *byte < 0x80 => Some(rest),
+        [_, rest @ ..] => {
+            let after = past_five_bytes(bits - 7, rest)?;
+            Some(after)
+        }
+        [] => None,
+    }
+}
+
 // The bytes after a signed number of 32 bits.
 #[inline(always)]
 pub(crate) fn past_i32(code: &[u8]) -> Option<&[u8]>
@@ -161,7 +193,7 @@ pub(crate) fn past_i32(code: &[u8]) -> Option<&[u8]>
 pub(crate) fn past_i64(code: &[u8]) -> Option<&[u8]>
     ensures { IfSome result (λ after. IsPast 64 code.now after.now) }
 {
-    match past_four_bytes(64, code) {
+    match past_six_bytes(64, code) {
         Some(rest) => Some(rest),
         None => past_long_i64(code),
     }

@@ -1,0 +1,222 @@
+"""Prints the rows of bench/check.sh, and ends with 1 where one is past its bound: `check_times.py PROGRAM DRIVER COUNTER FOLDER`. The modules are those that
+bench/check_modules.py and, in FOLDER/code, bench/code_modules.sh made. DRIVER validates a file so many times, COUNTER counts a program's allocations."""
+import os
+import shutil
+import subprocess
+import sys
+import time
+
+program, driver, counter, folder = sys.argv[1:]
+ROUNDS = 5
+# How often a round has a file validated in one process, by ours and by node.
+TIMES = {"ours": 10, "node": 30}
+# What a cost that should be equal may differ by.
+NOISE = 1.25
+SCRIPT_OF_NODE = """const [name, times] = process.argv.slice(1);
+const bytes = require('fs').readFileSync(name);
+let answer, shortest = Infinity;
+for (let i = 0; i < times; i++) {
+    const begin = process.hrtime.bigint();
+    answer = WebAssembly.validate(bytes);
+    shortest = Math.min(shortest, Number(process.hrtime.bigint() - begin));
+}
+console.log(answer ? 'yes' : 'no', shortest, 'ns');"""
+past = []
+
+
+def show(what, is_within):
+    print(what if is_within else f"{what}: PAST", flush=True)
+    if not is_within:
+        past.append(what)
+
+
+def path_of(name):
+    return f"{folder}/{name}.wasm"
+
+
+def whole_run(name, command, size):
+    """The row of a whole process, and its peak of memory."""
+    best = None
+    for _ in range(5):
+        begin = time.perf_counter()
+        child = subprocess.Popen(command, stdout=subprocess.PIPE)
+        out = child.stdout.read().decode().strip()
+        _, status, usage = os.wait4(child.pid, 0)
+        taken = time.perf_counter() - begin
+        if best is None or taken < best[0]:
+            best = (taken, usage.ru_maxrss / 1024, usage.ru_utime, out, status)
+    taken, peak, user, out, status = best
+    print(f"{name}: {size / taken / 1e6:.0f} MB/s, {taken * 1e3:.0f} ms ({user * 1e3:.0f} ms of it not in the system), "
+          f"{peak:.0f} MiB at most for {size / 2**20:.0f} MiB, answers {out!r}, status {status >> 8}")
+    return peak
+
+
+def large_modules():
+    script = "const b=require('fs').readFileSync(process.argv[1]);console.log(WebAssembly.validate(b)?'yes':'no')"
+    for module, definitions in [("custom", 0), ("functions", 2_000_000)]:
+        path = path_of(module)
+        size = os.path.getsize(path)
+        bound = (2 * size + 100 * definitions) / 2**20
+        peak = whole_run(f"wasm_gen check, {module}", [program, "check", path], size)
+        show(f"  within {bound:.0f} MiB", peak <= bound)
+        if shutil.which("node"):
+            whole_run(f"node WebAssembly.validate, {module}", ["node", "-e", script, path], size)
+
+
+def told(command):
+    """A verdict and nanoseconds, which a process prints."""
+    words = subprocess.run(command, stdout=subprocess.PIPE, text=True, check=True).stdout.split()
+    return words[0], int(float(words[1]))
+
+
+def by_ours(path):
+    return told([driver, path, str(TIMES["ours"])])
+
+
+def by_node(path):
+    return told(["node", "--single-threaded", "-e", SCRIPT_OF_NODE, path, str(TIMES["node"])])
+
+
+def by_wabt(path):
+    """(the time of a process)"""
+    begin = time.perf_counter_ns()
+    status = subprocess.run(["wasm-validate", path], stderr=subprocess.DEVNULL).returncode
+    return "no" if status else "yes", time.perf_counter_ns() - begin
+
+
+def peers():
+    found = {"ours": by_ours}
+    if shutil.which("node"):
+        found["node"] = by_node
+    if shutil.which("wasm-validate"):
+        found["wabt"] = by_wabt
+    for tool, package in [("node", "nodejs"), ("wasm-validate", "wabt")]:
+        if not shutil.which(tool):
+            print(f"{tool} is missing: apt-get install {package}", file=sys.stderr)
+    return found
+
+
+def times_of(paths):
+    """What each peer says of each file, and the shortest time. Each round asks all peers of all files, so that other work of the machine hits all alike."""
+    empty, asked = path_of("empty"), peers()
+    best = {}
+    for _ in range(ROUNDS):
+        for path in [empty, *paths]:
+            for peer, ask in asked.items():
+                verdict, taken = ask(path)
+                known = best.get((path, peer), (verdict, taken))
+                best[path, peer] = verdict if verdict == known[0] else "unsteady", min(taken, known[1])
+    for path in paths:
+        if "wabt" in asked:
+            verdict, taken = best[path, "wabt"]
+            best[path, "wabt"] = verdict, max(1, taken - best[empty, "wabt"][1])
+    return best
+
+
+def is_agreed(ours, node):
+    """(an operator outside of the validator's table is refused, whatever node says)"""
+    return ours == "operator" or (ours == "yes" and node in ("yes", None))
+
+
+def compare(name, path, best, may_differ=False):
+    """The row of a module: each peer's time, and ours to it."""
+    verdict, taken = best[path, "ours"]
+    size = os.path.getsize(path)
+    row = f"{name}: {size / 1e6:.2f} MB: {verdict}, {taken / 1e6:.2f} ms, {size / taken * 1e3:.0f} MB/s, {taken / size:.2f} ns a byte"
+    for peer, its in [("node", "node's"), ("wabt", "wasm-validate's")]:
+        if (path, peer) in best:
+            answer, other = best[path, peer]
+            row += f"; {its}: {answer}, {other / 1e6:.2f} ms" + (f", ours is {taken / other:.2f} of it" if answer == "yes" else "")
+    node = best.get((path, "node"), (None, 0))[0]
+    show(row, may_differ or is_agreed(verdict, node))
+
+
+def number_at(data, at):
+    value, shift = 0, 0
+    while True:
+        byte = data[at]
+        value |= (byte & 127) << shift
+        at, shift = at + 1, shift + 7
+        if byte < 128:
+            return value, at
+
+
+def sizes_in(path):
+    """How many bytes of code a module has, and how many definitions: what the sections but custom ones, the start, the code and the data list."""
+    with open(path, "rb") as file:
+        data = file.read()
+    at, code, definitions = 8, 0, 0
+    while at < len(data):
+        id, size_at = data[at], at + 1
+        size, start = number_at(data, size_at)
+        code += size if id == 10 else 0
+        definitions += number_at(data, start)[0] if id in (1, 2, 3, 4, 5, 6, 7, 9, 13) else 0
+        at = start + size
+    return code, definitions
+
+
+def peak_of(path):
+    """The most memory of `check` in bytes. (GNU time is small, and so lends the program none of its own size.)"""
+    said = [subprocess.run(["/usr/bin/time", "-f", "%M", program, "check", path], capture_output=True, text=True).stderr for _ in range(3)]
+    return min(int(it.split()[-1]) for it in said) * 1024
+
+
+def show_memory(name, path):
+    """What `check` takes beyond the file's bytes and what it takes for an empty module: 100 bytes a definition, and half a MiB."""
+    code, definitions = sizes_in(path)
+    more = peak_of(path) - peak_of(path_of("empty")) - os.path.getsize(path)
+    bound = 100 * definitions + (1 << 19)
+    show(f"{name}: {code / 1e6:.2f} MB of code, {definitions} definitions; memory beyond the input: {more / 1024:.0f} KiB, "
+         f"{more / definitions:.0f} bytes a definition, of {bound / 1024:.0f} KiB", more <= bound)
+
+
+def real_modules():
+    with open(f"{folder}/code/names") as names:
+        modules = [line.split(maxsplit=1) for line in names]
+    named = [(what.strip(), f"{folder}/code/{name}.wasm") for name, what in modules]
+    best = times_of([path for _, path in named])
+    for what, path in named:
+        compare(what, path, best)
+    if not os.path.exists("/usr/bin/time"):
+        print("/usr/bin/time is missing: apt-get install time", file=sys.stderr)
+        return
+    for what, path in named:
+        show_memory(what, path)
+
+
+# A row, the module beside it, and how many times as much a byte may take.
+LINEAR = [("one body", "small bodies", NOISE), ("nested blocks", "fewer nested blocks", 2 * NOISE), ("labels", "fewer labels", NOISE)]
+
+
+def linear_costs():
+    names = [it for large, small, _ in LINEAR for it in (large, small)] + ["labels of results"]
+    best = times_of([path_of(it) for it in names])
+    for name in names:
+        # (node has a limit of 65,520 labels)
+        compare(name, path_of(name), best, may_differ=name == "labels")
+    for large, small, bound in LINEAR:
+        each = [best[path_of(it), "ours"][1] / os.path.getsize(path_of(it)) for it in (large, small)]
+        show(f"{large}, to {small}, of as much a byte: {each[0] / each[1]:.2f}, of {bound:.2f}", each[0] <= bound * each[1])
+
+
+def allocations(name):
+    environment = {**os.environ, "LD_PRELOAD": counter}
+    said = subprocess.run([program, "check", path_of(name)], capture_output=True, text=True, env=environment)
+    if said.returncode or not said.stderr.strip().isdigit():
+        sys.exit(f"{name}: {said.stdout}{said.stderr}")
+    return int(said.stderr)
+
+
+def show_allocations():
+    """Vectors that grow with the module double a few times; nothing is allocated for each body or operator."""
+    few = allocations("bodies")
+    for name in ["twice the bodies", "twice the operators"]:
+        many = allocations(name)
+        show(f"allocations for 10,000 bodies: {few}; {name}: {many}", many - few <= 16)
+
+
+large_modules()
+real_modules()
+linear_costs()
+show_allocations()
+sys.exit(bool(past))

@@ -1,0 +1,71 @@
+//! A driver for `bench/check.sh`: reads a file once, validates it so many times, and prints the verdict and the shortest time.
+#![tactic(auto)]
+
+use std::alloc::Global;
+use std::process::ExitCode;
+use std::rt::{Clock, Env, Files};
+use std::time::{Duration, Instant};
+use std::{env, fs};
+use wasm_gen::check_inputs::first_session;
+
+fn main(rt: HostRuntime) -> ExitCode {
+    match run(&rt) {
+        Some(()) => ExitCode::SUCCESS,
+        None => {
+            let _ = eprintln!(rt; "usage: wasm_gen_check_bench FILE TIMES");
+            ExitCode::FAILURE
+        }
+    }
+}
+
+// Does what the program's words ask for.
+fn run<R: Env + Files + Print + Clock + AllocGlobal>(rt: &R) -> Option<()> {
+    let args = env::args(rt).ok()?;
+    let words = args.collect::<Vec<String>>(rt.alloc()).ok()?;
+    check_file(rt, words.as_slice())
+}
+
+// Prints the verdict on the file that the words name, and the shortest time, where it is validated at all.
+fn check_file<R: Files + Print + Clock + AllocGlobal>(rt: &R, words: &[String]) -> Option<()> {
+    let [_, name, times] = words else {
+        return None;
+    };
+    let times = times.as_str().parse::<u32>().ok()?;
+    let bytes = fs::read(rt, name.as_str()).ok()?;
+    let verdict = verdict_on(rt.alloc(), &bytes);
+    println!(rt; "{}", verdict).ok()?;
+    if times == 0 {
+        return Some(());
+    }
+    let shortest = shortest_time(rt, &bytes, verdict, times)?;
+    println!(rt; "{} ns", shortest.as_nanos()).ok()
+}
+
+// The shortest time of so many validations, each of which answers the same.
+fn shortest_time<R: Clock + AllocGlobal>(
+    rt: &R,
+    bytes: &[u8],
+    verdict: &str,
+    times: u32,
+) -> Option<Duration> {
+    let mut shortest = Duration::MAX;
+    for _ in 0..times {
+        let start = Instant::now(rt).ok()?;
+        let is_same = verdict_on(rt.alloc(), bytes) == verdict;
+        let taken = start.elapsed(rt).ok()?;
+        if !is_same {
+            return None;
+        }
+        shortest = shortest.min(taken);
+    }
+    Some(shortest)
+}
+
+// What a session of its own says of a module: `yes`, or the kind of the refusal.
+fn verdict_on(alloc: Global, bytes: &[u8]) -> &'static str {
+    let mut session = first_session(alloc);
+    match session.check(bytes) {
+        Ok(_) => "yes",
+        Err(e) => e.kind.name(),
+    }
+}

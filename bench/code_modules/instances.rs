@@ -1,4 +1,4 @@
-// A program for bench/code_modules.sh, whose collections, sorting and printing are instances at 36 pairs of types.
+// A program for bench/code_modules.sh, whose collections, sorting and printing are instances at 64 pairs of types.
 use std::collections::{BTreeMap, BTreeSet, BinaryHeap, HashMap, VecDeque};
 use std::fmt::{Debug, Write};
 use std::hash::Hash;
@@ -90,12 +90,14 @@ fn tried<K: Made, V: Made>(seed: u32) -> u32 {
 
 macro_rules! all { ($($k:ty),*) => { fn all(seed: u32) -> u32 { 0 $(+ with::<$k>(seed))* } } }
 macro_rules! values { ($($v:ty),*) => { fn with<K: Made>(seed: u32) -> u32 { 0 $(+ tried::<K, $v>(seed))* } } }
-all!(u8, i64, char, String, (String, u32), Box<[String]>);
+all!(u8, u32, i64, char, String, (String, u32), Option<i16>, Box<[String]>);
 values!(
     i16,
     u128,
     String,
     Vec<i64>,
+    Vec<char>,
+    (u8, i64),
     (char, String),
     Option<(u8, Vec<String>)>
 );

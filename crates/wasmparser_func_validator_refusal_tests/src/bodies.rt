@@ -21,15 +21,15 @@ const BODY: &str =
     "4100*20 0240*9 d200 2103 2003 1a 4100 047f 4200 a7 05 4100 0b 1a 4100 4200 0201 1a 0b 1a d200 2203 1a 0b*9
     1a*20 1002 1a*2 4100 d009 1004 d5 00 1a 1a 00 4200 4200 4100 1b 1a 2000 0b";
 
-// The bytes of the body, at the second time where memory ran out at the first.
-fn body(alloc: Global) -> Option<Vec<u8>> {
-    match bytes_of(alloc, BODY) {
+// The bytes of a field, at the second time where memory ran out at the first.
+pub(crate) fn bytes(alloc: Global, field: &str) -> Option<Vec<u8>> {
+    match bytes_of(alloc, field) {
         Some(bytes) => Some(bytes),
-        None => bytes_of(alloc, BODY),
+        None => bytes_of(alloc, field),
     }
 }
 
-fn example(alloc: Global) -> Option<ListedResources> {
+pub(crate) fn example(alloc: Global) -> Option<ListedResources> {
     match ListedResources::example(alloc) {
         Some(resources) => Some(resources),
         None => ListedResources::example(alloc),
@@ -37,7 +37,7 @@ fn example(alloc: Global) -> Option<ListedResources> {
 }
 
 // A validator in some room, or in new room where memory ran out.
-fn validator_of(
+pub(crate) fn validator_of(
     alloc: Global,
     resources: &ListedResources,
     room: FuncValidatorAllocations,
@@ -75,7 +75,7 @@ fn counts<R: WasmModuleResources>(validator: &FuncValidator<R>) -> (usize, usize
 }
 
 // Whether this is a refusal for lack of memory.
-fn is_memory(answer: &Result<(), Error>) -> bool {
+pub(crate) fn is_memory(answer: &Result<(), Error>) -> bool {
     match answer {
         Ok(()) => false,
         Err(Error { offset, kind }) => *offset == 0 && *kind == ErrorKind::Memory,
@@ -167,7 +167,7 @@ fn is_accepted(alloc: Global, resources: &ListedResources, bytes: &[u8]) -> Opti
 }
 
 fn holds(alloc: Global, is_whole: bool) -> Option<bool> {
-    let bytes = body(alloc)?;
+    let bytes = bytes(alloc, BODY)?;
     let resources = example(alloc)?;
     let holds = if is_whole {
         is_accepted(alloc, &resources, &bytes)

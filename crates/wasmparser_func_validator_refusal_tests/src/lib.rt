@@ -4,3 +4,5 @@
 
 #[cfg(test)]
 mod bodies;
+#[cfg(test)]
+mod from_bytes;

@@ -36,6 +36,12 @@ const BODIES: &str = "
     // An addition of what is unknown and a number, in code that is never reached, leaves a number.
     0 0 | default | 00 00 41 00 7c 1a 0b | Body
     0 0 | default | 00 00 41 00 6a 1a 0b | valid
+    // Operators that ask for features.
+    0 0 | default | 00 43 00 00 00 00 fc 00 c0 1a 0b | valid
+    0 0 | default | 00 02 00 0b 12 00 0b | valid
+    0 0 | default | 00 d0 70 d1 41 00 41 00 1c 01 7f 1a 0b | valid
+    0 0 | default | 00 41 00 fb 1c d1 1a 0b | valid
+    0 0 | default | 00 fd 0c 00*16 1a 0b | valid
     // Locals that ask for a feature. A run of none asks too.
     0 0 | all | 01 01 7b 00 0b | valid
     0 0 | all SIMD | 01 01 7b 00 0b | Body
@@ -125,18 +131,41 @@ fn answer_to(alloc: Global, features: WasmFeatures, bytes: &[u8]) -> Result<(), 
     Ok(())
 }
 
+// Whether a module that is valid under some features is so under others.
+fn stays_valid(alloc: Global, some: WasmFeatures, others: WasmFeatures, bytes: &[u8]) -> bool {
+    answer_to(alloc, others, bytes).is_ok() || answer_to(alloc, some, bytes).is_err()
+}
+
+// Whether a valid module stays valid with each further feature: beside some features, beside all of these but one, and in turn from none to all.
+fn stays_valid_with_more(alloc: Global, features: WasmFeatures, bytes: &[u8]) -> bool {
+    let mut holds = stays_valid(alloc, features, WasmFeatures::all(), bytes);
+    let mut former = WasmFeatures::empty();
+    for shift in 0..32u32 {
+        let Some(flag) = WasmFeatures::from_bits(1 << shift) else {
+            continue;
+        };
+        holds = holds
+            && stays_valid(alloc, features, features.union(flag), bytes)
+            && stays_valid(alloc, features.difference(flag), features, bytes)
+            && stays_valid(alloc, former, former.union(flag), bytes);
+        former = former.union(flag);
+    }
+    holds && former == WasmFeatures::all()
+}
+
 fn holds(alloc: Global, row: &str) -> Option<bool> {
     let (counts, features, bytes, expected) = four_fields(row)?;
     let features = features_of(features)?;
     let body = bytes_of(alloc, bytes)?;
     let (params, results) = counts.split_once(' ')?;
     let module = module_of(alloc, params.parse().ok()?, results.parse().ok()?, &body).ok()?;
-    Some(is_answer(alloc, answer_to(alloc, features, &module), expected))
+    let is_answer = is_answer(alloc, answer_to(alloc, features, &module), expected);
+    Some(is_answer && stays_valid_with_more(alloc, features, &module))
 }
 
 #[test]
 fn bodies_have_their_answers(rt: HostRuntime) -> Result<(), Fail> {
-    Ok(check_rows(rt.alloc(), BODIES, 40, holds)?)
+    Ok(check_rows(rt.alloc(), BODIES, 45, holds)?)
 }
 
 #[test]

@@ -4,7 +4,7 @@ use crate::running::{run, try_first};
 use crate::states::{has_failed, operands_of, state_of};
 use crate::validators::{define_locals, validator_in};
 use std::alloc::Global;
-use wasm_core_base::features::WasmFeatures;
+use wasm_core_base::features::{Flags, WasmFeatures};
 use wasmparser_error::error::{Error, ErrorKind};
 use wasmparser_func_validator::func_to_validate::FuncValidatorAllocations;
 use wasmparser_func_validator::func_validator::FuncValidator;
@@ -29,9 +29,9 @@ pub fn validator_of(
     }
 }
 
-// Adds two locals, of which the second has no value at the start, under the default features.
-fn declare<R: WasmModuleResources>(validator: &mut FuncValidator<R>) -> Option<()> {
-    if *validator.features() != WasmFeatures::default() {
+// Adds two locals, of which the second has no value at the start, under the default features and more.
+pub(crate) fn declare<R: WasmModuleResources>(validator: &mut FuncValidator<R>) -> Option<()> {
+    if !validator.features().contains(WasmFeatures::default()) {
         return Some(());
     }
     define_locals(validator, 0, 1, ValType::F64)?.ok()?;

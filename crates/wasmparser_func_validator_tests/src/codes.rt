@@ -2,6 +2,7 @@
 
 use crate::cases::{after, is_refused, outcome};
 use crate::letters::bytes_of_letters;
+use crate::more_features::stays_accepted_with_more;
 use std::alloc::Global;
 use std::test::Fail;
 use wasm_core_base::features::{Flags, WasmFeatures};
@@ -227,7 +228,7 @@ fn asks_for(
     Some(true)
 }
 
-// Whether an operator gives these operands, also after what never goes on, where it takes none that is known.
+// Whether an operator gives these operands, also after what never goes on, where it takes none that is known, and stays accepted under more features.
 fn is_given(
     alloc: Global,
     resources: &ListedResources,
@@ -240,7 +241,8 @@ fn is_given(
     let given = after(alloc, resources, features, &before, operator)?;
     let tried = outcome(alloc, resources, features, &before, operator)?;
     let unknown = outcome(alloc, resources, features, &[0x00], operator)?;
-    Some(given.as_str() == gives && tried.as_str() == gives && unknown.as_str() == gives)
+    let is_given = given.as_str() == gives && tried.as_str() == gives && unknown.as_str() == gives;
+    Some(is_given && stays_accepted_with_more(alloc, resources, &before, operator)?)
 }
 
 fn codes_hold(alloc: Global, resources: &ListedResources, row: &str) -> Option<bool> {

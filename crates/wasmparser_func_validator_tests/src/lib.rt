@@ -8,6 +8,8 @@ mod codes;
 mod from_bytes;
 pub mod letters;
 #[cfg(test)]
+mod more_features;
+#[cfg(test)]
 mod others;
 pub mod running;
 #[cfg(test)]

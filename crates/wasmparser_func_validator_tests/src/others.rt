@@ -3,6 +3,7 @@
 use crate::cases::{REFUSED, after, outcome};
 use crate::codes::feature_of;
 use crate::letters::bytes_of_letters;
+use crate::more_features::stays_accepted_with_more;
 use std::alloc::Global;
 use std::test::Fail;
 use wasm_core_base::features::{Flags, WasmFeatures};
@@ -277,7 +278,9 @@ fn others_hold(alloc: Global, resources: &ListedResources, row: &str) -> Option<
     let features = features_without(features)?;
     for word in operators.split_whitespace() {
         let operator = bytes_of(alloc, word)?;
-        if !gives(alloc, resources, features, &before, &operator, expected)? {
+        let holds = gives(alloc, resources, features, &before, &operator, expected)?
+            && stays_accepted_with_more(alloc, resources, &before, &operator)?;
+        if !holds {
             return Some(false);
         }
     }

@@ -1,0 +1,73 @@
+//! Operators under some features, and under more.
+
+use crate::cases::{declare, validator_of};
+use crate::running::run;
+use std::alloc::Global;
+use wasm_core_base::features::{Flags, WasmFeatures};
+use wasmparser_func_validator::func_validator::FuncValidator;
+use wasmparser_resources::module_resources::WasmModuleResources;
+use wasmparser_resources_tests::listed_resources::ListedResources;
+
+fn accepts_in<R: WasmModuleResources>(
+    validator: &mut FuncValidator<R>,
+    before: &[u8],
+    operator: &[u8],
+) -> Option<bool> {
+    declare(validator)?;
+    Some(run(validator, before, 0).is_ok() && run(validator, operator, 0).is_ok())
+}
+
+// Whether an operator after others is accepted, and they are.
+fn accepts(
+    alloc: Global,
+    resources: &ListedResources,
+    features: WasmFeatures,
+    before: &[u8],
+    operator: &[u8],
+) -> Option<bool> {
+    let mut validator = validator_of(alloc, resources, features)?;
+    let accepts = accepts_in(&mut validator, before, operator);
+    drop(validator);
+    accepts
+}
+
+// Whether an operator that is accepted under some features is so under others.
+fn stays_accepted(
+    alloc: Global,
+    resources: &ListedResources,
+    some: WasmFeatures,
+    others: WasmFeatures,
+    before: &[u8],
+    operator: &[u8],
+) -> Option<bool> {
+    if accepts(alloc, resources, others, before, operator)? {
+        return Some(true);
+    }
+    Some(!accepts(alloc, resources, some, before, operator)?)
+}
+
+/// Whether an accepted operator stays so with each further feature: beside the default ones, beside all of these but one, and in turn from none to all.
+pub fn stays_accepted_with_more(
+    alloc: Global,
+    resources: &ListedResources,
+    before: &[u8],
+    operator: &[u8],
+) -> Option<bool> {
+    let stays = |some: WasmFeatures, others: WasmFeatures| {
+        stays_accepted(alloc, resources, some, others, before, operator)
+    };
+    let features = WasmFeatures::default();
+    let mut holds = stays(features, WasmFeatures::all())?;
+    let mut former = WasmFeatures::empty();
+    for shift in 0..32u32 {
+        let Some(flag) = WasmFeatures::from_bits(1 << shift) else {
+            continue;
+        };
+        holds = holds
+            && stays(features, features.union(flag))?
+            && stays(features.difference(flag), features)?
+            && stays(former, former.union(flag))?;
+        former = former.union(flag);
+    }
+    Some(holds && former == WasmFeatures::all())
+}

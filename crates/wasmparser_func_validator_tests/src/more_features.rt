@@ -46,28 +46,41 @@ fn stays_accepted(
     Some(!accepts(alloc, resources, some, before, operator)?)
 }
 
-/// Whether an accepted operator stays so with each further feature: beside the default ones, beside all of these but one, and in turn from none to all.
+// Some features and the same with one more: the default ones, all of these but one, and none up to all. The last ones are the default ones and all.
+fn pairs_of(alloc: Global) -> Option<Vec<(WasmFeatures, WasmFeatures)>> {
+    let features = WasmFeatures::default();
+    let mut pairs = Vec::new(alloc);
+    let mut former = WasmFeatures::empty();
+    for shift in 0..32u32 {
+        let Some(flag) = WasmFeatures::from_bits(1 << shift) else {
+            continue;
+        };
+        let latter = former.union(flag);
+        pairs.push((features, features.union(flag))).ok()?;
+        pairs.push((features.difference(flag), features)).ok()?;
+        pairs.push((former, latter)).ok()?;
+        former = latter;
+    }
+    if former != WasmFeatures::all() {
+        return None;
+    }
+    pairs.push((features, former)).ok()?;
+    Some(pairs)
+}
+
+/// Whether an operator that is accepted stays so with each further feature, and with all.
 pub fn stays_accepted_with_more(
     alloc: Global,
     resources: &ListedResources,
     before: &[u8],
     operator: &[u8],
 ) -> Option<bool> {
-    let stays = |some: WasmFeatures, others: WasmFeatures| {
-        stays_accepted(alloc, resources, some, others, before, operator)
-    };
-    let features = WasmFeatures::default();
-    let mut holds = stays(features, WasmFeatures::all())?;
-    let mut former = WasmFeatures::empty();
-    for shift in 0..32u32 {
-        let Some(flag) = WasmFeatures::from_bits(1 << shift) else {
-            continue;
-        };
-        holds = holds
-            && stays(features, features.union(flag))?
-            && stays(features.difference(flag), features)?
-            && stays(former, former.union(flag))?;
-        former = former.union(flag);
+    let pairs = pairs_of(alloc)?;
+    for pair in pairs.iter() {
+        let (some, others) = *pair;
+        if !stays_accepted(alloc, resources, some, others, before, operator)? {
+            return Some(false);
+        }
     }
-    Some(holds && former == WasmFeatures::all())
+    Some(true)
 }

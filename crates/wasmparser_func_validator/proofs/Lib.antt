@@ -1,7 +1,9 @@
 mod BlockLaws
 mod BranchLaws
+mod EmptyBlocks
 mod LookupLaws
 mod OperandLaws
+mod PlainCodes
 mod PlainLaws
 mod PlainNumbers
 mod ReadBodies

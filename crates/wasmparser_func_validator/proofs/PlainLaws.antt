@@ -26,10 +26,10 @@ use Rattle.wasmparser_operators.specs.CodeTables.{row_of}
 use Rattle.wasmparser_operators.specs.ScalarValues.{row_or_none}
 use Rattle.wasmparser_func_validator.specs.NumericForms.{form_gives, form_takes}
 use Rattle.wasmparser_func_validator.specs.declared.numeric.NumericForm.{NumericForm}
-use Rattle.wasmparser_operators.specs.OperatorReading.{Access, All, Bare, Number, OfBlock, Shape, Signed, block_type_at, code_at, kept_operator_at, memory_argument_at, operator_at, shape_at, shape_of}
+use Rattle.wasmparser_operators.specs.OperatorReading.{Access, All, Bare, Float, Number, OfBlock, Shape, Signed, block_type_at, code_at, kept_operator_at, memory_argument_at, operator_at, shape_at, shape_of}
 use Rattle.wasmparser_stacks.specs.StackChanges.{at_list, lowered}
 use Rattle.wasmparser_types.specs.Index.{Index}
-use Rattle.wasmparser_func_validator.specs.Plain.{AreItself, IsCoded, IsNumber, IsPast, IsScalarForm, IsStep, LeadsTo, NumbersFit, TriesBare, TriesBlock, TriesEffect, TriesNumber}
+use Rattle.wasmparser_func_validator.specs.Plain.{AreItself, IsCoded, IsNumber, IsPast, IsPastFloat, IsScalarForm, IsStep, LeadsTo, NumbersFit, TriesBare, TriesBlock, TriesEffect, TriesNumber}
 use Rattle.wasmparser_func_validator.specs.Steps.{Steps, Takes}
 use Rattle.wasmparser_func_validator.specs.declared.refusal.Refusal.{Refusal}
 use Rattle.wasmparser_func_validator.specs.declared.refusal.Refusal.TheVariants.{Invalid, Memory}
@@ -207,6 +207,15 @@ constant_step cx old new code bits make type bytes rest coded plain inside past 
       leads cx old new (make past.0) inside p.0 p.1 (p.2 ∙ ap (λ (m : Machine Index). Some m.now) (sym e), ap (λ (m : Machine Index). m.frames) e),
     )
 
+pub float_step : (cx : BodyContext Index) (old new : Machine Index) (code len : ℕ) (make : ℕ → Operator ℕ) (type : ValType Index) (bytes rest : List ℕ) → IsCoded code (Float len make) → ((v : ℕ) → (is_structural (make v) ≡ false) × (is_on cx.features (make v) ≡ true)
+    × (effect_of cx (labels_of cx.items old.frames) old.now (make v) ≡ Some (put (Known type) old.now))) → old.frames ≢ [] → IsPastFloat len bytes rest → new ≡ at_list (put (Known type) old.now) old → IsStep cx old new (code ∷ bytes) rest
+float_step cx old new code len make type bytes rest coded plain inside past e =
+    let p = plain past.0 in (
+      make past.0,
+      coded_reads cx.features code (Float len make) bytes coded ∙ rw past.1 refl,
+      leads cx old new (make past.0) inside p.0 p.1 (p.2 ∙ ap (λ (m : Machine Index). Some m.now) (sym e), ap (λ (m : Machine Index). m.frames) e),
+    )
+
 -- ---- operands of exactly the types that are wanted
 
 module _ (items : ModuleItems Index) where
@@ -250,3 +259,6 @@ steps_further cx old mid new bytes rest after l s = leads_further cx old mid new
 
 pub gets_shorter : (cx : BodyContext Index) (old new : Machine Index) (bytes rest : List ℕ) → IsStep cx old new bytes rest → length rest < length bytes
 gets_shorter cx old new bytes rest s = leaves_less cx s.0 bytes rest s.1
+
+pub leads_both : (cx : BodyContext Index) (old mid new : Machine Index) (bytes rest after : List ℕ) → LeadsOn cx old mid bytes rest → LeadsOn cx mid new rest after → LeadsOn cx old new bytes after
+leads_both cx old mid new bytes rest after l m = record { judged = l.judged ∙ m.judged; inside = m.inside; no_longer = omega (arith, l.no_longer, m.no_longer) }

@@ -1,5 +1,5 @@
 -- Plain operators, judged from their bytes.
-use Rattle.std.specs.Prelude.{◌≡◌, ◌≢◌, ℕ, ℤ, Bool, true, false, List, [], ◌∷◌, Option, Some}
+use Rattle.std.specs.Prelude.{◌≡◌, ◌≢◌, ◌<◌, ◌≤◌, ◌-◌, ◌^◌, ℕ, ℤ, Bool, true, false, List, [], ◌∷◌, Option, Some}
 use Rattle.std.specs.List.{AllByRecursion}
 use Rattle.wasm_bodies.specs.BodyContext.{BodyContext, ModuleItems}
 use Rattle.wasm_bodies.specs.OperatorGrammar.{is_prefix}
@@ -10,7 +10,7 @@ use Rattle.wasm_bodies_laws.specs.Machine.{Machine, stepped}
 use Rattle.wasm_spec.specs.Types.{ValType}
 use Rattle.wasm_bodies.specs.OperatorGates.{block_gate}
 use Rattle.wasm_bodies.specs.Operators.{Scalar}
-use Rattle.wasm_core_read.specs.Reading.{signed_at}
+use Rattle.wasm_core_read.specs.Reading.{float_at, signed_at}
 use Rattle.wasm_spec.specs.Features.{Features}
 use Rattle.wasmparser_func_validator.specs.NumericForms.{form_gives, form_takes}
 use Rattle.wasmparser_func_validator.specs.declared.numeric.NumericForm.{NumericForm}
@@ -70,6 +70,14 @@ IsStep cx old new bytes rest = (operator : Operator ℕ) × (operator_at cx.feat
 -- these bytes are left after a signed number of so many bits
 abbrev pub IsPast : ℕ → List ℕ → List ℕ → Type 0
 IsPast bits bytes rest = (value : ℤ) × (signed_at bits bytes ≡ Some (value, rest))
+
+-- a byte below 128 is the whole of a signed number of so many bits
+abbrev pub IsSignedEnd : ℕ → ℕ → Type 0
+IsSignedEnd bits byte = (byte < 128) × ((byte < 64) → (byte < 2 ^ (bits - 1))) × ((64 ≤ byte) → (127 - byte < 2 ^ (bits - 1)))
+
+-- these bytes are left after a float of so many bytes
+abbrev pub IsPastFloat : ℕ → List ℕ → List ℕ → Type 0
+IsPastFloat len bytes rest = (value : ℕ) × (float_at len bytes ≡ Some (value, rest))
 
 -- ---- rows
 

@@ -1,6 +1,6 @@
 //! Jumps and calls (Core Specification 3.0, Validation, "Control Instructions").
 
-ghost use Rattle.std.specs.Prelude.{◌≡◌, ◌≢◌, [], Some, length, map, option_map, reverse, slice_get};
+ghost use Rattle.std.specs.Prelude.{◌≡◌, ◌≢◌, [], IsTrue, Some, if◌then◌else◌, length, map, option_map, reverse, slice_get};
 ghost use Rattle.std.specs.List.{list_all};
 ghost use Rattle.std.specs.Option.{option_and_then};
 ghost use Rattle.wasm_bodies.specs.BodyContext.{provided, value_of};
@@ -8,9 +8,10 @@ ghost use Rattle.wasm_bodies.specs.Effects.{accepts, jumps_with_last, leaves_by_
 ghost use Rattle.wasm_bodies.specs.Operands.{nothing_known};
 ghost use Rattle.wasm_bodies.specs.Signatures.{table_index, table_item};
 ghost use Rattle.wasm_bodies_laws.specs.Machine.{frame_type, label_types, labels_of};
-ghost use Rattle.wasm_spec.specs.Types.{funcref};
+ghost use Rattle.wasm_spec.specs.Types.{FuncType, funcref};
 ghost use Rattle.wasmparser_stacks.specs.StackChanges.{lowered};
 ghost use Rattle.wasmparser_stacks.specs.StackViews.{block_with_ids, frame_kind};
+ghost use Rattle.wasmparser_types.specs.Index.{Index};
 ghost use Rattle.wasmparser_types.specs.ValTypes.{val_type};
 ghost use Rattle.wasm_bodies.specs.Operators as spec;
 ghost use Rattle.wasm_core_base.specs.Features.{feature_set};
@@ -28,6 +29,15 @@ use wasmparser_resources::module_resources::WasmModuleResources;
 use wasmparser_stacks::frame::FrameKind;
 use wasmparser_stacks::stacks::Stacks;
 use wasmparser_types::val_type::ValType;
+
+fn is_loop(kind: FrameKind) -> bool
+    ensures { (type : FuncType Index) → label_types (frame_kind kind) type ≡ (if result then type.params else type.results) }
+{
+    match kind {
+        FrameKind::Loop => true,
+        FrameKind::Block | FrameKind::If | FrameKind::Else => false,
+    }
+}
 
 impl<R: WasmModuleResources> Body<R> {
     // The block that a label is of.
@@ -74,13 +84,53 @@ impl<R: WasmModuleResources> Body<R> {
         types.len() == arity && self.accepts(stacks, 1, &Types(types))
     }
 
-    // The same of each of several labels.
-    fn accepts_labels(&self, stacks: &Stacks, arity: usize, targets: &BrTable<'_>) -> bool
+    // Whether jumps to two labels take the same, as far as that shows without a look at types.
+    fn are_alike(&self, stacks: &Stacks, one: u32, other: u32) -> bool
+        ensures { IsTrue result → slice_get (labels_of (R.resources self.now.resources).items stacks.now.frames) one ≡ slice_get (labels_of (R.resources self.now.resources).items stacks.now.frames) other }
+    {
+        let (Some(a), Some(b)) = (self.target(stacks, one), self.target(stacks, other)) else {
+            return false;
+        };
+        match (a.1, b.1) {
+            (BlockType::Empty, BlockType::Empty) => true,
+            (BlockType::FuncType(x), BlockType::FuncType(y)) => {
+                x == y && is_loop(a.0) == is_loop(b.0)
+            }
+            _ => false,
+        }
+    }
+
+    // The same of a label, beside another one of which it is known. Types that are alike are looked at once.
+    fn accepts_beside(
+        &self,
+        stacks: &Stacks,
+        arity: usize,
+        label: u32,
+        other: u32,
+        is_accepted: bool,
+    ) -> bool
+        ensures { is_accepted ≡ accepts (R.resources self.now.resources).items arity (lowered 1 stacks.now.now) (slice_get (labels_of (R.resources self.now.resources).items stacks.now.frames) other) → result ≡ accepts (R.resources self.now.resources).items arity (lowered 1 stacks.now.now) (slice_get (labels_of (R.resources self.now.resources).items stacks.now.frames) label) }
+    {
+        if self.are_alike(stacks, label, other) {
+            return is_accepted;
+        }
+        self.accepts_label(stacks, arity, label)
+    }
+
+    // The same of each of several labels, beside the default one.
+    fn accepts_labels(
+        &self,
+        stacks: &Stacks,
+        arity: usize,
+        targets: &BrTable<'_>,
+        is_accepted: bool,
+    ) -> bool
+        requires { is_accepted ≡ accepts (R.resources self.now.resources).items arity (lowered 1 stacks.now.now) (slice_get (labels_of (R.resources self.now.resources).items stacks.now.frames) targets.now.default) }
         ensures { result ≡ list_all (λ label. accepts (R.resources self.now.resources).items arity (lowered 1 stacks.now.now) (slice_get (labels_of (R.resources self.now.resources).items stacks.now.frames) label)) targets.now.labels }
     {
-        targets
-            .targets()
-            .all(|label| self.accepts_label(stacks, arity, label))
+        targets.targets().all(|label| {
+            self.accepts_beside(stacks, arity, label, targets.default(), is_accepted)
+        })
     }
 
     // Whether each label of a table accepts the operands below the last one.
@@ -92,8 +142,8 @@ impl<R: WasmModuleResources> Body<R> {
             return false;
         };
         let arity = self.label(kind, &block_type).len();
-        self.accepts_label(stacks, arity, targets.default())
-            && self.accepts_labels(stacks, arity, targets)
+        let is_accepted = self.accepts_label(stacks, arity, targets.default());
+        is_accepted && self.accepts_labels(stacks, arity, targets, is_accepted)
     }
 
     pub(crate) fn br_table(&self, stacks: &mut Stacks, targets: &BrTable<'_>) -> Result<(), Refusal>

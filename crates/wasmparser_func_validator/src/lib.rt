@@ -19,6 +19,7 @@ mod plain_classes;
 mod plain_numbers;
 mod plain_rows;
 mod plain_scalars;
+mod quick;
 mod references;
 mod refusal;
 mod simple;

@@ -1,54 +1,50 @@
-//! Which way plain operators are judged in, by their codes. A code that stands in a wrong class is left to the general way, so that nothing has to be
-//! proved of the table.
+//! Which way the most frequent operators are judged in, by their codes. A code that stands in a wrong class is left to other ways, so that nothing has to
+//! be proved of the table.
 
 // How an operator is judged.
 #[derive(Clone, Copy)]
 pub(crate) enum Class {
-    // It is its code.
-    Bare,
-    // A block type follows.
-    Block,
-    // A number follows.
-    Number,
-    // These are the most frequent ones: each is an arm of its own.
-    LocalGet,
+    // A number follows: each of these operators is an arm of its own.
     LocalSet,
     LocalTee,
     GlobalGet,
     GlobalSet,
+    Br,
     BrIf,
+    // A block type follows.
+    Block,
     End,
     Load,
     Store,
-    Constant,
+    I64Const,
+    // A constant of floats.
+    Float,
     // It is on numbers of this type, or makes a number of another type of one.
     I32,
     I64,
     F32,
     F64,
     Conversion,
-    // It is not plain.
+    // It is none of the most frequent ones, or told before.
     Other,
 }
 
 static CLASSES: [Class; 256] = [
-    Class::Bare,
-    Class::Bare,
+    Class::Other,
+    Class::Other,
     Class::Block,
     Class::Block,
     Class::Block,
-    Class::Bare,
+    Class::Other,
     Class::Other,
     Class::Other,
     Class::Other,
     Class::Other,
     Class::Other,
     Class::End,
-    Class::Number,
+    Class::Br,
     Class::BrIf,
     Class::Other,
-    Class::Bare,
-    Class::Number,
     Class::Other,
     Class::Other,
     Class::Other,
@@ -58,13 +54,15 @@ static CLASSES: [Class; 256] = [
     Class::Other,
     Class::Other,
     Class::Other,
-    Class::Bare,
-    Class::Bare,
     Class::Other,
     Class::Other,
     Class::Other,
     Class::Other,
-    Class::LocalGet,
+    Class::Other,
+    Class::Other,
+    Class::Other,
+    Class::Other,
+    Class::Other,
     Class::LocalSet,
     Class::LocalTee,
     Class::GlobalGet,
@@ -97,10 +95,10 @@ static CLASSES: [Class; 256] = [
     Class::Store,
     Class::Other,
     Class::Other,
-    Class::Constant,
-    Class::Constant,
     Class::Other,
-    Class::Other,
+    Class::I64Const,
+    Class::Float,
+    Class::Float,
     Class::I32,
     Class::I32,
     Class::I32,

@@ -1,98 +1,118 @@
 //! Numbers at the front of some bytes, of which most are a byte long.
 
-ghost use Rattle.std.specs.Prelude.{◌≡◌, ◌≤◌, IfSome, Some, if◌then◌else◌};
+ghost use Rattle.std.specs.Prelude.{◌≡◌, ◌≤◌, ◌<◌, ◌^◌, IfSome, IsTrue, Some};
+ghost use Rattle.wasm_core_base.specs.Features.{feature_set};
+ghost use Rattle.wasmparser_operators.specs.OperatorReading as reading;
 ghost use Rattle.wasm_core_read.specs.Reading.{unsigned_at};
-ghost use Rattle.wasmparser_func_validator.specs.Plain.{IsPast};
+ghost use Rattle.wasmparser_func_validator.specs.Plain.{IsPast, IsPastFloat, IsSignedEnd};
 
+use wasm_core_base::features::WasmFeatures;
 use wasm_core_read::binary_reader::BinaryReader;
 
-#[inline(never)]
-fn long_u32(code: &[u8]) -> Option<(u32, &[u8])>
-    ensures { IfSome result (λ x. unsigned_at 32 code.now ≡ Some (x.0, x.1.now)) }
-{
-    let mut reader = BinaryReader::new(code, 0);
-    match reader.read_var_u32() {
-        Ok(number) => Some((number, reader.remaining_buffer())),
-        Err(_) => None,
-    }
-}
-
-#[inline(never)]
-fn long_u64(code: &[u8]) -> Option<(u64, &[u8])>
-    ensures { IfSome result (λ x. unsigned_at 64 code.now ≡ Some (x.0, x.1.now)) }
-{
-    let mut reader = BinaryReader::new(code, 0);
-    match reader.read_var_u64() {
-        Ok(number) => Some((number, reader.remaining_buffer())),
-        Err(_) => None,
-    }
-}
-
-#[inline(never)]
-fn past_long_i32(code: &[u8]) -> Option<&[u8]>
-    ensures { IfSome result (λ after. IsPast 32 code.now after.now) }
-{
-    let mut reader = BinaryReader::new(code, 0);
-    match reader.read_var_i32() {
-        Ok(_) => Some(reader.remaining_buffer()),
-        Err(_) => None,
-    }
-}
-
-#[inline(never)]
-fn past_long_i64(code: &[u8]) -> Option<&[u8]>
-    ensures { IfSome result (λ after. IsPast 64 code.now after.now) }
-{
-    let mut reader = BinaryReader::new(code, 0);
-    match reader.read_var_i64() {
-        Ok(_) => Some(reader.remaining_buffer()),
-        Err(_) => None,
-    }
-}
-
-// An unsigned number of 32 bits, and the bytes after it.
+// An unsigned number of so many bits that is less than 16 and one byte long, and the bytes after it.
 #[inline(always)]
-pub(crate) fn u32_front(code: &[u8]) -> Option<(u32, &[u8])>
-    ensures { IfSome result (λ x. unsigned_at 32 code.now ≡ Some (x.0, x.1.now)) }
+fn last_byte(bits: u32, code: &[u8]) -> Option<(u32, &[u8])>
+    requires { 4 ≤ bits }
+    ensures read { IfSome result (λ x. unsigned_at bits code.now ≡ Some (x.0, x.1.now)) }
+    ensures small { IfSome result (λ x. x.0 < 2 ^ 4) }
+{
+    match code {
+        [byte, rest @ ..] if *byte < 0x10 => Some((u32::from(*byte), rest)),
+        _ => None,
+    }
+}
+
+// The same with one byte before it, or without that one.
+#[inline(always)]
+fn two_bytes(bits: u32, code: &[u8]) -> Option<(u32, &[u8])>
+    requires { 11 ≤ bits }
+    ensures read { IfSome result (λ x. unsigned_at bits code.now ≡ Some (x.0, x.1.now)) }
+    ensures small { IfSome result (λ x. x.0 < 2 ^ 11) }
 {
     match code {
         [byte, rest @ ..] if *byte < 0x80 => Some((u32::from(*byte), rest)),
-        _ => long_u32(code),
+        [byte, rest @ ..] => {
+            let (high, rest) = last_byte(bits - 7, rest)?;
+            Some((u32::from(*byte) - 0x80 + 0x80 * high, rest))
+        }
+        [] => None,
     }
 }
 
-// The same of 64 bits, or of 32 where there are no more.
+// The same with one byte more.
 #[inline(always)]
-pub(crate) fn offset_front(is_64: bool, code: &[u8]) -> Option<(u64, &[u8])>
-    ensures { IfSome result (λ x. unsigned_at (if is_64 then 64 else 32) code.now ≡ Some (x.0, x.1.now)) }
+fn three_bytes(bits: u32, code: &[u8]) -> Option<(u32, &[u8])>
+    requires { 18 ≤ bits }
+    ensures read { IfSome result (λ x. unsigned_at bits code.now ≡ Some (x.0, x.1.now)) }
+    ensures small { IfSome result (λ x. x.0 < 2 ^ 18) }
 {
     match code {
-        [byte, rest @ ..] if *byte < 0x80 => Some((u64::from(*byte), rest)),
-        _ => long_offset(is_64, code),
+        [byte, rest @ ..] if *byte < 0x80 => Some((u32::from(*byte), rest)),
+        [byte, rest @ ..] => {
+            let (high, rest) = two_bytes(bits - 7, rest)?;
+            Some((u32::from(*byte) - 0x80 + 0x80 * high, rest))
+        }
+        [] => None,
     }
 }
 
+// The same with one byte more.
 #[inline(always)]
-fn long_offset(is_64: bool, code: &[u8]) -> Option<(u64, &[u8])>
-    ensures { IfSome result (λ x. unsigned_at (if is_64 then 64 else 32) code.now ≡ Some (x.0, x.1.now)) }
+fn four_bytes(bits: u32, code: &[u8]) -> Option<(u32, &[u8])>
+    requires { 25 ≤ bits }
+    ensures read { IfSome result (λ x. unsigned_at bits code.now ≡ Some (x.0, x.1.now)) }
+    ensures small { IfSome result (λ x. x.0 < 2 ^ 25) }
 {
-    if is_64 {
-        return long_u64(code);
+    match code {
+        [byte, rest @ ..] if *byte < 0x80 => Some((u32::from(*byte), rest)),
+        [byte, rest @ ..] => {
+            let (high, rest) = three_bytes(bits - 7, rest)?;
+            Some((u32::from(*byte) - 0x80 + 0x80 * high, rest))
+        }
+        [] => None,
     }
-    match long_u32(code) {
-        Some((offset, rest)) => Some((u64::from(offset), rest)),
-        None => None,
+}
+
+// An unsigned number of so many bits that fits 32 bits and is five bytes long at most, and the bytes after it.
+#[inline(always)]
+pub(crate) fn five_bytes(bits: u32, code: &[u8]) -> Option<(u32, &[u8])>
+    requires { 32 ≤ bits }
+    ensures read { IfSome result (λ x. unsigned_at bits code.now ≡ Some (x.0, x.1.now)) }
+    ensures small { IfSome result (λ x. x.0 < 2 ^ 32) }
+{
+    match code {
+        [byte, rest @ ..] if *byte < 0x80 => Some((u32::from(*byte), rest)),
+        [byte, rest @ ..] => {
+            let (high, rest) = four_bytes(bits - 7, rest)?;
+            Some((u32::from(*byte) - 0x80 + 0x80 * high, rest))
+        }
+        [] => None,
     }
+}
+
+// Whether a byte ends a signed number of so many bits. Of fewer bits than a byte has these are some, but all of four bits.
+#[inline(always)]
+fn ends_signed(bits: u32, byte: u8) -> bool
+    requires { 4 ≤ bits }
+    ensures { IsTrue result → IsSignedEnd bits byte }
+{
+    if byte < 0x08 {
+        return true;
+    }
+    if byte >= 0x80 {
+        return false;
+    }
+    byte >= 0x78 || bits >= 7
 }
 
 // The bytes after a signed number of so many bits that is one byte long.
 #[inline(always)]
 fn past_one_byte(bits: u32, code: &[u8]) -> Option<&[u8]>
-    requires { 7 ≤ bits }
+    requires { 4 ≤ bits }
     ensures { IfSome result (λ after. IsPast bits code.now after.now) }
 {
     match code {
-        [byte, rest @ ..] if *byte < 0x80 => Some(rest),
+        [byte, rest @ ..] if ends_signed(bits, *byte) => Some(rest),
         _ => None,
     }
 }
@@ -100,7 +120,7 @@ fn past_one_byte(bits: u32, code: &[u8]) -> Option<&[u8]>
 // The same of one that is two bytes long at most.
 #[inline(always)]
 fn past_two_bytes(bits: u32, code: &[u8]) -> Option<&[u8]>
-    requires { 14 ≤ bits }
+    requires { 11 ≤ bits }
     ensures { IfSome result (λ after. IsPast bits code.now after.now) }
 {
     match code {
@@ -116,7 +136,7 @@ fn past_two_bytes(bits: u32, code: &[u8]) -> Option<&[u8]>
 // The same of three bytes.
 #[inline(always)]
 fn past_three_bytes(bits: u32, code: &[u8]) -> Option<&[u8]>
-    requires { 21 ≤ bits }
+    requires { 18 ≤ bits }
     ensures { IfSome result (λ after. IsPast bits code.now after.now) }
 {
     match code {
@@ -132,7 +152,7 @@ fn past_three_bytes(bits: u32, code: &[u8]) -> Option<&[u8]>
 // The same of four bytes.
 #[inline(always)]
 fn past_four_bytes(bits: u32, code: &[u8]) -> Option<&[u8]>
-    requires { 28 ≤ bits }
+    requires { 25 ≤ bits }
     ensures { IfSome result (λ after. IsPast bits code.now after.now) }
 {
     match code {
@@ -148,7 +168,7 @@ fn past_four_bytes(bits: u32, code: &[u8]) -> Option<&[u8]>
 // The same of five bytes.
 #[inline(always)]
 fn past_five_bytes(bits: u32, code: &[u8]) -> Option<&[u8]>
-    requires { 35 ≤ bits }
+    requires { 32 ≤ bits }
     ensures { IfSome result (λ after. IsPast bits code.now after.now) }
 {
     match code {
@@ -164,7 +184,7 @@ fn past_five_bytes(bits: u32, code: &[u8]) -> Option<&[u8]>
 // The same of six bytes.
 #[inline(always)]
 fn past_six_bytes(bits: u32, code: &[u8]) -> Option<&[u8]>
-    requires { 42 ≤ bits }
+    requires { 39 ≤ bits }
     ensures { IfSome result (λ after. IsPast bits code.now after.now) }
 {
     match code {
@@ -177,24 +197,60 @@ fn past_six_bytes(bits: u32, code: &[u8]) -> Option<&[u8]>
     }
 }
 
+// How many bits an offset has.
+#[inline(always)]
+pub(crate) fn offset_bits(features: WasmFeatures) -> u32
+    ensures { result ≡ reading.offset_bits (feature_set features) }
+{
+    if features.memory64() { 64 } else { 32 }
+}
+
 // The bytes after a signed number of 32 bits.
 #[inline(always)]
 pub(crate) fn past_i32(code: &[u8]) -> Option<&[u8]>
     ensures { IfSome result (λ after. IsPast 32 code.now after.now) }
 {
-    match past_four_bytes(32, code) {
-        Some(rest) => Some(rest),
-        None => past_long_i32(code),
-    }
+    past_five_bytes(32, code)
 }
 
-// The bytes after a signed number of 64 bits.
+// The same of 64 bits that is six bytes long at most.
 #[inline(always)]
+pub(crate) fn past_short_i64(code: &[u8]) -> Option<&[u8]>
+    ensures { IfSome result (λ after. IsPast 64 code.now after.now) }
+{
+    past_six_bytes(64, code)
+}
+
+// The same of any length.
+#[inline(never)]
 pub(crate) fn past_i64(code: &[u8]) -> Option<&[u8]>
     ensures { IfSome result (λ after. IsPast 64 code.now after.now) }
 {
-    match past_six_bytes(64, code) {
-        Some(rest) => Some(rest),
-        None => past_long_i64(code),
+    let mut reader = BinaryReader::new(code, 0);
+    match reader.read_var_i64() {
+        Ok(_) => Some(reader.remaining_buffer()),
+        Err(_) => None,
+    }
+}
+
+// The bytes after a float of four bytes.
+#[inline(always)]
+pub(crate) fn past_four(code: &[u8]) -> Option<&[u8]>
+    ensures { IfSome result (λ after. IsPastFloat 4 code.now after.now) }
+{
+    match code {
+        [_, _, _, _, rest @ ..] => Some(rest),
+        _ => None,
+    }
+}
+
+// The same of eight bytes.
+#[inline(always)]
+pub(crate) fn past_eight(code: &[u8]) -> Option<&[u8]>
+    ensures { IfSome result (λ after. IsPastFloat 8 code.now after.now) }
+{
+    match code {
+        [_, _, _, _, _, _, _, _, rest @ ..] => Some(rest),
+        _ => None,
     }
 }

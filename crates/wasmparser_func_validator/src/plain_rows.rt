@@ -1,6 +1,6 @@
 //! What plain loads, stores and blocks are, by their codes (Core Specification 3.0, Binary Format, "Memory Instructions" and "Control Instructions").
 
-ghost use Rattle.std.specs.Prelude.{◌≡◌, ◌∷◌, [], IfSome};
+ghost use Rattle.std.specs.Prelude.{IfSome};
 ghost use Rattle.wasm_bodies.specs.Operators as spec;
 ghost use Rattle.wasm_bodies.specs.OperatorRows.{access};
 ghost use Rattle.wasmparser_func_validator.specs.NumericForms.{number};

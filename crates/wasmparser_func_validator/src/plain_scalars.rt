@@ -1,7 +1,7 @@
 //! What plain operators on numbers take and give, by their codes (Core Specification 3.0, Binary Format, "Numeric Instructions"). None is an
 //! operator that a proposal brought.
 
-ghost use Rattle.std.specs.Prelude.{◌≡◌, [], IfSome};
+ghost use Rattle.std.specs.Prelude.{IfSome};
 ghost use Rattle.wasmparser_func_validator.specs.Plain.{IsScalarForm};
 
 use crate::number_type::NumberType;

@@ -149,7 +149,21 @@ impl Stacks {
         Ok(())
     }
 
+    /// Puts an operand of a type on top, if there is room for one. Nothing is allocated.
+    #[inline(always)]
+    pub fn push_within_capacity(&mut self, value_type: ValType) -> bool
+        ensures ok { OnTrue result (self.new ≡ at_list (put (Known (val_type value_type)) self.old.now) self.old) }
+        ensures full { OnFalse result (self.new ≡ self.old) }
+    {
+        if self.operands.len() == self.operands.capacity() {
+            return false;
+        }
+        self.operands.push_reserved(Operand::Known(value_type));
+        true
+    }
+
     /// Takes the last operand, which is unknown where the list is open and none is known.
+    #[inline(always)]
     pub fn pop(&mut self) -> Option<Operand>
         ensures popped { MatchOption result ((popped self.old.now ≡ None) × (self.new ≡ self.old)) (λ x. popped self.old.now ≡ Some (operand x, self.new.now)) }
         ensures frames { self.new.frames ≡ self.old.frames }
@@ -264,6 +278,33 @@ impl Stacks {
         Ok(())
     }
 
+    /// Opens a block whose list begins with no operand, if there is room for one. It takes so many operands, as `lower` does.
+    /// Nothing is allocated.
+    #[inline(always)]
+    pub fn enter_within_capacity(
+        &mut self,
+        kind: FrameKind,
+        block_type: BlockType,
+        count: usize,
+    ) -> bool
+        ensures ok { OnTrue result (self.new ≡ entered_by (frame_kind kind) (block_with_ids block_type) count [] self.old) }
+        ensures full { OnFalse result (self.new ≡ self.old) }
+    {
+        if self.frames.len() == self.frames.capacity() {
+            return false;
+        }
+        let at = start_of(&self.frames, self.operands.len(), count);
+        self.operands.truncate(at);
+        self.frames.push_reserved(Frame {
+            kind,
+            block_type,
+            height: at,
+            unreachable: false,
+            init_height: self.assigned.len(),
+        });
+        true
+    }
+
     /// Closes the innermost block, whose operands and assigned locals go, and gives operands of these types to the
     /// list around it. Where no block is open nothing changes.
     pub fn leave(&mut self, results: &[ValType]) -> Result<(), AllocError>
@@ -278,6 +319,20 @@ impl Stacks {
         self.assigned.truncate(init_height);
         self.frames.truncate(self.frames.len() - 1);
         Ok(())
+    }
+
+    /// As `leave` without operands that are given. Nothing is allocated.
+    #[inline(always)]
+    pub fn leave_empty(&mut self)
+        ensures { self.new ≡ left_with [] self.old }
+    {
+        let Some(frame) = self.frames.last() else {
+            return;
+        };
+        let (height, marks) = (frame.height, frame.init_height);
+        self.operands.truncate(height);
+        self.assigned.truncate(marks);
+        self.frames.truncate(self.frames.len() - 1);
     }
 
     /// Begins the second list of the innermost block with operands of these types, and with the locals assigned that
@@ -304,6 +359,7 @@ impl Stacks {
     }
 
     /// What follows in the innermost list is never reached.
+    #[inline(always)]
     pub fn mark_unreachable(&mut self)
         requires { self.old.frames ≢ [] }
         ensures { self.new ≡ at_list (nothing_known self.old.now) self.old }

@@ -6,6 +6,7 @@ use Rattle.wasmparser_types.specs.Index.{Index}
 use Rattle.wasmparser_operators.specs.OperatorReading.{Bare, shape_of}
 use Rattle.wasmparser_func_validator.specs.Plain.{IsCoded}
 use Rattle.wasmparser_func_validator.specs.Steps.{context_of}
+use Rattle.wasmparser_func_validator.proofs.PlainCodes.{end_coded}
 use Rattle.wasmparser_func_validator.proofs.PlainLaws.{bare_tried, ended_inside, stepped_tried, tried, turned_inside}
 use Rattle.wasmparser_func_validator.proofs.body.Body.bare.Goals as goal
 
@@ -20,10 +21,6 @@ nop_coded = (refl, refl)
 else_coded : IsCoded 5 (Bare Else)
 unfolding shape_of
 else_coded = (refl, refl)
-
-end_coded : IsCoded 11 (Bare End)
-unfolding shape_of
-end_coded = (refl, refl)
 
 return_coded : IsCoded 15 (Bare Return)
 unfolding shape_of

@@ -10,7 +10,8 @@ pub returns : goal.returns
 returns g c =
     let features = feature_set c.args.self.now.features in
     let bytes = c.args.code.now in
-    let offset : unsigned_at (offset_bits (feature_set c.args.self.now.features)) (take (length c.args.code.now - 1) (drop 1 c.args.code.now)) ≡ Some (c.in_ok-offset.offset, c.in_ok-offset.rest.now) =
-    rw c.memory64.ensures at c.in_ok-offset.ensures in
-    subst (λ l. memory_argument_at features l ≡ Some (record { exponent = slice_index_or bytes 0 0; memory = 0; offset = c.in_ok-offset.offset }, c.in_ok-offset.rest.now)) (sym (front_is bytes c.in-len1-up.len_at_least))
-    (memory_reads features (slice_index_or bytes 0 0) c.in_ok-offset.offset (take (length bytes - 1) (drop 1 bytes)) c.in_ok-offset.rest.now (omega (arith, c.if-align-ge64.false)) offset)
+    let rest = take (length c.args.code.now - 1) (drop 1 c.args.code.now) in
+    let offset : unsigned_at (offset_bits (feature_set c.args.self.now.features)) (take (length c.args.code.now - 1) (drop 1 c.args.code.now)) ≡ Some (c.from.result, c.in_ok-offset.rest.now) =
+    rw (c.offset_bits.ensures, ← c.from.ensures) at c.in_ok-offset.ensures.read in
+    subst (λ l. memory_argument_at features l ≡ Some (record { exponent = slice_index_or bytes 0 0; memory = 0; offset = c.from.result }, c.in_ok-offset.rest.now)) (sym (front_is bytes c.in-len1-up.len_at_least))
+    (memory_reads features (slice_index_or bytes 0 0) c.from.result rest c.in_ok-offset.rest.now (omega (arith, c.if-align-ge64.false)) offset)

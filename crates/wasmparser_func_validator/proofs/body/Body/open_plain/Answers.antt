@@ -4,25 +4,12 @@ use Rattle.wasm_bodies.specs.OperatorGates.{block_gate}
 use Rattle.wasm_bodies.specs.Operators.{Block, Loop, If}
 use Rattle.wasm_core_base.specs.Features.{feature_set}
 use Rattle.wasm_spec.specs.Features.{has}
-use Rattle.wasmparser_operators.specs.OperatorReading.{OfBlock, shape_of}
 use Rattle.wasmparser_operators.specs.OperatorValues.{block_type}
-use Rattle.wasmparser_func_validator.specs.Plain.{IsCoded}
 use Rattle.wasmparser_func_validator.specs.Steps.{context_of}
+use Rattle.wasmparser_func_validator.proofs.PlainCodes.{block_coded, if_coded, loop_coded}
 use Rattle.wasmparser_func_validator.proofs.PlainLaws.{block_tried}
 use Rattle.wasmparser_func_validator.proofs.Stepping.{in_block, in_if, in_loop}
 use Rattle.wasmparser_func_validator.proofs.body.Body.open_plain.Goals as goal
-
-block_coded : IsCoded 2 (OfBlock (λ type. Block type))
-unfolding shape_of
-block_coded = (refl, refl)
-
-loop_coded : IsCoded 3 (OfBlock (λ type. Loop type))
-unfolding shape_of
-loop_coded = (refl, refl)
-
-if_coded : IsCoded 4 (OfBlock (λ type. If type))
-unfolding shape_of
-if_coded = (refl, refl)
 
 pub returns-in-2 : goal.returns-in-2
 returns-in-2 g c =

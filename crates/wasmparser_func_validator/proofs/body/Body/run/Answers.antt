@@ -1,25 +1,17 @@
-use Rattle.std.proofs.Common.{sym, subst}
+use Rattle.std.proofs.Common.{arith}
 use Rattle.wasm_core_base.specs.Features.{feature_set}
-use Rattle.wasmparser_body_reading.specs.Runs.{LeadsOn}
-use Rattle.wasmparser_body_reading.proofs.Runs.{leads_nowhere}
 use Rattle.wasmparser_func_validator.specs.Steps.{context_of}
-use Rattle.wasmparser_func_validator.proofs.PlainLaws.{gets_shorter, steps_further}
+use Rattle.wasmparser_func_validator.proofs.PlainLaws.{gets_shorter, leads_both, steps_further}
 use Rattle.wasmparser_func_validator.proofs.body.Body.run.Goals as goal
 
-pub operators-init : goal.operators-init
-operators-init g c = leads_nowhere (context_of (g.R.WasmModuleResources.resources c.args.self.now.resources) (feature_set c.args.self.now.features) c.args.self.now.locals c.args.self.now.ty) c.args.stacks.now c.args.code.now c.requires.inside
-
-pub plain-requires-clause-inside : goal.plain-requires-clause-inside
-plain-requires-clause-inside g c = c.operators.invariant.inside
-
 pub operators-smaller : goal.operators-smaller
-operators-smaller g c = gets_shorter (context_of (g.R.WasmModuleResources.resources c.args.self.now.resources) (feature_set c.args.self.now.features) c.args.self.now.locals c.args.self.now.ty) c.operators.stacks c.plain.new.stacks c.operators.rest.now c.in-Some.after.now c.in-Some.ensures
+operators-smaller g c =
+    let cx = context_of (g.R.WasmModuleResources.resources c.args.self.now.resources) (feature_set c.args.self.now.features) c.args.self.now.locals c.args.self.now.ty in
+    omega (arith, gets_shorter cx c.operators.stacks c.plain.new.stacks c.operators.rest.now c.in-Some.after.now c.in-Some.ensures, c.run_quickly-rest-in-Some.ensures.no_longer)
 
 pub operators-preserved : goal.operators-preserved
 operators-preserved g c =
-    steps_further (context_of (g.R.WasmModuleResources.resources c.args.self.now.resources) (feature_set c.args.self.now.features) c.args.self.now.locals c.args.self.now.ty) c.args.stacks.now c.operators.stacks c.plain.new.stacks c.args.code.now c.operators.rest.now c.in-Some.after.now c.operators.invariant c.in-Some.ensures
-
-pub returns : goal.returns
-returns g c =
     let cx = context_of (g.R.WasmModuleResources.resources c.args.self.now.resources) (feature_set c.args.self.now.features) c.args.self.now.locals c.args.self.now.ty in
-    subst (λ m. LeadsOn cx c.args.stacks.now m c.args.code.now c.operators.rest.now) (sym c.in_default.ensures) c.operators.invariant
+    leads_both cx c.args.stacks.now c.plain.new.stacks c.run_quickly-rest-in-Some.new.stacks c.args.code.now c.in-Some.after.now c.run_quickly-rest-in-Some.result.now
+    (steps_further cx c.args.stacks.now c.operators.stacks c.plain.new.stacks c.args.code.now c.operators.rest.now c.in-Some.after.now c.operators.invariant c.in-Some.ensures)
+    c.run_quickly-rest-in-Some.ensures

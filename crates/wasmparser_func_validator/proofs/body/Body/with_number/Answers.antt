@@ -1,43 +1,10 @@
 use Rattle.std.proofs.Common.{refl}
 use Rattle.wasm_bodies.specs.Operators.{Br, BrIf, Call, LocalGet, LocalSet, LocalTee, GlobalGet, GlobalSet}
 use Rattle.wasm_core_base.specs.Features.{feature_set}
-use Rattle.wasmparser_operators.specs.OperatorReading.{Number, shape_of}
-use Rattle.wasmparser_func_validator.specs.Plain.{IsCoded}
 use Rattle.wasmparser_func_validator.specs.Steps.{context_of}
+use Rattle.wasmparser_func_validator.proofs.PlainCodes.{br_coded, br_if_coded, call_coded, local_get_coded, set_local_coded, tee_local_coded, global_get_coded, global_set_coded}
 use Rattle.wasmparser_func_validator.proofs.PlainLaws.{number_tried, tried}
 use Rattle.wasmparser_func_validator.proofs.body.Body.with_number.Goals as goal
-
-br_coded : IsCoded 12 (Number (λ n. Br n))
-unfolding shape_of
-br_coded = (refl, refl)
-
-br_if_coded : IsCoded 13 (Number (λ n. BrIf n))
-unfolding shape_of
-br_if_coded = (refl, refl)
-
-call_coded : IsCoded 16 (Number (λ n. Call n))
-unfolding shape_of
-call_coded = (refl, refl)
-
-local_get_coded : IsCoded 32 (Number (λ n. LocalGet n))
-unfolding shape_of
-local_get_coded = (refl, refl)
-
-set_local_coded : IsCoded 33 (Number (λ n. LocalSet n))
-unfolding shape_of
-set_local_coded = (refl, refl)
-
-tee_local_coded : IsCoded 34 (Number (λ n. LocalTee n))
-unfolding shape_of
-tee_local_coded = (refl, refl)
-
-global_get_coded : IsCoded 35 (Number (λ n. GlobalGet n))
-unfolding shape_of
-global_get_coded = (refl, refl)
-
-global_set_coded : IsCoded 36 (Number (λ n. GlobalSet n))
-unfolding shape_of
-global_set_coded = (refl, refl)
 
 pub returns-in-12 : goal.returns-in-12
 returns-in-12 g c =

@@ -9,7 +9,7 @@ use Rattle.wasmparser_types.specs.ValTypes.{val_type}
 use Rattle.wasmparser_func_validator.specs.NumericForms.{number}
 use Rattle.wasmparser_func_validator.specs.Steps.{context_of}
 use Rattle.wasmparser_func_validator.proofs.PlainLaws.{accessed_number, is_itself, store_step, two_taken}
-use Rattle.wasmparser_func_validator.proofs.body.Body.plain_store.Goals as goal
+use Rattle.wasmparser_func_validator.proofs.body.Body.quick_store.Goals as goal
 
 pub returns-then-are_known : goal.returns-then-are_known
 returns-then-are_known g c =

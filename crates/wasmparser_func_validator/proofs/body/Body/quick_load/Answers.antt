@@ -12,7 +12,7 @@ use Rattle.wasmparser_func_validator.specs.NumericForms.{number}
 use Rattle.wasmparser_func_validator.specs.Plain.{TriesEffect}
 use Rattle.wasmparser_func_validator.specs.Steps.{context_of}
 use Rattle.wasmparser_func_validator.proofs.PlainLaws.{accessed_number, is_itself, load_step}
-use Rattle.wasmparser_func_validator.proofs.body.Body.plain_load.Goals as goal
+use Rattle.wasmparser_func_validator.proofs.body.Body.quick_load.Goals as goal
 
 pub exchange-requires-clause-fit : goal.exchange-requires-clause-fit
 exchange-requires-clause-fit g c =

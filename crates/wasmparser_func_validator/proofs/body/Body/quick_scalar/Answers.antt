@@ -2,7 +2,7 @@ use Rattle.wasm_core_base.specs.Features.{feature_set}
 use Rattle.wasmparser_func_validator.specs.Plain.{IsScalarForm}
 use Rattle.wasmparser_func_validator.specs.Steps.{context_of}
 use Rattle.wasmparser_func_validator.proofs.PlainLaws.{scalar_step}
-use Rattle.wasmparser_func_validator.proofs.body.Body.plain_scalar.Goals as goal
+use Rattle.wasmparser_func_validator.proofs.body.Body.quick_scalar.Goals as goal
 
 pub returns-then-compute : goal.returns-then-compute
 returns-then-compute g c =

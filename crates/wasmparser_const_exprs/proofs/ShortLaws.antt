@@ -9,7 +9,7 @@ use Rattle.wasm_core_read.proofs.Forms.{some_is}
 use Rattle.wasm_spec.specs.ConstantGrammar.{end_code}
 use Rattle.wasm_spec.specs.Constants.{ConstantOperator, GlobalGet, I32Const, I64Const, RefFunc}
 use Rattle.wasmparser_readers.specs.Passing.{rest_of}
-use Rattle.wasmparser_const_exprs.specs.ConstExprs.{takes_number}
+use Rattle.wasmparser_const_exprs.specs.ConstExprs.{expression_of, takes_number}
 
 lt_true : (x y : ℕ) → x < y → nat_lt x y ≡ true
 lt_true x y less = grind (arith, nat_tests)
@@ -94,3 +94,46 @@ short_read (a ∷ b ∷ c ∷ bs) three rest many last small takes e =
     let read = read_there a b (c ∷ bs) is small in
     let left : bs ≡ rest = ap (λ (x : List ℕ × List ℕ). x.1) (some_is (a ∷ b ∷ c ∷ [], bs) (three, rest) (sym (rw (le_true 3 (length (a ∷ b ∷ c ∷ bs)) many) refl) ∙ e)) in
     rw (not_end a is, read.1, last) (ap (λ (l : List ℕ). Some l) left)
+
+-- ---- its operator
+
+-- what the end follows alone
+alone : (bytes : List ℕ) (v : ConstantOperator) (code b : ℕ) → bytes ≡ code ∷ b ∷ 0x0b ∷ [] → nat_eq code end_code ≡ false → operator_at (code ∷ b ∷ 0x0b ∷ []) ≡ Some (v, 0x0b ∷ []) → expression_of bytes ≡ v ∷ []
+unfolding expression_at operators_at
+alone bytes v code b parts other read = ap expression_of parts ∙ rw (other, read) refl
+
+three : (bytes : List ℕ) (code : ℕ) → length bytes ≡ 3 → get_or bytes 2 0 ≡ 0x0b → get_or bytes 0 0 ≡ code → bytes ≡ code ∷ get_or bytes 1 0 ∷ 0x0b ∷ []
+three [] code many last first = absurd (omega (arith, many))
+three (a ∷ []) code many last first = absurd (omega (arith, many))
+three (a ∷ b ∷ []) code many last first = absurd (omega (arith, many))
+three (a ∷ b ∷ c ∷ []) code many last first = rw (first, last) refl
+three (a ∷ b ∷ c ∷ d ∷ bs) code many last first = absurd (omega (arith, many))
+
+below : (b : ℕ) → b < 64 → b < 128
+below b small = omega (arith, small)
+
+positive_there : (bits b : ℕ) (bs : List ℕ) → 64 ≤ 2 ^ (bits - 1) → b < 64 → signed_at bits (b ∷ bs) ≡ Some (pos b, bs)
+unfolding signed_at last_signed
+positive_there bits b bs room small = rw (lt_true b 128 (below b small), lt_true b 64 small, lt_true b (2 ^ (bits - 1)) (omega (arith, small, room))) refl
+
+pub short_global : (bytes : List ℕ) → length bytes ≡ 3 → get_or bytes 2 0 ≡ 0x0b → get_or bytes 1 0 < 64 → get_or bytes 0 0 ≡ 0x23 → expression_of bytes ≡ GlobalGet (get_or bytes 1 0) ∷ []
+unfolding operator_at
+short_global bytes many last small first =
+    alone bytes _ 0x23 _ (three bytes 0x23 many last first) refl (rw (unsigned_there (get_or bytes 1 0) (0x0b ∷ []) (below _ small)) refl)
+
+pub short_small : (bytes : List ℕ) → length bytes ≡ 3 → get_or bytes 2 0 ≡ 0x0b → get_or bytes 1 0 < 64 → get_or bytes 0 0 ≡ 0x41 → expression_of bytes ≡ I32Const (pos (get_or bytes 1 0)) ∷ []
+unfolding operator_at
+short_small bytes many last small first =
+    alone bytes _ 0x41 _ (three bytes 0x41 many last first) refl (rw (positive_there 32 (get_or bytes 1 0) (0x0b ∷ []) (omega arith) small) refl)
+
+pub short_large : (bytes : List ℕ) → length bytes ≡ 3 → get_or bytes 2 0 ≡ 0x0b → get_or bytes 1 0 < 64 → get_or bytes 0 0 ≡ 0x42 → expression_of bytes ≡ I64Const (pos (get_or bytes 1 0)) ∷ []
+unfolding operator_at
+short_large bytes many last small first =
+    alone bytes _ 0x42 _ (three bytes 0x42 many last first) refl (rw (positive_there 64 (get_or bytes 1 0) (0x0b ∷ []) (omega arith) small) refl)
+
+pub short_function : (bytes : List ℕ) → length bytes ≡ 3 → get_or bytes 2 0 ≡ 0x0b → get_or bytes 1 0 < 64 → get_or bytes 0 0 ≡ 0xd2 → expression_of bytes ≡ RefFunc (get_or bytes 1 0) ∷ []
+unfolding operator_at
+short_function bytes many last small first =
+    alone bytes _ 0xd2 _ (three bytes 0xd2 many last first) refl (rw (unsigned_there (get_or bytes 1 0) (0x0b ∷ []) (below _ small)) refl)
+
+pub ruleset short_operators = (short_global, short_small, short_large, short_function)

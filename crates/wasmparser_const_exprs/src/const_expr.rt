@@ -1,12 +1,13 @@
 //! Constant expressions (Core Specification 3.0, Binary Format, "Expressions").
 
-ghost use Rattle.std.specs.Prelude.{◌≡◌, ⊤, IfOk, [], length};
+ghost use Rattle.std.specs.Prelude.{◌≡◌, ◌∷◌, ⊤, IfOk, IfSome, [], length};
 ghost use Rattle.wasm_core_read.specs.ConstantReading.{expression_at};
 ghost use Rattle.wasm_core_read.specs.Reading.{Answers};
 ghost use Rattle.wasm_spec.specs.Constants.{ConstantExpression};
 ghost use Rattle.wasmparser_readers.specs.Answers.{ReadsItem};
-ghost use Rattle.wasmparser_readers.specs.Passing.{passed};
+ghost use Rattle.wasmparser_readers.specs.Passing.{Passes, passed};
 ghost use Rattle.wasmparser_const_exprs.specs.ConstExprs.{IsExpression, PassesShort, PassesStep, ReadsStep, expression_of, takes_number};
+ghost use Rattle.wasmparser_const_exprs.specs.ConstOperators.{const_operator};
 
 use crate::const_operator::{ConstOperator, read_operator};
 use std::alloc::Global;
@@ -79,6 +80,35 @@ fn passes_short(reader: &mut BinaryReader<'_>) -> bool
     }
 }
 
+// The operator of an expression of three bytes, as most are: a code, a number below 64 and the end. Of others it has none.
+#[inline(always)]
+#[tactic(auto, using(crate::proofs::ShortLaws::short_operators))]
+fn short_operator(bytes: &[u8]) -> Option<ConstOperator>
+    ensures { IfSome result (λ operator. expression_of bytes.now ≡ const_operator operator ∷ []) }
+{
+    let [code, number, last] = bytes else {
+        return None;
+    };
+    if *last != END || *number >= 64 {
+        return None;
+    }
+    match *code {
+        0x23 => Some(ConstOperator::GlobalGet {
+            global_index: u32::from(*number),
+        }),
+        0x41 => Some(ConstOperator::I32Const {
+            value: i32::from(*number),
+        }),
+        0x42 => Some(ConstOperator::I64Const {
+            value: i64::from(*number),
+        }),
+        0xd2 => Some(ConstOperator::RefFunc {
+            function_index: u32::from(*number),
+        }),
+        _ => None,
+    }
+}
+
 /// A constant expression: the part of an input that reads as one. Contracts see it as a reader of these bytes, the end
 /// among them.
 #[derive(Clone, Debug, Drop)]
@@ -106,6 +136,15 @@ impl<'a> ConstExpr<'a> {
         fork(&self.reader)
     }
 
+    /// A fast way to the operator of most expressions: those of three bytes, which are a code, a number below 64 and the end. It has none where the
+    /// expression isn't like that, of one operator too.
+    #[inline(always)]
+    pub fn short_operator(&self) -> Option<ConstOperator>
+        ensures { IfSome result (λ operator. expression_of self.now.rest ≡ const_operator operator ∷ []) }
+    {
+        short_operator(self.reader.remaining_buffer())
+    }
+
     /// The operators one by one, the end aside.
     pub fn operators(&self) -> ConstOperators<'a>
         ensures { result ≡ expression_of self.now.rest }
@@ -116,6 +155,16 @@ impl<'a> ConstExpr<'a> {
     }
 }
 
+// Passes over an expression operator by operator.
+#[inline(never)]
+#[tactic(auto, using(crate::proofs::ExpressionLaws::pass_steps))]
+fn pass_operators(reader: &mut BinaryReader<'_>) -> Result<(), Malformed>
+    ensures { Passes reader.old reader.new result (expression_at reader.old.rest) }
+{
+    while !passes_end(reader)? {}
+    Ok(())
+}
+
 /// An expression that is passed over.
 pub struct Expression;
 
@@ -124,13 +173,12 @@ impl Pass for Expression {
 
     ghost passed_at = { expression_at };
 
-    #[tactic(auto, using(crate::proofs::ExpressionLaws::pass_steps))]
+    #[inline(always)]
     fn pass(reader: &mut BinaryReader<'_>) -> Result<(), Malformed> {
         if passes_short(reader) {
             return Ok(());
         }
-        while !passes_end(reader)? {}
-        Ok(())
+        pass_operators(reader)
     }
 }
 

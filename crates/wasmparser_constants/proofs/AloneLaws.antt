@@ -1,5 +1,5 @@
 -- Expressions of a single operator.
-use Rattle.std.proofs.Common.{◌≡◌, Bool, true, false, List, [], ◌∷◌, Option, Some, None, option_map, subst, sym, refl}
+use Rattle.std.proofs.Common.{◌≡◌, true, [], ◌∷◌, Option, Some, subst, sym, refl}
 use Rattle.wasm_spec.specs.Constants.{ConstantOperator, ConstantExpression}
 use Rattle.wasm_spec.specs.Features.{Features}
 use Rattle.wasm_spec.specs.Subtyping.{ValBelow}
@@ -29,4 +29,8 @@ pub first_alone : (features : Features) (cx : Context) (type : ValType DefType) 
 first_alone features cx type operator whole [] parts none e = subst (λ expression. IsAlone features cx type expression) (sym parts) e
 first_alone features cx type operator whole (other ∷ others) parts none e = absurd cc
 
-pub ruleset alone_steps = (alone_holds, alone_only, first_alone)
+pub short_alone : (features : Features) (cx : Context) (type : ValType DefType) (operator : ConstantOperator) (whole : ConstantExpression) → whole ≡ operator ∷ []
+    → effect features cx operator ≡ Some (puts type) → IsAlone features cx type whole
+short_alone features cx type operator whole parts e = first_alone features cx type operator whole [] parts refl e
+
+pub ruleset alone_steps = (alone_holds, alone_only, first_alone, short_alone)

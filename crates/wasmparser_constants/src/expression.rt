@@ -71,6 +71,7 @@ impl<'a> Scope<'a> {
     }
 
     // The type of what an operator gives that takes no operands, where it may stand.
+    #[inline(always)]
     fn type_given(&self, operator: &ConstOperator) -> Option<ValType>
         ensures given { IfSome result (λ ty. effect (features_of self.now) (context self.now) (const_operator operator.now) ≡ Some (puts (meant_type (known self.now) (val_type ty)))) }
         ensures ids { IfSome result (λ ty. AreIds (known self.now) (val_refs (val_type ty))) }
@@ -95,6 +96,19 @@ impl<'a> Scope<'a> {
         match operators.next() {
             Some(operator) if operators.is_empty() => self.type_given(&operator),
             _ => None,
+        }
+    }
+
+    // The same, of most expressions, in a fast way.
+    #[inline(always)]
+    #[tactic(auto, using(crate::proofs::AloneLaws::alone_steps))]
+    fn type_short(&self, expression: &ConstExpr<'_>) -> Option<ValType>
+        ensures alone { IfSome result (λ ty. IsAlone (features_of self.now) (context self.now) (meant_type (known self.now) (val_type ty)) (expression_of expression.now.rest)) }
+        ensures ids { IfSome result (λ ty. AreIds (known self.now) (val_refs (val_type ty))) }
+    {
+        match expression.short_operator() {
+            Some(operator) => self.type_given(&operator),
+            None => None,
         }
     }
 
@@ -129,12 +143,10 @@ impl<'a> Scope<'a> {
         self.check_last(operands, wanted)
     }
 
-    /// Judges that an expression gives a value of this type, which names types by ids. What the operands are afterwards is open.
-    ///
-    /// # Errors
-    /// `Invalid` where it doesn't, at the place of refusals; `Memory` where memory runs out.
+    // Judges any expression.
+    #[inline(never)]
     #[tactic(auto, using(crate::proofs::AloneLaws::alone_steps))]
-    pub fn check_constant(
+    fn check_any(
         &self,
         operands: &mut Operands,
         expression: &ConstExpr<'_>,
@@ -148,5 +160,31 @@ impl<'a> Scope<'a> {
             Some(_) => Err(self.broken()),
             None => self.check_operators(operands, expression, wanted),
         }
+    }
+
+    /// Judges that an expression gives a value of this type, which names types by ids. What the operands are afterwards is open.
+    ///
+    /// # Errors
+    /// `Invalid` where it doesn't, at the place of refusals; `Memory` where memory runs out.
+    #[inline(always)]
+    #[tactic(auto, using(crate::proofs::AloneLaws::alone_steps))]
+    pub fn check_constant(
+        &self,
+        operands: &mut Operands,
+        expression: &ConstExpr<'_>,
+        wanted: &ValType,
+    ) -> Result<(), Error>
+        requires wanted { IsWanted (known self.now) (val_type wanted.now) }
+        ensures { Judges self.now.offset (IsConstantOf (features_of self.now) (context self.now) (meant_type (known self.now) (val_type wanted.now)) (expression_of expression.now.rest)) result }
+    {
+        if let Some(ty) = self.type_short(expression) {
+            if !self.types.is_subtype(ty, *wanted) {
+                return Err(self.broken());
+            }
+            return Ok(());
+        }
+        // (a copy, so that the scope needs no memory where this isn't called)
+        let scope = *self;
+        scope.check_any(operands, expression, wanted)
     }
 }

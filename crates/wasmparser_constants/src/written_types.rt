@@ -22,6 +22,7 @@ impl<'a> Scope<'a> {
     ///
     /// # Errors
     /// `Invalid` where it doesn't, or the type names no type, at the place of refusals; `Memory` where memory runs out.
+    #[inline(always)]
     pub fn check_initialiser(
         &self,
         operands: &mut Operands,

@@ -5,7 +5,7 @@ use Rattle.std.specs.List.{AllByRecursion, list_any}
 use Rattle.std.proofs.Math.Path.{fun_ext}
 use Rattle.std.proofs.lemmas.Bool.Decides.{eqb_tells}
 use Rattle.std.proofs.lemmas.Grind.{get_or-set_at}
-use Rattle.std.proofs.lemmas.List.{get_or-replicate, get_or-set_other, get_or_past, length-append, length-replicate, take_all}
+use Rattle.std.proofs.lemmas.List.{append-nil, get_or-replicate, get_or-set_other, get_or_past, length-append, length-replicate, take_all}
 use Rattle.wasm_core_read.proofs.Forms.{ltb_tells}
 use Rattle.std.proofs.lemmas.List.Folds.{list_any-append}
 use Rattle.wasm_spec.specs.Constants.{ConstantOperator, ConstantExpression}
@@ -127,6 +127,10 @@ other_names_none (operators.ArrayNewFixed type len) other = refl
 other_names_none operators.AnyConvertExtern other = refl
 other_names_none operators.ExternConvertAny other = refl
 other_names_none operators.RefI31 other = refl
+
+-- what an expression names that is a single operator
+pub named_alone : (operator : ConstantOperator) (expression : ConstantExpression) → expression ≡ operator ∷ [] → named_in expression ≡ named_by operator
+named_alone operator expression is = ap named_in is ∙ append-nil (named_by operator)
 
 pub ruleset flag_steps = (flag_is_set)
 

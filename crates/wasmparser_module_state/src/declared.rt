@@ -34,6 +34,7 @@ impl ModuleState {
     }
 
     // Declares the functions that an expression names.
+    #[inline(always)]
     #[tactic(auto, using(crate::proofs::DeclaredLaws::fitting_steps))]
     pub(crate) fn declare_named(&mut self, expression: &ConstExpr<'_>)
         requires room { HasRoom self.old }

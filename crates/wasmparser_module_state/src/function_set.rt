@@ -67,7 +67,24 @@ impl FunctionSet {
     }
 
     /// Puts the functions into the set that an expression names.
+    #[inline(always)]
     pub(crate) fn insert_named(&mut self, expression: &ConstExpr<'_>)
+        requires fits { AllByRecursion (λ function. function < room self.old) (named_in (expression_of expression.now.rest)) }
+        ensures added { members self.new ≡ with_functions (members self.old) (named_in (expression_of expression.now.rest)) }
+        ensures room { room self.new ≡ room self.old }
+    {
+        let Some(operator) = expression.short_operator() else {
+            self.insert_all(expression);
+            return;
+        };
+        if let ConstOperator::RefFunc { function_index } = operator {
+            self.insert(function_index);
+        }
+    }
+
+    // The same operator by operator.
+    #[inline(never)]
+    fn insert_all(&mut self, expression: &ConstExpr<'_>)
         requires fits { AllByRecursion (λ function. function < room self.old) (named_in (expression_of expression.now.rest)) }
         ensures added { members self.new ≡ with_functions (members self.old) (named_in (expression_of expression.now.rest)) }
         ensures room { room self.new ≡ room self.old }

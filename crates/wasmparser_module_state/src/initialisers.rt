@@ -19,6 +19,7 @@ use wasmparser_types::val_type::ValType;
 
 impl ModuleState {
     /// Judges that an expression gives a value of this type.
+    #[inline(always)]
     #[tactic(auto, using(crate::proofs::Judged::seen_steps))]
     pub(crate) fn check_initialiser(
         &mut self,
@@ -71,6 +72,7 @@ impl ModuleState {
     }
 
     /// Judges that an expression gives a value of this type, and declares the functions that it names.
+    #[inline(always)]
     pub(crate) fn add_initialiser(
         &mut self,
         expression: &ConstExpr<'_>,

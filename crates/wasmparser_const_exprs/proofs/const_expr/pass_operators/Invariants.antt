@@ -2,7 +2,7 @@ use Rattle.std.proofs.Common.{◌≡◌, length}
 use Rattle.wasm_core_read.specs.ConstantReading.{expression_at}
 use Rattle.wasm_core_read.specs.Input.{GoesOn}
 use Rattle.wasmparser_readers.specs.Passing.{rest_of}
-use Rattle.wasmparser_const_exprs.proofs.const_expr.ExpressionPass.pass.Given as goal
+use Rattle.wasmparser_const_exprs.proofs.const_expr.pass_operators.Given as goal
 
 abbrev pub invariant-loop : goal.invariant-loop
 invariant-loop l = record {

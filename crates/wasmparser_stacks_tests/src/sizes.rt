@@ -22,6 +22,21 @@ fn nest(stacks: &mut Stacks, count: usize) -> Result<bool, AllocError> {
     Ok(are_there && stacks.is_closed() && stacks.operand_count() == 0)
 }
 
+// The same in the room that is there.
+fn nest_within_capacity(stacks: &mut Stacks, count: usize) -> bool {
+    let mut is_room = true;
+    for _ in 0..count {
+        is_room = is_room
+            && stacks.enter_within_capacity(FrameKind::Block, BlockType::Empty, 0)
+            && stacks.push_within_capacity(ValType::I32);
+    }
+    let are_there = stacks.frame_count() == count && stacks.operand_count() == count;
+    for _ in 0..count {
+        stacks.leave_empty();
+    }
+    is_room && are_there && stacks.is_closed() && stacks.operand_count() == 0
+}
+
 // A call of a thousand parameters and results, again and again.
 fn call(stacks: &mut Stacks, types: &[ValType], count: usize) -> Result<bool, AllocError> {
     stacks.replace(0, types)?;
@@ -53,6 +68,7 @@ fn stacks_hold(alloc: Global) -> Result<bool, AllocError> {
     for _ in 0..3 {
         are_right = are_right
             && nest(&mut stacks, 200_000)?
+            && nest_within_capacity(&mut stacks, 200_000)
             && call(&mut stacks, &types, 200)?
             && assign(&mut stacks, 50_000)?;
         stacks.reset();

@@ -1,6 +1,6 @@
 -- What stands after the codes of plain operators.
 use Rattle.std.proofs.Common.{refl}
-use Rattle.wasm_bodies.specs.Operators.{Block, Loop, If, End, Br, BrIf, Call, LocalGet, LocalSet, LocalTee, GlobalGet, GlobalSet, F32Const, F64Const}
+use Rattle.wasm_bodies.specs.Operators.{Unreachable, Block, Loop, If, End, Drop, Br, BrIf, Call, LocalGet, LocalSet, LocalTee, GlobalGet, GlobalSet, F32Const, F64Const}
 use Rattle.wasmparser_operators.specs.OperatorReading.{Bare, Float, Number, OfBlock, shape_of}
 use Rattle.wasmparser_func_validator.specs.Plain.{IsCoded}
 
@@ -59,3 +59,11 @@ f32_coded = (refl, refl)
 pub f64_coded : IsCoded 0x44 (Float 8 (λ bits. F64Const bits))
 unfolding shape_of
 f64_coded = (refl, refl)
+
+pub unreachable_coded : IsCoded 0 (Bare Unreachable)
+unfolding shape_of
+unreachable_coded = (refl, refl)
+
+pub drop_coded : IsCoded 26 (Bare Drop)
+unfolding shape_of
+drop_coded = (refl, refl)

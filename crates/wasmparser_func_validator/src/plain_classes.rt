@@ -11,6 +11,8 @@ pub(crate) enum Class {
     GlobalSet,
     Br,
     BrIf,
+    // It is its code.
+    Bare,
     // A block type follows.
     Block,
     End,
@@ -30,7 +32,7 @@ pub(crate) enum Class {
 }
 
 static CLASSES: [Class; 256] = [
-    Class::Other,
+    Class::Bare,
     Class::Other,
     Class::Block,
     Class::Block,
@@ -56,7 +58,7 @@ static CLASSES: [Class; 256] = [
     Class::Other,
     Class::Other,
     Class::Other,
-    Class::Other,
+    Class::Bare,
     Class::Other,
     Class::Other,
     Class::Other,

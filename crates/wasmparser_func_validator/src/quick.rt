@@ -365,6 +365,35 @@ impl<R: WasmModuleResources> Body<R> {
         }
     }
 
+    // ---- operators that are their code
+
+    #[inline(always)]
+    fn bare_quickly(&self, code: u8, stacks: &mut Stacks) -> bool
+        requires inside { stacks.old.frames ≢ [] }
+        ensures { TriesBare (context_of (R.resources self.now.resources) (feature_set self.now.features) self.now.locals self.now.ty) stacks.old stacks.new code result }
+    {
+        match code {
+            0x00 => {
+                stacks.mark_unreachable();
+                true
+            }
+            0x1a => self.drop_one(stacks).is_ok(),
+            _ => false,
+        }
+    }
+
+    #[inline(always)]
+    fn quick_bare<'a>(&self, code: u8, stacks: &mut Stacks, rest: &'a [u8]) -> Option<&'a [u8]>
+        requires inside { stacks.old.frames ≢ [] }
+        ensures { MatchOption result (stacks.new ≡ stacks.old) (λ after. IsStep (context_of (R.resources self.now.resources) (feature_set self.now.features) self.now.locals self.now.ty) stacks.old stacks.new (code ∷ rest.now) after.now) }
+    {
+        if self.bare_quickly(code, stacks) {
+            Some(rest)
+        } else {
+            None
+        }
+    }
+
     // ---- the loop
 
     // The operator at the front, if it is one of these, and the bytes after it. The two most frequent ones are told by tests of their own, which cost less
@@ -393,6 +422,7 @@ impl<R: WasmModuleResources> Body<R> {
             Class::Br if code == 0x0c => self.quick_number(0x0c, stacks, rest),
             Class::BrIf if code == 0x0d => self.quick_number(0x0d, stacks, rest),
             Class::End if code == 0x0b => self.quick_end(stacks, rest),
+            Class::Bare => self.quick_bare(code, stacks, rest),
             Class::Block => self.quick_block(code, stacks, rest),
             Class::Load => self.quick_load(code, stacks, rest),
             Class::Store => self.quick_store(code, stacks, rest),

@@ -69,6 +69,7 @@ fn selected(a: &Operand, b: &Operand) -> Option<Operand>
 }
 
 impl<R: WasmModuleResources> Body<R> {
+    #[inline(always)]
     pub(crate) fn drop_one(&self, stacks: &mut Stacks) -> Result<(), Refusal>
         ensures { HasEffect (context_of (R.resources self.now.resources) (feature_set self.now.features) self.now.locals self.now.ty) spec.Drop stacks.old stacks.new result }
     {

@@ -6,13 +6,9 @@ use Rattle.wasmparser_types.specs.Index.{Index}
 use Rattle.wasmparser_operators.specs.OperatorReading.{Bare, shape_of}
 use Rattle.wasmparser_func_validator.specs.Plain.{IsCoded}
 use Rattle.wasmparser_func_validator.specs.Steps.{context_of}
-use Rattle.wasmparser_func_validator.proofs.PlainCodes.{end_coded}
+use Rattle.wasmparser_func_validator.proofs.PlainCodes.{drop_coded, end_coded, unreachable_coded}
 use Rattle.wasmparser_func_validator.proofs.PlainLaws.{bare_tried, ended_inside, stepped_tried, tried, turned_inside}
 use Rattle.wasmparser_func_validator.proofs.body.Body.bare.Goals as goal
-
-unreachable_coded : IsCoded 0 (Bare Unreachable)
-unfolding shape_of
-unreachable_coded = (refl, refl)
 
 nop_coded : IsCoded 1 (Bare Nop)
 unfolding shape_of
@@ -25,10 +21,6 @@ else_coded = (refl, refl)
 return_coded : IsCoded 15 (Bare Return)
 unfolding shape_of
 return_coded = (refl, refl)
-
-drop_coded : IsCoded 26 (Bare Drop)
-unfolding shape_of
-drop_coded = (refl, refl)
 
 select_coded : IsCoded 27 (Bare Select)
 unfolding shape_of

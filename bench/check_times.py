@@ -184,8 +184,9 @@ def real_modules():
         show_memory(what, path)
 
 
-# A row, the module beside it, and how many times as much a byte may take.
-LINEAR = [("one body", "small bodies", NOISE), ("nested blocks", "fewer nested blocks", 2 * NOISE), ("labels", "fewer labels", NOISE)]
+# A row, the module beside it, and how many times as much a byte may take. (Blocks nested less than some 700,000 deep take a third as much a byte in a process
+# that validates many times: what is kept of them has 32 MiB at most, which the C library keeps for the next time in place of giving it back to the system.)
+LINEAR = [("one body", "small bodies", NOISE), ("twice the nested blocks", "nested blocks", NOISE), ("labels", "fewer labels", NOISE)]
 
 
 def linear_costs():

@@ -2,6 +2,7 @@ mod BlockLaws
 mod BranchLaws
 mod EmptyBlocks
 mod LookupLaws
+mod ManyTypes
 mod OperandLaws
 mod PlainCodes
 mod PlainLaws

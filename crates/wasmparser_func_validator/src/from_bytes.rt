@@ -1,6 +1,6 @@
 //! Bodies validated from their bytes.
 
-ghost use Rattle.std.specs.Prelude.{◌≡◌, ◌≤◌, [], Err, IfErr, IfOk, Some, false, length, map, true};
+ghost use Rattle.std.specs.Prelude.{◌≡◌, ◌≤◌, ◌<◌, [], Err, IfErr, IfOk, Some, false, length, map, true};
 ghost use Rattle.wasm_bodies.specs.Bodies.{parameter};
 ghost use Rattle.wasm_bodies.specs.BodyContext.{func_at};
 ghost use Rattle.wasm_core_base.specs.Features.{feature_set};
@@ -8,31 +8,56 @@ ghost use Rattle.wasm_spec.specs.Types as types;
 ghost use Rattle.wasmparser_body_reading.specs.BodyAnswers.{AnswersOutcome, IsBodyValidated};
 ghost use Rattle.wasmparser_body_reading.specs.LocalsAnswers.{ReadsLocals};
 ghost use Rattle.wasmparser_body_reading.specs.BodyStates.{IsAtStart, rest_outcome};
-ghost use Rattle.wasmparser_func_validator.specs.FromBytes.{ReadsDeclared, failed_at};
+ghost use Rattle.wasmparser_func_validator.specs.FromBytes.{ReadsDeclared, failed_at, past_types};
 ghost use Rattle.wasmparser_func_validator.specs.Validation.{is_refused};
 ghost use Rattle.wasmparser_types.specs.Index.{Index, packable};
 
 use crate::func_validator::{FuncValidator, failed};
+use wasm_core_base::limits::Limit;
 use wasm_core_read::binary_reader::BinaryReader;
 use wasmparser_body_reading::judge_body::JudgeBody;
 use wasmparser_body_reading::read_body::read_body;
 use wasmparser_body_reading::read_locals::read_locals;
-use wasmparser_error::error::Error;
+use wasmparser_error::error::{Error, ErrorKind};
 use wasmparser_payloads::function_body::FunctionBody;
 use wasmparser_readers::passing::fork;
 use wasmparser_resources::module_resources::WasmModuleResources;
 
+// The first type index that can't be packed. A module that the limits let through has fewer types.
+const FIRST_UNPACKED: u32 = 1 << 20;
+
+// What is refused where there are more types than indexes that can be packed.
+fn past_types(offset: u64) -> Error
+    ensures { result ≡ past_types offset }
+{
+    Error {
+        offset,
+        kind: ErrorKind::Limit(Limit::Types),
+    }
+}
+
 impl<T: WasmModuleResources> FuncValidator<T> {
+    // Whether the module has more types than indexes that can be packed.
+    #[tactic(auto, using(crate::proofs::ManyTypes::type_counts))]
+    fn has_many_types(&self) -> bool
+        ensures few { result ≡ false → length (T.resources self.now.body.resources).items.types ≤ packable }
+        ensures many { result ≡ true → packable < length (T.resources self.now.body.resources).items.types }
+    {
+        let first = self.body.resources.sub_type_at(FIRST_UNPACKED);
+        first.is_some()
+    }
+
     /// Reads the locals that a body declares, and adds them to those that there are. The reader stands at the body's first byte, and after a refusal
-    /// it stands there still. The module has no more types than indexes that can be packed.
+    /// it stands there still.
     ///
     /// # Errors
     /// `Body` where a run doesn't read, or its type is not allowed or there is none, `Limit` where there are too many locals, each at the run or
-    /// at the number of runs, `Memory`, or `Failed` at the body's first byte after a refusal.
+    /// at the number of runs, `Memory`, or `Failed` at the body's first byte after a refusal. There also `Limit`, of types, where the module has
+    /// more of them than the 2^20 that types of locals can name.
     pub fn read_locals(&mut self, reader: &mut BinaryReader<'_>) -> Result<(), Error>
-        requires { length (T.resources self.old.body.resources).items.types ≤ packable }
-        ensures read { self.old.failed ≡ false → ReadsLocals (⟦<FuncValidator<T> as JudgeBody>⟧.state self.old) (⟦<FuncValidator<T> as JudgeBody>⟧.state self.new) reader.old reader.new result }
-        ensures declared { self.old.failed ≡ false → (type : types.FuncType Index) → self.old.body.locals ≡ map parameter type.params → ReadsDeclared (feature_set self.old.body.features) (T.resources self.old.body.resources).items type reader.old reader.new self.new.body.locals result }
+        ensures read { self.old.failed ≡ false → length (T.resources self.old.body.resources).items.types ≤ packable → ReadsLocals (⟦<FuncValidator<T> as JudgeBody>⟧.state self.old) (⟦<FuncValidator<T> as JudgeBody>⟧.state self.new) reader.old reader.new result }
+        ensures declared { self.old.failed ≡ false → length (T.resources self.old.body.resources).items.types ≤ packable → (type : types.FuncType Index) → self.old.body.locals ≡ map parameter type.params → ReadsDeclared (feature_set self.old.body.features) (T.resources self.old.body.resources).items type reader.old reader.new self.new.body.locals result }
+        ensures many_types { self.old.failed ≡ false → packable < length (T.resources self.old.body.resources).items.types → result ≡ Err (past_types reader.old.position) }
         ensures after_refusal { self.old.failed ≡ true → (result ≡ Err (failed_at reader.old.position)) × (self.new ≡ self.old) }
         ensures failed { self.new.failed ≡ is_refused result }
         ensures stays { IfErr result (λ _. reader.new ≡ reader.old) }
@@ -40,6 +65,10 @@ impl<T: WasmModuleResources> FuncValidator<T> {
     {
         if self.failed {
             return Err(failed(reader.original_position()));
+        }
+        if self.has_many_types() {
+            self.failed = true;
+            return Err(past_types(reader.original_position()));
         }
         // (there are no more locals than the limit lets through)
         let _ = self.body.locals.len();
@@ -52,16 +81,16 @@ impl<T: WasmModuleResources> FuncValidator<T> {
         result
     }
 
-    /// Validates a body whole, under the validator's features. The module has no more types than indexes that can be packed.
+    /// Validates a body whole, under the validator's features.
     ///
     /// # Errors
     /// `Limit` where there are too many locals, `Operator` where a code stands that no operator has, after locals and operators that a body
     /// may begin with, and `Body` where the body is broken otherwise, each at a place of the body or its end. Or `Memory`, or `Failed` at the body's
-    /// first byte after a refusal.
+    /// first byte after a refusal. There also `Limit`, of types, where the module has more of them than the 2^20 that types in bodies can name.
     pub fn validate(&mut self, body: &FunctionBody<'_>) -> Result<(), Error>
-        requires { length (T.resources self.old.body.resources).items.types ≤ packable }
-        ensures validated { self.old.failed ≡ false → IsAtStart (⟦<FuncValidator<T> as JudgeBody>⟧.state self.old) → (type : types.FuncType Index) → func_at (T.resources self.old.body.resources).items self.old.body.ty ≡ Some type → IsBodyValidated (feature_set self.old.body.features) (T.resources self.old.body.resources).items type body.now.rest body.now.position result }
-        ensures answers { self.old.failed ≡ false → AnswersOutcome body.now result (rest_outcome (⟦<FuncValidator<T> as JudgeBody>⟧.state self.old) body.now.rest) }
+        ensures validated { self.old.failed ≡ false → length (T.resources self.old.body.resources).items.types ≤ packable → IsAtStart (⟦<FuncValidator<T> as JudgeBody>⟧.state self.old) → (type : types.FuncType Index) → func_at (T.resources self.old.body.resources).items self.old.body.ty ≡ Some type → IsBodyValidated (feature_set self.old.body.features) (T.resources self.old.body.resources).items type body.now.rest body.now.position result }
+        ensures answers { self.old.failed ≡ false → length (T.resources self.old.body.resources).items.types ≤ packable → AnswersOutcome body.now result (rest_outcome (⟦<FuncValidator<T> as JudgeBody>⟧.state self.old) body.now.rest) }
+        ensures many_types { self.old.failed ≡ false → packable < length (T.resources self.old.body.resources).items.types → result ≡ Err (past_types body.now.position) }
         ensures after_refusal { self.old.failed ≡ true → (result ≡ Err (failed_at body.now.position)) × (self.new ≡ self.old) }
         ensures failed { self.new.failed ≡ is_refused result }
         ensures ended { IfOk result (λ _. self.new.stacks.frames ≡ []) }
@@ -70,6 +99,10 @@ impl<T: WasmModuleResources> FuncValidator<T> {
         let mut reader = body.get_binary_reader();
         if self.failed {
             return Err(failed(reader.original_position()));
+        }
+        if self.has_many_types() {
+            self.failed = true;
+            return Err(past_types(reader.original_position()));
         }
         // (there are no more locals than the limit lets through)
         let _ = self.body.locals.len();

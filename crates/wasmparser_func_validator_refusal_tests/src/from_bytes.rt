@@ -29,12 +29,9 @@ const BODIES: &str = "
 fn validate(
     validator: &mut FuncValidator<&ListedResources>,
     bytes: &[u8],
-) -> Option<Result<(), Error>> {
-    if !validator.resources().has_few_types() {
-        return None;
-    }
+) -> Result<(), Error> {
     let body = FunctionBody::new(BinaryReader::new(bytes, 0));
-    Some(validator.validate(&body))
+    validator.validate(&body)
 }
 
 fn is_answer(answer: &Result<(), Error>, expected: &str) -> bool {
@@ -50,7 +47,7 @@ fn ran_out(
     bytes: &[u8],
     expected: &str,
 ) -> Option<bool> {
-    let answer = validate(validator, bytes)?;
+    let answer = validate(validator, bytes);
     let is_memory = is_memory(&answer);
     let holds = if is_memory {
         has_failed(validator)

@@ -96,15 +96,9 @@ fn is_same(answer: &Result<(), Error>, other: &Result<(), Error>) -> bool {
 }
 
 // Validates a body at once.
-fn validate(
-    validator: &mut FuncValidator<&ListedResources>,
-    bytes: &[u8],
-) -> Option<Result<(), Error>> {
-    if !validator.resources().has_few_types() {
-        return None;
-    }
+fn validate(validator: &mut FuncValidator<&ListedResources>, bytes: &[u8]) -> Result<(), Error> {
     let body = FunctionBody::new(BinaryReader::new(bytes, START));
-    Some(validator.validate(&body))
+    validator.validate(&body)
 }
 
 fn broken(offset: u64) -> Result<(), Error> {
@@ -139,9 +133,6 @@ fn validate_by_steps(
     validator: &mut FuncValidator<&ListedResources>,
     bytes: &[u8],
 ) -> Option<Result<(), Error>> {
-    if !validator.resources().has_few_types() {
-        return None;
-    }
     let mut reader = BinaryReader::new(bytes, START);
     reader.set_features(*validator.features());
     if let Err(error) = validator.read_locals(&mut reader) {
@@ -157,11 +148,11 @@ fn answer_at_once(
     validator: &mut FuncValidator<&ListedResources>,
     bytes: &[u8],
 ) -> Option<Result<(), Error>> {
-    let answer = validate(validator, bytes)?;
+    let answer = validate(validator, bytes);
     let holds = if answer.is_ok() {
         validator.control_stack_height() == 0
     } else {
-        is_failed(validate(validator, bytes)?, START) && has_failed(validator)
+        is_failed(validate(validator, bytes), START) && has_failed(validator)
     };
     if holds { Some(answer) } else { None }
 }
@@ -183,12 +174,22 @@ fn answer_of(
     answer
 }
 
+// Whether a body is answered as expected, at once and by steps.
+fn holds_of(
+    alloc: Global,
+    resources: &ListedResources,
+    bytes: &[u8],
+    expected: &str,
+) -> Option<bool> {
+    let answer = answer_of(alloc, resources, bytes, true)?;
+    let other = answer_of(alloc, resources, bytes, false)?;
+    Some(is_answer(&answer, expected, bytes.len())? && is_same(&answer, &other))
+}
+
 fn holds(alloc: Global, resources: &ListedResources, row: &str) -> Option<bool> {
     let (bytes, expected) = two_fields(row)?;
     let bytes = bytes_of(alloc, bytes)?;
-    let answer = answer_of(alloc, resources, &bytes, true)?;
-    let other = answer_of(alloc, resources, &bytes, false)?;
-    Some(is_answer(&answer, expected, bytes.len())? && is_same(&answer, &other))
+    holds_of(alloc, resources, &bytes, expected)
 }
 
 fn rows_hold(alloc: Global, resources: &ListedResources) -> Result<(), &'static str> {
@@ -205,4 +206,34 @@ fn bodies_are_validated_at_once_as_by_steps(rt: HostRuntime) -> Result<(), Fail>
     let result = rows_hold(alloc, &resources);
     drop(resources);
     Ok(result?)
+}
+
+// One body, at once and by steps, for a module with so many types.
+fn is_answered_with_types(
+    alloc: Global,
+    resources: &mut ListedResources,
+    count: usize,
+    expected: &str,
+) -> Option<bool> {
+    let ids = &mut resources.types.ids;
+    for _ in ids.len()..count {
+        ids.push(0).ok()?;
+    }
+    holds_of(alloc, resources, &[0x00, 0x20, 0x00, 0x0b], expected)
+}
+
+// Types in bodies can name 2^20 types.
+#[test]
+fn more_types_than_can_be_named_are_refused(rt: HostRuntime) -> Result<(), Fail> {
+    let alloc = rt.alloc();
+    let Some(mut resources) = ListedResources::example(alloc) else {
+        assert!(rt; false);
+        return Ok(());
+    };
+    let most = is_answered_with_types(alloc, &mut resources, 1 << 20, "ok");
+    let past = is_answered_with_types(alloc, &mut resources, (1 << 20) + 1, "limit 0");
+    drop(resources);
+    assert!(rt; most == Some(true));
+    assert!(rt; past == Some(true));
+    Ok(())
 }

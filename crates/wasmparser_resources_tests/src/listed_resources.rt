@@ -1,13 +1,13 @@
 //! A module as lists.
 
-ghost use Rattle.std.specs.Prelude.{◌≡◌, ◌↔◌, ◌≤◌, IfSome, IsTrue, length, option_map};
+ghost use Rattle.std.specs.Prelude.{◌≡◌, IfSome, option_map};
 ghost use Rattle.std.specs.List.{AllByRecursion};
 ghost use Rattle.wasm_bodies.specs.BodyContext.{heap_meant};
 ghost use Rattle.wasm_spec.specs.TypeReferences.{heap_map, heap_refs};
 ghost use Rattle.wasmparser_readers.specs.ModuleIndexes.{IsModuleIndex};
 ghost use Rattle.wasmparser_resources_tests.specs.Listed.{items_of, resources_of};
 ghost use Rattle.wasmparser_types.specs.HeapTypes.{Packs, heap_type};
-ghost use Rattle.wasmparser_types.specs.Index.{number_of, packable};
+ghost use Rattle.wasmparser_types.specs.Index.{number_of};
 
 use crate::listed_types::ListedTypes;
 use wasmparser_error::error::{Error, ErrorKind};
@@ -47,18 +47,7 @@ pub struct ListedResources {
     pub imported_functions: u32,
 }
 
-// More type indexes than can be packed begin here.
-const PACKABLE: usize = 1 << 20;
-
 impl ListedResources {
-    /// Whether all type indexes can be packed.
-    #[tactic(auto, using(crate::proofs::LookUps::lengths))]
-    pub fn has_few_types(&self) -> bool
-        ensures { IsTrue result ↔ length (items_of self.now).types ≤ packable }
-    {
-        self.types.ids.len() <= PACKABLE
-    }
-
     // What a heap type stands for that is written with a type index. It can be packed.
     #[tactic(auto, using(crate::proofs::LookUps::lookups))]
     fn with_id(&self, heap: HeapType) -> Option<HeapType>

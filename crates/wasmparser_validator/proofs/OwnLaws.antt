@@ -25,13 +25,13 @@ use Rattle.wasmparser_module_state.specs.State.{context, features_of}
 use Rattle.wasmparser_module_state.specs.StateResources.{state_resources}
 use Rattle.wasmparser_module_state.specs.declared.module_state.ModuleState.{ModuleState}
 use Rattle.wasmparser_module_types.specs.ModuleTypes.{AreKnownTypes}
-use Rattle.wasmparser_types.specs.Index.{Index}
+use Rattle.wasmparser_types.specs.Index.{Index, packable}
 use Rattle.wasmparser_validator.specs.Bodies.{AreNamed, ValidatesOwn}
 use Rattle.wasmparser_validator.specs.Functions.{HasFunction, TellsModule, resources_of}
 use Rattle.wasmparser_validator.specs.KnownSpaces.{IsReached}
 use Rattle.wasmparser_validator.specs.declared.resources.ValidatorResources.{ValidatorResources}
 use Rattle.wasmparser_validator.proofs.Counts.{are_few}
-use Rattle.wasmparser_validator.proofs.ResourceLaws.{few_params, is_function}
+use Rattle.wasmparser_validator.proofs.ResourceLaws.{few_params, few_types, is_function}
 
 -- there are no more functions than a number of 32 bits counts
 pub few_functions : (s : ModuleState) → IsReached s → length (context s).imported_functions + length (context s).own_functions ≤ 1000000
@@ -95,7 +95,7 @@ not_begun s place index body e known reached named at refused =
 -- what a validator answers that begins with what is known of a module
 abbrev pub AnswersFrom : Features → ModuleState → ℕ → List (Local Index) → Machine Index → Bool → Input → Result (Unit {0}) Error → Type 0
 AnswersFrom features s ty locals machine failed body answer =
-    failed ≡ false → IsAtStart (state_of features (state_resources s).items ty locals machine failed) → (type : FuncType Index) → func_at (state_resources s).items ty ≡ Some type
+    failed ≡ false → length (state_resources s).items.types ≤ packable → IsAtStart (state_of features (state_resources s).items ty locals machine failed) → (type : FuncType Index) → func_at (state_resources s).items ty ≡ Some type
     → IsBodyValidated features (state_resources s).items type body.rest body.position answer
 
 pub answered : (s there : ModuleState) (features : Features) (place index ty : ℕ) (locals : List (Local Index)) (machine : Machine Index) (failed : Bool) (body : Input) (answer : Result (Unit {0}) Error)
@@ -106,7 +106,7 @@ answered s there features place index ty locals machine failed body answer known
     let here = subst (λ (t : ℕ). AnswersFrom (features_of s) s t locals machine failed body answer) same_type
     (subst (λ (f : Features). AnswersFrom f s ty locals machine failed body answer) same_features
     (subst (λ (x : ModuleState). AnswersFrom features x ty locals machine failed body answer) same_state answers)) in
-    validates_own s place index body answer known named at (λ type is. here going (record { parameters = parameters; begins = begins }) type is)
+    validates_own s place index body answer known named at (λ type is. here going (few_types s known) (record { parameters = parameters; begins = begins }) type is)
 
 -- a function of the module's own, with resources that tell of the module
 pub has_function : (s : ModuleState) (features : Features) (cx : Context) (place count own ty : ℕ) (flags : WasmFeatures) (resources : ValidatorResources) → context s ≡ cx → features_of s ≡ features → AreNamed (context s)

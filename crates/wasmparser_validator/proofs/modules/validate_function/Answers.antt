@@ -1,15 +1,12 @@
-use Rattle.std.proofs.Common.{◌≤◌, length, Ok, Err, refl, sym, ap, subst, ◌∙◌, arith}
+use Rattle.std.proofs.Common.{Ok, Err, refl, sym, ap, subst, ◌∙◌, arith}
 use Rattle.std.specs.Borrow.{Bor}
 use Rattle.std.specs.Option.{IsSome}
 use Rattle.std.proofs.lemmas.Option.{slice_get-get_or}
 use Rattle.std.proofs.lemmas.Result.{err_from_is_err_and}
 use Rattle.wasm_core_base.specs.Features.{feature_set}
-use Rattle.wasmparser_module_state.specs.StateResources.{state_resources}
 use Rattle.wasmparser_module_state.specs.declared.module_state.ModuleState.{ModuleState}
 use Rattle.wasmparser_module_types.specs.ModuleTypes.{AreKnownTypes}
-use Rattle.wasmparser_types.specs.Index.{packable}
 use Rattle.wasmparser_validator.proofs.OwnLaws.{answered, few_functions, not_begun, own_named}
-use Rattle.wasmparser_validator.proofs.ResourceLaws.{few_types}
 use Rattle.wasmparser_validator.proofs.modules.validate_function.Goals as goal
 
 pub overflow_cast-function : goal.overflow_cast-function
@@ -28,11 +25,6 @@ returns-in_err-validator-clause-refused c =
     let p = err_from_is_err_and c.from_residual.result c.from_residual.ensures.1 in
     rw (p.1, p.2) (not_begun c.args.state.now c.args.place c.unwrap.result c.args.body.now c.in_err-validator.field-0.0 (subst AreKnownTypes c.types.ensures c.are_known.ensures) c.requires.reached
     c.requires.named (sym c.type_of_own_function.ensures ∙ c.unwrap.ensures) c.in_err-validator.ensures.refused)
-
-pub validate-requires : goal.validate-requires
-validate-requires c =
-    subst (λ (r : Bor ModuleState). length (state_resources r.now).items.types ≤ packable) (sym c.in_ok-validator.ensures.given.0)
-    (few_types c.args.state.now (subst AreKnownTypes c.types.ensures c.are_known.ensures))
 
 pub returns-in_err-validate-clause-refused : goal.returns-in_err-validate-clause-refused
 returns-in_err-validate-clause-refused c =

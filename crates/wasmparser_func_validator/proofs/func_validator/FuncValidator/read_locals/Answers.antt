@@ -5,7 +5,7 @@ use Rattle.wasmparser_func_validator.proofs.ReadBodies.{reads_declared, refused_
 use Rattle.wasmparser_func_validator.proofs.func_validator.FuncValidator.read_locals.Goals as goal
 
 pub returns-then-self-2-clause-declared : goal.returns-then-self-2-clause-declared
-returns-then-self-2-clause-declared g c = λ ready type params.
+returns-then-self-2-clause-declared g c = λ ready few type params.
     let v = c.args.self.now in
     let w = c.read_locals-result.new.body in
     let f = feature_set v.body.features in
@@ -15,7 +15,7 @@ returns-then-self-2-clause-declared g c = λ ready type params.
     (reads_declared f items type v.body.ty v.body.locals v.stacks v.failed new c.args.reader.now c.read_locals-result.new.reader c.read_locals-result.result c.fork-start.ensures.are params c.read_locals-result.ensures.read)
 
 pub returns-else-self-2-clause-declared : goal.returns-else-self-2-clause-declared
-returns-else-self-2-clause-declared g c = λ ready type params.
+returns-else-self-2-clause-declared g c = λ ready few type params.
     let v = c.args.self.now in
     let w = c.read_locals-result.new.body in
     let f = feature_set v.body.features in

@@ -8,7 +8,7 @@ use Rattle.wasmparser_func_validator.proofs.ReadBodies.{answered, validated}
 use Rattle.wasmparser_func_validator.proofs.func_validator.FuncValidator.validate.Goals as goal
 
 pub returns-clause-validated : goal.returns-clause-validated
-returns-clause-validated g c = λ ready start type named.
+returns-clause-validated g c = λ ready few start type named.
     let v = c.args.self.now in
     let body = c.args.body.now in
     let f = feature_set v.body.features in

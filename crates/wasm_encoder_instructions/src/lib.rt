@@ -1,0 +1,13 @@
+//! Instructions of function bodies and of constant expressions, as they are written: a part of `wasm_encoder`.
+#![tactic(auto)]
+
+mod alone;
+pub mod block_type;
+mod code;
+pub mod ieee;
+mod immediates;
+pub mod instruction;
+pub mod mem_arg;
+mod parts;
+pub mod scalar_instruction;
+mod scalars;

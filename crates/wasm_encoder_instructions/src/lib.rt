@@ -1,7 +1,7 @@
 //! Instructions of function bodies and of constant expressions, as they are written: a part of `wasm_encoder`.
 #![tactic(auto)]
 
-mod alone;
+pub mod alone;
 pub mod block_type;
 mod code;
 pub mod ieee;

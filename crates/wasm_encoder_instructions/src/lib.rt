@@ -7,6 +7,7 @@ mod code;
 pub mod ieee;
 mod immediates;
 pub mod instruction;
+pub mod laws;
 pub mod mem_arg;
 mod parts;
 pub mod scalar_instruction;

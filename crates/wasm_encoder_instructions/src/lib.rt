@@ -8,7 +8,6 @@ pub mod examples;
 pub mod ieee;
 mod immediates;
 pub mod instruction;
-pub mod instruction_sink;
 pub mod laws;
 pub mod mem_arg;
 mod parts;

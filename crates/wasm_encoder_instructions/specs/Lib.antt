@@ -3,4 +3,5 @@ pub mod Immediates
 pub mod Instructions
 pub mod OperatorEncodings
 pub mod ScalarRows
+pub mod SmallOperators
 pub mod WrittenImmediates

@@ -4,9 +4,11 @@
 pub mod alone;
 pub mod block_type;
 mod code;
+pub mod examples;
 pub mod ieee;
 mod immediates;
 pub mod instruction;
+pub mod laws;
 pub mod mem_arg;
 mod parts;
 pub mod scalar_instruction;

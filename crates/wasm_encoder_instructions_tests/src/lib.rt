@@ -1,0 +1,7 @@
+//! Tests of instructions, through public calls.
+#![tactic(auto)]
+
+#[cfg(test)]
+mod instructions;
+#[cfg(test)]
+mod scalars;

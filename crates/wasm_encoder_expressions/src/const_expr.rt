@@ -209,7 +209,7 @@ impl ConstExpr {
     /// # Errors
     /// `Memory` alone.
     pub fn f32_const(alloc: Global, value: Ieee32) -> Result<ConstExpr, EncodeError>
-        ensures written { IfOk result (λ e. e ≡ operator_encoding (spec.F32Const value)) }
+        ensures written { IfOk result (λ e. e ≡ operator_encoding (spec.F32Const value.bits)) }
         ensures memory_alone { IfErr result (λ e. e ≡ errors.Memory) }
     {
         ConstExpr::empty(alloc).with_f32_const(value)
@@ -221,7 +221,7 @@ impl ConstExpr {
     /// `Memory` alone. The expression is then gone.
     #[tactic(auto, unfolding(wasm_encoder_instructions::specs::OperatorEncodings::operator_encoding, wasm_encoder_instructions::specs::OperatorEncodings::code_encoding))]
     pub fn with_f32_const(self, value: Ieee32) -> Result<ConstExpr, EncodeError>
-        ensures appended { IfOk result (λ e. e ≡ self ++ operator_encoding (spec.F32Const value)) }
+        ensures appended { IfOk result (λ e. e ≡ self ++ operator_encoding (spec.F32Const value.bits)) }
         ensures memory_alone { IfErr result (λ e. e ≡ errors.Memory) }
     {
         self.with(&[0x43], &value)
@@ -232,7 +232,7 @@ impl ConstExpr {
     /// # Errors
     /// `Memory` alone.
     pub fn f64_const(alloc: Global, value: Ieee64) -> Result<ConstExpr, EncodeError>
-        ensures written { IfOk result (λ e. e ≡ operator_encoding (spec.F64Const value)) }
+        ensures written { IfOk result (λ e. e ≡ operator_encoding (spec.F64Const value.bits)) }
         ensures memory_alone { IfErr result (λ e. e ≡ errors.Memory) }
     {
         ConstExpr::empty(alloc).with_f64_const(value)
@@ -244,7 +244,7 @@ impl ConstExpr {
     /// `Memory` alone. The expression is then gone.
     #[tactic(auto, unfolding(wasm_encoder_instructions::specs::OperatorEncodings::operator_encoding, wasm_encoder_instructions::specs::OperatorEncodings::code_encoding))]
     pub fn with_f64_const(self, value: Ieee64) -> Result<ConstExpr, EncodeError>
-        ensures appended { IfOk result (λ e. e ≡ self ++ operator_encoding (spec.F64Const value)) }
+        ensures appended { IfOk result (λ e. e ≡ self ++ operator_encoding (spec.F64Const value.bits)) }
         ensures memory_alone { IfErr result (λ e. e ≡ errors.Memory) }
     {
         self.with(&[0x44], &value)

@@ -26,6 +26,9 @@ impl Model for InstructionSink {
 }
 
 impl InstructionSink {
+    ghost use Rattle.std.specs.Borrow.{sem, LendsIfOk};
+    ghost use Rattle.wasm_encoder_instruction_sink.specs.contracts.instruction_sink.InstructionSink.{the_row};
+
     /// No instructions.
     pub fn new(alloc: Global) -> InstructionSink
         ensures { result.bytes ≡ [] }
@@ -69,5 +72,24 @@ impl InstructionSink {
         self.bytes.reserve(size as usize)?;
         instruction.put(&mut self.bytes);
         Ok(())
+    }
+
+    /// Appends an instruction, and goes on.
+    ///
+    /// # Errors
+    /// Those of [`InstructionSink::push`]. The sink is then as it was.
+    pub fn instruction(
+        &mut self,
+        instruction: &Instruction<'_>,
+    ) -> Result<&mut InstructionSink, EncodeError>
+        ensures* refused { sem 𝓛 (LendsIfOk the_row the_row self.entry result (λ w. w) self.old) }
+        ensures same_reference { IfOk result (λ s. s.ghost_name ≡ self.entry.ghost_name) }
+        ensures appended { IfOk result (λ s. Appends self.old s.now (instruction_encoding instruction.now)) }
+        ensures cause { IfErr result (Refuses self.old (instruction_encoding instruction.now)) }
+    {
+        match self.push(instruction) {
+            Ok(()) => Ok(self),
+            Err(error) => Err(error),
+        }
     }
 }

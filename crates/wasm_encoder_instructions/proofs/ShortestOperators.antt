@@ -6,8 +6,8 @@ use Rattle.std.proofs.lemmas.List.Elements.{All-contains}
 use Rattle.std.proofs.lemmas.List.Sums.{AllPass-from_list_all}
 use Rattle.std.proofs.lemmas.Nat.{from_le_bytes-to_le_bytes_4, from_le_bytes-to_le_bytes_8}
 use Rattle.std.specs.Int.{w32, w64, to_le_bytes}
-use Rattle.std.specs.List.{AllByRecursion, Contains}
-use Rattle.wasm_bodies.specs.OperatorGrammar.{code_of, is_prefix, IsCode, IsBlockType, IsIndexWith, IsAlignment, IsOffset, IsMemoryArgument, AreImmediates, IsOperator}
+use Rattle.std.specs.List.{AllByRecursion, Contains, flat_map}
+use Rattle.wasm_bodies.specs.OperatorGrammar.{code_of, is_prefix, IsCode, IsBlockType, IsIndexWith, IsAlignment, IsOffset, IsMemoryArgument, AreImmediates, IsOperator, IsOperators}
 use Rattle.wasm_bodies.specs.OperatorRows.{OperatorCode, Byte, Prefixed, ScalarRow, AccessRow, scalar_rows, load_rows, store_rows}
 use Rattle.wasm_bodies.specs.Operators.{BlockType, Empty, Value, Indexed, MemoryArgument, Operator, Unreachable, Nop, Block, Loop, If, Br, BrIf, BrTable, Call, CallIndirect, ReturnCall, ReturnCallIndirect, CallRef, ReturnCallRef, BrOnNull, BrOnNonNull, SelectTyped, LocalGet, LocalSet, LocalTee, GlobalGet, GlobalSet, I32Const, I64Const, F32Const, F64Const, V128Const, Scalar, Load, Store, MemorySize, MemoryGrow, MemoryFill, MemoryCopy, MemoryInit, DataDrop, TableGet, TableSet, TableSize, TableGrow, TableFill, TableCopy, TableInit, ElemDrop, RefNull, RefFunc, StructNew, StructNewDefault, ArrayNew, ArrayNewDefault, ArrayNewFixed, Else, End, Return, Drop, Select, RefIsNull, RefEq, RefAsNonNull, RefI31, AnyConvertExtern, ExternConvertAny}
 use Rattle.wasm_encoder_instructions.proofs.LeastForms.{IsLeast, least, nothing, both, besides}
@@ -303,4 +303,17 @@ shortest_operator features f operator small short =
     let i = immediates features f operator small (omega (arith, short, length-append (code_encoding (code_of operator)) (immediates_encoding operator))) in
     let s = both (λ other. IsCode other (code_of operator)) (λ other. AreImmediates features other operator)
     (code_encoding (code_of operator)) (immediates_encoding operator) c i in
+    record { encodes = s.0; shortest = λ other h. s.1 other h }
+
+-- ---- one after the other
+
+pub shortest_operators : (features : Features) → HasWholeImmediates features → (operators : List (Operator ℕ)) → AllByRecursion IsSmallOperator operators
+    → length (flat_map operator_encoding operators) < 2 ^ 32 → IsShortest (IsOperators features) (flat_map operator_encoding operators) operators
+shortest_operators features f [] small short = record { encodes = refl; shortest = λ other h. omega arith }
+shortest_operators features f (operator ∷ operators) small short =
+    let parts = length-append (operator_encoding operator) (flat_map operator_encoding operators) in
+    let first = shortest_operator features f operator small.0 (omega (arith, short, parts)) in
+    let others = shortest_operators features f operators small.1 (omega (arith, short, parts)) in
+    let s = both (λ other. IsOperator features other operator) (λ other. IsOperators features other operators)
+    (operator_encoding operator) (flat_map operator_encoding operators) (first.encodes, λ other h. first.shortest other h) (others.encodes, λ other h. others.shortest other h) in
     record { encodes = s.0; shortest = λ other h. s.1 other h }

@@ -4,7 +4,7 @@ use crate::alone::encode_alone;
 use crate::block_type::BlockType;
 use crate::ieee::{Ieee32, Ieee64};
 use crate::mem_arg::MemArg;
-use crate::parts::parts;
+use crate::parts::{code_of, immediates_of};
 use crate::scalar_instruction::ScalarInstruction;
 use wasm_core_types::types::{HeapType, ValType};
 use wasm_core_write::encode::Encode;
@@ -212,15 +212,13 @@ impl Encoding for Instruction<'_> {
 
     #[tactic(auto, using(crate::proofs::WrittenParts::whole), unfolding(crate::specs::Codes::written_code))]
     fn size(&self) -> Result<u64, EncodeError> {
-        let (code, immediates) = parts(self);
-        add_sizes(code.size()?, immediates.size()?)
+        add_sizes(code_of(self).size()?, immediates_of(self).size()?)
     }
 
     #[tactic(auto, using(crate::proofs::WrittenParts::whole), unfolding(crate::specs::Codes::written_code))]
     fn put(&self, sink: &mut Vec<u8>) {
-        let (code, immediates) = parts(self);
-        code.put(sink);
-        immediates.put(sink);
+        code_of(self).put(sink);
+        immediates_of(self).put(sink);
     }
 }
 

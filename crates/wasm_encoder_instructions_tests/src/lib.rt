@@ -5,3 +5,5 @@
 mod instructions;
 #[cfg(test)]
 mod scalars;
+#[cfg(test)]
+mod sinks;

@@ -159,27 +159,30 @@ const SCALARS: &[ScalarInstruction] = &[
     ScalarInstruction::I64TruncSatF64U,
 ];
 
-// Whether this one is called so, and these bytes are written of it.
-fn is_written(alloc: Global, scalar: ScalarInstruction, name: &str, bytes: &[u8]) -> Option<bool> {
+// Whether bytes are the code of this number: a byte, and past the last of these a second code.
+fn are_code(bytes: &[u8], number: u8) -> bool {
+    if number < 0xc5 {
+        return bytes == [number].as_slice();
+    }
+    bytes == [0xfc, number - 0xc5].as_slice()
+}
+
+// Whether this one is called so, and the code of this number is written of it.
+fn is_written(alloc: Global, scalar: ScalarInstruction, name: &str, number: u8) -> Option<bool> {
     let mut sink = Vec::new(alloc);
     Instruction::Scalar(scalar).encode(&mut sink).ok()?;
-    Some(sink.as_slice() == bytes && debugs(alloc, &scalar, name))
+    Some(are_code(&sink, number) && debugs(alloc, &scalar, name))
 }
 
 // How many have the names and the codes in their order.
 fn count_written(alloc: Global) -> u32 {
     let mut count: u32 = 0;
-    let mut code: u8 = 0x45;
+    let mut number: u8 = 0x45;
     for (scalar, name) in SCALARS.iter().zip(NAMES.split_whitespace()) {
-        let bytes: &[u8] = if code < 0xc5 {
-            &[code]
-        } else {
-            &[0xfc, code - 0xc5]
-        };
-        if is_written(alloc, *scalar, name, bytes) == Some(true) {
+        if is_written(alloc, *scalar, name, number) == Some(true) {
             count = count.saturating_add(1);
         }
-        code = code.saturating_add(1);
+        number = number.saturating_add(1);
     }
     count
 }

@@ -1,0 +1,2 @@
+pub mod ItemEncodings
+pub mod CoreItems

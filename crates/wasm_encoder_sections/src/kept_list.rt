@@ -75,6 +75,17 @@ impl<T: Encoding + Drop> KeptList<T> {
         Ok(())
     }
 
+    /// Whether another item can be added: nothing is refused but where [`KeptList::push`] would answer `TooLong`.
+    pub fn check_room(&self) -> Result<(), EncodeError>
+        ensures room { IfOk result (λ _. length self.now + 1 < 2 ^ 32) }
+        ensures too_long { IfErr result (λ e. (e ≡ EncodeError.TooLong) × (2 ^ 32 ≤ length self.now + 1)) }
+    {
+        if self.items.len() >= 4_294_967_295 {
+            return Err(EncodeError::TooLong);
+        }
+        Ok(())
+    }
+
     // The length of the items' encodings and of one after them.
     #[tactic(auto, using(wasm_spec::proofs::ListEncodings::sizes))]
     fn size_with(&self, item: &T) -> Result<u64, EncodeError>

@@ -7,8 +7,9 @@ A chaining call is `fn NAME(&mut self, ..) -> Result<&mut TYPE, EncodeError>`, w
 No body of this kind has a generated proof, and the proofs differ in names alone.
 
 A line: FILE TYPE NAME CALL | ARGUMENT .. | NEXT | FULL | IMPORT ; IMPORT ..
-- FILE is the module with `.` in it as `::`, ARGUMENT is `name:KIND`, with the KIND `u32` (and other integers), `str`, `[u8]`, `&CRATE.FILE.TYPE`,
-  `CRATE.FILE.TYPE` (a `Copy` type) or `move CRATE.FILE.TYPE` with `_` for the blank, and an imported lemma after `!` where it doesn't compute.
+- FILE is the module, with `::` in it, ARGUMENT is `name:KIND`, with the KIND `u32` (and other integers), `str`, `[u8]`, `[CRATE.FILE.TYPE]`,
+  `&CRATE.FILE.TYPE` (with `'` at the end where the type has a lifetime), `CRATE.FILE.TYPE` (a `Copy` type), or `move_CRATE.FILE.TYPE` (one that is
+  owned), where `!LEMMA` follows if what is left of it has to be shown to be nothing by cases.
 - NEXT is what the value `s` becomes, FULL when the call answers `TooLong`, or `memory`.
 """
 import os
@@ -30,7 +31,7 @@ class Argument:
         self.name, kind = text.split(":", 1)
         self.moved = kind.startswith("move_")
         kind, _, self.silent = kind.removeprefix("move_").partition("!")
-        self.number, self.uses, self.lifetime = number, [], None
+        self.number, self.uses, self.lifetimes = number, [], 0
         row = f"X{number}"
         if kind in UINTS or kind in SINTS:
             family, width = ("uint", UINTS[kind]) if kind in UINTS else ("sint", SINTS[kind])
@@ -38,13 +39,13 @@ class Argument:
             self.uses = [f"denote.Builtin.{{{kind}}}", f"{place}.{{{family}_Lawful}}", f"mir.Syntax.{{{width}}}"]
             self.slot, self.row, self.lawful = f"plain (λ _. {kind})", kind, f"{family}_Lawful 𝓛 {width}"
         elif kind == "str":
-            j = self.lifetime = lifetimes
+            j, self.lifetimes = lifetimes, 1
             self.uses = ["denote.Text.{Str, StrRefOf, str-laws}"]
             self.slot, self.row = f"StrRefOf ({j} ∷ []) tt", f"Str (named {j}) κ{j}"
             self.lawful = f"(str-laws (record {{ mir = named {j}; lft = κ{j} }})).lawful 𝓛"
         elif kind.startswith("["):
             j, item = lifetimes, kind[1:-1]
-            self.lifetime = j
+            self.lifetimes = 1
             self.uses = ["denote.Builtin.{SliceRefOf}", "denote.Slice.{ShrSlice, shr_slice_Lawful}"]
             if "." in item:
                 self.uses.append(declared(item, row))
@@ -54,12 +55,20 @@ class Argument:
             self.slot, self.row = f"SliceRefOf ({j} ∷ []) tt (plain (λ _. {row})) (λ _. tt)", f"ShrSlice (named {j}) κ{j} {row}"
             self.lawful = f"shr_slice_Lawful 𝓛 (named {j}) κ{j} {row}"
         else:
-            behind = kind.startswith("&")
-            crate, *path, name = kind.removeprefix("&").split(".")
+            behind, lends = kind.startswith("&"), kind.endswith("'")
+            kind = kind.removeprefix("&").removesuffix("'")
+            crate, *path, name = kind.split(".")
             path = ".".join(path)
-            self.uses = [declared(kind.removeprefix("&"), row)]
-            if behind:
-                j = self.lifetime = lifetimes
+            self.uses = [declared(kind, row)]
+            if behind and lends:
+                j, self.lifetimes = lifetimes, 2
+                self.uses += ["denote.Builtin.{RefOf}", "denote.Ref.{ShrRef, shr_Lawful}", "denote.Signature.{named_lft}"]
+                inner = f"{row} (named_lft @COUNT@ {j + 1} tt"
+                self.slot = f"RefOf ({j} ∷ []) tt (plain (λ κs. {inner} κs))) (λ _. tt)"
+                self.row = f"ShrRef (named {j}) κ{j} ({inner} y.0.0))"
+                self.lawful = f"shr_Lawful 𝓛 (named {j}) κ{j} ({inner} y.0.0))"
+            elif behind:
+                j, self.lifetimes = lifetimes, 1
                 self.uses += ["denote.Builtin.{RefOf}", "denote.Ref.{ShrRef, shr_Lawful}"]
                 self.slot, self.row = f"RefOf ({j} ∷ []) tt (plain (λ _. {row})) (λ _. tt)", f"ShrRef (named {j}) κ{j} {row}"
                 self.lawful = f"shr_Lawful 𝓛 (named {j}) κ{j} {row}"
@@ -217,7 +226,7 @@ def proof(crate, line, errors):
     found, lifetimes = [], 1
     for number, text in enumerate(arguments.split(), 1):
         argument = Argument(number, text, lifetimes)
-        lifetimes += argument.lifetime is not None
+        lifetimes += argument.lifetimes
         found.append(argument)
     count = len(found)
     place = lambda i: "1." * i + "0"
@@ -278,8 +287,8 @@ def proof(crate, line, errors):
         "PARAMETERS": "nothing ! $ " + "nothing ! $ fjoin ! $ " * (count + 1),
     }
     text = PROOF
-    for word, value in words.items():
-        text = text.replace(f"@{word}@", value)
+    for word in sorted(words, key="COUNT".__eq__):
+        text = text.replace(f"@{word}@", words[word])
     return os.path.join("proofs", *file.split("::"), type_name, name, "Proof.antt"), text
 
 

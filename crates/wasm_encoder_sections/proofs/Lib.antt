@@ -1,1 +1,3 @@
 pub mod ItemLists
+pub mod KeptLoops
+pub mod ImportLists

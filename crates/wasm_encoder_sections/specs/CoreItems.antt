@@ -14,8 +14,9 @@ use Rattle.wasm_encoder_sections.specs.declared.entity_type.EntityType.{EntityTy
 use Rattle.wasm_encoder_sections.specs.declared.entity_type.EntityType.TheVariants as entities
 use Rattle.wasm_encoder_sections.specs.declared.entity_type.ExportKind.{ExportKind}
 use Rattle.wasm_encoder_sections.specs.declared.entity_type.ExportKind.TheVariants as kinds
+use Rattle.wasm_encoder_sections.specs.declared.names.Name.{Name}
 use Rattle.wasm_encoder_sections.specs.declared.export_section.Export.{Export}
-use Rattle.wasm_encoder_sections.specs.ItemEncodings.{export_encoding, limits_encoding, memory_type_encoding, table_type_encoding, global_type_encoding, tag_type_encoding, external_type_encoding}
+use Rattle.wasm_encoder_sections.specs.ItemEncodings.{name_encoding, export_encoding, limits_encoding, memory_type_encoding, table_type_encoding, global_type_encoding, tag_type_encoding, external_type_encoding}
 
 abbrev pub limits : Limits → spec.Limits
 limits it = record { minimum = it.minimum; maximum = it.maximum; shared = it.shared; is_64 = it.is_64; page_size_log2 = it.page_size_log2 }
@@ -58,8 +59,11 @@ export_kind kinds.Memory = spec.MemoryKind
 export_kind kinds.Global = spec.GlobalKind
 export_kind kinds.Tag = spec.TagKind
 
+abbrev pub name_of : Name → List ℕ
+name_of name = string_bytes name.text
+
 abbrev pub export_of : Export → syntax.Export
-export_of it = record { name = string_bytes it.name; kind = export_kind it.kind; index = it.index }
+export_of it = record { name = name_of it.name; kind = export_kind it.kind; index = it.index }
 
 unfoldable pub limits_bytes : Limits → List ℕ
 limits_bytes it = limits_encoding (limits it)
@@ -78,6 +82,9 @@ tag_type_bytes type = tag_type_encoding (tag_type type)
 
 unfoldable pub entity_type_bytes : EntityType → List ℕ
 entity_type_bytes type = external_type_encoding (entity_type type)
+
+unfoldable pub name_bytes : Name → List ℕ
+name_bytes name = name_encoding (name_of name)
 
 unfoldable pub export_bytes : Export → List ℕ
 export_bytes it = export_encoding (export_of it)

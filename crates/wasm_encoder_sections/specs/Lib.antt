@@ -1,2 +1,3 @@
 pub mod ItemEncodings
 pub mod CoreItems
+pub mod CoreImports

@@ -8,7 +8,7 @@ ghost use Rattle.wasm_spec.specs.Shortest.{list_encoding, framed_encoding};
 
 use crate::entity_type::{ExportKind, kind_byte};
 use crate::kept_list::KeptList;
-use crate::names::{name_size, put_name};
+use crate::names::Name;
 use std::alloc::Global;
 use std::marker::Model;
 use wasm_core_write::encode::{Encode, Section};
@@ -19,7 +19,7 @@ use wasm_core_write::leb128::{len_u64, put_u64};
 // What is exported, under a name of its own.
 #[derive(Drop)]
 struct Export {
-    name: String,
+    name: Name,
     kind: ExportKind,
     index: u32,
 }
@@ -27,17 +27,14 @@ struct Export {
 impl Encoding for Export {
     ghost encoding = { export_bytes };
 
-    #[tactic(auto, using(wasm_spec::proofs::ListEncodings::parts), unfolding(crate::specs::CoreItems::export_bytes, crate::specs::ItemEncodings::export_encoding))]
+    #[tactic(auto, using(wasm_spec::proofs::ListEncodings::parts), unfolding(crate::specs::CoreItems::export_bytes, crate::specs::CoreItems::name_bytes, crate::specs::ItemEncodings::export_encoding))]
     fn size(&self) -> Result<u64, EncodeError> {
-        add_sizes(
-            name_size(self.name.as_str())?,
-            1 + len_u64(u64::from(self.index)) as u64,
-        )
+        add_sizes(self.name.size()?, 1 + len_u64(u64::from(self.index)) as u64)
     }
 
-    #[tactic(auto, using(wasm_spec::proofs::ListEncodings::parts), unfolding(crate::specs::CoreItems::export_bytes, crate::specs::ItemEncodings::export_encoding))]
+    #[tactic(auto, using(wasm_spec::proofs::ListEncodings::parts), unfolding(crate::specs::CoreItems::export_bytes, crate::specs::CoreItems::name_bytes, crate::specs::ItemEncodings::export_encoding))]
     fn put(&self, sink: &mut Vec<u8>) {
-        put_name(self.name.as_str(), sink);
+        self.name.put(sink);
         sink.push_reserved(kind_byte(self.kind));
         put_u64(sink, u64::from(self.index));
     }
@@ -99,7 +96,7 @@ impl ExportSection {
         ensures too_long { (result ≡ Err EncodeError.TooLong) ↔ (2 ^ 32 ≤ length self.old + 1) }
     {
         self.exports.check_room()?;
-        let name = String::from_str(self.alloc, name)?;
+        let name = Name::new(self.alloc, name)?;
         self.exports.push(Export { name, kind, index })
     }
 

@@ -3,7 +3,7 @@
 -- other sizes and compact imports are as in their proposals.
 use Rattle.std.specs.Prelude.{ℕ, List, [], ◌∷◌, ◌++◌, Option, Some, None, if◌then◌else◌}
 use Rattle.wasm_spec.specs.Shortest.{unsigned_encoding, list_encoding, framed_encoding}
-use Rattle.wasm_spec.specs.Syntax.{ImportItem, ImportEntry, Import, CompactItems, CompactNames, Export}
+use Rattle.wasm_spec.specs.Syntax.{ImportItem, ImportEntry, Import, CompactItems, CompactNames, Export, Table}
 use Rattle.wasm_spec.specs.TypeEncodings.{ref_encoding, val_encoding}
 use Rattle.wasm_spec.specs.TypeGrammar.{limits_flags, kind_code}
 use Rattle.wasm_spec.specs.Types.{Limits, MemoryType, TableType, GlobalType, ExternalType, FuncExternal, TableExternal, MemoryExternal, GlobalExternal, TagExternal, kind_of}
@@ -25,6 +25,10 @@ memory_type_encoding type = limits_encoding type
 -- (Types, "Table Types")
 unfoldable pub table_type_encoding : TableType ℕ → List ℕ
 table_type_encoding type = ref_encoding type.element_type.nullable type.element_type.heap_type ++ limits_encoding type.limits
+
+-- a table without an initialiser, which is written as its type
+abbrev pub bare_table : TableType ℕ → Table
+bare_table type = record { type = type; initialiser = None }
 
 -- (Types, "Global Types")
 unfoldable pub global_type_encoding : GlobalType ℕ → List ℕ

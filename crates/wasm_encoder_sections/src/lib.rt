@@ -9,6 +9,7 @@ pub mod import_section;
 pub mod imports;
 mod kept_imports;
 pub mod kept_list;
+pub mod laws;
 mod limits;
 pub mod memory_section;
 mod names;

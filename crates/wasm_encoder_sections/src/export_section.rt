@@ -17,7 +17,7 @@ use wasm_core_write::encoding::{Encoding, add_sizes, encode_framed, framed_len};
 use wasm_core_write::leb128::{len_u64, put_u64};
 
 // What is exported, under a name of its own.
-#[derive(Drop)]
+#[derive(Debug, Drop)]
 struct Export {
     name: Name,
     kind: ExportKind,
@@ -41,7 +41,7 @@ impl Encoding for Export {
 }
 
 /// What a module exports. Contracts see the list of it.
-#[derive(Drop)]
+#[derive(Debug, Drop)]
 pub struct ExportSection {
     alloc: Global,
     exports: KeptList<Export>,

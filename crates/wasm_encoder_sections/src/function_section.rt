@@ -12,7 +12,7 @@ use wasm_core_write::encode_error::EncodeError;
 use wasm_core_write::encoding::{encode_framed, framed_len};
 
 /// The type indexes of a module's own functions. Contracts see the list of them.
-#[derive(Drop)]
+#[derive(Debug, Drop)]
 pub struct FunctionSection {
     functions: KeptList<u32>,
 }

@@ -19,7 +19,7 @@ use wasm_core_write::encode_error::EncodeError;
 use wasm_core_write::encoding::{encode_framed, framed_len};
 
 /// What a module imports. Contracts see the list of its entries, of which one may be several imports.
-#[derive(Drop)]
+#[derive(Debug, Drop)]
 pub struct ImportSection {
     alloc: Global,
     entries: KeptList<KeptImports>,

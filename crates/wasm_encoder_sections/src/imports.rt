@@ -3,7 +3,7 @@
 use crate::entity_type::EntityType;
 
 /// One import.
-#[derive(Clone, Copy)]
+#[derive(Clone, Copy, Debug)]
 pub struct Import<'a> {
     /// The name of the module that it is from.
     pub module: &'a str,
@@ -14,7 +14,7 @@ pub struct Import<'a> {
 }
 
 /// One of several imports from a module.
-#[derive(Clone, Copy)]
+#[derive(Clone, Copy, Debug)]
 pub struct ImportCompact<'a> {
     /// Its own name.
     pub name: &'a str,
@@ -23,7 +23,7 @@ pub struct ImportCompact<'a> {
 }
 
 /// An import, or several that share the name of their module. The latter are a proposal's.
-#[derive(Clone, Copy)]
+#[derive(Clone, Copy, Debug)]
 pub enum Imports<'a> {
     /// One import.
     Single(Import<'a>),

@@ -11,14 +11,14 @@ use wasm_core_write::encode_error::EncodeError;
 use wasm_core_write::encoding::{Encoding, add_sizes, list_size, put_list};
 
 /// One of several imports from a module, as it is kept.
-#[derive(Drop)]
+#[derive(Debug, Drop)]
 pub struct KeptItem {
     name: Name,
     ty: EntityType,
 }
 
 /// An import, or several that share the name of their module, as they are kept.
-#[derive(Drop)]
+#[derive(Debug, Drop)]
 pub enum KeptImports {
     Single {
         module: Name,

@@ -12,7 +12,7 @@ use wasm_core_write::encoding::{Encoding, add_sizes, item_len, put_list};
 use wasm_core_write::leb128::len_u64;
 
 /// Items in the order in which they were added. Contracts see the list of them.
-#[derive(Drop)]
+#[derive(Debug, Drop)]
 pub struct KeptList<T: Encoding + Drop> {
     items: Vec<T>,
     // The length of the items' encodings, one after the other, so that writing need not measure them.
@@ -66,9 +66,7 @@ impl<T: Encoding + Drop> KeptList<T> {
         ensures kept { IfErr result (λ _. self.new ≡ self.old) }
         ensures too_long { (result ≡ Err EncodeError.TooLong) ↔ (2 ^ 32 ≤ length self.old + 1) }
     {
-        if self.items.len() >= 4_294_967_295 {
-            return Err(EncodeError::TooLong);
-        }
+        self.check_room()?;
         let size = self.size_with(&item);
         self.items.push(item)?;
         self.size = size;

@@ -31,7 +31,7 @@ pub fn put_name(name: &str, sink: &mut Vec<u8>)
 }
 
 /// A name that is kept.
-#[derive(Drop)]
+#[derive(Debug, Drop)]
 pub struct Name {
     text: String,
 }

@@ -15,7 +15,7 @@ use wasm_core_write::encode_error::EncodeError;
 use wasm_core_write::encoding::{encode_framed, framed_len};
 
 /// The types of a module's own tables, which have no initialisers. Contracts see the list of them.
-#[derive(Drop)]
+#[derive(Debug, Drop)]
 pub struct TableSection {
     tables: KeptList<TableType>,
 }

@@ -1,4 +1,4 @@
--- `array_new` lends the value to `push_array_new`, and hands on the reference itself, or lets it rest where it was. Written by bench/chains.py.
+-- `array_new` lends the value to `push_array_new`, and hands on the reference itself, or lets it rest where it was. Written by tools/chains.py.
 use Rattle.std.proofs.Common.{◌≡◌, ℕ, List, [], ◌∷◌, ◌++◌, refl, sym, subst, lit<, MutBor}
 use Rattle.std.proofs.raw_atomic.Walks.{proved_at}
 use base.Fraction.{full_share}

@@ -1,4 +1,4 @@
--- `br_if` lends the value to `push_br_if`, and hands on the reference itself, or lets it rest where it was. Written by bench/chains.py.
+-- `br_if` lends the value to `push_br_if`, and hands on the reference itself, or lets it rest where it was. Written by tools/chains.py.
 use Rattle.std.proofs.Common.{◌≡◌, ℕ, List, [], ◌∷◌, ◌++◌, refl, sym, subst, lit<, MutBor}
 use Rattle.std.proofs.raw_atomic.Walks.{proved_at}
 use base.Fraction.{full_share}

@@ -1,4 +1,4 @@
--- `data_drop` lends the value to `push_data_drop`, and hands on the reference itself, or lets it rest where it was. Written by bench/chains.py.
+-- `data_drop` lends the value to `push_data_drop`, and hands on the reference itself, or lets it rest where it was. Written by tools/chains.py.
 use Rattle.std.proofs.Common.{◌≡◌, ℕ, List, [], ◌∷◌, ◌++◌, refl, sym, subst, lit<, MutBor}
 use Rattle.std.proofs.raw_atomic.Walks.{proved_at}
 use base.Fraction.{full_share}

@@ -1,4 +1,4 @@
--- `table_copy` lends the value to `push_table_copy`, and hands on the reference itself, or lets it rest where it was. Written by bench/chains.py.
+-- `table_copy` lends the value to `push_table_copy`, and hands on the reference itself, or lets it rest where it was. Written by tools/chains.py.
 use Rattle.std.proofs.Common.{◌≡◌, ℕ, List, [], ◌∷◌, ◌++◌, refl, sym, subst, lit<, MutBor}
 use Rattle.std.proofs.raw_atomic.Walks.{proved_at}
 use base.Fraction.{full_share}

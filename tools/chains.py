@@ -130,7 +130,7 @@ Rattle.wasm_core_write.specs.contracts.encode_error.EncodeError.{the_row as erro
 Rattle.wasm_core_write.proofs.encode_error.EncodeError.TheLaws.{lowered}
 Rattle.wasm_core_write.proofs.Chains.{Done, done_row, refused, alone, good, good_refused, same_error, by_result}""".split("\n")
 
-PROOF = """-- `@NAME@` lends the value to `@CALL@`, and hands on the reference itself, or lets it rest where it was. Written by bench/chains.py.
+PROOF = """-- `@NAME@` lends the value to `@CALL@`, and hands on the reference itself, or lets it rest where it was. Written by tools/chains.py.
 @USES@
 
 abbrev Out : List ℕ → RattleType

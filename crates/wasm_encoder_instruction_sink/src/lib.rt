@@ -5,6 +5,7 @@ mod aggregates;
 mod calls;
 mod control;
 pub mod instruction_sink;
+pub mod laws;
 mod loads;
 mod memories;
 mod numbers;

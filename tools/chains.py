@@ -8,7 +8,7 @@ No body of this kind has a generated proof, and the proofs differ in names alone
 
 A line: FILE TYPE NAME CALL | ARGUMENT .. | NEXT | FULL | IMPORT ; IMPORT ..
 - FILE is the module, with `::` in it, ARGUMENT is `name:KIND`, with the KIND `u32` (and other integers), `str`, `[u8]`, `[CRATE.FILE.TYPE]`,
-  `&CRATE.FILE.TYPE` (with `'` at the end where the type has a lifetime), `CRATE.FILE.TYPE` (a `Copy` type), or `move_CRATE.FILE.TYPE` (one that is
+  `&CRATE.FILE.TYPE` (with `'` at the end where the type has a lifetime), `CRATE.FILE.TYPE` (a `Copy` type, likewise), or `move_CRATE.FILE.TYPE` (one that is
   owned), where `!LEMMA` follows if what is left of it has to be shown to be nothing by cases.
 - NEXT is what the value `s` becomes, FULL when the call answers `TooLong`, or `memory`.
 """
@@ -32,6 +32,8 @@ class Argument:
         self.moved = kind.startswith("move_")
         kind, _, self.silent = kind.removeprefix("move_").partition("!")
         self.number, self.uses, self.lifetimes = number, [], 0
+        # Whether the compiled body stores it before the call.
+        self.stored = self.moved or "'" in kind and "&" not in kind
         row = f"X{number}"
         if kind in UINTS or kind in SINTS:
             family, width = ("uint", UINTS[kind]) if kind in UINTS else ("sint", SINTS[kind])
@@ -75,6 +77,12 @@ class Argument:
             else:
                 self.uses += [f"Rattle.{crate}.proofs.{path}.{name}.TheLaws.{{the_row_laws as laws{number}}}"]
                 self.slot, self.row, self.lawful = f"plain (λ _. {row})", row, f"laws{number}.lawful 𝓛"
+                if lends:
+                    self.lifetimes = 1
+                    self.uses += ["denote.Signature.{named_lft}"]
+                    lent = f"(named_lft @COUNT@ {lifetimes} tt"
+                    self.slot, self.row = f"plain (λ κs. {row} {lent} κs))", f"{row} {lent} y.0.0)"
+                    self.lawful = f"(laws{number} {lent} y.0.0)).lawful 𝓛"
 
 
 def merged(uses):
@@ -256,7 +264,7 @@ def proof(crate, line, errors):
     lifetime_lines = "".join(f"    let κ{j} = y.0.0.{place(j)} in let q{j} = y.0.1.{place(j)} in\n" for j in range(1, lifetimes))
     memory = full == "memory"
     reason = (lambda t: f"IfErr {t} (λ e. e ≡ EncodeError.Memory)") if memory else (lambda t: f"({t} ≡ Err EncodeError.TooLong) ↔ Full")
-    moved = sum(a.moved for a in found)
+    stored = sum(a.stored for a in found)
     values = "vptr b o ∷ " + "".join(f"one{a.number}.0 ∷ " for a in found) + "[]"
     equal = "are.0.0 i ++ "
     tail = "[]"
@@ -276,13 +284,13 @@ def proof(crate, line, errors):
         "OTHERS": "".join(f"‵ (flft κ{j} q{j}) ⊛ " for j in range(1, lifetimes)) + "‵ ftrue",
         "GIVEN": "".join(own_val(a, f"y.0.4.{place(a.number)}") for a in found) + "‵ ftrue",
         "VALUES": values, "EQUAL": equal + tail, "TYPED": nested([f"one{a.number}.1.1" for a in found]),
-        "MOVED": "".join(f" sets ! (of_opd ! (get ! refl)) refl one{a.number}.1.1 $" for a in found if a.moved),
+        "MOVED": "".join(f" sets ! (of_opd ! (get ! refl)) refl one{a.number}.1.1 $" for a in found if a.stored),
         "GETS": "(and_then ! (get ! refl) " * count + "(no_more !)" + ")" * count,
         "LASTS": "(" + "".join(f"Last (({a.row}).exit yes) x{a.number} × (" for a in found) + "Unit {0}" + ")" * count + ")",
         "REASON_u": reason("u"), "REASON_t": reason("t"),
         "REASON_ok": "tt" if memory else "same_error tt r' EncodeError.TooLong (Ok ok) is.2",
         "REASON_err": "is.2" if memory else "same_error tt r' EncodeError.TooLong (Err error) is.2",
-        "FORK": str(2 + moved), "LAST": str(3 + moved),
+        "FORK": str(2 + stored), "LAST": str(3 + stored),
         "RESTS": nested([f"rest (({a.row}).exit yes) x{a.number}" for a in found]), "UNITS": nested(["tt"] * count),
         "PARAMETERS": "nothing ! $ " + "nothing ! $ fjoin ! $ " * (count + 1),
     }

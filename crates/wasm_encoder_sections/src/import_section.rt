@@ -121,16 +121,25 @@ impl ImportSection {
     ///
     /// # Errors
     /// Those of [`ImportSection::push`]. The section is then as it was.
-    pub fn imports(&mut self, imports: &Imports<'_>) -> Result<&mut ImportSection, EncodeError>
+    pub fn imports(&mut self, imports: Imports<'_>) -> Result<&mut ImportSection, EncodeError>
         ensures* refused { sem 𝓛 (LendsIfOk the_row the_row self.entry result (λ w. w) self.old) }
         ensures same_reference { IfOk result (λ s. s.ghost_name ≡ self.entry.ghost_name) }
-        ensures added { IfOk result (λ s. s.now ≡ self.old ++ lent_entry imports.now ∷ []) }
+        ensures added { IfOk result (λ s. s.now ≡ self.old ++ lent_entry imports.entry ∷ []) }
         ensures too_long { (result ≡ Err EncodeError.TooLong) ↔ (2 ^ 32 ≤ length self.old + 1) }
     {
-        match self.push(imports) {
+        match self.push_imports(imports) {
             Ok(()) => Ok(self),
             Err(error) => Err(error),
         }
+    }
+
+    // What `imports` does.
+    fn push_imports(&mut self, imports: Imports<'_>) -> Result<(), EncodeError>
+        ensures added { IfOk result (λ _. self.new ≡ self.old ++ lent_entry imports.entry ∷ []) }
+        ensures kept { IfErr result (λ _. self.new ≡ self.old) }
+        ensures too_long { (result ≡ Err EncodeError.TooLong) ↔ (2 ^ 32 ≤ length self.old + 1) }
+    {
+        self.push(&imports)
     }
 
     /// The number of bytes of the entry of the accepted adding call of this number, counted from 0. It takes no

@@ -82,7 +82,7 @@ fn add_compact(section: &mut ImportSection) -> bool {
         ty: EntityType::Memory(MEMORY),
     }];
     let several = Imports::Compact1 { module: "m", items };
-    section.imports(&several).is_ok()
+    section.imports(several).is_ok()
 }
 
 fn compact(alloc: Global) -> Option<bool> {
@@ -110,7 +110,7 @@ fn add_alike(section: &mut ImportSection) -> bool {
         ty: EntityType::Function(1),
         names,
     };
-    section.imports(&several).is_ok()
+    section.imports(several).is_ok()
 }
 
 fn alike(alloc: Global) -> Option<bool> {
@@ -140,10 +140,10 @@ fn is_taken(section: &mut ImportSection) -> bool {
         names,
     };
     let before = section.len();
-    match section.imports(&several).err() {
+    match section.imports(several).err() {
         Some(refusal) => {
             let is_kept = refusal == EncodeError::Memory && section.len() == before;
-            is_kept && section.imports(&several).is_ok()
+            is_kept && section.imports(several).is_ok()
         }
         None => true,
     }

@@ -1,0 +1,13 @@
+//! The encoder of WebAssembly modules, in one place. The parts are the crates whose names begin with this one's; what modules and type sections are written by
+//! is shown too.
+#![tactic(auto)]
+
+pub use wasm_core_types::types;
+pub use wasm_core_write::{encode, encode_error, module, rec_group, type_section};
+pub use wasm_encoder_expressions::const_expr;
+pub use wasm_encoder_instruction_sink::instruction_sink;
+pub use wasm_encoder_instructions::{block_type, ieee, instruction, mem_arg, scalar_instruction};
+pub use wasm_encoder_sections::{
+    data_count_section, entity_type, export_section, function_section, import_section, imports,
+    memory_section, start_section, table_section, tag_section,
+};

@@ -1,0 +1,2 @@
+mod FunctionFronts
+mod VectorCode

@@ -1,0 +1,5 @@
+//! Constant expressions and function bodies, which are built as their bytes: a part of `wasm_encoder`.
+#![tactic(auto)]
+
+pub mod const_expr;
+mod numbers;

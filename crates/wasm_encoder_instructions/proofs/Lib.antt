@@ -1,0 +1,4 @@
+mod LeastForms
+mod ShortestOperators
+mod ShortestValues
+mod WrittenParts

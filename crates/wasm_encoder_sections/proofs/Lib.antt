@@ -1,0 +1,6 @@
+pub mod ItemLists
+pub mod KeptLoops
+pub mod ImportLists
+pub mod ShortestEntities
+pub mod ShortestImports
+pub mod ShortestSections

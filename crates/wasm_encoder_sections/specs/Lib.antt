@@ -1,0 +1,4 @@
+pub mod ItemEncodings
+pub mod CoreItems
+pub mod CoreImports
+pub mod SmallItems

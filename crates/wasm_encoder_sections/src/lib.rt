@@ -1,0 +1,18 @@
+//! The sections of a module that keep their items until they are written.
+#![tactic(auto)]
+
+pub mod data_count_section;
+pub mod entity_type;
+pub mod export_section;
+pub mod function_section;
+pub mod import_section;
+pub mod imports;
+mod kept_imports;
+pub mod kept_list;
+pub mod laws;
+mod limits;
+pub mod memory_section;
+mod names;
+pub mod start_section;
+pub mod table_section;
+pub mod tag_section;

@@ -1,0 +1,80 @@
+//! Export sections.
+
+use crate::written::holds;
+use std::alloc::Global;
+use std::test::Fail;
+use wasm_core_write::encode_error::EncodeError;
+use wasm_encoder_sections::entity_type::ExportKind;
+use wasm_encoder_sections::export_section::ExportSection;
+use wasm_test_rows::fields::{three_fields, word_and_rest};
+use wasm_test_rows::rows::check_rows;
+
+fn kind_of(word: &str) -> Option<ExportKind> {
+    match word {
+        "func" => Some(ExportKind::Func),
+        "table" => Some(ExportKind::Table),
+        "memory" => Some(ExportKind::Memory),
+        "global" => Some(ExportKind::Global),
+        "tag" => Some(ExportKind::Tag),
+        _ => None,
+    }
+}
+
+// The kind, the index, and the name, which may be empty.
+fn add(section: &mut ExportSection, entry: &str) -> Option<()> {
+    let (kind, rest) = word_and_rest(entry);
+    let (index, name) = word_and_rest(rest);
+    let kind = kind_of(kind)?;
+    let index = index.parse().ok()?;
+    if section.export(name, kind, index).is_err() {
+        return None;
+    }
+    Some(())
+}
+
+fn exports_of(alloc: Global, entries: &str) -> Option<ExportSection> {
+    let mut section = ExportSection::new(alloc);
+    for entry in entries.split_terminator(';') {
+        add(&mut section, entry)?;
+    }
+    Some(section)
+}
+
+fn export_row(alloc: Global, row: &str) -> Option<bool> {
+    let (entries, lengths, bytes) = three_fields(row)?;
+    let section = exports_of(alloc, entries)?;
+    holds(alloc, &section, lengths, bytes)
+}
+
+const EXPORTS: &str = "
+    func 0 f | 4 | 07 05 01 01 66 00 00
+    memory 0 a ; memory 0 a | 4 4 | 07 09 02 01 61 02 00 01 61 02 00
+    table 1 ; global 128 äb ; tag 3 t | 3 7 4 | 07 0f 03 00 01 01 03 c3 a4 62 03 80 01 01 74 04 03
+";
+
+#[test]
+fn export_sections(rt: HostRuntime) -> Result<(), Fail> {
+    check_rows(rt.alloc(), EXPORTS, 3, export_row)?;
+    Ok(())
+}
+
+// For `rt try --test --fail-alloc N`: an export goes in at the second call where the first is refused.
+fn is_taken(section: &mut ExportSection) -> bool {
+    let before = section.len();
+    match section.export("name", ExportKind::Func, 1).err() {
+        Some(refusal) => {
+            let is_kept = refusal == EncodeError::Memory && section.len() == before;
+            is_kept && section.export("name", ExportKind::Func, 1).is_ok()
+        }
+        None => true,
+    }
+}
+
+#[test]
+fn refusals_change_nothing(rt: HostRuntime) {
+    let mut section = ExportSection::new(rt.alloc());
+    for _ in 0..10_u32 {
+        assert!(rt; is_taken(&mut section));
+    }
+    assert!(rt; section.len() == 10);
+}

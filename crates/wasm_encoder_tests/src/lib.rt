@@ -1,0 +1,5 @@
+//! Tests of the encoder's sections together, through public calls alone.
+#![tactic(auto)]
+
+#[cfg(test)]
+mod modules;

@@ -1,6 +1,6 @@
 //! Instructions appended to bytes, one after the other.
 
-ghost use Rattle.std.specs.Prelude.{◌≡◌, [], IfOk, IfErr};
+ghost use Rattle.std.specs.Prelude.{◌≡◌, [], IfOk, IfErr, vec_capacity};
 ghost use Rattle.wasm_encoder_instructions.specs.Instructions.{instruction_encoding};
 ghost use Rattle.wasm_encoder_instruction_sink.specs.Sinks.{Appends, Refuses};
 
@@ -40,7 +40,8 @@ impl InstructionSink {
 
     /// These bytes, to which instructions are appended.
     pub fn from_bytes(bytes: Vec<u8>) -> InstructionSink
-        ensures { result.bytes ≡ bytes.items }
+        ensures bytes { result.bytes ≡ bytes.items }
+        ensures capacity { result.capacity ≡ vec_capacity bytes }
     {
         InstructionSink { bytes }
     }

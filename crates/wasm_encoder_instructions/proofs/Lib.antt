@@ -1,4 +1,5 @@
 mod LeastForms
 mod ShortestOperators
 mod ShortestValues
+mod TableRows
 mod WrittenParts

@@ -1,3 +1,4 @@
+pub mod AlignedInstructions
 pub mod Codes
 pub mod Immediates
 pub mod Instructions

@@ -13,3 +13,4 @@ pub mod mem_arg;
 mod parts;
 pub mod scalar_instruction;
 mod scalars;
+pub mod small_instructions;

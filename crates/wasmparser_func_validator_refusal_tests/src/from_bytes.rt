@@ -26,10 +26,7 @@ const BODIES: &str = "
 ";
 
 // Validates a body at once.
-fn validate(
-    validator: &mut FuncValidator<&ListedResources>,
-    bytes: &[u8],
-) -> Result<(), Error> {
+fn validate(validator: &mut FuncValidator<&ListedResources>, bytes: &[u8]) -> Result<(), Error> {
     let body = FunctionBody::new(BinaryReader::new(bytes, 0));
     validator.validate(&body)
 }

@@ -32,6 +32,9 @@ impl ValidatorResources {
     }
 }
 
+/// What bodies ask of a module whose sections are still to come: its state, as far as it is known, which is lent.
+pub type OperatorValidatorResources<'a> = &'a ModuleState;
+
 /// Shows nothing of the module.
 impl fmt::Debug for ValidatorResources {
     fn fmt<W: fmt::Write>(&self, f: &mut fmt::Formatter<W>) -> fmt::Result {

@@ -55,6 +55,21 @@ const BODIES: &str = "
     0 0 | all | 01 02 64 70 00 0b | valid
     0 0 | all | 01 02 64 70 20 00 1a 0b | Body
     0 0 | all | 01 02 63 | Body
+    // References to continuations, and to none of them, as locals, as what a block gives, and null.
+    0 0 | all | 02 01 68 01 75 00 0b | valid
+    0 0 | all STACK_SWITCHING | 01 01 68 00 0b | Body
+    0 0 | default | 01 01 75 00 0b | Body
+    0 0 | all | 00 02 68 d0 75 0b 1a 0b | valid
+    0 0 | all | 00 02 75 d0 68 0b 1a 0b | Body
+    0 0 | all STACK_SWITCHING | 00 02 68 00 0b 1a 0b | Body
+    0 0 | default | 00 02 75 00 0b 1a 0b | Body
+    0 0 | all | 00 d0 68 1a d0 75 1a 0b | valid
+    0 0 | all STACK_SWITCHING | 00 d0 68 1a 0b | Body
+    0 0 | default | 00 d0 75 1a 0b | Body
+    // The first type index that can't be packed.
+    0 0 | all | 00 d0 80 80 c0 00 1a 0b | Body
+    0 0 | all | 01 01 63 80 80 c0 00 0b | Body
+    0 0 | all | 00 02 63 80 80 c0 00 00 0b 1a 0b | Body
     // 50,000 locals in one run and in two, and one more.
     0 0 | default | 01 d0 86 03 7f 00 0b | valid
     0 0 | default | 01 d1 86 03 7f 00 0b | Limit(Locals)
@@ -165,7 +180,7 @@ fn holds(alloc: Global, row: &str) -> Option<bool> {
 
 #[test]
 fn bodies_have_their_answers(rt: HostRuntime) -> Result<(), Fail> {
-    Ok(check_rows(rt.alloc(), BODIES, 45, holds)?)
+    Ok(check_rows(rt.alloc(), BODIES, 58, holds)?)
 }
 
 #[test]

@@ -1,0 +1,2 @@
+mod BodyLists
+mod ShortestBodies

@@ -1,0 +1,3 @@
+mod LocalLists
+mod TypeRuns
+mod LastRuns

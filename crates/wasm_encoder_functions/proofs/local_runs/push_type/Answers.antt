@@ -1,0 +1,27 @@
+use Rattle.std.proofs.Common.{rules, ◌≡◌, ◌+◌, ◌-◌, ◌≤◌, ◌^◌, length, map, take, ◌++◌, ◌∷◌, [], subst}
+use Rattle.wasm_encoder_functions.specs.CoreLocals.{pair_of}
+use Rattle.wasm_encoder_functions.specs.Locals.{AreRunsOf}
+use Rattle.wasm_encoder_functions.proofs.LastRuns.{longer_last, too_long_last, another_run, too_many}
+use Rattle.wasm_encoder_functions.proofs.local_runs.push_type.Goals as goal
+
+pub returns-in_err-count-clause-too_long : goal.returns-in_err-count-clause-too_long
+returns-in_err-count-clause-too_long c is types h =
+    let parts : map pair_of c.args.runs.now.items ≡ map pair_of (take (length c.args.runs.now.items - 1) c.args.runs.now.items) ++ (c.in-Some.count, c.args.ty) ∷ [] = search rules in
+    let long : 2 ^ 32 ≤ c.in-Some.count + 1 = search rules in
+    too_long_last types c.args.runs.now.items c.in-Some.count c.args.ty parts long h
+
+pub returns-in-Some-clause-added : goal.returns-in-Some-clause-added
+returns-in-Some-clause-added c types h =
+    let parts : map pair_of c.args.runs.now.items ≡ map pair_of (take (length c.args.runs.now.items - 1) c.args.runs.now.items) ++ (c.in-Some.count, c.args.ty) ∷ [] = search rules in
+    let count : c.in_ok-count.count ≡ c.in-Some.count + 1 = search rules in
+    let len : c.len-last.result ≡ length c.args.runs.now.items = search rules in
+    rw (count, len) (longer_last types c.args.runs.now.items c.in-Some.count c.args.ty (search rules) parts h)
+
+pub returns-then-len-ge4294967295-clause-too_long : goal.returns-then-len-ge4294967295-clause-too_long
+returns-then-len-ge4294967295-clause-too_long c is types h =
+    too_many types c.args.runs.now.items c.args.ty (search rules) (search rules) h
+
+pub returns-clause-added : goal.returns-clause-added
+returns-clause-added c types h =
+    let items : c.push.new.self.items ≡ c.args.runs.now.items ++ record { count = 1; ty = c.args.ty } ∷ [] = search rules in
+    rw items (another_run types c.args.runs.now.items c.args.ty (search rules) h)

@@ -1,0 +1,3 @@
+pub mod Custom
+pub mod NameLists
+pub mod SubsectionLists

@@ -1,0 +1,5 @@
+pub mod CustomSections
+pub mod NameMaps
+pub mod KeptNames
+pub mod Subsections
+pub mod KeptSubsections

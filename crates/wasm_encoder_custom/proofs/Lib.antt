@@ -1,3 +1,4 @@
 pub mod Custom
 pub mod NameLists
 pub mod SubsectionLists
+pub mod ProducerLists

@@ -69,3 +69,21 @@ pub fn written_name(alloc: Global, name: &str) -> Result<Vec<u8>, EncodeError>
     put_name(name, &mut bytes);
     Ok(bytes)
 }
+
+/// The number of bytes of a value by itself.
+pub fn alone_len<T: Encoding>(value: &T) -> Result<u64, EncodeError>
+    ensures exact { Measures result (length (T.encoding value.now)) (length (T.encoding value.now)) }
+    ensures below { IfOk result (λ n. n < 2 ^ 33) }
+{
+    value.size()
+}
+
+/// Appends a value by itself: measures, grows the sink once, and writes.
+pub fn encode_alone<T: Encoding>(value: &T, sink: &mut Vec<u8>) -> Result<(), EncodeError>
+    ensures { Encodes sink.old sink.new result (T.encoding value.now) (length (T.encoding value.now)) }
+{
+    let size = value.size()?;
+    sink.reserve(size as usize)?;
+    value.put(sink);
+    Ok(())
+}

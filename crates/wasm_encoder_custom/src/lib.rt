@@ -5,4 +5,5 @@ pub mod custom_section;
 mod framing;
 pub mod name_map;
 pub mod name_section;
+pub mod producers;
 mod subsections;

@@ -4,9 +4,10 @@ ghost use Rattle.std.specs.Prelude.{◌≡◌, ◌↔◌, ◌+◌, ◌≤◌, �
 ghost use Rattle.wasm_encoder_custom.specs.KeptNames.{naming_bytes, indirect_naming_bytes};
 ghost use Rattle.wasm_encoder_custom.specs.NameMaps.{name_map_encoding, indirect_name_map_encoding};
 
-use crate::framing::written;
+use crate::framing::{alone_len, encode_alone, written};
 use std::alloc::Global;
 use std::marker::Model;
+use wasm_core_write::encode::Encode;
 use wasm_core_write::encode_error::EncodeError;
 use wasm_core_write::encoding::{Encoding, add_sizes, bytes_size, put_bytes};
 use wasm_core_write::leb128::{len_u64, put_u64};
@@ -100,6 +101,20 @@ impl Encoding for NameMap {
     }
 }
 
+impl Encode for NameMap {
+    ghost encoding = { λ m. name_map_encoding m };
+
+    ghost longest = { λ m. length (name_map_encoding m) };
+
+    fn encode(&self, sink: &mut Vec<u8>) -> Result<(), EncodeError> {
+        encode_alone(self, sink)
+    }
+
+    fn encoded_len(&self) -> Result<u64, EncodeError> {
+        alone_len(self)
+    }
+}
+
 // Names of what stands in what has an index, as the bytes of their map.
 #[derive(Debug, Drop)]
 struct IndirectNaming {
@@ -180,5 +195,19 @@ impl Encoding for IndirectNameMap {
     #[tactic(auto, using(crate::proofs::NameLists::steps))]
     fn put(&self, sink: &mut Vec<u8>) {
         self.names.put(sink);
+    }
+}
+
+impl Encode for IndirectNameMap {
+    ghost encoding = { λ m. indirect_name_map_encoding m };
+
+    ghost longest = { λ m. length (indirect_name_map_encoding m) };
+
+    fn encode(&self, sink: &mut Vec<u8>) -> Result<(), EncodeError> {
+        encode_alone(self, sink)
+    }
+
+    fn encoded_len(&self) -> Result<u64, EncodeError> {
+        alone_len(self)
     }
 }

@@ -5,3 +5,7 @@ pub mod Subsections
 pub mod KeptSubsections
 pub mod Producers
 pub mod KeptProducers
+pub mod BranchHints
+pub mod KeptHints
+pub mod CoreDumps
+pub mod KeptDumps

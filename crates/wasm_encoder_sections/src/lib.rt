@@ -12,7 +12,7 @@ pub mod kept_list;
 pub mod laws;
 mod limits;
 pub mod memory_section;
-mod names;
+pub mod names;
 pub mod start_section;
 pub mod table_section;
 pub mod tag_section;

@@ -1,0 +1,6 @@
+pub mod Custom
+pub mod NameLists
+pub mod SubsectionLists
+pub mod ProducerLists
+pub mod HintLists
+pub mod DumpLists

@@ -1,0 +1,11 @@
+pub mod CustomSections
+pub mod NameMaps
+pub mod KeptNames
+pub mod Subsections
+pub mod KeptSubsections
+pub mod Producers
+pub mod KeptProducers
+pub mod BranchHints
+pub mod KeptHints
+pub mod CoreDumps
+pub mod KeptDumps

@@ -2,14 +2,19 @@
 
 use std::alloc::Global;
 use wasm_core_base::features::WasmFeatures;
+use wasm_encoder::code_section::CodeSection;
 use wasm_encoder::encode_error::EncodeError;
 use wasm_encoder::entity_type::{
     EntityType, ExportKind, GlobalType, MemoryType, TableType, TagKind, TagType,
 };
 use wasm_encoder::export_section::ExportSection;
+use wasm_encoder::function::Function;
+use wasm_encoder::function_section::FunctionSection;
 use wasm_encoder::import_section::ImportSection;
+use wasm_encoder::instruction::Instruction;
 use wasm_encoder::memory_section::MemorySection;
 use wasm_encoder::module::Module;
+use wasm_encoder::name_section::NameSection;
 use wasm_encoder::start_section::StartSection;
 use wasm_encoder::table_section::TableSection;
 use wasm_encoder::tag_section::TagSection;
@@ -58,6 +63,13 @@ fn push_imports(alloc: Global, module: &mut Module) -> Result<(), EncodeError> {
     module.push(&imports)
 }
 
+fn push_functions(alloc: Global, module: &mut Module) -> Result<(), EncodeError> {
+    let mut functions = FunctionSection::new(alloc);
+    functions.function(0)?;
+    functions.function(0)?;
+    module.push(&functions)
+}
+
 fn push_tables(alloc: Global, module: &mut Module) -> Result<(), EncodeError> {
     let mut tables = TableSection::new(alloc);
     tables.table(TABLE)?;
@@ -86,11 +98,34 @@ fn push_exports(alloc: Global, module: &mut Module) -> Result<(), EncodeError> {
     module.push(&exports)
 }
 
-// A module with a section of each kind that needs no other one, whose start function has this index.
+// A body that drops a local.
+fn body(alloc: Global) -> Result<Function, EncodeError> {
+    let mut body = Function::new(alloc, [(1, ValType::I32)])?;
+    body.push(&Instruction::LocalGet(0))?;
+    body.push(&Instruction::Drop)?;
+    body.push(&Instruction::End)?;
+    Ok(body)
+}
+
+fn push_bodies(alloc: Global, module: &mut Module) -> Result<(), EncodeError> {
+    let mut code = CodeSection::new(alloc);
+    code.function(&body(alloc)?)?;
+    code.raw(&[0x00, 0x00, 0x0b])?;
+    module.push(&code)
+}
+
+fn push_names(alloc: Global, module: &mut Module) -> Result<(), EncodeError> {
+    let mut names = NameSection::new(alloc);
+    names.module("m")?;
+    module.push(&names)
+}
+
+// A module with sections of most kinds, whose start function has this index.
 fn module_of(alloc: Global, start: u32) -> Result<Vec<u8>, EncodeError> {
     let mut module = Module::new(alloc)?;
     module.push(&types(alloc)?)?;
     push_imports(alloc, &mut module)?;
+    push_functions(alloc, &mut module)?;
     push_tables(alloc, &mut module)?;
     push_memories(alloc, &mut module)?;
     push_tags(alloc, &mut module)?;
@@ -98,6 +133,8 @@ fn module_of(alloc: Global, start: u32) -> Result<Vec<u8>, EncodeError> {
     module.push(&StartSection {
         function_index: start,
     })?;
+    push_bodies(alloc, &mut module)?;
+    push_names(alloc, &mut module)?;
     Ok(module.finish())
 }
 
@@ -111,5 +148,5 @@ fn is_answered(alloc: Global, start: u32, expected: &str) -> bool {
 #[test]
 fn sections_make_valid_modules(rt: HostRuntime) {
     assert!(rt; is_answered(rt.alloc(), 0, "yes"));
-    assert!(rt; is_answered(rt.alloc(), 1, "Invalid"));
+    assert!(rt; is_answered(rt.alloc(), 3, "Invalid"));
 }

@@ -1,0 +1,5 @@
+//! Tests of function bodies, through public calls alone.
+#![tactic(auto)]
+
+#[cfg(test)]
+mod functions;

@@ -97,7 +97,7 @@ impl CodeSection {
         self.bodies.is_empty()
     }
 
-    /// The number of bytes of the bodies so far, each with its size, without the number of bodies. Where [`Encode::encode`]
+    /// The number of bytes of the bodies, each with its size, without the number of bodies. Where [`Encode::encode`]
     /// answers `TooLong`, the number says nothing.
     #[tactic(auto, using(crate::proofs::BodyLists::steps))]
     pub fn byte_len(&self) -> usize

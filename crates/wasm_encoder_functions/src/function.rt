@@ -149,7 +149,7 @@ impl Function {
         }
     }
 
-    /// The number of bytes so far, without the size that stands before them where the body is written.
+    /// The number of bytes, without the size that stands before them where the body is written.
     pub fn byte_len(&self) -> usize
         ensures { result ≡ length self.now }
     {

@@ -7,7 +7,7 @@ A chaining call is `fn NAME(&mut self, ..) -> Result<&mut TYPE, EncodeError>`, w
 No body of this kind has a generated proof, and the proofs differ in names alone.
 
 A line: FILE TYPE NAME CALL | ARGUMENT .. | NEXT | FULL | IMPORT ; IMPORT ..
-- FILE is the module, with `::` in it, ARGUMENT is `name:KIND`, with the KIND `u32` (and other integers), `str`, `[u8]`, `[CRATE.FILE.TYPE]`,
+- FILE is the module, with `::` in it, ARGUMENT is `name:KIND`, with the KIND `u32` (and other integers), `Option<u32>`, `str`, `[u8]`, `[CRATE.FILE.TYPE]`,
   `&CRATE.FILE.TYPE` (with `'` at the end where the type has a lifetime), `CRATE.FILE.TYPE` (a `Copy` type, likewise), or `move_CRATE.FILE.TYPE` (one that is
   owned), where `!LEMMA` follows if what is left of it has to be shown to be nothing by cases.
 - NEXT is what the value `s` becomes, FULL when the call answers `TooLong`, or `memory`.
@@ -40,6 +40,13 @@ class Argument:
             place = "denote.Plain" if kind in UINTS else "denote.Signed"
             self.uses = [f"denote.Builtin.{{{kind}}}", f"{place}.{{{family}_Lawful}}", f"mir.Syntax.{{{width}}}"]
             self.slot, self.row, self.lawful = f"plain (λ _. {kind})", kind, f"{family}_Lawful 𝓛 {width}"
+        elif kind == "Option<u32>":
+            self.uses = [
+                "denote.Builtin.{u32}", "denote.Param.Laws.{of_field}", "denote.Struct.Field.{u32-field}", "denote.Struct.Laws.{u32-laws, u32-copy}", "denote.Param.Shared.{copy_shared}",
+                "Rattle.std.specs.contracts.option.Option.{the_row as OptionOf}", "Rattle.std.proofs.option.Option.TheLaws.{the_row_laws as option_laws}",
+            ]
+            self.slot, self.row = "plain (λ _. OptionOf u32)", "OptionOf u32"
+            self.lawful = "(option_laws u32 (of_field u32-field u32-laws refl (copy_shared u32-field u32-copy))).lawful 𝓛"
         elif kind == "str":
             j, self.lifetimes = lifetimes, 1
             self.uses = ["denote.Text.{Str, StrRefOf, str-laws}"]

@@ -1,2 +1,3 @@
-mod BodyLists
+mod ReadItems
+mod ReadLists
 mod ShortestBodies

@@ -1,1 +1,4 @@
-pub mod Bodies
+pub mod ItemEncodings
+pub mod CoreSegments
+pub mod CoreItems
+pub mod ReadItems

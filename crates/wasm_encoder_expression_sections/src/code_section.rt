@@ -3,69 +3,31 @@
 ghost use Rattle.std.specs.Prelude.{◌≡◌, ◌↔◌, ◌+◌, ◌<◌, ◌≤◌, ◌^◌, [], ◌∷◌, ◌++◌, length, Err, IfOk, IfErr, IsTrue};
 ghost use Rattle.std.specs.List.{flat_map};
 ghost use Rattle.wasm_core_write.specs.Encoding.{TellsItem};
-ghost use Rattle.wasm_encoder_expression_sections.specs.Bodies.{bytes_of, body_bytes};
 ghost use Rattle.wasm_spec.specs.Shortest.{list_encoding, framed_encoding};
 
+use crate::kept_bytes::CountedBytes;
 use std::alloc::Global;
 use std::marker::Model;
 use wasm_core_write::encode::{Encode, Section};
 use wasm_core_write::encode_error::EncodeError;
-use wasm_core_write::encoding::{
-    Encoding, add_sizes, bytes_size, encode_framed, framed_len, put_bytes,
-};
-use wasm_core_write::leb128::{len_u64, put_u64};
+use wasm_core_write::encoding::{Encoding, encode_framed, framed_len};
+use wasm_core_write::leb128::len_u64;
 use wasm_encoder_functions::function::Function;
 use wasm_encoder_sections::kept_list::KeptList;
-
-// A body that is kept: its bytes, without the size.
-#[derive(Debug, Drop)]
-struct Body {
-    bytes: Vec<u8>,
-}
-
-impl Body {
-    // A copy of these bytes.
-    fn new(alloc: Global, bytes: &[u8]) -> Result<Body, EncodeError>
-        ensures copied { IfOk result (λ b. bytes_of b ≡ bytes.now) }
-        ensures memory_alone { IfErr result (λ e. e ≡ EncodeError.Memory) }
-    {
-        let mut kept = Vec::with_capacity(alloc, bytes.len())?;
-        put_bytes(bytes, &mut kept);
-        Ok(Body { bytes: kept })
-    }
-}
-
-// The size, and the bytes.
-impl Encoding for Body {
-    ghost encoding = { body_bytes };
-
-    #[tactic(auto, using(wasm_spec::proofs::ListEncodings::framed_steps), unfolding(crate::specs::Bodies::body_bytes))]
-    fn size(&self) -> Result<u64, EncodeError> {
-        let size = bytes_size(&self.bytes)?;
-        add_sizes(len_u64(size) as u64, size)
-    }
-
-    #[tactic(auto, using(wasm_spec::proofs::ListEncodings::framed_steps, wasm_spec::proofs::ListEncodings::parts), unfolding(crate::specs::Bodies::body_bytes))]
-    fn put(&self, sink: &mut Vec<u8>) {
-        put_u64(sink, self.bytes.len() as u64);
-        put_bytes(&self.bytes, sink);
-    }
-}
 
 /// The bodies of a module's own functions. Contracts see the list of their bytes, each without its size.
 #[derive(Debug, Drop)]
 pub struct CodeSection {
     alloc: Global,
-    bodies: KeptList<Body>,
+    bodies: KeptList<CountedBytes>,
 }
 
 impl Model for CodeSection {
-    ghost use Rattle.std.specs.Prelude.{ℕ, List, map};
-    ghost use Rattle.wasm_encoder_expression_sections.specs.Bodies.{bytes_of};
+    ghost use Rattle.std.specs.Prelude.{ℕ, List};
 
     ghost Value = { List (List ℕ) };
 
-    ghost view = { λ s. map bytes_of s.bodies };
+    ghost view = { λ s. s.bodies };
 }
 
 impl CodeSection {
@@ -90,7 +52,6 @@ impl CodeSection {
     }
 
     /// Whether there are no bodies.
-    #[tactic(auto, using(crate::proofs::BodyLists::nothing))]
     pub fn is_empty(&self) -> bool
         ensures { IsTrue result ↔ (self.now ≡ []) }
     {
@@ -99,7 +60,7 @@ impl CodeSection {
 
     /// The number of bytes of the bodies, each with its size, without the number of bodies. Where [`Encode::encode`]
     /// answers `TooLong`, the number says nothing.
-    #[tactic(auto, using(crate::proofs::BodyLists::steps))]
+    #[tactic(auto, using(wasm_spec::proofs::ListEncodings::list_length))]
     pub fn byte_len(&self) -> usize
         ensures { length (list_encoding framed_encoding self.now) < 2 ^ 32 → result ≡ length (flat_map framed_encoding self.now) }
     {
@@ -147,7 +108,7 @@ impl CodeSection {
         ensures too_long { (result ≡ Err EncodeError.TooLong) ↔ (2 ^ 32 ≤ length self.old + 1) }
     {
         self.bodies.check_room()?;
-        let body = Body::new(self.alloc, bytes)?;
+        let body = CountedBytes::new(self.alloc, bytes)?;
         self.bodies.push(body)
     }
 
@@ -181,12 +142,10 @@ impl Encode for CodeSection {
 
     ghost longest = { λ s. length (list_encoding framed_encoding s) };
 
-    #[tactic(auto, using(crate::proofs::BodyLists::steps))]
     fn encode(&self, sink: &mut Vec<u8>) -> Result<(), EncodeError> {
         encode_framed(&self.bodies, sink)
     }
 
-    #[tactic(auto, using(crate::proofs::BodyLists::steps))]
     fn encoded_len(&self) -> Result<u64, EncodeError> {
         framed_len(&self.bodies)
     }

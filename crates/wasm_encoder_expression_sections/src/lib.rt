@@ -2,4 +2,12 @@
 #![tactic(auto)]
 
 pub mod code_section;
+pub mod data_section;
+pub mod data_segment;
+pub mod element_section;
+pub mod element_segment;
+pub mod global_section;
+mod kept_bytes;
+mod kept_elements;
 pub mod laws;
+pub mod table_section;

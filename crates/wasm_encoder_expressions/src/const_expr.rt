@@ -28,7 +28,7 @@ const END: u8 = 0x0b;
 const REF_FUNC: u8 = 0xd2;
 
 /// A constant expression, which is built as its bytes. Contracts see them, without the end.
-#[derive(Debug, Drop)]
+#[derive(Clone, Debug, Drop)]
 pub struct ConstExpr {
     bytes: Vec<u8>,
 }

@@ -5,10 +5,9 @@ use Rattle.wasm_core_write.proofs.Items.{viewed}
 use Rattle.wasm_core_write.proofs.TypeLists.{list_mapped}
 use Rattle.wasm_core_write.specs.Encoding.{TellsItem}
 use Rattle.wasm_spec.specs.Shortest.{list_encoding}
-use Rattle.wasm_encoder_sections.specs.CoreItems.{memory_type, table_type, tag_type, export_of, export_bytes, memory_type_bytes, table_type_bytes, tag_type_bytes}
-use Rattle.wasm_encoder_sections.specs.ItemEncodings.{export_encoding, memory_type_encoding, table_type_encoding, tag_type_encoding}
+use Rattle.wasm_encoder_sections.specs.CoreItems.{memory_type, tag_type, export_of, export_bytes, memory_type_bytes, tag_type_bytes}
+use Rattle.wasm_encoder_sections.specs.ItemEncodings.{export_encoding, memory_type_encoding, tag_type_encoding}
 use Rattle.wasm_encoder_sections.specs.declared.entity_type.MemoryType.{MemoryType}
-use Rattle.wasm_encoder_sections.specs.declared.entity_type.TableType.{TableType}
 use Rattle.wasm_encoder_sections.specs.declared.entity_type.TagType.{TagType}
 use Rattle.wasm_encoder_sections.specs.declared.export_section.Export.{Export}
 
@@ -21,10 +20,6 @@ pub memories : (types : List MemoryType) → list_encoding memory_type_bytes typ
 unfolding memory_type_bytes
 memories types = list_mapped memory_type_encoding memory_type types
 
-pub tables : (types : List TableType) → list_encoding table_type_bytes types ≡ list_encoding table_type_encoding (map table_type types)
-unfolding table_type_bytes
-tables types = list_mapped table_type_encoding table_type types
-
 pub tags : (types : List TagType) → list_encoding tag_type_bytes types ≡ list_encoding tag_type_encoding (map tag_type types)
 unfolding tag_type_bytes
 tags types = list_mapped tag_type_encoding tag_type types
@@ -33,17 +28,13 @@ pub exports : (items : List Export) → list_encoding export_bytes items ≡ lis
 unfolding export_bytes
 exports items = list_mapped export_encoding export_of items
 
-pub ruleset steps = (memories, tables, tags, exports)
+pub ruleset steps = (memories, tags, exports)
 
 -- the length of an item
 
 pub memory_told : (types : List MemoryType) (i : ℕ) (told : Option ℕ) → TellsItem memory_type_bytes types i told → TellsItem memory_type_encoding (map memory_type types) i told
 unfolding memory_type_bytes
 memory_told types i told h = viewed memory_type_encoding memory_type types i told h
-
-pub table_told : (types : List TableType) (i : ℕ) (told : Option ℕ) → TellsItem table_type_bytes types i told → TellsItem table_type_encoding (map table_type types) i told
-unfolding table_type_bytes
-table_told types i told h = viewed table_type_encoding table_type types i told h
 
 pub tag_told : (types : List TagType) (i : ℕ) (told : Option ℕ) → TellsItem tag_type_bytes types i told → TellsItem tag_type_encoding (map tag_type types) i told
 unfolding tag_type_bytes

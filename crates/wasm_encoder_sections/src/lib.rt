@@ -14,5 +14,4 @@ mod limits;
 pub mod memory_section;
 pub mod names;
 pub mod start_section;
-pub mod table_section;
 pub mod tag_section;

@@ -11,5 +11,4 @@ mod indexes;
 mod memories;
 #[cfg(test)]
 mod tables;
-#[cfg(test)]
-mod written;
+pub mod written;

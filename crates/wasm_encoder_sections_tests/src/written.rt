@@ -6,7 +6,6 @@ use wasm_encoder_sections::export_section::ExportSection;
 use wasm_encoder_sections::function_section::FunctionSection;
 use wasm_encoder_sections::import_section::ImportSection;
 use wasm_encoder_sections::memory_section::MemorySection;
-use wasm_encoder_sections::table_section::TableSection;
 use wasm_encoder_sections::tag_section::TagSection;
 use wasm_test_rows::values::{are_bytes, numbers_of};
 
@@ -20,20 +19,6 @@ pub trait Entries: Section {
 }
 
 impl Entries for FunctionSection {
-    fn count(&self) -> u32 {
-        self.len()
-    }
-
-    fn is_nothing(&self) -> bool {
-        self.is_empty()
-    }
-
-    fn entry_len(&self, i: u32) -> Option<u64> {
-        self.item_len(i)
-    }
-}
-
-impl Entries for TableSection {
     fn count(&self) -> u32 {
         self.len()
     }

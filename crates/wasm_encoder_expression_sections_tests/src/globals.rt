@@ -1,0 +1,79 @@
+//! Global sections.
+
+use crate::expressions::expression_of;
+use crate::written::holds;
+use std::alloc::Global;
+use std::test::Fail;
+use wasm_core_types::types::ValType;
+use wasm_encoder_expression_sections::global_section::GlobalSection;
+use wasm_encoder_sections::entity_type::GlobalType;
+use wasm_test_rows::fields::{three_fields, word_and_rest};
+use wasm_test_rows::rows::check_rows;
+use wasm_test_rows::values::bytes_of;
+
+fn value_of(name: &str) -> Option<ValType> {
+    match name {
+        "i32" => Some(ValType::I32),
+        "i64" => Some(ValType::I64),
+        "v128" => Some(ValType::V128),
+        _ => None,
+    }
+}
+
+fn add_raw(alloc: Global, section: &mut GlobalSection, bytes: &str) -> Option<()> {
+    let bytes = bytes_of(alloc, bytes)?;
+    if section.raw(&bytes).is_err() {
+        return None;
+    }
+    Some(())
+}
+
+fn add_typed(alloc: Global, section: &mut GlobalSection, name: &str, rest: &str) -> Option<()> {
+    let (mutability, init) = word_and_rest(rest);
+    let ty = GlobalType {
+        val_type: value_of(name)?,
+        mutable: mutability == "var",
+    };
+    let init = expression_of(alloc, init)?;
+    if section.global(ty, &init).is_err() {
+        return None;
+    }
+    Some(())
+}
+
+// `raw` and bytes, or a type, whether it is a `var` or a `const`, and the operators of an expression.
+fn add(alloc: Global, section: &mut GlobalSection, entry: &str) -> Option<()> {
+    let (name, rest) = word_and_rest(entry);
+    if name == "raw" {
+        return add_raw(alloc, section, rest);
+    }
+    add_typed(alloc, section, name, rest)
+}
+
+fn globals_of(alloc: Global, entries: &str) -> Option<GlobalSection> {
+    let mut section = GlobalSection::new(alloc);
+    for entry in entries.split_terminator(';') {
+        add(alloc, &mut section, entry)?;
+    }
+    Some(section)
+}
+
+fn global_row(alloc: Global, row: &str) -> Option<bool> {
+    let (entries, lengths, bytes) = three_fields(row)?;
+    let section = globals_of(alloc, entries)?;
+    holds(alloc, &section, lengths, bytes)
+}
+
+const GLOBALS: &str = "
+    | | 06 01 00
+    i32 var 41 00 | 5 | 06 06 01 7f 01 41 00 0b
+    i64 const 42 00 ; raw 7f 00 23 00 0b | 5 5 | 06 0b 02 7e 00 42 00 0b 7f 00 23 00 0b
+    i32 const 41 80 01 41 01 6a | 9 | 06 0a 01 7f 00 41 80 01 41 01 6a 0b
+    v128 const fd 0c 00*16 | 21 | 06 16 01 7b 00 fd 0c 00*16 0b
+";
+
+#[test]
+fn global_sections(rt: HostRuntime) -> Result<(), Fail> {
+    check_rows(rt.alloc(), GLOBALS, 5, global_row)?;
+    Ok(())
+}

@@ -1,0 +1,106 @@
+//! Table sections.
+
+use crate::expressions::{expression_of, reference_of};
+use crate::written::holds;
+use std::alloc::Global;
+use std::test::Fail;
+use wasm_core_write::encode_error::EncodeError;
+use wasm_encoder_expression_sections::table_section::TableSection;
+use wasm_encoder_expressions::const_expr::ConstExpr;
+use wasm_encoder_sections::entity_type::TableType;
+use wasm_test_rows::fields::{three_fields, word_and_rest};
+use wasm_test_rows::rows::check_rows;
+use wasm_test_rows::values::{bool_of, number_of};
+
+// The type of the elements, the least number of them, the greatest or `-`, and whether there are indexes of 64 bits.
+fn table_type_of(words: &str) -> Option<TableType> {
+    let (name, numbers) = word_and_rest(words);
+    let mut words = numbers.split_whitespace();
+    let minimum = number_of(words.next()?)?;
+    let maximum = number_of(words.next()?);
+    let table64 = bool_of(words.next()?)?;
+    Some(TableType {
+        element_type: reference_of(name)?,
+        table64,
+        minimum,
+        maximum,
+    })
+}
+
+fn add_initialised(alloc: Global, section: &mut TableSection, ty: &str, init: &str) -> Option<()> {
+    let ty = table_type_of(ty)?;
+    let init = expression_of(alloc, init)?;
+    if section.table_with_init(ty, &init).is_err() {
+        return None;
+    }
+    Some(())
+}
+
+// A type, and after `=` an expression if there is one.
+fn add(alloc: Global, section: &mut TableSection, entry: &str) -> Option<()> {
+    if let Some((ty, init)) = entry.split_once('=') {
+        return add_initialised(alloc, section, ty, init);
+    }
+    let ty = table_type_of(entry)?;
+    if section.table(ty).is_err() {
+        return None;
+    }
+    Some(())
+}
+
+fn tables_of(alloc: Global, entries: &str) -> Option<TableSection> {
+    let mut section = TableSection::new(alloc);
+    for entry in entries.split_terminator(';') {
+        add(alloc, &mut section, entry)?;
+    }
+    Some(section)
+}
+
+fn table_row(alloc: Global, row: &str) -> Option<bool> {
+    let (entries, lengths, bytes) = three_fields(row)?;
+    let section = tables_of(alloc, entries)?;
+    holds(alloc, &section, lengths, bytes)
+}
+
+const TABLES: &str = "
+    | | 04 01 00
+    funcref 10 - no | 3 | 04 04 01 70 00 0a
+    funcref 0 128 no ; extern 1 - yes | 5 4 | 04 0a 02 70 01 00 80 01 64 6f 04 01
+    concrete 1 1 yes | 6 | 04 07 01 63 c0 00 05 01 01
+    func 1 - no = d2 00 ; funcref 0 - no | 9 3 | 04 0d 02 40 00 64 70 00 01 d2 00 0b 70 00 00
+";
+
+#[test]
+fn table_sections(rt: HostRuntime) -> Result<(), Fail> {
+    check_rows(rt.alloc(), TABLES, 5, table_row)?;
+    Ok(())
+}
+
+// For `rt try --test --fail-alloc N`: a table goes in at the second call where the first is refused.
+fn is_taken(section: &mut TableSection, ty: TableType, init: &ConstExpr) -> bool {
+    let before = section.len();
+    match section.table_with_init(ty, init).err() {
+        Some(refusal) => {
+            let is_kept = refusal == EncodeError::Memory && section.len() == before;
+            is_kept && section.table_with_init(ty, init).is_ok()
+        }
+        None => true,
+    }
+}
+
+fn are_taken(alloc: Global) -> Option<bool> {
+    let ty = table_type_of("func 1 - no")?;
+    let init = expression_of(alloc, "d2 00").or_else(|| expression_of(alloc, "d2 00"))?;
+    let mut section = TableSection::new(alloc);
+    for _ in 0..6_u32 {
+        if !is_taken(&mut section, ty, &init) {
+            return Some(false);
+        }
+    }
+    Some(section.len() == 6)
+}
+
+#[test]
+fn refusals_change_nothing(rt: HostRuntime) {
+    assert!(rt; are_taken(rt.alloc()) == Some(true));
+}

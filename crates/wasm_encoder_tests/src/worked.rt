@@ -1,0 +1,187 @@
+//! Worked modules, byte for byte.
+
+use std::alloc::Global;
+use wasm_encoder::code_section::CodeSection;
+use wasm_encoder::const_expr::ConstExpr;
+use wasm_encoder::custom_section::CustomSection;
+use wasm_encoder::data_count_section::DataCountSection;
+use wasm_encoder::data_section::DataSection;
+use wasm_encoder::element_section::ElementSection;
+use wasm_encoder::element_segment::Elements;
+use wasm_encoder::encode_error::EncodeError;
+use wasm_encoder::entity_type::{
+    EntityType, ExportKind, GlobalType, MemoryType, TableType, TagKind, TagType,
+};
+use wasm_encoder::export_section::ExportSection;
+use wasm_encoder::function::Function;
+use wasm_encoder::function_section::FunctionSection;
+use wasm_encoder::global_section::GlobalSection;
+use wasm_encoder::import_section::ImportSection;
+use wasm_encoder::instruction::Instruction;
+use wasm_encoder::memory_section::MemorySection;
+use wasm_encoder::module::Module;
+use wasm_encoder::start_section::StartSection;
+use wasm_encoder::table_section::TableSection;
+use wasm_encoder::tag_section::TagSection;
+use wasm_encoder::type_section::TypeSection;
+use wasm_encoder::types::{AbstractHeapType, FuncType, HeapType, RefType, ValType};
+use wasm_test_rows::values::are_bytes;
+
+const FUNCREF: RefType = RefType {
+    nullable: true,
+    heap_type: HeapType::Abstract(AbstractHeapType::Func),
+};
+
+const fn memory(minimum: u64, maximum: Option<u64>) -> MemoryType {
+    MemoryType {
+        minimum,
+        maximum,
+        memory64: false,
+        shared: false,
+        page_size_log2: None,
+    }
+}
+
+fn push_bare_type(alloc: Global, module: &mut Module) -> Result<(), EncodeError> {
+    let mut types = TypeSection::new(alloc);
+    types.func(FuncType::new(Vec::new(alloc), Vec::new(alloc)))?;
+    module.push(&types)
+}
+
+fn push_import(alloc: Global, module: &mut Module) -> Result<(), EncodeError> {
+    let mut imports = ImportSection::new(alloc);
+    imports.import("m", "f", EntityType::Function(0))?;
+    module.push(&imports)
+}
+
+fn push_memory(alloc: Global, module: &mut Module, ty: MemoryType) -> Result<(), EncodeError> {
+    let mut memories = MemorySection::new(alloc);
+    memories.memory(ty)?;
+    module.push(&memories)
+}
+
+fn push_export(alloc: Global, module: &mut Module) -> Result<(), EncodeError> {
+    let mut exports = ExportSection::new(alloc);
+    exports.export("f", ExportKind::Func, 0)?;
+    module.push(&exports)
+}
+
+fn push_greeting(alloc: Global, module: &mut Module) -> Result<(), EncodeError> {
+    let offset = ConstExpr::i32_const(alloc, 0)?;
+    let mut segments = DataSection::new(alloc);
+    segments.active(0, &offset, b"hi")?;
+    module.push(&segments)
+}
+
+// An imported function that is exported and starts the module, and a segment of a memory.
+fn greeting(alloc: Global) -> Result<Vec<u8>, EncodeError> {
+    let mut module = Module::new(alloc)?;
+    push_bare_type(alloc, &mut module)?;
+    push_import(alloc, &mut module)?;
+    push_memory(alloc, &mut module, memory(1, None))?;
+    push_export(alloc, &mut module)?;
+    module.push(&StartSection { function_index: 0 })?;
+    module.push(&DataCountSection { count: 1 })?;
+    push_greeting(alloc, &mut module)?;
+    module.push(&CustomSection {
+        name: "c",
+        data: &[0x07],
+    })?;
+    Ok(module.finish())
+}
+
+const GREETING: &str = "00 61 73 6d 01 00 00 00 01 04 01 60 00 00 02 07 01 01 6d 01 66 00 00 05 03 01 00 01 \
+    07 05 01 01 66 00 00 08 01 00 0c 01 01 0b 08 01 00 41 00 0b 02 68 69 00 03 01 63 07";
+
+fn values(alloc: Global, types: &[ValType]) -> Result<Vec<ValType>, EncodeError> {
+    Ok(types.to_vec(alloc)?)
+}
+
+fn push_types(alloc: Global, module: &mut Module) -> Result<(), EncodeError> {
+    let mut types = TypeSection::new(alloc);
+    let params = values(alloc, &[ValType::I32, ValType::I64])?;
+    types.func(FuncType::new(params, values(alloc, &[ValType::I32])?))?;
+    let params = values(alloc, &[ValType::I64, ValType::I32])?;
+    types.func(FuncType::new(params, Vec::new(alloc)))?;
+    module.push(&types)
+}
+
+fn push_functions(alloc: Global, module: &mut Module) -> Result<(), EncodeError> {
+    let mut functions = FunctionSection::new(alloc);
+    functions.function(0)?;
+    module.push(&functions)
+}
+
+fn push_table(alloc: Global, module: &mut Module) -> Result<(), EncodeError> {
+    let mut tables = TableSection::new(alloc);
+    tables.table(TableType {
+        element_type: FUNCREF,
+        table64: false,
+        minimum: 10,
+        maximum: None,
+    })?;
+    module.push(&tables)
+}
+
+fn push_tag(alloc: Global, module: &mut Module) -> Result<(), EncodeError> {
+    let mut tags = TagSection::new(alloc);
+    tags.tag(TagType {
+        kind: TagKind::Exception,
+        func_type_idx: 1,
+    })?;
+    module.push(&tags)
+}
+
+fn push_global(alloc: Global, module: &mut Module) -> Result<(), EncodeError> {
+    let init = ConstExpr::i32_const(alloc, 0)?;
+    let mut globals = GlobalSection::new(alloc);
+    let ty = GlobalType {
+        val_type: ValType::I32,
+        mutable: true,
+    };
+    globals.global(ty, &init)?;
+    module.push(&globals)
+}
+
+fn push_elements(alloc: Global, module: &mut Module) -> Result<(), EncodeError> {
+    let mut expressions = Vec::new(alloc);
+    expressions.push(ConstExpr::ref_func(alloc, 0)?)?;
+    let mut elements = ElementSection::new(alloc);
+    elements.passive(Elements::Expressions(FUNCREF, &expressions))?;
+    module.push(&elements)
+}
+
+fn push_body(alloc: Global, module: &mut Module) -> Result<(), EncodeError> {
+    let mut body = Function::new(alloc, [])?;
+    body.push(&Instruction::I32Const(0))?;
+    body.push(&Instruction::End)?;
+    let mut code = CodeSection::new(alloc);
+    code.function(&body)?;
+    module.push(&code)
+}
+
+// A module with an item of each space.
+fn each_space(alloc: Global) -> Result<Vec<u8>, EncodeError> {
+    let mut module = Module::new(alloc)?;
+    push_types(alloc, &mut module)?;
+    push_functions(alloc, &mut module)?;
+    push_table(alloc, &mut module)?;
+    push_memory(alloc, &mut module, memory(1, Some(5)))?;
+    push_tag(alloc, &mut module)?;
+    push_global(alloc, &mut module)?;
+    push_elements(alloc, &mut module)?;
+    push_body(alloc, &mut module)?;
+    Ok(module.finish())
+}
+
+const EACH_SPACE: &str = "00 61 73 6d 01 00 00 00 01 0c 02 60 02 7f 7e 01 7f 60 02 7e 7f 00 03 02 01 00 \
+    04 04 01 70 00 0a 05 04 01 01 01 05 0d 03 01 00 01 06 06 01 7f 01 41 00 0b 09 07 01 05 70 01 d2 00 0b \
+    0a 06 01 04 00 41 00 0b";
+
+#[test]
+fn worked_modules(rt: HostRuntime) {
+    let greeting = greeting(rt.alloc());
+    assert!(rt; matches!(&greeting, Ok(found) if are_bytes(rt.alloc(), GREETING, found)));
+    let each_space = each_space(rt.alloc());
+    assert!(rt; matches!(&each_space, Ok(found) if are_bytes(rt.alloc(), EACH_SPACE, found)));
+}

@@ -1,1 +1,2 @@
 pub mod SameSections
+pub mod SameEncodings

@@ -14,7 +14,7 @@ use Rattle.wasm_encoder_sections.proofs.ShortestSections as shortest
 use Rattle.wasm_encoder_sections_laws.specs.Told.{TellsItems}
 
 -- frames of the same bytes have the same content
-same_content : (a b : List ℕ) → framed_encoding a ≡ framed_encoding b → a ≡ b
+pub same_content : (a b : List ℕ) → framed_encoding a ≡ framed_encoding b → a ≡ b
 unfolding framed_encoding
 same_content a b e = (apart unsigned_encoding unsigned_at unsigned_decodes (length a) (length b) a b e).1
 

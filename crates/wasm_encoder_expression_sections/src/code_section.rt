@@ -16,6 +16,15 @@ use wasm_encoder_functions::function::Function;
 use wasm_encoder_sections::kept_list::KeptList;
 
 /// The bodies of a module's own functions. Contracts see the list of their bytes, each without its size.
+///
+/// ```
+/// let mut body = Function::new(alloc, [(1, ValType::I32)])?;
+/// body.instruction(&Instruction::LocalGet(0))?.instruction(&Instruction::Drop)?;
+/// body.instruction(&Instruction::End)?;
+/// let mut code = CodeSection::new(alloc);
+/// code.function(&body)?;
+/// module.push(&code)?;
+/// ```
 #[derive(Debug, Drop)]
 pub struct CodeSection {
     alloc: Global,

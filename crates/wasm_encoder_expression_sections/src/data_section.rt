@@ -138,6 +138,13 @@ fn copied_segment(alloc: Global, segment: &DataSegment<'_>) -> Result<KeptData, 
 }
 
 /// The module's data segments. Contracts see the list of their encodings.
+///
+/// ```
+/// let offset = ConstExpr::i32_const(alloc, 0)?;
+/// let mut segments = DataSection::new(alloc);
+/// segments.active(0, &offset, b"hello")?.passive(b"world")?;
+/// module.push(&segments)?;
+/// ```
 #[derive(Debug, Drop)]
 pub struct DataSection {
     alloc: Global,

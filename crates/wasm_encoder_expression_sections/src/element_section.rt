@@ -56,6 +56,13 @@ impl Encoding for KeptElement {
 }
 
 /// The module's element segments. Contracts see the list of their encodings.
+///
+/// ```
+/// let offset = ConstExpr::i32_const(alloc, 0)?;
+/// let mut elements = ElementSection::new(alloc);
+/// elements.active(None, &offset, Elements::Functions(&[0, 1]))?.declared(Elements::Functions(&[2]))?;
+/// module.push(&elements)?;
+/// ```
 #[derive(Debug, Drop)]
 pub struct ElementSection {
     alloc: Global,

@@ -60,6 +60,13 @@ impl Encoding for KeptGlobal {
 }
 
 /// The module's own globals. Contracts see the list of their encodings.
+///
+/// ```
+/// let ty = GlobalType { val_type: ValType::I32, mutable: true };
+/// let mut globals = GlobalSection::new(alloc);
+/// globals.global(ty, &ConstExpr::i32_const(alloc, 42)?)?;
+/// module.push(&globals)?;
+/// ```
 #[derive(Debug, Drop)]
 pub struct GlobalSection {
     alloc: Global,

@@ -61,6 +61,14 @@ impl Encoding for KeptTable {
 }
 
 /// The module's own tables. Contracts see the list of their encodings.
+///
+/// ```
+/// let funcref = RefType { nullable: true, heap_type: HeapType::Abstract(AbstractHeapType::Func) };
+/// let ty = TableType { element_type: funcref, table64: false, minimum: 1, maximum: None };
+/// let mut tables = TableSection::new(alloc);
+/// tables.table(ty)?.table_with_init(ty, &ConstExpr::ref_func(alloc, 0)?)?;
+/// module.push(&tables)?;
+/// ```
 #[derive(Debug, Drop)]
 pub struct TableSection {
     tables: KeptList<KeptTable>,

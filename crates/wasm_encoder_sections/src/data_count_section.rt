@@ -8,6 +8,10 @@ use wasm_core_write::encode_error::EncodeError;
 use wasm_core_write::encoding::{encode_framed, framed_len};
 
 /// The number of data segments, which is said before the bodies.
+///
+/// ```
+/// module.push(&DataCountSection { count: 1 })?;
+/// ```
 #[derive(Clone, Copy, Debug)]
 pub struct DataCountSection {
     /// How many there are.

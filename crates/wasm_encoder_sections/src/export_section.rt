@@ -41,6 +41,12 @@ impl Encoding for Export {
 }
 
 /// What a module exports. Contracts see the list of it.
+///
+/// ```
+/// let mut exports = ExportSection::new(alloc);
+/// exports.export("memory", ExportKind::Memory, 0)?.export("main", ExportKind::Func, 1)?;
+/// module.push(&exports)?;
+/// ```
 #[derive(Debug, Drop)]
 pub struct ExportSection {
     alloc: Global,

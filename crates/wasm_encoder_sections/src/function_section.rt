@@ -12,6 +12,12 @@ use wasm_core_write::encode_error::EncodeError;
 use wasm_core_write::encoding::{encode_framed, framed_len};
 
 /// The type indexes of a module's own functions. Contracts see the list of them.
+///
+/// ```
+/// let mut functions = FunctionSection::new(alloc);
+/// functions.function(0)?.function(1)?;
+/// module.push(&functions)?;
+/// ```
 #[derive(Debug, Drop)]
 pub struct FunctionSection {
     functions: KeptList<u32>,

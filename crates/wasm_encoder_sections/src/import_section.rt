@@ -19,6 +19,12 @@ use wasm_core_write::encode_error::EncodeError;
 use wasm_core_write::encoding::{encode_framed, framed_len};
 
 /// What a module imports. Contracts see the list of its entries, of which one may be several imports.
+///
+/// ```
+/// let mut imports = ImportSection::new(alloc);
+/// imports.import("env", "log", EntityType::Function(0))?;
+/// module.push(&imports)?;
+/// ```
 #[derive(Debug, Drop)]
 pub struct ImportSection {
     alloc: Global,

@@ -15,6 +15,13 @@ use wasm_core_write::encode_error::EncodeError;
 use wasm_core_write::encoding::{encode_framed, framed_len};
 
 /// The types of a module's own memories. Contracts see the list of them.
+///
+/// ```
+/// let ty = MemoryType { minimum: 1, maximum: None, memory64: false, shared: false, page_size_log2: None };
+/// let mut memories = MemorySection::new(alloc);
+/// memories.memory(ty)?;
+/// module.push(&memories)?;
+/// ```
 #[derive(Debug, Drop)]
 pub struct MemorySection {
     memories: KeptList<MemoryType>,

@@ -8,6 +8,10 @@ use wasm_core_write::encode_error::EncodeError;
 use wasm_core_write::encoding::{encode_framed, framed_len};
 
 /// The function that a module starts with.
+///
+/// ```
+/// module.push(&StartSection { function_index: 0 })?;
+/// ```
 #[derive(Clone, Copy, Debug)]
 pub struct StartSection {
     /// Its index.

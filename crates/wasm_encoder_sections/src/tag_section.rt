@@ -15,6 +15,12 @@ use wasm_core_write::encode_error::EncodeError;
 use wasm_core_write::encoding::{encode_framed, framed_len};
 
 /// The types of a module's own tags. Contracts see the list of them.
+///
+/// ```
+/// let mut tags = TagSection::new(alloc);
+/// tags.tag(TagType { kind: TagKind::Exception, func_type_idx: 0 })?;
+/// module.push(&tags)?;
+/// ```
 #[derive(Debug, Drop)]
 pub struct TagSection {
     tags: KeptList<TagType>,

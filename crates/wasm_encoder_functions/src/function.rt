@@ -3,9 +3,9 @@
 ghost use Rattle.std.specs.Prelude.{◌≡◌, ◌↔◌, ◌<◌, ◌≤◌, ◌^◌, [], ◌∷◌, ◌++◌, ℕ, List, map, length, nat_eq, Some, Err, IfErr, IfOk};
 ghost use Rattle.std.specs.Cmp.{partial_equiv_from_equiv};
 ghost use Rattle.std.specs.Cmp.Lexicographic.{nat_list_eq_equiv, pointwise};
-ghost use Rattle.std.specs.Iterator.{Drains, YieldsThen, size};
+ghost use Rattle.std.specs.Iterator.{Drains, Yields, YieldsThen, size};
 ghost use Rattle.wasm_core_types.specs.declared.types.ValType.{ValType};
-ghost use Rattle.wasm_encoder_functions.specs.Locals.{locals_encoding, run_of, AreRunsOf, PassLength};
+ghost use Rattle.wasm_encoder_functions.specs.Locals.{locals_encoding, run_of, AreRunsOf, AreWritable, FitLength, PassLength};
 ghost use Rattle.wasm_encoder_instructions.specs.Instructions.{instruction_encoding};
 
 use crate::local_runs::{LocalRun, push_type, write_runs};
@@ -65,7 +65,8 @@ impl Function {
     /// A body with locals of these types, in runs of equal neighbours, and without instructions.
     ///
     /// # Errors
-    /// `TooLong` where there are more than 4,294,967,295 runs or one of them is longer, and else `Memory`.
+    /// `TooLong` where there are more than 4,294,967,295 runs or one of them is longer, which is told at the first type that is one too many, and
+    /// else `Memory`.
     pub fn new_with_locals_types<L: IntoIterator<Item = ValType>>(
         alloc: Global,
         locals: L,
@@ -73,8 +74,9 @@ impl Function {
     where
         L::IntoIter: ExactSizeIterator,
         requires { (items : L.IntoIter) → L.into_iter_gives locals items → L.IntoIter.can_next items }
-        ensures written { IfOk result (λ f. (items : L.IntoIter) × (types : List ValType) × (runs : List (ℕ × ValType)) × L.into_iter_gives locals items × Drains L.IntoIter.next_gives items types × AreRunsOf types runs × (f ≡ locals_encoding (map run_of runs))) }
-        ensures too_long { result ≡ Err EncodeError.TooLong → (items rest : L.IntoIter) × (types : List ValType) × (type : ValType) × (runs : List (ℕ × ValType)) × L.into_iter_gives locals items × YieldsThen L.IntoIter.next_gives items types (Some type) rest × AreRunsOf (types ++ type ∷ []) runs × PassLength runs }
+        ensures written { IfOk result (λ f. (items : L.IntoIter) × (types : List ValType) × (runs : List (ℕ × ValType)) × L.into_iter_gives locals items × Drains L.IntoIter.next_gives items types × AreRunsOf types runs × AreWritable runs × (f ≡ locals_encoding (map run_of runs))) }
+        ensures too_long { result ≡ Err EncodeError.TooLong → (items rest : L.IntoIter) × (types : List ValType) × (type : ValType) × L.into_iter_gives locals items × YieldsThen L.IntoIter.next_gives items types (Some type) rest × FitLength types × PassLength (types ++ type ∷ []) }
+        ensures memory { result ≡ Err EncodeError.Memory → (items rest : L.IntoIter) × (types : List ValType) × L.into_iter_gives locals items × Yields L.IntoIter.next_gives items types rest × FitLength types }
     {
         let locals = locals.into_iter();
         let _finite = locals.len();

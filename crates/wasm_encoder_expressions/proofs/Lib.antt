@@ -1,2 +1,3 @@
+mod EncodingLists
 mod FunctionFronts
 mod VectorCode

@@ -1,14 +1,17 @@
 //! Constant expressions (Core Specification 3.0, Binary Format, "Expressions").
 
-ghost use Rattle.std.specs.Prelude.{◌≡◌, ◌+◌, ◌<◌, ◌^◌, ◌++◌, ◌∷◌, [], ℕ, length, IfErr, IfOk, IfSome, None};
-ghost use Rattle.std.specs.Iterator.{Drains};
+ghost use Rattle.std.specs.Prelude.{◌≡◌, ◌+◌, ◌<◌, ◌≤◌, ◌^◌, ◌++◌, ◌∷◌, [], ℕ, List, length, Err, IfErr, IfOk, IfSome, None, Some};
+ghost use Rattle.std.specs.Iterator.{Drains, Yields, YieldsThen};
+ghost use Rattle.std.specs.List.{flat_map};
 ghost use Rattle.wasm_bodies.specs.Operators as spec;
 ghost use Rattle.wasm_core_types.specs.CoreTypes as core;
 ghost use Rattle.wasm_core_write.specs.declared.encode_error.EncodeError.TheVariants as errors;
-ghost use Rattle.wasm_encoder_instructions.specs.Instructions.{vector_bytes};
+ghost use Rattle.wasm_encoder_instructions.specs.Instructions.{instruction_encoding, vector_bytes};
 ghost use Rattle.wasm_encoder_instructions.specs.OperatorEncodings.{operator_encoding};
-ghost use Rattle.wasm_encoder_expressions.specs.Expressions.{BeginsWithFunction};
+ghost use Rattle.wasm_encoder_instructions.specs.declared.instruction.Instruction.{Instruction};
+ghost use Rattle.wasm_encoder_expressions.specs.Expressions.{AreShort, BeginsWithFunction};
 
+use crate::encodings::encodings_of;
 use crate::numbers::{Byte, bytes_of, signed};
 use std::alloc::Global;
 use std::marker::Model;
@@ -20,6 +23,7 @@ use wasm_core_write::encoding::{Encoding, add_sizes, bytes_size, put_bytes};
 use wasm_core_write::type_encodings::heap_code_of;
 use wasm_encoder_instructions::alone::encode_alone;
 use wasm_encoder_instructions::ieee::{Ieee32, Ieee64};
+use wasm_encoder_instructions::instruction::Instruction;
 
 // What an expression ends with.
 const END: u8 = 0x0b;
@@ -71,6 +75,26 @@ impl ConstExpr {
             kept.push(byte)?;
         }
         Ok(ConstExpr { bytes: kept })
+    }
+
+    /// The expression of these instructions, one after the other. They are operators that may stand in constant expressions, without the end: which ones
+    /// they are isn't looked at.
+    ///
+    /// # Errors
+    /// `TooLong` where one of them is longer than 4,294,967,295 bytes, as only a list can be, and else `Memory`.
+    pub fn extended<'a, I: IntoIterator<Item = Instruction<'a>>>(
+        alloc: Global,
+        instructions: I,
+    ) -> Result<ConstExpr, EncodeError>
+    where
+        I::IntoIter: ExactSizeIterator,
+        requires { (items : I.IntoIter) → I.into_iter_gives instructions items → I.IntoIter.can_next items }
+        ensures written { IfOk result (λ e. (items : I.IntoIter) × (all : List Instruction) × I.into_iter_gives instructions items × Drains I.IntoIter.next_gives items all × AreShort instruction_encoding all × (e ≡ flat_map instruction_encoding all)) }
+        ensures too_long { result ≡ Err errors.TooLong → (items rest : I.IntoIter) × (before : List Instruction) × (instruction : Instruction) × I.into_iter_gives instructions items × YieldsThen I.IntoIter.next_gives items before (Some instruction) rest × AreShort instruction_encoding before × (2 ^ 32 ≤ length (instruction_encoding instruction)) }
+        ensures memory { result ≡ Err errors.Memory → (items rest : I.IntoIter) × (taken : List Instruction) × I.into_iter_gives instructions items × Yields I.IntoIter.next_gives items taken rest × AreShort instruction_encoding taken }
+    {
+        let bytes = encodings_of(alloc, instructions.into_iter())?;
+        Ok(ConstExpr { bytes })
     }
 
     // The same with a code more, and an immediate after it, which are short.

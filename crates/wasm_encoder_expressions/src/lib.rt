@@ -2,4 +2,5 @@
 #![tactic(auto)]
 
 pub mod const_expr;
+mod encodings;
 mod numbers;

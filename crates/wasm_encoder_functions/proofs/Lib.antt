@@ -1,3 +1,5 @@
 mod LocalLists
 mod TypeRuns
 mod LastRuns
+mod Taken
+mod ShorterRuns

@@ -1,10 +1,16 @@
 -- Runs of equal neighbours, one item after the other; and that there is one list of them alone.
-use Rattle.std.proofs.Common.{◌≡◌, ℕ, zero, suc, ◌+◌, ◌<◌, ◌≤◌, ◌^◌, ◌⊎◌, inl, inr, List, [], ◌∷◌, ◌++◌, length, replicate, refl, sym, ap, ◌∙◌, subst, arith, append_assoc, length-append}
+use Rattle.std.proofs.Common.{◌≡◌, ℕ, zero, suc, ◌+◌, ◌<◌, ◌≤◌, ◌^◌, List, [], ◌∷◌, ◌++◌, length, replicate, refl, sym, ap, ◌∙◌, subst, arith, append_assoc, length-append}
 use Rattle.std.specs.Bool.{⊤}
 use Rattle.std.specs.List.{AllByRecursion, flat_map}
 use Rattle.std.proofs.lemmas.List.{append-nil, replicate-append-replicate}
 use Rattle.std.proofs.lemmas.Grind.{flat_map-append}
-use Rattle.wasm_encoder_functions.specs.Locals.{expansion, BeginsWithOther, AreApart, EndsWithOther, AreRunsOf, PassLength}
+use Rattle.wasm_encoder_functions.specs.Locals.{expansion, BeginsWithOther, AreApart, AreRunsOf, AreWritable}
+
+-- the last run, if there is one, is of another type
+abbrev pub EndsWithOther : {A : Type 0} → A → List (ℕ × A) → Type 0
+EndsWithOther type [] = ⊤
+EndsWithOther type (run ∷ []) = ¬ (run.1 ≡ type)
+EndsWithOther type (run ∷ next ∷ runs) = EndsWithOther type (next ∷ runs)
 
 pub none : {A : Type 0} → AreRunsOf {A = A} [] []
 none {A} = record { expand = refl; some = tt; apart = tt }
@@ -55,11 +61,25 @@ begun types runs type h other = record {
 }
 
 -- a run that can't be longer, and one too many
-pub long_run : {A : Type 0} (front : List (ℕ × A)) (n : ℕ) (type : A) → 2 ^ 32 ≤ n → PassLength (front ++ (n, type) ∷ [])
-long_run front n type long = inr (λ all. let few : n < 2 ^ 32 = last_of (λ run. run.0 < 2 ^ 32) front (n, type) all in absurd (omega arith))
+pub long_run : {A : Type 0} (front : List (ℕ × A)) (n : ℕ) (type : A) → 2 ^ 32 ≤ n → ¬ (AreWritable (front ++ (n, type) ∷ []))
+long_run front n type long are = let short : n < 2 ^ 32 = last_of (λ run. run.0 < 2 ^ 32) front (n, type) are.short in absurd (omega arith)
 
-pub many_runs : {A : Type 0} (runs : List (ℕ × A)) (type : A) → 2 ^ 32 ≤ length runs + 1 → PassLength (runs ++ (1, type) ∷ [])
-many_runs runs type many = inl (omega (arith, many, length-append runs ((1, type) ∷ [])))
+pub many_runs : {A : Type 0} (runs : List (ℕ × A)) (type : A) → 2 ^ 32 ≤ length runs + 1 → ¬ (AreWritable (runs ++ (1, type) ∷ []))
+many_runs runs type many are = absurd (omega (arith, many, are.few, length-append runs ((1, type) ∷ [])))
+
+-- the last run with another number of locals
+pub longer_run : {A : Type 0} (front : List (ℕ × A)) (n m : ℕ) (type : A) → m < 2 ^ 32 → AreWritable (front ++ (n, type) ∷ []) → AreWritable (front ++ (m, type) ∷ [])
+longer_run front n m type short are = record {
+  few = omega (arith, are.few, length-append front ((n, type) ∷ []), length-append front ((m, type) ∷ []));
+  short = all_changed (λ run. run.0 < 2 ^ 32) front (n, type) (m, type) are.short short;
+}
+
+-- one run more, where there is room
+pub one_more_run : {A : Type 0} (runs : List (ℕ × A)) (type : A) → length runs + 1 < 2 ^ 32 → AreWritable runs → AreWritable (runs ++ (1, type) ∷ [])
+one_more_run runs type room are = record {
+  few = omega (arith, room, length-append runs ((1, type) ∷ []));
+  short = all_more (λ run. run.0 < 2 ^ 32) runs (1, type) are.short (omega arith);
+}
 
 -- ---- no other list has them
 

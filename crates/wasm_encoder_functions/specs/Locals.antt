@@ -1,5 +1,5 @@
 -- The locals of a body, as they are written (Core Specification 3.0, Binary Format, Modules, "Code Section"): runs of locals of one type.
-use Rattle.std.specs.Prelude.{◌≡◌, ℕ, ◌<◌, ◌≤◌, ◌^◌, ⊤, ◌⊎◌, List, [], ◌∷◌, ◌++◌, length, replicate}
+use Rattle.std.specs.Prelude.{◌≡◌, ℕ, ◌<◌, ◌≤◌, ◌^◌, ⊤, List, [], ◌∷◌, ◌++◌, length, replicate}
 use Rattle.std.specs.List.{AllByRecursion, flat_map}
 use Rattle.wasm_bodies.specs.Bodies.{Run}
 use Rattle.wasm_spec.specs.Shortest.{unsigned_encoding, list_encoding}
@@ -38,12 +38,14 @@ pub record AreRunsOf {A : Type 0} (types : List A) (runs : List (ℕ × A)) : Ty
   pub some : AllByRecursion (λ run. 1 ≤ run.0) runs
   pub apart : AreApart runs
 
--- there are too many runs to be counted, or a run is too long
-abbrev pub PassLength : {A : Type 0} → List (ℕ × A) → Type 0
-PassLength runs = (2 ^ 32 ≤ length runs) ⊎ ¬ (AllByRecursion (λ run. run.0 < 2 ^ 32) runs)
+-- Runs that can be written: their number is one of 32 bits, and so is that of each run's locals.
+pub record AreWritable {A : Type 0} (runs : List (ℕ × A)) : Type 0 where
+  pub few : length runs < 2 ^ 32
+  pub short : AllByRecursion (λ run. run.0 < 2 ^ 32) runs
 
--- the last run, if there is one, is of another type
-abbrev pub EndsWithOther : {A : Type 0} → A → List (ℕ × A) → Type 0
-EndsWithOther type [] = ⊤
-EndsWithOther type (run ∷ []) = ¬ (run.1 ≡ type)
-EndsWithOther type (run ∷ next ∷ runs) = EndsWithOther type (next ∷ runs)
+-- Types whose runs can be written, and types whose runs can't.
+abbrev pub FitLength : {A : Type 0} → List A → Type 0
+FitLength {A} types = (runs : List (ℕ × A)) × AreRunsOf types runs × AreWritable runs
+
+abbrev pub PassLength : {A : Type 0} → List A → Type 0
+PassLength {A} types = (runs : List (ℕ × A)) × AreRunsOf types runs × ¬ (AreWritable runs)

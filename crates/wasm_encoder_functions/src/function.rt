@@ -3,9 +3,9 @@
 ghost use Rattle.std.specs.Prelude.{◌≡◌, ◌↔◌, ◌<◌, ◌≤◌, ◌^◌, [], ◌∷◌, ◌++◌, ℕ, List, map, length, nat_eq, Some, Err, IfErr, IfOk};
 ghost use Rattle.std.specs.Cmp.{partial_equiv_from_equiv};
 ghost use Rattle.std.specs.Cmp.Lexicographic.{nat_list_eq_equiv, pointwise};
-ghost use Rattle.std.specs.Iterator.{Drains, YieldsThen, size};
+ghost use Rattle.std.specs.Iterator.{Drains, Yields, YieldsThen, size};
 ghost use Rattle.wasm_core_types.specs.declared.types.ValType.{ValType};
-ghost use Rattle.wasm_encoder_functions.specs.Locals.{locals_encoding, run_of, AreRunsOf, PassLength};
+ghost use Rattle.wasm_encoder_functions.specs.Locals.{locals_encoding, run_of, AreRunsOf, AreWritable, FitLength, PassLength};
 ghost use Rattle.wasm_encoder_instructions.specs.Instructions.{instruction_encoding};
 
 use crate::local_runs::{LocalRun, push_type, write_runs};
@@ -15,12 +15,13 @@ use wasm_core_types::types::ValType;
 use wasm_core_write::encode::Encode;
 use wasm_core_write::encode_error::EncodeError;
 use wasm_core_write::encoding::{Encoding, bytes_size, encode_framed, framed_len, put_bytes};
+use wasm_encoder_instruction_sink::instruction_sink::InstructionSink;
 use wasm_encoder_instructions::instruction::Instruction;
 
 /// A function's body, which is built as its bytes. Contracts see them, without their number.
 #[derive(Debug, Drop)]
 pub struct Function {
-    bytes: Vec<u8>,
+    sink: InstructionSink,
 }
 
 impl Model for Function {
@@ -28,12 +29,13 @@ impl Model for Function {
 
     ghost Value = { List ℕ };
 
-    ghost view = { λ f. f.bytes.items };
+    ghost view = { λ f. f.sink.bytes };
 }
 
 impl Function {
-    ghost use Rattle.std.specs.Borrow.{sem, LendsIfOk};
+    ghost use Rattle.std.specs.Borrow.{sem, Lends, LendsIfOk};
     ghost use Rattle.wasm_encoder_functions.specs.contracts.function.Function.{the_row};
+    ghost use Rattle.wasm_encoder_instruction_sink.specs.contracts.instruction_sink.InstructionSink.{the_row as sink_row};
 
     /// A body with these runs of locals, each so many of a type, and without instructions.
     ///
@@ -59,13 +61,16 @@ impl Function {
             runs.push(LocalRun { count, ty })?;
         }
         let bytes = write_runs(alloc, &runs)?;
-        Ok(Function { bytes })
+        Ok(Function {
+            sink: InstructionSink::from_bytes(bytes),
+        })
     }
 
     /// A body with locals of these types, in runs of equal neighbours, and without instructions.
     ///
     /// # Errors
-    /// `TooLong` where there are more than 4,294,967,295 runs or one of them is longer, and else `Memory`.
+    /// `TooLong` where there are more than 4,294,967,295 runs or one of them is longer, which is told at the first type that is one too many, and
+    /// else `Memory`.
     pub fn new_with_locals_types<L: IntoIterator<Item = ValType>>(
         alloc: Global,
         locals: L,
@@ -73,8 +78,9 @@ impl Function {
     where
         L::IntoIter: ExactSizeIterator,
         requires { (items : L.IntoIter) → L.into_iter_gives locals items → L.IntoIter.can_next items }
-        ensures written { IfOk result (λ f. (items : L.IntoIter) × (types : List ValType) × (runs : List (ℕ × ValType)) × L.into_iter_gives locals items × Drains L.IntoIter.next_gives items types × AreRunsOf types runs × (f ≡ locals_encoding (map run_of runs))) }
-        ensures too_long { result ≡ Err EncodeError.TooLong → (items rest : L.IntoIter) × (types : List ValType) × (type : ValType) × (runs : List (ℕ × ValType)) × L.into_iter_gives locals items × YieldsThen L.IntoIter.next_gives items types (Some type) rest × AreRunsOf (types ++ type ∷ []) runs × PassLength runs }
+        ensures written { IfOk result (λ f. (items : L.IntoIter) × (types : List ValType) × (runs : List (ℕ × ValType)) × L.into_iter_gives locals items × Drains L.IntoIter.next_gives items types × AreRunsOf types runs × AreWritable runs × (f ≡ locals_encoding (map run_of runs))) }
+        ensures too_long { result ≡ Err EncodeError.TooLong → (items rest : L.IntoIter) × (types : List ValType) × (type : ValType) × L.into_iter_gives locals items × YieldsThen L.IntoIter.next_gives items types (Some type) rest × FitLength types × PassLength (types ++ type ∷ []) }
+        ensures memory { result ≡ Err EncodeError.Memory → (items rest : L.IntoIter) × (types : List ValType) × L.into_iter_gives locals items × Yields L.IntoIter.next_gives items types rest × FitLength types }
     {
         let locals = locals.into_iter();
         let _finite = locals.len();
@@ -83,7 +89,17 @@ impl Function {
             push_type(&mut runs, ty)?;
         }
         let bytes = write_runs(alloc, &runs)?;
-        Ok(Function { bytes })
+        Ok(Function {
+            sink: InstructionSink::from_bytes(bytes),
+        })
+    }
+
+    /// The sink that the body's instructions are appended to, by calls of their names. What is appended to it is the body's.
+    pub fn instructions(&mut self) -> &mut InstructionSink
+        ensures* lent { sem 𝓛 (Lends the_row sink_row self.entry result (λ sink. sink.bytes)) }
+        ensures shown { result.now.bytes ≡ self.old }
+    {
+        &mut self.sink
     }
 
     /// Appends an instruction: what `instruction` does.
@@ -95,10 +111,7 @@ impl Function {
         ensures kept { IfErr result (λ _. self.new ≡ self.old) }
         ensures too_long { (result ≡ Err EncodeError.TooLong) ↔ (2 ^ 32 ≤ length (instruction_encoding instruction.now)) }
     {
-        let size = instruction.size()?;
-        self.bytes.reserve(size as usize)?;
-        instruction.put(&mut self.bytes);
-        Ok(())
+        self.sink.push(instruction)
     }
 
     /// Appends an instruction.
@@ -129,8 +142,7 @@ impl Function {
         ensures kept { IfErr result (λ _. self.new ≡ self.old) }
         ensures memory_alone { IfErr result (λ e. e ≡ EncodeError.Memory) }
     {
-        self.bytes.extend_from_slice(bytes)?;
-        Ok(())
+        self.sink.push_raw(bytes)
     }
 
     /// Appends any bytes, which are not looked at.
@@ -153,21 +165,21 @@ impl Function {
     pub fn byte_len(&self) -> usize
         ensures { result ≡ length self.now }
     {
-        self.bytes.len()
+        self.sink.as_bytes().len()
     }
 
     /// The bytes, without the size.
     pub fn into_raw_body(self) -> Vec<u8>
         ensures { result.items ≡ self }
     {
-        self.bytes
+        self.sink.into_bytes()
     }
 
     /// The bytes, without the size.
     pub fn as_raw_body(&self) -> &[u8]
         ensures { result.now ≡ self.now }
     {
-        &self.bytes
+        self.sink.as_bytes()
     }
 }
 
@@ -178,7 +190,7 @@ impl PartialEq for Function {
     ghost laws = { partial_equiv_from_equiv nat_list_eq_equiv };
 
     fn eq(&self, other: &Self) -> bool {
-        self.bytes == other.bytes
+        self.sink.as_bytes() == other.sink.as_bytes()
     }
 }
 
@@ -191,11 +203,11 @@ impl Encoding for Function {
     ghost encoding = { λ f. f };
 
     fn size(&self) -> Result<u64, EncodeError> {
-        bytes_size(&self.bytes)
+        bytes_size(self.sink.as_bytes())
     }
 
     fn put(&self, sink: &mut Vec<u8>) {
-        put_bytes(&self.bytes, sink);
+        put_bytes(self.sink.as_bytes(), sink);
     }
 }
 

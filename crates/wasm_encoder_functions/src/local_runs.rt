@@ -2,7 +2,7 @@
 
 ghost use Rattle.std.specs.Prelude.{◌≡◌, ◌-◌, ◌<◌, ◌≤◌, ◌^◌, ℕ, [], ◌∷◌, ◌++◌, List, map, take, length, None, Err, IfErr, IfOk, IfSome};
 ghost use Rattle.wasm_core_types.specs.declared.types.ValType.{ValType};
-ghost use Rattle.wasm_encoder_functions.specs.Locals.{locals_encoding, run_of, AreRunsOf, EndsWithOther, PassLength};
+ghost use Rattle.wasm_encoder_functions.specs.Locals.{locals_encoding, run_of, AreRunsOf, AreWritable, FitLength, PassLength};
 ghost use Rattle.wasm_encoder_functions.specs.CoreLocals.{pair_of, run_bytes};
 ghost use Rattle.wasm_core_write.specs.CoreEncodings.{val_type_encoding};
 
@@ -23,7 +23,7 @@ pub(crate) struct LocalRun {
 #[tactic(auto, using(crate::proofs::LastRuns::last_steps))]
 fn last_count(runs: &[LocalRun], ty: &ValType) -> Option<u32>
     ensures found { IfSome result (λ n. (0 < length runs.now) × (map pair_of runs.now ≡ map pair_of (take (length runs.now - 1) runs.now) ++ (n, ty.now) ∷ [])) }
-    ensures other { result ≡ None → EndsWithOther ty.now (map pair_of runs.now) }
+    ensures other { result ≡ None → (types : List ValType) → AreRunsOf types (map pair_of runs.now) → AreRunsOf (types ++ ty.now ∷ []) (map pair_of runs.now ++ (1, ty.now) ∷ []) }
 {
     match runs.last() {
         Some(run) if run.ty == *ty => Some(run.count),
@@ -34,10 +34,11 @@ fn last_count(runs: &[LocalRun], ty: &ValType) -> Option<u32>
 // Adds a local of this type: to the last run, if that is of it.
 #[tactic(auto, using(crate::proofs::LastRuns::type_steps))]
 pub(crate) fn push_type(runs: &mut Vec<LocalRun>, ty: ValType) -> Result<(), EncodeError>
-    requires { length runs.old.items < 2 ^ 32 }
+    requires { AreWritable (map pair_of runs.old.items) }
     ensures added { IfOk result (λ _. (types : List ValType) → AreRunsOf types (map pair_of runs.old.items) → AreRunsOf (types ++ ty ∷ []) (map pair_of runs.new.items)) }
-    ensures few { IfOk result (λ _. length runs.new.items < 2 ^ 32) }
-    ensures too_long { result ≡ Err EncodeError.TooLong → (types : List ValType) → AreRunsOf types (map pair_of runs.old.items) → (all : List (ℕ × ValType)) × AreRunsOf (types ++ ty ∷ []) all × PassLength all }
+    ensures writable { IfOk result (λ _. AreWritable (map pair_of runs.new.items)) }
+    ensures too_long { result ≡ Err EncodeError.TooLong → (types : List ValType) → AreRunsOf types (map pair_of runs.old.items) → PassLength (types ++ ty ∷ []) }
+    ensures memory { result ≡ Err EncodeError.Memory → (types : List ValType) → AreRunsOf types (map pair_of runs.old.items) → FitLength (types ++ ty ∷ []) }
 {
     if let Some(count) = last_count(runs, &ty) {
         let count = count.checked_add(1).ok_or(EncodeError::TooLong)?;

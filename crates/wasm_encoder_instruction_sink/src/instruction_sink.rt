@@ -1,13 +1,13 @@
 //! Instructions appended to bytes, one after the other.
 
-ghost use Rattle.std.specs.Prelude.{◌≡◌, [], IfOk, IfErr, vec_capacity};
+ghost use Rattle.std.specs.Prelude.{◌≡◌, ◌+◌, ◌<◌, ◌≤◌, [], ◌++◌, length, IfOk, IfErr, vec_capacity};
 ghost use Rattle.wasm_encoder_instructions.specs.Instructions.{instruction_encoding};
 ghost use Rattle.wasm_encoder_instruction_sink.specs.Sinks.{Appends, Refuses};
 
 use std::alloc::Global;
 use std::marker::Model;
 use wasm_core_write::encode_error::EncodeError;
-use wasm_core_write::encoding::Encoding;
+use wasm_core_write::encoding::{Encoding, put_bytes};
 use wasm_encoder_instructions::instruction::Instruction;
 
 /// The bytes of instructions. Contracts see these, and how many there is room for.
@@ -72,6 +72,20 @@ impl InstructionSink {
         let size = instruction.size()?;
         self.bytes.reserve(size as usize)?;
         instruction.put(&mut self.bytes);
+        Ok(())
+    }
+
+    /// Appends any bytes, which are not looked at.
+    ///
+    /// # Errors
+    /// `Memory` alone. The sink is then as it was.
+    pub fn push_raw(&mut self, bytes: &[u8]) -> Result<(), EncodeError>
+        ensures appended { IfOk result (λ _. (self.new.bytes ≡ self.old.bytes ++ bytes.now) × (self.old.capacity ≤ self.new.capacity)) }
+        ensures kept { IfErr result (λ _. self.new ≡ self.old) }
+        ensures cause { IfErr result (λ e. (e ≡ EncodeError.Memory) × (self.old.capacity < length self.old.bytes + length bytes.now)) }
+    {
+        self.bytes.reserve(bytes.len())?;
+        put_bytes(bytes, &mut self.bytes);
         Ok(())
     }
 

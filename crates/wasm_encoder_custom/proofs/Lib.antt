@@ -4,3 +4,4 @@ pub mod SubsectionLists
 pub mod ProducerLists
 pub mod HintLists
 pub mod DumpLists
+pub mod StackLists

@@ -9,3 +9,5 @@ pub mod BranchHints
 pub mod KeptHints
 pub mod CoreDumps
 pub mod KeptDumps
+pub mod CoreDumpStacks
+pub mod KeptStacks

@@ -4,6 +4,7 @@
 pub mod branch_hints;
 pub mod core_dump;
 pub mod core_dump_instances;
+pub mod core_dump_stack;
 pub mod custom_section;
 mod framing;
 pub mod name_map;

@@ -8,8 +8,8 @@ No body of this kind has a generated proof, and the proofs differ in names alone
 
 A line: FILE TYPE NAME CALL | ARGUMENT .. | NEXT | FULL | IMPORT ; IMPORT ..
 - FILE is the module, with `::` in it, ARGUMENT is `name:KIND`, with the KIND `u32` (and other integers), `str`, `[u8]`, `[CRATE.FILE.TYPE]`,
-  `&CRATE.FILE.TYPE` (with `'` at the end where the type has a lifetime), `CRATE.FILE.TYPE` (a `Copy` type, likewise), or `move_CRATE.FILE.TYPE` (one that is
-  owned), where `!LEMMA` follows if what is left of it has to be shown to be nothing by cases.
+  `&CRATE.FILE.TYPE` (with `'` at the end where the type has a lifetime), `CRATE.FILE.TYPE` (a `Copy` type, likewise), `?str` and `?CRATE.FILE.TYPE` (an
+  `Option` of a `&str` or of a `Copy` type), or `move_CRATE.FILE.TYPE` (one that is owned), where `!LEMMA` follows if what is left of it has to be shown to be nothing by cases.
 - NEXT is what the value `s` becomes, FULL when the call answers `TooLong`, or `memory`.
 """
 import os
@@ -45,6 +45,19 @@ class Argument:
             self.uses = ["denote.Text.{Str, StrRefOf, str-laws}"]
             self.slot, self.row = f"StrRefOf ({j} ∷ []) tt", f"Str (named {j}) κ{j}"
             self.lawful = f"(str-laws (record {{ mir = named {j}; lft = κ{j} }})).lawful 𝓛"
+        elif kind.startswith("?"):
+            self.uses = ["Rattle.std.specs.contracts.option.Option.{the_row as OptionOf}", "Rattle.std.proofs.option.Option.TheLaws.{the_row_laws as option_laws}"]
+            if kind == "?str":
+                j, self.lifetimes, self.stored = lifetimes, 1, True
+                self.uses += ["denote.Text.{Str, StrRefOf}", "borrow.Table.Str.{str_laws}"]
+                inner, laws = f"(Str (named {j}) κ{j})", f"(str_laws (record {{ mir = named {j}; lft = κ{j} }}))"
+                self.slot = f"plain (λ κs. OptionOf ((StrRefOf {{n = @COUNT@}} ({j} ∷ []) tt).row κs))"
+            else:
+                crate, *path, name = kind.removeprefix("?").split(".")
+                inner, laws = row, f"laws{number}"
+                self.uses += [declared(kind.removeprefix("?"), row), f"Rattle.{crate}.proofs.{'.'.join(path)}.{name}.TheLaws.{{the_row_laws as {laws}}}"]
+                self.slot = f"plain (λ _. OptionOf {row})"
+            self.row, self.lawful = f"OptionOf {inner}", f"(option_laws {inner} {laws}).lawful 𝓛"
         elif kind.startswith("["):
             j, item = lifetimes, kind[1:-1]
             self.lifetimes = 1

@@ -5,3 +5,4 @@ pub mod ProducerLists
 pub mod HintLists
 pub mod DumpLists
 pub mod StackLists
+pub mod SymbolLists

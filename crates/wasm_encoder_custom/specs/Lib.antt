@@ -11,3 +11,6 @@ pub mod CoreDumps
 pub mod KeptDumps
 pub mod CoreDumpStacks
 pub mod KeptStacks
+pub mod Linking
+pub mod KeptSymbols
+pub mod KeptLinking

@@ -7,9 +7,9 @@ A chaining call is `fn NAME(&mut self, ..) -> Result<&mut TYPE, EncodeError>`, w
 No body of this kind has a generated proof, and the proofs differ in names alone.
 
 A line: FILE TYPE NAME CALL | ARGUMENT .. | NEXT | FULL | IMPORT ; IMPORT ..
-- FILE is the module, with `::` in it, ARGUMENT is `name:KIND`, with the KIND `u32` (and other integers), `Option<u32>`, `str`, `[u8]`, `[CRATE.FILE.TYPE]`,
-  `&CRATE.FILE.TYPE` (with `'` at the end where the type has a lifetime), `CRATE.FILE.TYPE` (a `Copy` type, likewise), or `move_CRATE.FILE.TYPE` (one that is
-  owned), where `!LEMMA` follows if what is left of it has to be shown to be nothing by cases.
+- FILE is the module, with `::` in it, ARGUMENT is `name:KIND`, with the KIND `u32` (and other integers), `str`, `[u8]`, `[CRATE.FILE.TYPE]`,
+  `&CRATE.FILE.TYPE` (with `'` at the end where the type has a lifetime), `CRATE.FILE.TYPE` (a `Copy` type, likewise), `?u32`, `?str` and `?CRATE.FILE.TYPE` (an
+  `Option` of a number, of a `&str` or of a `Copy` type), or `move_CRATE.FILE.TYPE` (one that is owned), where `!LEMMA` follows if what is left of it has to be shown to be nothing by cases.
 - NEXT is what the value `s` becomes, FULL when the call answers `TooLong`, or `memory`.
 """
 import os
@@ -40,18 +40,29 @@ class Argument:
             place = "denote.Plain" if kind in UINTS else "denote.Signed"
             self.uses = [f"denote.Builtin.{{{kind}}}", f"{place}.{{{family}_Lawful}}", f"mir.Syntax.{{{width}}}"]
             self.slot, self.row, self.lawful = f"plain (λ _. {kind})", kind, f"{family}_Lawful 𝓛 {width}"
-        elif kind == "Option<u32>":
-            self.uses = [
-                "denote.Builtin.{u32}", "denote.Param.Laws.{of_field}", "denote.Struct.Field.{u32-field}", "denote.Struct.Laws.{u32-laws, u32-copy}", "denote.Param.Shared.{copy_shared}",
-                "Rattle.std.specs.contracts.option.Option.{the_row as OptionOf}", "Rattle.std.proofs.option.Option.TheLaws.{the_row_laws as option_laws}",
-            ]
-            self.slot, self.row = "plain (λ _. OptionOf u32)", "OptionOf u32"
-            self.lawful = "(option_laws u32 (of_field u32-field u32-laws refl (copy_shared u32-field u32-copy))).lawful 𝓛"
         elif kind == "str":
             j, self.lifetimes = lifetimes, 1
             self.uses = ["denote.Text.{Str, StrRefOf, str-laws}"]
             self.slot, self.row = f"StrRefOf ({j} ∷ []) tt", f"Str (named {j}) κ{j}"
             self.lawful = f"(str-laws (record {{ mir = named {j}; lft = κ{j} }})).lawful 𝓛"
+        elif kind.startswith("?"):
+            self.uses = ["Rattle.std.specs.contracts.option.Option.{the_row as OptionOf}", "Rattle.std.proofs.option.Option.TheLaws.{the_row_laws as option_laws}"]
+            if kind == "?str":
+                j, self.lifetimes, self.stored = lifetimes, 1, True
+                self.uses += ["denote.Text.{Str, StrRefOf}", "borrow.Table.Str.{str_laws}"]
+                inner, laws = f"(Str (named {j}) κ{j})", f"(str_laws (record {{ mir = named {j}; lft = κ{j} }}))"
+                self.slot = f"plain (λ κs. OptionOf ((StrRefOf {{n = @COUNT@}} ({j} ∷ []) tt).row κs))"
+            elif kind == "?u32":
+                inner, laws = "u32", "(of_field u32-field u32-laws refl (copy_shared u32-field u32-copy))"
+                self.uses += ["denote.Builtin.{u32}", "denote.Param.Laws.{of_field}", "denote.Param.Shared.{copy_shared}"]
+                self.uses += ["denote.Struct.Field.{u32-field}", "denote.Struct.Laws.{u32-laws, u32-copy}"]
+                self.slot = "plain (λ _. OptionOf u32)"
+            else:
+                crate, *path, name = kind.removeprefix("?").split(".")
+                inner, laws = row, f"laws{number}"
+                self.uses += [declared(kind.removeprefix("?"), row), f"Rattle.{crate}.proofs.{'.'.join(path)}.{name}.TheLaws.{{the_row_laws as {laws}}}"]
+                self.slot = f"plain (λ _. OptionOf {row})"
+            self.row, self.lawful = f"OptionOf {inner}", f"(option_laws {inner} {laws}).lawful 𝓛"
         elif kind.startswith("["):
             j, item = lifetimes, kind[1:-1]
             self.lifetimes = 1

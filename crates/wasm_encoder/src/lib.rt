@@ -5,7 +5,8 @@
 pub use wasm_core_types::types;
 pub use wasm_core_write::{encode, encode_error, module, rec_group, type_section};
 pub use wasm_encoder_custom::{
-    branch_hints, core_dump, core_dump_instances, custom_section, name_map, name_section, producers,
+    branch_hints, core_dump, core_dump_instances, core_dump_stack, custom_section, linking,
+    name_map, name_section, producers, symbol_table,
 };
 pub use wasm_encoder_expression_sections::{
     code_section, data_section, data_segment, element_section, element_segment, global_section,

@@ -4,3 +4,5 @@ pub mod SubsectionLists
 pub mod ProducerLists
 pub mod HintLists
 pub mod DumpLists
+pub mod StackLists
+pub mod SymbolLists

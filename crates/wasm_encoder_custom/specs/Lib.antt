@@ -9,3 +9,8 @@ pub mod BranchHints
 pub mod KeptHints
 pub mod CoreDumps
 pub mod KeptDumps
+pub mod CoreDumpStacks
+pub mod KeptStacks
+pub mod Linking
+pub mod KeptSymbols
+pub mod KeptLinking

@@ -5,7 +5,7 @@ ghost use Rattle.std.specs.Prelude.{◌≡◌, ◌↔◌, ◌+◌, ◌≤◌, �
 ghost use Rattle.wasm_core_write.specs.Encoding.{TellsItem};
 ghost use Rattle.wasm_encoder_custom.specs.CoreDumps.{dumped_name_encoding, dumped_modules_encoding};
 ghost use Rattle.wasm_encoder_custom.specs.CustomSections.{custom_content};
-ghost use Rattle.wasm_encoder_custom.specs.KeptDumps.{dumped_name_bytes};
+ghost use Rattle.wasm_encoder_custom.specs.KeptDumps.{dumped_name, dumped_name_bytes};
 ghost use Rattle.wasm_spec.specs.Shortest.{framed_encoding};
 
 use crate::custom_section::CustomSection;
@@ -22,10 +22,21 @@ use wasm_encoder_sections::names::Name;
 // What an entry of a core dump begins with, for versions of the convention to come.
 pub(crate) const ENTRY: u8 = 0x00;
 
-// The name of a program, or of a module.
+// The name of a program, of a module, or of a thread.
 #[derive(Debug, Drop)]
-struct DumpedName {
+pub(crate) struct DumpedName {
     name: Name,
+}
+
+impl DumpedName {
+    // A copy of a name.
+    pub(crate) fn new(alloc: Global, name: &str) -> Result<DumpedName, EncodeError>
+        ensures copied { IfOk result (λ n. dumped_name n ≡ name.now) }
+        ensures memory_alone { IfErr result (λ e. e ≡ EncodeError.Memory) }
+    {
+        let name = Name::new(alloc, name)?;
+        Ok(DumpedName { name })
+    }
 }
 
 impl Encoding for DumpedName {
@@ -67,10 +78,8 @@ impl CoreDumpSection {
         ensures named { IfOk result (λ s. s ≡ name.now) }
         ensures memory_alone { IfErr result (λ e. e ≡ EncodeError.Memory) }
     {
-        let name = Name::new(alloc, name)?;
-        Ok(CoreDumpSection {
-            program: DumpedName { name },
-        })
+        let program = DumpedName::new(alloc, name)?;
+        Ok(CoreDumpSection { program })
     }
 }
 
@@ -147,8 +156,8 @@ impl CoreDumpModulesSection {
         ensures too_long { (result ≡ Err EncodeError.TooLong) ↔ (2 ^ 32 ≤ length self.old + 1) }
     {
         self.modules.check_room()?;
-        let name = Name::new(self.alloc, name)?;
-        self.modules.push(DumpedName { name })
+        let name = DumpedName::new(self.alloc, name)?;
+        self.modules.push(name)
     }
 
     /// Adds a module of this name. The name is copied.

@@ -1,10 +1,10 @@
 //! Parts of custom sections, each an id and a content after its size, as they are kept and written.
 
-ghost use Rattle.std.specs.Prelude.{◌≡◌, ◌↔◌, ◌+◌, ◌≤◌, ◌^◌, [], ◌∷◌, ◌++◌, length, vec_len, vec_capacity, Err, IfOk, IfErr};
+ghost use Rattle.std.specs.Prelude.{◌≡◌, ◌↔◌, ◌+◌, ◌≤◌, ◌<◌, ◌^◌, [], ◌∷◌, ◌++◌, length, vec_len, vec_capacity, Err, IfOk, IfErr};
 ghost use Rattle.std.specs.List.{flat_map};
-ghost use Rattle.wasm_core_write.specs.Encoding.{Measures};
+ghost use Rattle.wasm_core_write.specs.Encoding.{Measures, Encodes};
 ghost use Rattle.wasm_encoder_custom.specs.KeptSubsections.{subsection_bytes};
-ghost use Rattle.wasm_encoder_custom.specs.Subsections.{subsections_encoding};
+ghost use Rattle.wasm_encoder_custom.specs.Subsections.{subsection_encoding, subsections_encoding};
 
 use crate::framing::written;
 use std::alloc::Global;
@@ -59,6 +59,33 @@ fn put_items<T: Encoding>(items: &[T], sink: &mut Vec<u8>)
     for item in items {
         item.put(sink);
     }
+}
+
+/// The number of bytes of a part that holds what a value is written as.
+#[tactic(auto, using(wasm_spec::proofs::ListEncodings::framed_steps, wasm_spec::proofs::UnsignedEncodings::at_most_five), unfolding(crate::specs::Subsections::subsection_encoding))]
+pub fn subsection_len<T: Encoding>(id: u8, content: &T) -> Result<u64, EncodeError>
+    ensures exact { Measures result (length (subsection_encoding (record { id = id; content = T.encoding content.now }))) (length (T.encoding content.now)) }
+    ensures below { IfOk result (λ n. n < 2 ^ 33) }
+{
+    let size = content.size()?;
+    Ok(1 + size + len_u64(size) as u64)
+}
+
+/// Appends a part that holds what a value is written as: measures, grows the sink once, and writes.
+#[tactic(auto, using(wasm_spec::proofs::ListEncodings::framed_steps, wasm_spec::proofs::ListEncodings::parts), unfolding(crate::specs::Subsections::subsection_encoding, wasm_spec::specs::Shortest::framed_encoding))]
+pub fn encode_subsection<T: Encoding>(
+    id: u8,
+    content: &T,
+    sink: &mut Vec<u8>,
+) -> Result<(), EncodeError>
+    ensures { Encodes sink.old sink.new result (subsection_encoding (record { id = id; content = T.encoding content.now })) (length (T.encoding content.now)) }
+{
+    let size = content.size()?;
+    sink.reserve(1 + size as usize + len_u64(size))?;
+    sink.push_reserved(id);
+    put_u64(sink, size);
+    content.put(sink);
+    Ok(())
 }
 
 /// Parts in the order in which they were added. Contracts see the list of them.

@@ -8,8 +8,12 @@ mod dumps;
 #[cfg(test)]
 mod hints;
 #[cfg(test)]
+mod linking;
+#[cfg(test)]
 mod names;
 #[cfg(test)]
 mod producers;
+#[cfg(test)]
+mod stacks;
 #[cfg(test)]
 mod written;

@@ -34,13 +34,13 @@ use Rattle.std.specs.contracts.result.Result as RS
 use Rattle.std.proofs.VecSteps.Shapes.{after, head, arm_body}
 use Rattle.std.proofs.mem.Facts.{says_three}
 use Rattle.std.proofs.ResultValues.{ok_of, err_of}
-use denote.Builtin.{u32, RefOf}
-use denote.Param.Laws.{of_field}
-use denote.Struct.Field.{u32-field}
-use denote.Struct.Laws.{u32-laws, u32-copy}
-use denote.Param.Shared.{copy_shared}
 use Rattle.std.specs.contracts.option.Option.{the_row as OptionOf}
 use Rattle.std.proofs.option.Option.TheLaws.{the_row_laws as option_laws}
+use denote.Builtin.{u32, RefOf}
+use denote.Param.Laws.{of_field}
+use denote.Param.Shared.{copy_shared}
+use denote.Struct.Field.{u32-field}
+use denote.Struct.Laws.{u32-laws, u32-copy}
 use Rattle.wasm_encoder_expressions.specs.contracts.const_expr.ConstExpr.{the_row as X2}
 use Rattle.wasm_encoder_expression_sections.specs.contracts.element_segment.Elements.{the_row as X3}
 use Rattle.wasm_encoder_expression_sections.proofs.element_segment.Elements.TheLaws.{the_row_laws as laws3}

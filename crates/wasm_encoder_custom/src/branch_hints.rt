@@ -74,6 +74,12 @@ impl Encoding for KeptHints {
 const NAME: &str = "metadata.code.branch_hint";
 
 /// The hints of a module's functions. Contracts see the list of the functions that have some.
+///
+/// ```
+/// let mut hints = BranchHints::new(alloc);
+/// hints.function_hints(0, &[BranchHint { branch_func_offset: 5, branch_hint_value: 1 }])?;
+/// module.push(&hints)?;
+/// ```
 #[derive(Debug, Drop)]
 pub struct BranchHints {
     alloc: Global,

@@ -55,6 +55,10 @@ impl Encoding for DumpedName {
 }
 
 /// The program that failed. Contracts see its name.
+///
+/// ```
+/// module.push(&CoreDumpSection::new(alloc, "program")?)?;
+/// ```
 #[derive(Debug, Drop)]
 pub struct CoreDumpSection {
     program: DumpedName,
@@ -110,6 +114,12 @@ impl Section for CoreDumpSection {
 const NAME: &str = "coremodules";
 
 /// The modules of the program that failed. Contracts see the list of their names.
+///
+/// ```
+/// let mut modules = CoreDumpModulesSection::new(alloc);
+/// modules.module("program.wasm")?;
+/// module.push(&modules)?;
+/// ```
 #[derive(Debug, Drop)]
 pub struct CoreDumpModulesSection {
     alloc: Global,

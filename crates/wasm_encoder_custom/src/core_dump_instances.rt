@@ -49,6 +49,12 @@ impl Encoding for KeptInstance {
 const NAME: &str = "coreinstances";
 
 /// The instances of the modules of the program that failed. Contracts see the list of them.
+///
+/// ```
+/// let mut instances = CoreDumpInstancesSection::new(alloc);
+/// instances.instance(0, &[0], &[])?;
+/// module.push(&instances)?;
+/// ```
 #[derive(Debug, Drop)]
 pub struct CoreDumpInstancesSection {
     alloc: Global,

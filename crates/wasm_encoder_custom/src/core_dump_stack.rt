@@ -142,6 +142,12 @@ impl Encoding for KeptStack {
 const NAME: &str = "corestack";
 
 /// The stack of a thread of the program that failed: its frames. Contracts see the thread's name and the list of its frames.
+///
+/// ```
+/// let mut stack = CoreDumpStackSection::new(alloc, "main")?;
+/// stack.frame(0, 12, 0x40, &[CoreDumpValue::I32(1)], &[])?;
+/// module.push(&stack)?;
+/// ```
 #[derive(Debug, Drop)]
 pub struct CoreDumpStackSection {
     alloc: Global,

@@ -42,6 +42,14 @@ impl Encoding for LinkingContent {
 
 /// What linkers are told of an object file: its symbols. Contracts see the list of its subsections, which are written in the
 /// order in which they were added: the convention asks for one symbol table.
+///
+/// ```
+/// let mut symbols = SymbolTable::new(alloc);
+/// symbols.function(SymbolTable::WASM_SYM_UNDEFINED, 0, None)?;
+/// let mut linking = LinkingSection::new(alloc);
+/// linking.symbol_table(&symbols)?;
+/// module.push(&linking)?;
+/// ```
 #[derive(Debug, Drop)]
 pub struct LinkingSection {
     alloc: Global,

@@ -24,6 +24,15 @@ const NAME: &str = "name";
 /// written in the order in which they were added: the convention asks for that of their ids, each at most once.
 ///
 /// Each adding call copies the names. What it refuses leaves the section as it was.
+///
+/// ```
+/// let mut functions = NameMap::new(alloc);
+/// functions.append(0, "main")?;
+/// let mut names = NameSection::new(alloc);
+/// names.module("m")?;
+/// names.functions(&functions)?;
+/// module.push(&names)?;
+/// ```
 #[derive(Debug, Drop)]
 pub struct NameSection {
     alloc: Global,

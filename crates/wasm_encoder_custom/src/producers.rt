@@ -154,6 +154,14 @@ impl Encoding for KeptField {
 const NAME: &str = "producers";
 
 /// Which tools made a module: fields, each with its tools. Contracts see the list of the fields.
+///
+/// ```
+/// let mut language = ProducersField::new(alloc);
+/// language.value("C", "11")?;
+/// let mut producers = ProducersSection::new(alloc);
+/// producers.field("language", &language)?;
+/// module.push(&producers)?;
+/// ```
 #[derive(Debug, Drop)]
 pub struct ProducersSection {
     alloc: Global,

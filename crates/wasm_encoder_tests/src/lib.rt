@@ -3,3 +3,5 @@
 
 #[cfg(test)]
 mod modules;
+#[cfg(test)]
+mod worked;

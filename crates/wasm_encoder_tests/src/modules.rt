@@ -3,6 +3,11 @@
 use std::alloc::Global;
 use wasm_core_base::features::WasmFeatures;
 use wasm_encoder::code_section::CodeSection;
+use wasm_encoder::const_expr::ConstExpr;
+use wasm_encoder::data_count_section::DataCountSection;
+use wasm_encoder::data_section::DataSection;
+use wasm_encoder::element_section::ElementSection;
+use wasm_encoder::element_segment::Elements;
 use wasm_encoder::encode_error::EncodeError;
 use wasm_encoder::entity_type::{
     EntityType, ExportKind, GlobalType, MemoryType, TableType, TagKind, TagType,
@@ -10,6 +15,7 @@ use wasm_encoder::entity_type::{
 use wasm_encoder::export_section::ExportSection;
 use wasm_encoder::function::Function;
 use wasm_encoder::function_section::FunctionSection;
+use wasm_encoder::global_section::GlobalSection;
 use wasm_encoder::import_section::ImportSection;
 use wasm_encoder::instruction::Instruction;
 use wasm_encoder::memory_section::MemorySection;
@@ -98,6 +104,28 @@ fn push_exports(alloc: Global, module: &mut Module) -> Result<(), EncodeError> {
     module.push(&exports)
 }
 
+fn push_globals(alloc: Global, module: &mut Module) -> Result<(), EncodeError> {
+    let mut globals = GlobalSection::new(alloc);
+    globals.push(GLOBAL, &ConstExpr::global_get(alloc, 0)?)?;
+    module.push(&globals)
+}
+
+fn push_elements(alloc: Global, module: &mut Module) -> Result<(), EncodeError> {
+    let offset = ConstExpr::i32_const(alloc, 0)?;
+    let mut elements = ElementSection::new(alloc);
+    elements.push_active(None, &offset, Elements::Functions(&[0]))?;
+    elements.push_declared(Elements::Functions(&[1]))?;
+    module.push(&elements)
+}
+
+fn push_data(alloc: Global, module: &mut Module) -> Result<(), EncodeError> {
+    let offset = ConstExpr::i64_const(alloc, 0)?;
+    let mut segments = DataSection::new(alloc);
+    segments.push_active(0, &offset, b"hello")?;
+    segments.push_passive(b"world")?;
+    module.push(&segments)
+}
+
 // A body that drops a local.
 fn body(alloc: Global) -> Result<Function, EncodeError> {
     let mut body = Function::new(alloc, [(1, ValType::I32)])?;
@@ -129,11 +157,15 @@ fn module_of(alloc: Global, start: u32) -> Result<Vec<u8>, EncodeError> {
     push_tables(alloc, &mut module)?;
     push_memories(alloc, &mut module)?;
     push_tags(alloc, &mut module)?;
+    push_globals(alloc, &mut module)?;
     push_exports(alloc, &mut module)?;
     module.push(&StartSection {
         function_index: start,
     })?;
+    push_elements(alloc, &mut module)?;
+    module.push(&DataCountSection { count: 2 })?;
     push_bodies(alloc, &mut module)?;
+    push_data(alloc, &mut module)?;
     push_names(alloc, &mut module)?;
     Ok(module.finish())
 }

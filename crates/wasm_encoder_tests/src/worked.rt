@@ -1,6 +1,7 @@
 //! Worked modules, byte for byte.
 
 use std::alloc::Global;
+use std::borrow::{CowSlice, CowStr};
 use wasm_encoder::code_section::CodeSection;
 use wasm_encoder::const_expr::ConstExpr;
 use wasm_encoder::custom_section::CustomSection;
@@ -84,13 +85,14 @@ fn greeting(alloc: Global) -> Result<Vec<u8>, EncodeError> {
     module.push(&DataCountSection { count: 1 })?;
     push_greeting(alloc, &mut module)?;
     module.push(&CustomSection {
-        name: "c",
-        data: &[0x07],
+        name: CowStr::Borrowed("c"),
+        data: CowSlice::Borrowed(&[0x07]),
     })?;
     Ok(module.finish())
 }
 
-const GREETING: &str = "00 61 73 6d 01 00 00 00 01 04 01 60 00 00 02 07 01 01 6d 01 66 00 00 05 03 01 00 01 \
+const GREETING: &str =
+    "00 61 73 6d 01 00 00 00 01 04 01 60 00 00 02 07 01 01 6d 01 66 00 00 05 03 01 00 01 \
     07 05 01 01 66 00 00 08 01 00 0c 01 01 0b 08 01 00 41 00 0b 02 68 69 00 03 01 63 07";
 
 fn values(alloc: Global, types: &[ValType]) -> Result<Vec<ValType>, EncodeError> {
@@ -174,7 +176,8 @@ fn each_space(alloc: Global) -> Result<Vec<u8>, EncodeError> {
     Ok(module.finish())
 }
 
-const EACH_SPACE: &str = "00 61 73 6d 01 00 00 00 01 0c 02 60 02 7f 7e 01 7f 60 02 7e 7f 00 03 02 01 00 \
+const EACH_SPACE: &str =
+    "00 61 73 6d 01 00 00 00 01 0c 02 60 02 7f 7e 01 7f 60 02 7e 7f 00 03 02 01 00 \
     04 04 01 70 00 0a 05 04 01 01 01 05 0d 03 01 00 01 06 06 01 7f 01 41 00 0b 09 07 01 05 70 01 d2 00 0b \
     0a 06 01 04 00 41 00 0b";
 

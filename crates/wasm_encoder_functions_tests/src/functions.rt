@@ -23,6 +23,7 @@ const WRITTEN: &str = "
     none | 01 00
     instructions | 06 00 01 41 80 01 0b
     raw | 04 00 ff 80 0b
+    lent | 0b 01 01 7f 20 00 41 7f 21 00 1a 0b
 ";
 
 fn reference(nullable: bool, heap_type: HeapType) -> ValType {
@@ -63,6 +64,17 @@ fn raw(alloc: Global) -> Result<Function, EncodeError> {
     Ok(body)
 }
 
+// Instructions by calls of the sink, before and after one of the body.
+fn lent(alloc: Global) -> Result<Function, EncodeError> {
+    let mut body = Function::new(alloc, [(1, ValType::I32)])?;
+    body.instructions().local_get(0)?.i32_const(-1)?;
+    body.push(&Instruction::LocalSet(0))?;
+    let sink = body.instructions();
+    sink.push_raw(&[0x1a])?;
+    sink.push(&Instruction::End)?;
+    Ok(body)
+}
+
 fn made(alloc: Global, name: &str) -> Result<Function, EncodeError> {
     match name {
         "runs" => Function::new(
@@ -82,6 +94,7 @@ fn made(alloc: Global, name: &str) -> Result<Function, EncodeError> {
         "none" => Function::new_with_locals_types(alloc, []),
         "instructions" => instructions(alloc),
         "raw" => raw(alloc),
+        "lent" => lent(alloc),
         _ => Function::new(alloc, []),
     }
 }
@@ -105,7 +118,7 @@ fn holds(alloc: Global, row: &str) -> Option<bool> {
 
 #[test]
 fn bodies_are_written(rt: HostRuntime) -> Result<(), Fail> {
-    Ok(check_rows(rt.alloc(), WRITTEN, 9, holds)?)
+    Ok(check_rows(rt.alloc(), WRITTEN, 10, holds)?)
 }
 
 // A list of more runs than can be counted is refused before any is asked for.

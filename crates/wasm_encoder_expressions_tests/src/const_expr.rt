@@ -7,6 +7,8 @@ use wasm_core_write::encode::Encode;
 use wasm_core_write::encode_error::EncodeError;
 use wasm_encoder_expressions::const_expr::ConstExpr;
 use wasm_encoder_instructions::ieee::{Ieee32, Ieee64};
+use wasm_encoder_instructions::instruction::Instruction;
+use wasm_encoder_instructions::scalar_instruction::ScalarInstruction;
 use wasm_test_rows::fields::two_fields;
 use wasm_test_rows::rows::check_rows;
 use wasm_test_rows::values::bytes_of;
@@ -26,6 +28,9 @@ const WRITTEN: &str = "
     v128_const | fd 0c 02 00 00 00 00 00 00 00 00 00 00 00 00 00 00 80 0b
     sums | 41 07 41 01 6a 41 02 6b 41 03 6c 0b
     long_sums | 42 07 42 01 7c 42 02 7d 42 03 7e 0b
+    extended | 41 07 41 01 6a 0b
+    extended_pair | d0 6e d2 81 01 fb 06 02 0b
+    extended_nothing | 0b
     all | 23 00 d0 6f d2 01 41 7f 42 7f 43 00 00 80 7f 44 00 00 00 00 00 00 f0 7f 0b
 ";
 
@@ -52,6 +57,19 @@ fn all(alloc: Global) -> Result<ConstExpr, EncodeError> {
     fifth.with_f64_const(Ieee64::new(0x7ff0_0000_0000_0000))
 }
 
+fn extended(alloc: Global) -> Result<ConstExpr, EncodeError> {
+    let first = Instruction::I32Const(7);
+    let second = Instruction::I32Const(1);
+    let sum = Instruction::Scalar(ScalarInstruction::I32Add);
+    ConstExpr::extended(alloc, [first, second, sum])
+}
+
+fn extended_pair(alloc: Global) -> Result<ConstExpr, EncodeError> {
+    let null = Instruction::RefNull(HeapType::Abstract(AbstractHeapType::Any));
+    let function = Instruction::RefFunc(129);
+    ConstExpr::extended(alloc, [null, function, Instruction::ArrayNew(2)])
+}
+
 fn made(alloc: Global, name: &str) -> Result<ConstExpr, EncodeError> {
     match name {
         "raw" => ConstExpr::raw(alloc, [0x41, 0x80, 0x00]),
@@ -66,6 +84,9 @@ fn made(alloc: Global, name: &str) -> Result<ConstExpr, EncodeError> {
         "v128_const" => ConstExpr::v128_const(alloc, i128::MIN + 2),
         "sums" => sums(alloc),
         "long_sums" => long_sums(alloc),
+        "extended" => extended(alloc),
+        "extended_pair" => extended_pair(alloc),
+        "extended_nothing" => ConstExpr::extended(alloc, []),
         "all" => all(alloc),
         _ => Ok(ConstExpr::empty(alloc)),
     }
@@ -89,7 +110,7 @@ fn holds(alloc: Global, row: &str) -> Option<bool> {
 
 #[test]
 fn expressions_are_written(rt: HostRuntime) -> Result<(), Fail> {
-    Ok(check_rows(rt.alloc(), WRITTEN, 14, holds)?)
+    Ok(check_rows(rt.alloc(), WRITTEN, 17, holds)?)
 }
 
 // Bytes of expressions, and the function that each begins with a reference to.

@@ -82,6 +82,7 @@ fn table_of(alloc: Global, symbols: &str) -> Option<SymbolTable> {
 const TABLES: &str = "
     | 08 01 00
     function:16:5 | 08 04 01 00 10 05
+    function:16:64 | 08 04 01 00 10 40
     function:0:5:f | 08 06 01 00 00 05 01 66
     function:80:128:ab | 08 08 01 00 50 80 01 02 61 62
     function:64:0:\u{e9} | 08 07 01 00 40 00 02 c3 a9
@@ -90,6 +91,7 @@ const TABLES: &str = "
     table:16:0 | 08 04 01 05 10 00
     table:4:0: | 08 05 01 05 04 00 00
     data:16:d | 08 05 01 01 10 01 64
+    data:0:d:64:65:66 | 08 08 01 01 00 01 64 40 41 42
     data:0:d:1:2:3 | 08 08 01 01 00 01 64 01 02 03
     data:128::4294967295:300:0 | 08 0d 01 01 80 01 00 ff ff ff ff 0f ac 02 00
     function:0:0:f data:0:d:0:0:4 global:0:0:g table:0:0:t | 08 17 04 00 00 00 01 66 01 00 01 64 00 00 04 02 00 00 01 67 05 00 00 01 74
@@ -104,7 +106,7 @@ fn table_row(alloc: Global, row: &str) -> Option<bool> {
 
 #[test]
 fn symbol_tables(rt: HostRuntime) -> Result<(), Fail> {
-    Ok(check_rows(rt.alloc(), TABLES, 14, table_row)?)
+    Ok(check_rows(rt.alloc(), TABLES, 16, table_row)?)
 }
 
 fn add_table(alloc: Global, section: &mut LinkingSection, symbols: &str) -> Option<bool> {
@@ -126,6 +128,7 @@ fn section_of(alloc: Global, tables: &str) -> Option<LinkingSection> {
 const SECTIONS: &str = "
     | 00 09 07 6c 69 6e 6b 69 6e 67 02
     ; | 00 0c 07 6c 69 6e 6b 69 6e 67 02 08 01 00
+    function:16:0; | 00 0f 07 6c 69 6e 6b 69 6e 67 02 08 04 01 00 10 00
     function:0:5:f; | 00 11 07 6c 69 6e 6b 69 6e 67 02 08 06 01 00 00 05 01 66
     function:0:5:f; data:16:d; ; | 00 1b 07 6c 69 6e 6b 69 6e 67 02 08 06 01 00 00 05 01 66 08 05 01 01 10 01 64 08 01 00
     function:16:0*100000; | 00 f0 a7 12 07 6c 69 6e 6b 69 6e 67 02 08 e3 a7 12 a0 8d 06 001000*100000
@@ -139,7 +142,7 @@ fn section_row(alloc: Global, row: &str) -> Option<bool> {
 
 #[test]
 fn linking_sections(rt: HostRuntime) -> Result<(), Fail> {
-    Ok(check_rows(rt.alloc(), SECTIONS, 5, section_row)?)
+    Ok(check_rows(rt.alloc(), SECTIONS, 6, section_row)?)
 }
 
 #[test]

@@ -92,6 +92,7 @@ fn add_frames(
 const STACKS: &str = "
     | 0 | | 00 0d 09 63 6f 72 65 73 74 61 63 6b 00 00 00
     t | 1 | 0 1 2 : : ; | 00 14 09 63 6f 72 65 73 74 61 63 6b 00 01 74 01 00 00 01 02 00 00
+    t | 1 | 64 65 66 : : ; | 00 14 09 63 6f 72 65 73 74 61 63 6b 00 01 74 01 00 40 41 42 00 00
     t | 1 | 0 1 2 : : ; 3 4 5 : missing : ; | 00 1b 09 63 6f 72 65 73 74 61 63 6b 00 01 74 02 00 00 01 02 00 00 00 03 04 05 01 01 00
     t | 1 | 128 300 4294967295 : missing i32/-1 i64/64 : f32/1 f64/2 ; | 00 2e 09 63 6f 72 65 73 74 61 63 6b 00 01 74 01 00 80 01 ac 02 ff ff ff ff 0f 03 01 7f 7f 7e c0 00 02 7d 01 00 00 00 7c 02 00 00 00 00 00 00 00
     t | 1 | 0 0 0 : i32/-2147483648 i64/9223372036854775807 i64/-9223372036854775808 : f32/2139095040 f64/9218868437227405312 ; | 00 3e 09 63 6f 72 65 73 74 61 63 6b 00 01 74 01 00 00 00 00 03 7f 80 80 80 80 78 7e ff ff ff ff ff ff ff ff ff 00 7e 80 80 80 80 80 80 80 80 80 7f 02 7d 00 00 80 7f 7c 00 00 00 00 00 00 f0 7f
@@ -121,7 +122,7 @@ fn stack_row(alloc: Global, row: &str) -> Option<bool> {
 
 #[test]
 fn stacks(rt: HostRuntime) -> Result<(), Fail> {
-    Ok(check_rows(rt.alloc(), STACKS, 7, stack_row)?)
+    Ok(check_rows(rt.alloc(), STACKS, 8, stack_row)?)
 }
 
 fn lengths(alloc: Global) -> Option<bool> {

@@ -63,11 +63,12 @@ const DATA: &str = "
     segment : 00 | 3 | 0b 04 01 01 01 00
     active 1 41 00 : | 6 | 0b 07 01 02 01 41 00 0b 00
     active 128 42 7f : ff | 8 | 0b 09 01 02 80 01 42 7f 0b 01 ff
+    active 64 41 00 : 00*64 | 70 | 0b 47 01 02 40 41 00 0b 40 00*64
     raw : 01 00 ; passive : 00*200 | 2 203 | 0b ce 01 02 01 00 01 c8 01 00*200
 ";
 
 #[test]
 fn data_sections(rt: HostRuntime) -> Result<(), Fail> {
-    check_rows(rt.alloc(), DATA, 7, data_row)?;
+    check_rows(rt.alloc(), DATA, 8, data_row)?;
     Ok(())
 }

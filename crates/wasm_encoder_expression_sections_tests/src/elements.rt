@@ -105,6 +105,8 @@ fn element_row(alloc: Global, row: &str) -> Option<bool> {
 const ELEMENTS: &str = "
     | | 09 01 00
     active - 41 00 : indexes 0 128 | 8 | 09 09 01 00 41 00 0b 02 00 80 01
+    active - 41 00 : indexes 64 | 6 | 09 07 01 00 41 00 0b 01 40
+    active 64 41 00 : indexes 0 | 8 | 09 09 01 02 40 41 00 0b 00 01 00
     passive : indexes 0 | 4 | 09 05 01 01 00 01 00
     active 0 41 00 : indexes | 7 | 09 08 01 02 00 41 00 0b 00 00
     active 128 41 00 : indexes 1 | 9 | 09 0a 01 02 80 01 41 00 0b 00 01 01
@@ -121,6 +123,6 @@ const ELEMENTS: &str = "
 
 #[test]
 fn element_sections(rt: HostRuntime) -> Result<(), Fail> {
-    check_rows(rt.alloc(), ELEMENTS, 13, element_row)?;
+    check_rows(rt.alloc(), ELEMENTS, 16, element_row)?;
     Ok(())
 }

@@ -1,6 +1,6 @@
 //! Global sections.
 
-use crate::expressions::expression_of;
+use crate::expressions::{expression_of, reference_of};
 use crate::written::holds;
 use std::alloc::Global;
 use std::test::Fail;
@@ -15,8 +15,10 @@ fn value_of(name: &str) -> Option<ValType> {
     match name {
         "i32" => Some(ValType::I32),
         "i64" => Some(ValType::I64),
+        "f32" => Some(ValType::F32),
+        "f64" => Some(ValType::F64),
         "v128" => Some(ValType::V128),
-        _ => None,
+        _ => Some(ValType::Ref(reference_of(name)?)),
     }
 }
 
@@ -69,11 +71,14 @@ const GLOBALS: &str = "
     i32 var 41 00 | 5 | 06 06 01 7f 01 41 00 0b
     i64 const 42 00 ; raw 7f 00 23 00 0b | 5 5 | 06 0b 02 7e 00 42 00 0b 7f 00 23 00 0b
     i32 const 41 80 01 41 01 6a | 9 | 06 0a 01 7f 00 41 80 01 41 01 6a 0b
+    f32 const 43 00*4 | 8 | 06 09 01 7d 00 43 00*4 0b
+    f64 const 44 00*8 | 12 | 06 0d 01 7c 00 44 00*8 0b
+    externref var d0 6f ; func const d2 40 | 5 6 | 06 0c 02 6f 01 d0 6f 0b 64 70 00 d2 40 0b
     v128 const fd 0c 00*16 | 21 | 06 16 01 7b 00 fd 0c 00*16 0b
 ";
 
 #[test]
 fn global_sections(rt: HostRuntime) -> Result<(), Fail> {
-    check_rows(rt.alloc(), GLOBALS, 5, global_row)?;
+    check_rows(rt.alloc(), GLOBALS, 8, global_row)?;
     Ok(())
 }

@@ -66,13 +66,14 @@ const TABLES: &str = "
     | | 04 01 00
     funcref 10 - no | 3 | 04 04 01 70 00 0a
     funcref 0 128 no ; extern 1 - yes | 5 4 | 04 0a 02 70 01 00 80 01 64 6f 04 01
+    funcref 64 65 no | 4 | 04 05 01 70 01 40 41
     concrete 1 1 yes | 6 | 04 07 01 63 c0 00 05 01 01
     func 1 - no = d2 00 ; funcref 0 - no | 9 3 | 04 0d 02 40 00 64 70 00 01 d2 00 0b 70 00 00
 ";
 
 #[test]
 fn table_sections(rt: HostRuntime) -> Result<(), Fail> {
-    check_rows(rt.alloc(), TABLES, 5, table_row)?;
+    check_rows(rt.alloc(), TABLES, 6, table_row)?;
     Ok(())
 }
 

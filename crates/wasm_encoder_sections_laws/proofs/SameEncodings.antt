@@ -27,5 +27,5 @@ pub encodings : {A : Type 0} (IsA : List ℕ → A → Type 0) (a_at : List ℕ 
 unfolding list_encoding
 encodings IsA a_at law xs ys h k e =
     let both = apart unsigned_encoding unsigned_at unsigned_decodes (length xs) (length ys) (flat_map (λ item. item) xs) (flat_map (λ item. item) ys)
-        (same_content (list_encoding (λ item. item) xs) (list_encoding (λ item. item) ys) e) in
+    (same_content (list_encoding (λ item. item) xs) (list_encoding (λ item. item) ys) e) in
     items IsA a_at law xs ys h k both.0 both.1

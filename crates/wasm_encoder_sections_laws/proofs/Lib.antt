@@ -1,2 +1,3 @@
 pub mod SameSections
 pub mod SameEncodings
+mod ReadModules

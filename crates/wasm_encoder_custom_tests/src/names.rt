@@ -1,9 +1,9 @@
 //! Name sections.
 
-use crate::written::writes;
 use std::alloc::Global;
 use wasm_encoder_custom::name_map::{IndirectNameMap, NameMap};
 use wasm_encoder_custom::name_section::NameSection;
+use wasm_encoder_sections_tests::written::writes;
 
 fn module_name(alloc: Global) -> Option<bool> {
     let mut section = NameSection::new(alloc);

@@ -1,0 +1,38 @@
+#!/usr/bin/env python3
+"""Takes the libraries that `rt ci` left in another clone, where all that they are made from is the same: take_libraries.py CLONE, at the root of a checkout.
+
+What is proved over them is for use while you write: `rt ci` alone is the verdict. No other `rt` command may work in the checkout meanwhile."""
+import os
+import shutil
+import sys
+
+TOP = os.path.dirname(os.path.dirname(os.path.realpath(__file__)))
+sys.path.insert(0, f"{TOP}/.ci")
+import kit  # noqa: E402
+
+
+def take(crate, other):
+    """Copies a library that is there and made from the same, and says that it is built."""
+    if other is None or not os.path.isdir(other.rlib) or crate.stamp() != other.stamp():
+        return False
+    out = os.path.dirname(crate.rlib)
+    if not crate.is_built():
+        shutil.rmtree(out, ignore_errors=True)
+        shutil.copytree(os.path.dirname(other.rlib), out)
+        with open(f"{out}/stamp", "w", encoding="utf-8") as it:
+            it.write(crate.stamp())
+    return True
+
+
+def main(clone):
+    others = {it.name: it for it in kit.crates(clone)}
+    taken = set()
+    # (each after those that it stands on, which have to be taken too)
+    for crate in kit.crates(TOP):
+        if all(it.name in taken for it in crate.below()) and take(crate, others.get(crate.name)):
+            taken.add(crate.name)
+    print(f"{len(taken)} libraries: {' '.join(sorted(taken))}")
+
+
+if __name__ == "__main__":
+    main(os.path.abspath(sys.argv[1]))

@@ -10,7 +10,7 @@ use Rattle.wasm_smith.specs.Parts.{Config}
 use Rattle.wasm_gen.specs.Generate.{IsGeneratedFrom}
 use Rattle.wasm_gen.specs.History.{History}
 use Rattle.wasm_gen.specs.Session.{Checks}
-use Rattle.wasm_gen_writer.specs.Written.{sections_with}
+use Rattle.wasm_gen_laws.specs.Written.{sections_with}
 
 -- what is generated is a module that is valid under the features of the configuration
 accepted : (c : Config) (seed bytes : List ℕ) (features : Features) (g : IsGeneratedFrom c seed bytes) → AreFeaturesOf c features

@@ -10,8 +10,8 @@ use Rattle.wasm_smith.specs.Made.{Made}
 use Rattle.wasm_smith.specs.Spelling.{Spells}
 use Rattle.wasm_smith.specs.Parts.{Config}
 use Rattle.wasm_smith.proofs.SeedLaws.{drawn_plain, not_good, single_types, no_min_funcs, module_reach, types_on, module_on}
-use Rattle.wasm_gen_writer.specs.Written.{IsGenerated}
-use Rattle.wasm_gen_writer.proofs.Validity.{counts_kept}
+use Rattle.wasm_gen_laws.specs.Written.{IsGenerated}
+use Rattle.wasm_gen_laws.proofs.Validity.{counts_kept}
 use Rattle.wasm_gen.specs.Asked.{IsReachable, MakesLists, IsWantOrLimit, RefusesRightly}
 use Rattle.wasm_gen.specs.Generate.{IsGeneratedFrom, IsCause}
 use Rattle.wasm_gen.specs.declared.error.GenerateError.{GenerateError}

@@ -10,7 +10,7 @@ use Rattle.wasm_smith.specs.Parts.{Config}
 use Rattle.wasm_gen.specs.Generate.{PassesLimit}
 use Rattle.wasm_gen.specs.declared.error.GenerateError.{GenerateError}
 use Rattle.wasm_gen.specs.declared.error.GenerateError.TheVariants.{Limit, Memory}
-use Rattle.wasm_gen_writer.specs.Written.{IsGenerated}
+use Rattle.wasm_gen_laws.specs.Written.{IsGenerated}
 
 -- lists of the family that pass no limit
 pub record IsReachable (c : Config) (groups : List (List (SubType ℕ))) (funcs : List ℕ) : Type 0 where

@@ -1,6 +1,5 @@
 -- What is promised of a module that is generated, and why none is.
 use Rattle.std.specs.Prelude.{⊤, ℕ, List, []}
-use Rattle.wasm_core.specs.EncodeErrorCases as encoding
 use Rattle.wasm_core.specs.LimitCases as limits
 use Rattle.wasm_core.specs.Limits.{limit}
 use Rattle.wasm_core.specs.Parts as core
@@ -17,7 +16,7 @@ use Rattle.wasm_smith.specs.Parts.{Config, Error}
 use Rattle.wasm_smith.specs.Validity.{IsValidByIndex}
 use Rattle.wasm_gen.specs.declared.error.GenerateError.{GenerateError}
 use Rattle.wasm_gen.specs.declared.error.GenerateError.TheVariants.{Config as BadConfig, Shape, Minimum, EmptyChoice, TypeSize, Limit, Memory}
-use Rattle.wasm_gen_writer.specs.Written.{sections_with, IsGenerated}
+use Rattle.wasm_gen_laws.specs.Written.{sections_with, IsGenerated}
 
 -- the error that tells of one of the generator
 abbrev pub told : Error → GenerateError
@@ -29,11 +28,6 @@ told (smith.BadShape part) = Shape part
 told smith.TypeSize = TypeSize
 told smith.Memory = Memory
 told smith.TooLong = Limit limits.Length
-
--- the error that tells of one of writing
-abbrev pub unwritten : core.EncodeError → GenerateError
-unwritten encoding.Memory = Memory
-unwritten encoding.TooLong = Limit limits.Length
 
 -- What is generated from these bytes for a configuration that was put in order, and is good: what is drawn from them.
 pub record IsGeneratedFrom (c : Config) (seed bytes : List ℕ) : Type 0 where

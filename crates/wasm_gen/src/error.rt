@@ -1,10 +1,9 @@
 //! Why a run of an engine ends with no answer.
 
 ghost use Rattle.std.specs.Prelude.{◌≡◌};
-ghost use Rattle.wasm_gen.specs.Generate.{told, unwritten};
+ghost use Rattle.wasm_gen.specs.Generate.{told};
 
 use thiserror::Error;
-use wasm_core::encode_error::EncodeError;
 use wasm_core::limits::Limit;
 use wasm_smith::error::Error as SmithError;
 
@@ -46,17 +45,6 @@ impl From<SmithError> for GenerateError {
             SmithError::TypeSize => GenerateError::TypeSize,
             SmithError::Memory => GenerateError::Memory,
             SmithError::TooLong => GenerateError::Limit(Limit::Length),
-        }
-    }
-}
-
-impl From<EncodeError> for GenerateError {
-    ghost from_gives = { λ error given. given ≡ unwritten error };
-
-    fn from(error: EncodeError) -> GenerateError {
-        match error {
-            EncodeError::Memory => GenerateError::Memory,
-            EncodeError::TooLong => GenerateError::Limit(Limit::Length),
         }
     }
 }

@@ -7,8 +7,7 @@ ghost use Rattle.wasm_smith.specs.Config.{sanitized};
 
 use crate::error::GenerateError;
 use std::alloc::Global;
-use wasm_gen_writer::encode::encode;
-use wasm_gen_writer::limits::passed_limit;
+use wasm_gen_laws::limits::passed_limit;
 use wasm_smith::config::Config;
 use wasm_smith::module::Module;
 use wasm_smith::unstructured::Unstructured;
@@ -22,7 +21,7 @@ fn drawn_bytes(alloc: Global, config: &Config, seed: &[u8]) -> Result<Vec<u8>, G
     if let Some(limit) = passed_limit(&made) {
         return Err(GenerateError::Limit(limit));
     }
-    Ok(encode(alloc, &made)?)
+    Ok(made.to_bytes(alloc)?)
 }
 
 /// A valid module for the configuration put in order, drawn from the bytes of the seed. A list for which

@@ -5,6 +5,7 @@ pub use Rattle.wasm_smith_config.specs.Config
 pub use Rattle.wasm_smith_config.specs.Defaults
 pub use Rattle.wasm_smith_config.specs.SupportedConfig
 pub use Rattle.wasm_smith_module.specs.Made
+pub use Rattle.wasm_smith_module.specs.ModuleEncoding
 pub use Rattle.wasm_smith_module.specs.Validity
 pub use Rattle.wasm_smith_module.specs.Bounds
 pub use Rattle.wasm_smith_module.specs.Generating

@@ -3,7 +3,9 @@ pub mod Building
 pub mod Generating
 pub mod Growing
 pub mod Made
+pub mod ModuleEncoding
 pub mod Offered
 pub mod Plain
 pub mod Promise
+pub mod SectionBytes
 pub mod Validity

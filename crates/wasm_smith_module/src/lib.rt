@@ -3,6 +3,9 @@
 
 pub mod bounds;
 mod growing;
+pub mod laws;
 pub mod module;
+mod sections;
 mod steps;
 mod value_types;
+mod writing;

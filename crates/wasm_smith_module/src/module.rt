@@ -6,9 +6,11 @@ ghost use Rattle.wasm_smith_module.specs.Building.{IsBuilt, IsEnd};
 
 use crate::steps::{code, funcs, types};
 use crate::value_types::Offers;
+use crate::writing::write_module;
 use std::alloc::Global;
 use std::marker::Model;
 use wasm_core_types::types::{SubType, ValType};
+use wasm_core_write::encode_error::EncodeError;
 use wasm_smith_config::config::Config;
 use wasm_smith_config::error::Error;
 use wasm_smith_unstructured::unstructured::Unstructured;
@@ -69,6 +71,7 @@ impl Module {
     ghost use Rattle.wasm_core_types.specs.SubTypes.{sub_type};
     ghost use Rattle.wasm_smith_config.specs.Config.{sanitized};
     ghost use Rattle.wasm_smith_module.specs.Generating.{module_at};
+    ghost use Rattle.wasm_smith_module.specs.ModuleEncoding.{IsModuleEncoding, IsUnwritten};
     ghost use Rattle.wasm_smith_module.specs.Promise.{IsMadeFor, IsReason, IsBadConfig};
 
     /// The module that is drawn from the source, for the configuration put in order ([`Config::sanitize`]).
@@ -119,5 +122,21 @@ impl Module {
         ensures { map (λ ls. map val_type ls.items) result.now ≡ self.now.made.locals }
     {
         &self.locals
+    }
+
+    /// The bytes of the module: each section is measured, the bytes grow once, and then they are written.
+    ///
+    /// # Errors
+    ///
+    /// [`Error::TooLong`] where a count, a run of locals or a length is past 4,294,967,295, and else [`Error::Memory`].
+    pub fn to_bytes(&self, alloc: Global) -> Result<Vec<u8>, Error>
+        ensures written { IfOk result (λ bytes. IsModuleEncoding self.now.made bytes.items) }
+        ensures refused { IfErr result (IsUnwritten self.now.made) }
+    {
+        match write_module(alloc, &self.types, &self.funcs, &self.locals) {
+            Ok(bytes) => Ok(bytes),
+            Err(EncodeError::Memory) => Err(Error::Memory),
+            Err(EncodeError::TooLong) => Err(Error::TooLong),
+        }
     }
 }

@@ -11,5 +11,8 @@ returns-in-Some-clause-refused c =
     let exact = subst (λ (s : List ℕ). module_at config s ≡ (c.in_ok-made.made.made, left)) c.new.ensures c.in_ok-made.ensures.exact in
     passes_limit config c.args.seed.now left c.in_ok-made.made c.in-Some.limit c.in_ok-made.ensures.made exact c.in-Some.ensures.found
 
-pub encode-requires-clause-valid : goal.encode-requires-clause-valid
-encode-requires-clause-valid c = is_valid (sanitized c.args.config.now) c.in_ok-made.made c.in_ok-made.ensures.made
+pub returns-in_err-to_bytes-clause-refused : goal.returns-in_err-to_bytes-clause-refused
+returns-in_err-to_bytes-clause-refused c = ?
+
+pub returns-clause-generated : goal.returns-clause-generated
+returns-clause-generated c = ?

@@ -1,0 +1,90 @@
+-- Lists and frames of encodings.
+use Rattle.std.proofs.Common.{◌≡◌, ℕ, zero, suc, ◌+◌, ◌*◌, ◌^◌, ◌<◌, ◌≤◌, Bool, List, [], ◌∷◌, ◌++◌, length, map, Some, refl, sym, subst, ap, arith, length-append}
+use Rattle.std.specs.List.{AllByRecursion, flat_map, slice_get}
+use Rattle.std.specs.Option.{unwrap_or}
+use Rattle.std.proofs.lemmas.List.{length-map, map-id}
+use Rattle.wasm_spec.specs.Bytes.{IsByte, AreBytes, IsU32, IsItems, IsList, IsFramed}
+use Rattle.wasm_spec.specs.Grammar.{IsContent, IsSection, section_id}
+use Rattle.wasm_spec.specs.Syntax.{Section}
+use Rattle.wasm_spec.specs.Shortest.{unsigned_encoding, list_encoding, framed_encoding, section_encoding}
+use Rattle.wasm_spec.proofs.UnsignedEncodings.{at_most_five}
+use Rattle.wasm_gen_laws.proofs.Numbers.{number_is, number_bytes}
+
+-- ---- what holds of each
+
+pub all_are : {A : Type 0} (P Q : A → Type 0) → ((x : A) → P x → Q x) → (xs : List A) → AllByRecursion P xs → AllByRecursion Q xs
+all_are P Q f [] h = tt
+all_are P Q f (x ∷ xs) h = (f x h.0, all_are P Q f xs h.1)
+
+pub both : {A : Type 0} (P Q : A → Type 0) (xs : List A) → AllByRecursion P xs → AllByRecursion Q xs → AllByRecursion (λ x. P x × Q x) xs
+both P Q [] p q = tt
+both P Q (x ∷ xs) p q = ((p.0, q.0), both P Q xs p.1 q.1)
+
+pub all_append : {A : Type 0} (P : A → Type 0) (xs ys : List A) → AllByRecursion P xs → AllByRecursion P ys → AllByRecursion P (xs ++ ys)
+all_append P [] ys p q = q
+all_append P (x ∷ xs) ys p q = (p.0, all_append P xs ys p.1 q)
+
+pub all_of : {A : Type 0} (P : A → Type 0) → ((x : A) → P x) → (xs : List A) → AllByRecursion P xs
+all_of P f [] = tt
+all_of P f (x ∷ xs) = (f x, all_of P f xs)
+
+pub all_at : {A : Type 0} (P : A → Type 0) (xs : List A) (i : ℕ) (x : A) → AllByRecursion P xs → slice_get xs i ≡ Some x → P x
+all_at P [] i x h e = absurd cc
+all_at P (y ∷ ys) zero x h e = subst P (ap (λ o. unwrap_or o x) e) h.0
+all_at P (y ∷ ys) (suc i) x h e = all_at P ys i x h.1 e
+
+-- ---- the grammar
+
+items_are : {A B : Type 0} (IsA : List ℕ → A → Type 0) (bytes : B → List ℕ) (view : B → A) (P : B → Type 0) → ((x : B) → P x → IsA (bytes x) (view x))
+    → (xs : List B) → AllByRecursion P xs → IsItems IsA (flat_map bytes xs) (map view xs)
+items_are IsA bytes view P law [] h = refl
+items_are IsA bytes view P law (x ∷ xs) h = (bytes x, flat_map bytes xs, refl, law x h.0, items_are IsA bytes view P law xs h.1)
+
+-- a list, whose items have a view
+pub views_are : {A B : Type 0} (IsA : List ℕ → A → Type 0) (bytes : B → List ℕ) (view : B → A) (P : B → Type 0) → ((x : B) → P x → IsA (bytes x) (view x))
+    → (xs : List B) → AllByRecursion P xs → length xs < 2 ^ 32 → IsList IsA (list_encoding bytes xs) (map view xs)
+unfolding list_encoding
+views_are IsA bytes view P law xs h few =
+    let counted = subst (λ n. IsU32 (unsigned_encoding (length xs)) n) (sym (length-map xs view)) (number_is (length xs) few) in
+    (unsigned_encoding (length xs), flat_map bytes xs, refl, counted, items_are IsA bytes view P law xs h)
+
+-- a list of the items themselves
+pub list_is : {A : Type 0} (IsA : List ℕ → A → Type 0) (bytes : A → List ℕ) (P : A → Type 0) → ((x : A) → P x → IsA (bytes x) x)
+    → (xs : List A) → AllByRecursion P xs → length xs < 2 ^ 32 → IsList IsA (list_encoding bytes xs) xs
+list_is IsA bytes P law xs h few =
+    subst (λ l. IsList IsA (list_encoding bytes xs) l) (map-id xs) (views_are IsA bytes (λ x. x) P law xs h few)
+
+pub frame_is : {A : Type 0} (IsA : List ℕ → A → Type 0) (content : List ℕ) (x : A) → IsA content x → length content < 2 ^ 32 → IsFramed IsA (framed_encoding content) x
+unfolding framed_encoding
+frame_is IsA content x h few = (unsigned_encoding (length content), content, refl, number_is (length content) few, h)
+
+pub section_is : (compact : Bool) (content : List ℕ) (section : Section) → IsContent compact content section → length content < 2 ^ 32 → IsSection compact (section_encoding (section_id section) content) section
+unfolding section_encoding
+section_is compact content section h few = (framed_encoding content, refl, frame_is (IsContent compact) content section h few)
+
+encodings_bytes : {A : Type 0} (bytes : A → List ℕ) (P : A → Type 0) → ((x : A) → P x → AreBytes (bytes x)) → (xs : List A) → AllByRecursion P xs → AreBytes (flat_map bytes xs)
+encodings_bytes bytes P law [] h = tt
+encodings_bytes bytes P law (x ∷ xs) h = all_append IsByte (bytes x) (flat_map bytes xs) (law x h.0) (encodings_bytes bytes P law xs h.1)
+
+pub list_bytes : {A : Type 0} (bytes : A → List ℕ) (P : A → Type 0) → ((x : A) → P x → AreBytes (bytes x))
+    → (xs : List A) → AllByRecursion P xs → length xs < 2 ^ 32 → AreBytes (list_encoding bytes xs)
+unfolding list_encoding
+list_bytes bytes P law xs h few =
+    all_append IsByte (unsigned_encoding (length xs)) (flat_map bytes xs) (number_bytes (length xs) few) (encodings_bytes bytes P law xs h)
+
+-- ---- lengths
+
+one_more : (most n : ℕ) → most + most * n ≡ most * suc n
+one_more most n = omega arith
+
+encodings_length : {A : Type 0} (bytes : A → List ℕ) (P : A → Type 0) (most : ℕ) → ((x : A) → P x → length (bytes x) ≤ most)
+    → (xs : List A) → AllByRecursion P xs → length (flat_map bytes xs) ≤ most * length xs
+encodings_length bytes P most law [] h = omega arith
+encodings_length bytes P most law (x ∷ xs) h =
+    omega (arith, length-append (bytes x) (flat_map bytes xs), law x h.0, encodings_length bytes P most law xs h.1, one_more most (length xs))
+
+pub list_length : {A : Type 0} (bytes : A → List ℕ) (P : A → Type 0) (most : ℕ) → ((x : A) → P x → length (bytes x) ≤ most)
+    → (xs : List A) → AllByRecursion P xs → length xs < 2 ^ 32 → length (list_encoding bytes xs) ≤ 5 + most * length xs
+unfolding list_encoding
+list_length bytes P most law xs h few =
+    omega (arith, length-append (unsigned_encoding (length xs)) (flat_map bytes xs), at_most_five (length xs) few, encodings_length bytes P most law xs h)

@@ -1,3 +1,0 @@
-pub mod Measured
-pub mod Encodings
-pub mod Written

@@ -1,0 +1,43 @@
+-- A made module has one encoding.
+use Rattle.std.proofs.Common.{◌≡◌, ℕ, List, [], ◌∷◌, ◌++◌, map, refl, sym, ap, ◌∙◌}
+use Rattle.wasm_core_types.specs.CoreTypes.{val_type}
+use Rattle.wasm_core_types.specs.declared.types.ValType.{ValType}
+use Rattle.wasm_encoder_functions.specs.Locals.{locals_encoding, AreRunsOf}
+use Rattle.wasm_spec.specs.Types as spec
+use Rattle.wasm_smith_module.specs.Made.{Made}
+use Rattle.wasm_smith_module.specs.ModuleEncoding.{as_run, IsBodyEncoding, AreBodyEncodings, IsModuleEncoding, encoding_with}
+use Rattle.wasm_smith_module.proofs.CodeTypes.{code_type, same_code_type, type_there}
+use Rattle.wasm_smith_module.proofs.SeenRuns.{seen, are_runs}
+
+-- types of the code have one list of runs
+abbrev HaveOneList : Type 0
+HaveOneList = (types : List ValType) (runs others : List (ℕ × ValType)) → AreRunsOf types runs → AreRunsOf types others → runs ≡ others
+
+there_again : (runs : List (ℕ × spec.ValType ℕ)) → map (seen val_type) (map (seen code_type) runs) ≡ runs
+there_again [] = refl
+there_again (run ∷ runs) = rw (type_there run.1, there_again runs) refl
+
+same_runs : HaveOneList → (types : List (spec.ValType ℕ)) (runs others : List (ℕ × spec.ValType ℕ)) → AreRunsOf types runs → AreRunsOf types others → runs ≡ others
+same_runs one types runs others h k =
+    let same = one (map code_type types) (map (seen code_type) runs) (map (seen code_type) others)
+    (are_runs code_type same_code_type types runs h) (are_runs code_type same_code_type types others k) in
+    sym (there_again runs) ∙ ap (map (seen val_type)) same ∙ there_again others
+
+same_body : HaveOneList → (locals : List (spec.ValType ℕ)) (encoding other : List ℕ) → IsBodyEncoding locals encoding → IsBodyEncoding locals other → encoding ≡ other
+same_body one locals encoding other h k =
+    h.is ∙ ap (λ runs. locals_encoding (map as_run runs) ++ 0x00 ∷ 0x0b ∷ []) (same_runs one locals h.runs k.runs h.joined k.joined) ∙ sym k.is
+
+same_bodies : HaveOneList → (locals : List (List (spec.ValType ℕ))) (bodies others : List (List ℕ)) → AreBodyEncodings locals bodies → AreBodyEncodings locals others → bodies ≡ others
+same_bodies one [] [] [] h k = refl
+same_bodies one [] [] (other ∷ others) h k = absurd k
+same_bodies one [] (body ∷ bodies) others h k = absurd h
+same_bodies one (first ∷ rest) [] others h k = absurd h
+same_bodies one (first ∷ rest) (body ∷ bodies) [] h k = absurd k
+same_bodies one (first ∷ rest) (body ∷ bodies) (other ∷ others) h k =
+    let heads = same_body one first body other h.0 k.0 in
+    let tails = same_bodies one rest bodies others h.1 k.1 in
+    cc
+
+pub same_encoding : HaveOneList → (m : Made) (encoding other : List ℕ) → IsModuleEncoding m encoding → IsModuleEncoding m other → encoding ≡ other
+same_encoding one m encoding other h k =
+    h.is ∙ ap (encoding_with m) (same_bodies one m.locals h.bodies k.bodies h.are k.are) ∙ sym k.is

@@ -26,7 +26,7 @@ fn drawn_bytes(alloc: Global, config: &Config, seed: &[u8]) -> Result<Vec<u8>, G
 
 /// A valid module for the configuration put in order, drawn from the bytes of the seed. A list for which
 /// [`seed_for`](crate::seed::seed_for) gives a seed is made exactly, without locals, from every seed that spells it. With a
-/// configuration without minimums it is refused only when out of memory, or when a limit is passed.
+/// configuration with which lists can be asked for, it is refused only when out of memory, or when a limit is passed.
 pub fn generate(alloc: Global, config: &Config, seed: &[u8]) -> Result<Vec<u8>, GenerateError>
     ensures generated { IfOk result (λ bytes. IsGeneratedFrom (sanitized config.now) seed.now bytes.items) }
     ensures refused { IfErr result (IsCause (sanitized config.now) seed.now) }

@@ -46,7 +46,7 @@ sections_with m bodies =
     ++ unless_empty m.funcs (CodeSection bodies)
 
 -- The bytes read as a made module, whether compact imports are on or not. Its bodies are `unreachable`, it is valid under the features of the
--- configuration and within its bounds. The bytes are its encoding, in which each number is in as few bytes as there can be.
+-- configuration and within its bounds. The bytes are its encoding, the shortest that there is.
 pub record IsGenerated (c : Config) (m : Made) (bytes : List ℕ) : Type 0 where
   pub bodies : List (List ℕ)
   pub encoded : AreBodyEncodings m.locals bodies

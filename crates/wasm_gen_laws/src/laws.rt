@@ -1,5 +1,4 @@
-//! Laws of made modules: where layers meet, their contracts cite these. The functions do nothing: their contracts are
-//! theorems.
+//! Laws of made modules. The functions do nothing: their contracts are theorems, on which what `generate` promises rests.
 
 ghost use Rattle.std.specs.Prelude.{◌≡◌, ◌≤◌, ◌<◌, ◌^◌, ℕ, Bool, List, [], length};
 ghost use Rattle.std.specs.List.{AllByRecursion};
@@ -34,8 +33,9 @@ pub fn few_counts()
         → ¬ (PassLimit limit at_first (entries_of (sections_with m []))) }
 {}
 
-/// The encoding of a made module reads as its sections, with bodies of its locals, whether compact imports are on or not.
-pub fn shortest_encodings()
+/// The encoding of a made module of plain types, each of whose functions has its locals, reads as its sections, with bodies of
+/// these locals, whether compact imports are on or not, unless it has too many types or functions.
+pub fn encodings_read()
     ensures bodies { (c : Config) (m : Made) (bodies : List (List ℕ)) → IsWithinBounds c m → IsPlainModule m → AreBodyEncodings m.locals bodies
         → AreUnreachableBodies m.locals bodies }
     ensures reads { (c : Config) (m : Made) (bodies : List (List ℕ)) → IsWithinBounds c m → IsPlainModule m → AreBodyEncodings m.locals bodies
@@ -44,8 +44,8 @@ pub fn shortest_encodings()
         → (compact : Bool) → IsModule compact (encoding_with m bodies) (sections_with m bodies) }
 {}
 
-/// A made module within its bounds can be written: no count, run or length is past 32 bits, unless it has too many types or
-/// functions.
+/// A made module of plain types, each of whose functions has its locals, can be written: no count, run or length is past 32
+/// bits, unless it has too many types or functions.
 pub fn short_modules()
     ensures { (c : Config) (m : Made) → IsWithinBounds c m → IsPlainModule m
         → length m.locals ≡ length m.funcs → AllByRecursion (λ index. index < 2 ^ 32) m.funcs

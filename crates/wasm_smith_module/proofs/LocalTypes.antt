@@ -7,13 +7,13 @@ use Rattle.std.proofs.Math.ListN.{drop_of_length-le}
 use Rattle.std.proofs.lemmas.List.{append-nil, map-append, map-id, take-append-drop}
 use Rattle.wasm_core_types.specs.CoreTypes.{val_type}
 use Rattle.wasm_core_types.specs.declared.types.ValType.{ValType}
-use Rattle.wasm_encoder_functions.specs.Locals.{run_of, locals_encoding, AreRunsOf, PassLength}
+use Rattle.wasm_encoder_functions.specs.Locals.{run_of, locals_encoding, AreRunsOf, AreWritable, PassLength}
 use Rattle.wasm_encoder_instructions.specs.Instructions.{instruction_encoding}
 use Rattle.wasm_encoder_instructions.specs.OperatorEncodings.{operator_encoding, code_encoding}
 use Rattle.wasm_encoder_instructions.specs.declared.instruction.Instruction.TheVariants as instructions
 use Rattle.wasm_smith_module.specs.ModuleEncoding.{IsBodyEncoding, AreBodyEncodings, HasLongFront, SomeHaveLongFront}
 use Rattle.wasm_smith_module.proofs.CodeTypes.{same_type}
-use Rattle.wasm_smith_module.proofs.SeenRuns.{seen, runs_seen, are_runs, pass_length}
+use Rattle.wasm_smith_module.proofs.SeenRuns.{seen, runs_seen, are_runs, pass_length, writable}
 
 -- ---- what an iterator gave of a list
 
@@ -33,11 +33,12 @@ begun {steps = steps} {s = s} {all = all} e xs x u y =
 
 -- ---- of locals
 
-pub body_of : (locals types : List ValType) (runs : List (ℕ × ValType)) (bytes : List ℕ) → types ≡ locals → AreRunsOf types runs → bytes ≡ locals_encoding (map run_of runs)
+pub body_of : (locals types : List ValType) (runs : List (ℕ × ValType)) (bytes : List ℕ) → types ≡ locals → AreRunsOf types runs → AreWritable runs → bytes ≡ locals_encoding (map run_of runs)
     → IsBodyEncoding (map val_type locals) ((bytes ++ 0x00 ∷ []) ++ 0x0b ∷ [])
-body_of locals types runs bytes all are is = record {
+body_of locals types runs bytes all are short is = record {
   runs = map (seen val_type) runs;
   joined = subst (λ l. AreRunsOf (map val_type l) (map (seen val_type) runs)) all (are_runs val_type same_type types runs are);
+  writable = writable val_type runs short;
   is = append_assoc bytes (0x00 ∷ []) (0x0b ∷ []) ∙ ap (λ l. l ++ 0x00 ∷ 0x0b ∷ []) (is ∙ ap locals_encoding (runs_seen runs));
 }
 

@@ -4,7 +4,7 @@ use Rattle.std.specs.List.{AllByRecursion}
 use Rattle.std.proofs.lemmas.List.{map-append, length-map}
 use Rattle.wasm_core_types.specs.CoreTypes.{val_type}
 use Rattle.wasm_core_types.specs.declared.types.ValType.{ValType}
-use Rattle.wasm_encoder_functions.specs.Locals.{run_of, expansion, BeginsWithOther, AreApart, AreRunsOf, PassLength}
+use Rattle.wasm_encoder_functions.specs.Locals.{run_of, expansion, BeginsWithOther, AreApart, AreRunsOf, AreWritable, PassLength}
 use Rattle.wasm_smith_module.specs.ModuleEncoding.{as_run}
 
 abbrev IsOneToOne : {A B : Type 0} → (A → B) → Type 0
@@ -46,6 +46,12 @@ are_runs f one types runs h = record {
   expand = types_seen f runs ∙ ap (map f) h.expand;
   some = all_seen f (λ n. 1 ≤ n) runs h.some;
   apart = apart_seen f one runs h.apart;
+}
+
+pub writable : {A B : Type 0} (f : A → B) → (runs : List (ℕ × A)) → AreWritable runs → AreWritable (map (seen f) runs)
+writable f runs h = record {
+  few = subst (λ n. n < 2 ^ 32) (sym (length-map runs (seen f))) h.few;
+  short = all_seen f (λ n. n < 2 ^ 32) runs h.short;
 }
 
 pub pass_length : {A B : Type 0} (f : A → B) → IsOneToOne f → (types : List A) → PassLength types → PassLength (map f types)

@@ -1,14 +1,15 @@
 -- The sections of a made module, as they are written.
-use Rattle.std.proofs.Common.{◌≡◌, ◌↔◌, ℕ, ◌≤◌, ◌^◌, Bool, true, false, List, [], ◌∷◌, ◌++◌, length, map, refl, sym, ap, ◌∙◌, subst, inl, inr, append_assoc}
+use Rattle.std.proofs.Common.{◌≡◌, ◌↔◌, ℕ, ◌+◌, ◌≤◌, ◌<◌, ◌^◌, Bool, true, false, List, [], ◌∷◌, ◌++◌, length, map, refl, sym, ap, ◌∙◌, subst, inl, inr, append_assoc, arith, length-append, Result, Ok, Err, IfOk}
 use Rattle.std.specs.Bool.{IsTrue}
 use Rattle.std.proofs.lemmas.List.{append-nil}
 use Rattle.wasm_core_write.proofs.TypeLists.{list_mapped}
+use Rattle.wasm_spec.proofs.UnsignedEncodings.{at_most_five}
 use Rattle.wasm_spec.specs.Shortest.{unsigned_encoding, list_encoding, framed_encoding, section_encoding}
 use Rattle.wasm_spec.specs.TypeEncodings.{sub_encoding, rec_group_encoding, rec_groups_encoding}
 use Rattle.wasm_spec.specs.Types.{SubType, RecGroup, Single}
 use Rattle.wasm_smith_module.specs.Made.{Made}
 use Rattle.wasm_smith_module.specs.ModuleEncoding.{AreBodyEncodings, IsModuleEncoding, PassesLength, encoding_unless_empty, encoding_with}
-use Rattle.wasm_smith_module.specs.SectionBytes.{encoding_of, AreTooLong}
+use Rattle.wasm_smith_module.specs.SectionBytes.{encoding_of, AreShort, AreTooLong}
 
 -- ---- with items, and without
 
@@ -33,6 +34,34 @@ pub no_sections : {A : Type 0} (items : List A) (test : Bool) (functions code fr
     → front ≡ front ++ (encoding_unless_empty items functions ++ encoding_unless_empty items code)
 no_sections items test functions code front tells e = rw (tells.0 e) (sym (append-nil front))
 
+-- ---- their lengths
+
+pub some_length : {A : Type 0} (items : List A) (test : Bool) (id : ℕ) (content : List ℕ) → (IsTrue test ↔ (items ≡ [])) → test ≡ false
+    → length (framed_encoding content) + 1 ≡ length (encoding_unless_empty items (section_encoding id content))
+unfolding section_encoding
+some_length [] test id content tells e = let yes = tells.1 refl in absurd cc
+some_length (item ∷ items) test id content tells e = omega arith
+
+pub no_length : {A : Type 0} (items : List A) (test : Bool) (bytes : List ℕ) → (IsTrue test ↔ (items ≡ [])) → test ≡ true → length (encoding_unless_empty items bytes) ≡ 0
+no_length items test bytes tells e = rw (tells.0 e) refl
+
+pub no_content : {A : Type 0} (items : List A) (test : Bool) (encoding : A → List ℕ) → (IsTrue test ↔ (items ≡ [])) → test ≡ true → length (list_encoding encoding items) < 2 ^ 32
+unfolding list_encoding
+no_content items test encoding tells e =
+    rw (tells.0 e) (omega (arith, at_most_five 0 (omega arith), length-append (unsigned_encoding 0) []))
+
+-- the header, and what stands after it
+pub total : (groups : List (RecGroup ℕ)) (functions : List ℕ) (bodies : List (List ℕ))
+    → length (encoding_of groups functions bodies)
+    ≡ 8 + length (encoding_unless_empty groups (section_encoding 1 (rec_groups_encoding groups)))
+    + length (encoding_unless_empty functions (section_encoding 3 (list_encoding unsigned_encoding functions)))
+    + length (encoding_unless_empty functions (section_encoding 10 (list_encoding framed_encoding bodies)))
+total groups functions bodies =
+    let a = encoding_unless_empty groups (section_encoding 1 (rec_groups_encoding groups)) in
+    let b = encoding_unless_empty functions (section_encoding 3 (list_encoding unsigned_encoding functions)) in
+    let x = encoding_unless_empty functions (section_encoding 10 (list_encoding framed_encoding bodies)) in
+    omega (arith, length-append a (b ++ x), length-append b x)
+
 -- ---- each type is a group by itself
 
 singles : (types : List (SubType ℕ)) → rec_groups_encoding (map Single types) ≡ list_encoding sub_encoding types
@@ -47,10 +76,13 @@ same_encoding : (m : Made) (bodies : List (List ℕ)) → encoding_of (map Singl
 same_encoding m bodies = rw (singles m.types, unless_none m.types (section_encoding 1 (list_encoding sub_encoding m.types))) refl
 
 pub module_of : (groups : List (RecGroup ℕ)) (functions : List ℕ) (bodies : List (List ℕ)) (m : Made) (bytes : List ℕ) → groups ≡ map Single m.types → functions ≡ m.funcs
-    → AreBodyEncodings m.locals bodies → bytes ≡ encoding_of groups functions bodies → IsModuleEncoding m bytes
-module_of groups functions bodies m bytes types funcs are is = record {
+    → AreBodyEncodings m.locals bodies → bytes ≡ encoding_of groups functions bodies → AreShort groups functions bodies → IsModuleEncoding m bytes
+module_of groups functions bodies m bytes types funcs are is short = record {
   bodies = bodies;
   are = are;
+  short_types = subst (λ (l : List ℕ). length l < 2 ^ 32) (ap rec_groups_encoding types ∙ singles m.types) short.short_types;
+  short_functions = subst (λ l. length (list_encoding unsigned_encoding l) < 2 ^ 32) funcs short.short_functions;
+  short_code = λ some. short.short_code (λ none. some (sym funcs ∙ none));
   is = is ∙ rw (types, funcs) (same_encoding m bodies);
 }
 
@@ -61,3 +93,9 @@ too_long_of groups functions bodies m types funcs are (inl long) =
 too_long_of groups functions bodies m types funcs are (inr (inl long)) =
     inr (inl (inr (subst (λ l. 2 ^ 32 ≤ length (list_encoding unsigned_encoding l)) funcs long)))
 too_long_of groups functions bodies m types funcs are (inr (inr long)) = inr (inr (inr (inr (bodies, are, long))))
+
+-- ---- two clauses of one result
+
+pub both_ok : {A E : Type 0} (result : Result A E) (P Q : A → Type 0) → IfOk result P → IfOk result Q → IfOk result (λ x. P x × Q x)
+both_ok (Ok x) P Q p q = (p, q)
+both_ok (Err e) P Q p q = tt

@@ -1,9 +1,9 @@
--- The encoding of a made module (Core Specification 3.0, Binary Format, "Modules"): each number is in as few bytes as there can be, neighbouring locals of
--- one type are one run, and a section without items isn't written.
-use Rattle.std.specs.Prelude.{◌≡◌, ◌⊎◌, ⊤, ℕ, ◌≤◌, ◌^◌, List, [], ◌∷◌, ◌++◌, length, map}
+-- The encoding of a made module (Core Specification 3.0, Binary Format, "Modules"), the shortest that there is: neighbouring locals of one type are one run,
+-- and a section without items isn't written. Its counts, runs and lengths are numbers of 32 bits.
+use Rattle.std.specs.Prelude.{◌≡◌, ◌≢◌, ◌⊎◌, ⊤, ℕ, ◌≤◌, ◌<◌, ◌^◌, List, [], ◌∷◌, ◌++◌, length, map}
 use Rattle.std.specs.List.{AllZip}
 use Rattle.wasm_bodies.specs.Bodies.{Run}
-use Rattle.wasm_encoder_functions.specs.Locals.{locals_encoding, AreRunsOf, PassLength}
+use Rattle.wasm_encoder_functions.specs.Locals.{locals_encoding, AreRunsOf, AreWritable, PassLength}
 use Rattle.wasm_spec.specs.Grammar.{header}
 use Rattle.wasm_spec.specs.Shortest.{unsigned_encoding, list_encoding, framed_encoding, section_encoding}
 use Rattle.wasm_spec.specs.TypeEncodings.{sub_encoding}
@@ -20,6 +20,7 @@ as_run run = record { count = run.0; type = run.1 }
 pub record IsBodyEncoding (locals : List (ValType ℕ)) (encoding : List ℕ) : Type 0 where
   pub runs : List (ℕ × ValType ℕ)
   pub joined : AreRunsOf locals runs
+  pub writable : AreWritable runs
   pub is : encoding ≡ locals_encoding (map as_run runs) ++ 0x00 ∷ 0x0b ∷ []
 
 -- each of the locals has its body
@@ -38,9 +39,13 @@ encoding_with m bodies = header
     ++ (encoding_unless_empty m.funcs (section_encoding 3 (list_encoding unsigned_encoding m.funcs))
     ++ encoding_unless_empty m.funcs (section_encoding 10 (list_encoding framed_encoding bodies))))
 
+-- The encoding of the module. There are bodies in it only where there are functions.
 pub record IsModuleEncoding (m : Made) (encoding : List ℕ) : Type 0 where
   pub bodies : List (List ℕ)
   pub are : AreBodyEncodings m.locals bodies
+  pub short_types : length (list_encoding sub_encoding m.types) < 2 ^ 32
+  pub short_functions : length (list_encoding unsigned_encoding m.funcs) < 2 ^ 32
+  pub short_code : m.funcs ≢ [] → length (list_encoding framed_encoding bodies) < 2 ^ 32
   pub is : encoding ≡ encoding_with m bodies
 
 -- ---- what can't be written

@@ -62,7 +62,7 @@ pub fn function_section(alloc: Global, funcs: &[u32]) -> Result<FunctionSection,
     Ok(section)
 }
 
-// A body with these locals that never goes on.
+// A body of these locals and the operator `unreachable`.
 fn unreachable_body(alloc: Global, locals: &[ValType]) -> Result<Function, EncodeError>
     ensures written { IfOk result (λ body. IsBodyEncoding (map val_type locals.now) body) }
     ensures too_long { IfErr result (λ e. e ≡ EncodeError.TooLong → HasLongFront (map val_type locals.now)) }

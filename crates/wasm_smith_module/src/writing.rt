@@ -1,10 +1,10 @@
 //! Made modules as bytes (Core Specification 3.0, Binary Format, "Modules").
 
-ghost use Rattle.std.specs.Prelude.{◌≡◌, ◌≤◌, ◌<◌, ◌^◌, ◌∷◌, ◌++◌, map, IfOk, IfErr};
+ghost use Rattle.std.specs.Prelude.{◌≡◌, ◌+◌, ◌≤◌, ◌<◌, ◌^◌, ◌∷◌, ◌++◌, length, map, IfOk, IfErr};
 ghost use Rattle.wasm_core_types.specs.CoreTypes.{val_type};
 ghost use Rattle.wasm_core_types.specs.SubTypes.{sub_type};
 ghost use Rattle.wasm_smith_module.specs.ModuleEncoding.{IsModuleEncoding, PassesLength};
-ghost use Rattle.wasm_smith_module.specs.SectionBytes.{encoding_of, AreTooLong};
+ghost use Rattle.wasm_smith_module.specs.SectionBytes.{encoding_of, AreShort, AreTooLong};
 
 use crate::sections::{code_section, function_section, type_section};
 use std::alloc::Global;
@@ -17,7 +17,7 @@ use wasm_encoder_sections::function_section::FunctionSection;
 
 const HEADER: [u8; 8] = [0x00, 0x61, 0x73, 0x6d, 0x01, 0x00, 0x00, 0x00];
 
-/// The bytes of a module of these types, functions and locals, where each body never goes on. The bytes grow once.
+/// The bytes of a module of these types, functions and locals, where each body is `unreachable`. The bytes grow once.
 ///
 /// # Errors
 /// `TooLong` where a count, a run or a length is past 4,294,967,295, and else `Memory`.
@@ -44,6 +44,7 @@ fn write_sections(
     code: &CodeSection,
 ) -> Result<Vec<u8>, EncodeError>
     ensures written { IfOk result (λ bytes. bytes.items ≡ encoding_of types.now functions.now code.now) }
+    ensures short { IfOk result (λ _. AreShort types.now functions.now code.now) }
     ensures too_long { IfErr result (λ e. e ≡ EncodeError.TooLong → AreTooLong types.now functions.now code.now) }
 {
     let len = total_len(types, functions, code)?;
@@ -59,12 +60,14 @@ fn write_sections(
     Ok(bytes)
 }
 
-// How many bytes there are.
+// How many bytes there are, so that they grow once.
 fn total_len(
     types: &TypeSection,
     functions: &FunctionSection,
     code: &CodeSection,
 ) -> Result<usize, EncodeError>
+    ensures exact { IfOk result (λ len. len ≡ length (encoding_of types.now functions.now code.now)) }
+    ensures short { IfOk result (λ _. AreShort types.now functions.now code.now) }
     ensures too_long { IfErr result (λ e. e ≡ EncodeError.TooLong → AreTooLong types.now functions.now code.now) }
 {
     let mut len = HEADER.len() as u64;
@@ -79,7 +82,8 @@ fn total_len(
 
 // The number of bytes of a section with its id.
 fn section_len<S: Section>(section: &S) -> Result<u64, EncodeError>
-    ensures below { IfOk result (λ len. len ≤ 2 ^ 33) }
+    ensures exact { IfOk result (λ len. len ≡ length (S.Encode.encoding section.now) + 1) }
+    ensures short { IfOk result (λ len. (S.Encode.longest section.now < 2 ^ 32) × (len ≤ 2 ^ 33)) }
     ensures too_long { IfErr result (λ e. e ≡ EncodeError.TooLong → 2 ^ 32 ≤ S.Encode.longest section.now) }
 {
     Ok(section.encoded_len()? + 1)

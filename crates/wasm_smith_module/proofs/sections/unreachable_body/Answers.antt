@@ -31,4 +31,4 @@ returns-clause-written c =
     let all = YieldsList-from_copied (YieldsList-at c.copied.ensures.source (YieldsList-from_slice locals c.iter.ensures.rest)) in
     let h = c.in_ok-body.ensures.written in
     rw (c.in_ok-push-2.ensures.added, c.in_ok-push.ensures.added, end_code, unreachable_code)
-    (body_of locals h.1 h.2 c.in_ok-body.body (drained (YieldsList-at h.3 all) h.1 h.4) h.5 h.7)
+    (body_of locals h.1 h.2 c.in_ok-body.body (drained (YieldsList-at h.3 all) h.1 h.4) h.5 h.6 h.7)

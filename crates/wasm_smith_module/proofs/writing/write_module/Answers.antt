@@ -3,15 +3,15 @@ use Rattle.std.proofs.Common.{map}
 use Rattle.wasm_core_types.specs.CoreTypes.{val_type}
 use Rattle.wasm_core_types.specs.SubTypes.{sub_type}
 use Rattle.wasm_smith_module.specs.Made.{Made}
-use Rattle.wasm_smith_module.proofs.WrittenSections.{module_of, too_long_of}
+use Rattle.wasm_smith_module.proofs.WrittenSections.{both_ok, module_of, too_long_of}
 use Rattle.wasm_smith_module.proofs.writing.write_module.Goals as goal
 
 pub returns-clause-written : goal.returns-clause-written
 returns-clause-written c =
     let made : Made = record { types = map sub_type c.args.types.now; funcs = c.args.funcs.now; locals = map (λ ls. map val_type ls.items) c.args.locals.now } in
     IfOk-weaker c.write_sections.result _ _
-    (λ bytes is. module_of c.in_ok-types.types c.in_ok-functions.functions c.in_ok-code.code made bytes.items c.in_ok-types.ensures.kept c.in_ok-functions.ensures.kept c.in_ok-code.ensures.kept is)
-    c.write_sections.ensures.written
+    (λ bytes h. module_of c.in_ok-types.types c.in_ok-functions.functions c.in_ok-code.code made bytes.items c.in_ok-types.ensures.kept c.in_ok-functions.ensures.kept c.in_ok-code.ensures.kept h.0 h.1)
+    (both_ok c.write_sections.result _ _ c.write_sections.ensures.written c.write_sections.ensures.short)
 
 pub returns-clause-too_long : goal.returns-clause-too_long
 returns-clause-too_long c =

@@ -80,6 +80,7 @@ static void codes(void) {
     want(!wasm_gen_kind_name(UINT32_MAX, NULL, 0), "the largest number", 0);
     want(wasm_gen_version() == WASM_GEN_VERSION, "the version", 0);
     want(wasm_gen_features_default() == 0x3ffff, "the default features", 0);
+    want((wasm_gen_features_generated() | 0x3ffff) == 0x3ffff, "the features of what is generated", 0);
 }
 
 static void checks(void) {
@@ -150,31 +151,38 @@ static void million(void) {
     }
 }
 
-static void refusals(void) {
-    for (int i = 0; i < count; i++) {
-        static uint8_t module[ROOM];
-        struct wasm_gen_verdict it;
-        size_t length;
-        uint32_t kind = wasm_gen_check(inputs[i].bytes, inputs[i].length, wasm_gen_features_default(), &it);
-        for (taken = 0, refused = 1; taken >= refused - 1; taken = 0, refused++) {
-            uint32_t code = wasm_gen_check(inputs[i].bytes, inputs[i].length, wasm_gen_features_default(), &it);
-            want(code == (taken < refused ? kind : code == kind ? kind : WASM_GEN_MEMORY) && held == 0, "a refused allocation", refused);
-            if (taken < refused) break;
-            want(code != WASM_GEN_MEMORY || is_refusal(&it, WASM_GEN_MEMORY, 0), "a verdict without memory", refused);
-        }
-        want(i || refused > 1, "an allocation", refused);
-        size_t seed_length = inputs[i].length < 1024 ? inputs[i].length : 1024;
-        for (refused = 1;; refused++) {
-            taken = 0;
-            memset(module, FILL, sizeof module);
-            uint32_t code = wasm_gen_generate(NULL, 0, inputs[i].bytes, seed_length, module, ROOM, &length);
-            want(held == 0, "blocks that are held", refused);
-            if (taken < refused) break;
-            want(code == WASM_GEN_MEMORY && !length && is_filled(module, ROOM), "a seed without memory", refused);
-        }
-        want(refused > 1, "an allocation", refused);
+/* The verdict where the given allocation is refused; 0 refuses none. */
+static uint32_t refused_check(int i, long number, struct wasm_gen_verdict *it) {
+    memset(it, FILL, sizeof *it);
+    taken = 0, refused = number;
+    uint32_t kind = wasm_gen_check(inputs[i].bytes, inputs[i].length, wasm_gen_features_default(), it);
+    want(held == 0, "blocks that are held after a verdict", number);
+    refused = 0;
+    return kind;
+}
+
+static void refusals_of(int i) {
+    static uint8_t module[ROOM];
+    struct wasm_gen_verdict it;
+    size_t length, seed_length = inputs[i].length < 1024 ? inputs[i].length : 1024;
+    long number = 1;
+    for (; refused_check(i, number, &it), taken >= number; number++)
+        want(is_refusal(&it, WASM_GEN_MEMORY, 0), "a verdict without memory", number);
+    want(it.kind == refused_check(i, 0, &it), "a verdict with memory", number);
+    for (number = 1;; number++) {
+        memset(module, FILL, sizeof module);
+        taken = 0, refused = number;
+        uint32_t code = wasm_gen_generate(NULL, 0, inputs[i].bytes, seed_length, module, ROOM, &length);
         refused = 0;
+        want(held == 0, "blocks that are held after a seed", number);
+        if (taken < number) break;
+        want(code == WASM_GEN_MEMORY && !length && is_filled(module, ROOM), "a seed without memory", number);
     }
+    want(number > 1, "an allocation", i);
+}
+
+static void refusals(void) {
+    for (int i = 0; i < count; i++) refusals_of(i);
 }
 
 static uint64_t wanted[FILES];

@@ -60,8 +60,12 @@ struct wasm_gen_verdict {
 /* The version of the library's calls: WASM_GEN_VERSION of the header that it goes with. */
 uint32_t wasm_gen_version(void);
 
-/* The features that are on where nothing else is said, each as a bit. What wasm_gen_generate makes is valid under them. */
+/* The features that are on where nothing else is said, each as a bit. */
 uint32_t wasm_gen_features_default(void);
+
+/* The features under which what wasm_gen_generate makes is valid, each as a bit: wasm_gen_check under them gives WASM_GEN_YES, or
+ * WASM_GEN_MEMORY. All of them are default features. */
+uint32_t wasm_gen_features_generated(void);
 
 /* Writes what a kind is called, in ASCII and without a zero at its end, at the buffer's front where it fits; else the buffer stays as it
  * is. Gives the name's length, at most 11: 0 for a number that is no kind. */

@@ -1,34 +1,33 @@
-/* A libFuzzer target: makes a module of any bytes, has it judged, and hands it to the engine. Put your engine in place of `engine`. */
+/* A libFuzzer target: has any bytes judged, makes a module of them, and hands both to an engine. Put yours in place of `engine`. */
 #include <stdlib.h>
 #include <wasm_gen.h>
 
-/* What is to be fuzzed: takes a module, and whether it is valid. It ends the process where it finds a fault. */
-static void engine(const uint8_t *module, size_t length, int is_valid) {
-    (void)module, (void)length, (void)is_valid;
+/* What is fuzzed: it takes bytes, and whether they are a valid module. It ends the process where the engine says otherwise. */
+static void engine(const uint8_t *bytes, size_t length, int is_valid) {
+    (void)bytes, (void)length, (void)is_valid;
 }
 
-/* A branch for each kind, which the fuzzer sees. */
-static int is_valid(const uint8_t *module, size_t length) {
+/* Judges the bytes, and hands them to the engine. Each kind has a branch of its own, which the fuzzer sees. */
+static void judge(const uint8_t *bytes, size_t length, uint32_t features, int is_generated) {
     struct wasm_gen_verdict verdict;
-    switch (wasm_gen_check(module, length, wasm_gen_features_default(), &verdict)) {
-    case WASM_GEN_YES: return 1;
-    case WASM_GEN_MALFORMED: return 0;
-    case WASM_GEN_INVALID: return 0;
-    case WASM_GEN_LIMIT: return 0;
-    case WASM_GEN_OPERATOR: return 0;
-    case WASM_GEN_BODY: return 0;
-    case WASM_GEN_MEMORY: return 0;
+    switch (wasm_gen_check(bytes, length, features, &verdict)) {
+    case WASM_GEN_YES: engine(bytes, length, 1); return;
+    case WASM_GEN_MALFORMED: engine(bytes, length, 0); break;
+    case WASM_GEN_INVALID: engine(bytes, length, 0); break;
+    case WASM_GEN_LIMIT: break; /* an engine may have other limits, */
+    case WASM_GEN_OPERATOR: break; /* and more operators */
+    case WASM_GEN_BODY: engine(bytes, length, 0); break;
+    case WASM_GEN_MEMORY: return;
     default: abort();
     }
+    if (is_generated) abort();
 }
 
 int LLVMFuzzerTestOneInput(const uint8_t *data, size_t size) {
     static uint8_t module[1 << 20];
     size_t length;
-    engine(data, size, is_valid(data, size));
-    if (wasm_gen_generate(NULL, 0, data, size, module, sizeof module, &length) == WASM_GEN_YES) {
-        if (!is_valid(module, length)) abort();
-        engine(module, length, 1);
-    }
+    judge(data, size, wasm_gen_features_default(), 0);
+    if (wasm_gen_generate(NULL, 0, data, size, module, sizeof module, &length) == WASM_GEN_YES)
+        judge(module, length, wasm_gen_features_generated(), 1);
     return 0;
 }

@@ -4,14 +4,14 @@
 ghost use Rattle.std.specs.Prelude.{◌≡◌, length};
 ghost use Rattle.wasm_gen_calls.specs.Buffers.{buffer_with};
 ghost use Rattle.wasm_gen_calls.specs.Codes.{code_name};
-ghost use Rattle.wasm_gen_calls.specs.Generate.{IsMade};
+ghost use Rattle.wasm_gen_calls.specs.Generate.{IsMade, generated_features};
 ghost use Rattle.wasm_gen_calls.specs.Verdicts.{IsChecked};
 ghost use Rattle.wasm_spec.specs.Features.{default_features};
 
 use std::alloc::Global;
 use wasm_gen_calls::check::{check, default_features};
 use wasm_gen_calls::codes::put_name;
-use wasm_gen_calls::generate::generate;
+use wasm_gen_calls::generate::{generate, generated_features};
 use wasm_gen_calls::verdict::Verdict;
 
 /// The version of these calls: another number where one takes or answers something else.
@@ -28,6 +28,14 @@ pub extern "C" fn wasm_gen_features_default() -> u32
     ensures { result ≡ default_features }
 {
     default_features()
+}
+
+/// The features under which what is generated is valid, each as a bit.
+#[unsafe(no_mangle)]
+pub extern "C" fn wasm_gen_features_generated() -> u32
+    ensures { result ≡ generated_features }
+{
+    generated_features()
 }
 
 /// Writes what a code is called at the buffer's front where it fits, and gives its length in bytes: 0 for a number that is no code.

@@ -57,7 +57,7 @@ answer_accepted seed old new len told (Ok bytes) answered is len_is new_is judge
     let front : take len new ≡ bytes = rw (len_is, new_is) (front_is (nat_le (length bytes) (length old)) bytes (drop (length bytes) old) old is) in
     let validated : IsValidated generated_features [] bytes judged.answer = subst (λ front. IsValidated generated_features [] front judged.answer) front judged.validated in
     subst (λ (told : Verdict). (told.kind ≡ yes) ⊎ (told.kind ≡ memory)) (sym judged.same)
-        (judged_so (sanitized answered.config) seed bytes generated_features judged.answer answered.generated answered.features validated)
+    (judged_so (sanitized answered.config) seed bytes generated_features judged.answer answered.generated answered.features validated)
 
 pub is_accepted : (seed old new : List ℕ) (len : ℕ) (told : Verdict) → IsWritten seed old new len yes
     → IsChecked generated_features (take len new) told → (told.kind ≡ yes) ⊎ (told.kind ≡ memory)
@@ -72,9 +72,9 @@ answer_codes : (seed old : List ℕ) (code : ℕ) (answer : Result (List ℕ) Ge
     → (code ≡ yes) ⊎ (code ≡ short_buffer) ⊎ (code ≡ 3) ⊎ (code ≡ memory)
 answer_codes seed old code (Ok bytes) answered is = fitting_codes (nat_le (length bytes) (length old)) code is
 answer_codes seed old code (Err e) answered is = elim answered.want_or_limit [
-      | inl memory ↦ inr (inr (inr (is ∙ ap refusal_code memory)))
-      | inr limit ↦ inr (inr (inl (is ∙ ap refusal_code limit.1.0)))
-    ]
+  | inl memory ↦ inr (inr (inr (is ∙ ap refusal_code memory)))
+  | inr limit ↦ inr (inr (inl (is ∙ ap refusal_code limit.1.0)))
+]
 
 pub few_codes : (seed old new : List ℕ) (len code : ℕ) → IsWritten seed old new len code
     → (code ≡ yes) ⊎ (code ≡ short_buffer) ⊎ (code ≡ 3) ⊎ (code ≡ memory)

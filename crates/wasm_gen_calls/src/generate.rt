@@ -23,7 +23,11 @@ fn write_made(alloc: Global, seed: &[u8], buffer: &mut [u8], len: &mut usize) ->
     match wasm_gen::generate::generate(alloc, &supported_config(), seed) {
         Ok(bytes) => {
             *len = bytes.len();
-            if put(&bytes, buffer) { YES } else { SHORT_BUFFER }
+            if put(&bytes, buffer) {
+                YES
+            } else {
+                SHORT_BUFFER
+            }
         }
         Err(e) => {
             *len = 0;

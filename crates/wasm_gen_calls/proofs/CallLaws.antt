@@ -1,5 +1,6 @@
 -- What is written of a seed, and what is told of it.
-use Rattle.std.proofs.Common.{◌≡◌, ◌≢◌, ◌⊎◌, ◌≤◌, ℕ, Bool, true, false, List, [], ◌++◌, length, take, drop, nat_le, Result, Ok, Err, refl, sym, subst, ap, ◌∙◌, inl, inr, arith, rules, if◌then◌else◌}
+use Rattle.std.proofs.Common.{◌≡◌, ◌⊎◌, ℕ, Bool, true, false, List, [], ◌++◌, length, take, drop, nat_le, Result, Ok, Err, refl, sym, subst, ap, ◌∙◌, inl, inr, arith, rules, if◌then◌else◌}
+use Rattle.std.proofs.Math.Seq.{take-append_seam}
 use Rattle.wasm_spec.specs.Features.{Features, CompactImports, has}
 use Rattle.wasmparser_validator.specs.Validation.{IsAccepted, IsValidated}
 use Rattle.wasmparser_validator.specs.KnownSpaces.{KnownModule}
@@ -7,7 +8,6 @@ use Rattle.wasmparser_error.specs.declared.error.Error.{Error}
 use Rattle.wasm_smith.specs.Config.{AreFeaturesOf, sanitized}
 use Rattle.wasm_smith.specs.Generating.{module_at}
 use Rattle.wasm_smith.specs.Parts.{Config}
-use Rattle.wasm_gen.specs.Asked.{IsWantOrLimit}
 use Rattle.wasm_gen.specs.Generate.{IsGeneratedFrom}
 use Rattle.wasm_gen.specs.declared.error.GenerateError.{GenerateError}
 use Rattle.wasm_gen.specs.declared.error.GenerateError.TheVariants as generator
@@ -47,7 +47,7 @@ not_yes generator.Memory is = search rules
 
 -- where it is said that bytes were written, they stand at the buffer's front
 front_is : (fits : Bool) (bytes rest old : List ℕ) → yes ≡ (if fits then yes else short_buffer) → take (length bytes) (if fits then bytes ++ rest else old) ≡ bytes
-front_is true bytes rest old is = search rules
+front_is true bytes rest old is = take-append_seam bytes rest
 front_is false bytes rest old is = search rules
 
 answer_accepted : (seed old new : List ℕ) (len : ℕ) (told : Verdict) (answer : Result (List ℕ) GenerateError) → IsAnswer seed answer → yes ≡ code_of answer old
@@ -72,8 +72,8 @@ answer_codes : (seed old : List ℕ) (code : ℕ) (answer : Result (List ℕ) Ge
     → (code ≡ yes) ⊎ (code ≡ short_buffer) ⊎ (code ≡ 3) ⊎ (code ≡ memory)
 answer_codes seed old code (Ok bytes) answered is = fitting_codes (nat_le (length bytes) (length old)) code is
 answer_codes seed old code (Err e) answered is = elim answered.want_or_limit [
-  | inl memory ↦ inr (inr (inr (is ∙ ap refusal_code memory)))
-  | inr limit ↦ inr (inr (inl (is ∙ ap refusal_code limit.1.0)))
+  | inl want ↦ inr (inr (inr (is ∙ ap refusal_code want)))
+  | inr limit ↦ inr (inr (inl (is ∙ ap refusal_code limit.1)))
 ]
 
 pub few_codes : (seed old new : List ℕ) (len code : ℕ) → IsWritten seed old new len code

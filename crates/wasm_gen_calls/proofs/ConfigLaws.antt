@@ -2,8 +2,8 @@
 use Rattle.std.proofs.Common.{◌≡◌, ◌^◌, ℕ, zero, suc, Bool, true, false, not, IsFalse, List, [], ◌∷◌, replicate, refl, sym, ap, subst, ◌∙◌}
 use Rattle.std.specs.List.{list_all}
 use Rattle.std.proofs.lemmas.List.Sums.{AllPass-from_list_all}
-use Rattle.wasm_spec.specs.Features.{Features, Flag, MutableGlobal, SaturatingFloatToInt, SignExtension, ReferenceTypes, MultiValue, BulkMemory, Simd, RelaxedSimd, Threads, TailCall, Floats, MultiMemory, Exceptions, Memory64, ExtendedConst, FunctionReferences, Gc, GcTypes, CustomPageSizes, CompactImports, WideArithmetic, StackSwitching, has}
-use Rattle.wasm_smith.specs.Config.{AreFeaturesOf, AreGood, Field, IsGood, fields, is_on, sanitized}
+use Rattle.wasm_spec.specs.Features.{MutableGlobal, SaturatingFloatToInt, SignExtension, ReferenceTypes, MultiValue, BulkMemory, Simd, RelaxedSimd, Threads, TailCall, Floats, MultiMemory, Exceptions, Memory64, ExtendedConst, FunctionReferences, Gc, GcTypes, CustomPageSizes, CompactImports, WideArithmetic, StackSwitching}
+use Rattle.wasm_smith.specs.Config.{AreFeaturesOf, AreGood, Field, fields, sanitized}
 use Rattle.wasm_smith.specs.Defaults.{IsDefault, least_counts, largest_counts, off_by_default, on_by_default}
 use Rattle.wasm_smith.specs.Family.{IsAskable}
 use Rattle.wasm_smith.specs.Parts.{Config}

@@ -1,5 +1,5 @@
 -- What a call tells of what the generator answers.
-use Rattle.std.proofs.Common.{◌≡◌, ◌↔◌, ◌≤◌, ℕ, Bool, true, false, List, ◌++◌, drop, length, nat_le, Ok, Err, ap, refl, rules, if◌then◌else◌}
+use Rattle.std.proofs.Common.{◌≡◌, ℕ, Bool, List, length, nat_le, Ok, Err, ap, refl, sym, ◌∙◌, if◌then◌else◌}
 use Rattle.wasm_gen.specs.Asked.{MakesLists, RefusesRightly}
 use Rattle.wasm_gen.specs.Generate.{IsGeneratedFrom, IsCause}
 use Rattle.wasm_gen.specs.declared.error.GenerateError.{GenerateError}
@@ -11,10 +11,10 @@ use Rattle.wasm_gen_calls.specs.Buffers.{buffer_with}
 use Rattle.wasm_gen_calls.specs.Codes.{refusal_code, short_buffer, yes}
 use Rattle.wasm_gen_calls.specs.Generate.{IsWritten}
 
--- a module was made, and is written where it fits
-pub made : (c : Config) (seed bytes old new : List ℕ) (len : ℕ) (fits : Bool) → IsSupportedConfig c → IsGeneratedFrom (sanitized c) seed bytes → MakesLists (sanitized c) seed bytes
-    → len ≡ length bytes → new ≡ buffer_with bytes old → fits ≡ nat_le (length bytes) (length old) → IsWritten seed old new len (if fits then yes else short_buffer)
-made c seed bytes old new len fits supported generated lists len_is new_is fitting = record {
+-- a module was made, is lent as a slice, and is written where it fits
+pub made : (c : Config) (seed bytes lent old new : List ℕ) (len : ℕ) (fits : Bool) → IsSupportedConfig c → IsGeneratedFrom (sanitized c) seed bytes → MakesLists (sanitized c) seed bytes
+    → lent ≡ bytes → length lent ≡ len → new ≡ buffer_with lent old → fits ≡ nat_le (length lent) (length old) → IsWritten seed old new len (if fits then yes else short_buffer)
+made c seed bytes lent old new len fits supported generated lists same len_is new_is fitting = record {
   answer = Ok bytes;
   answered = record {
     config = c;
@@ -26,15 +26,15 @@ made c seed bytes old new len fits supported generated lists len_is new_is fitti
     rightly = tt;
     want_or_limit = tt;
   };
-  told = ap (λ fits. if fits then yes else short_buffer) fitting;
-  needed = len_is;
-  buffer = new_is;
+  told = ap (λ fits. if fits then yes else short_buffer) (fitting ∙ ap (λ (bytes : List ℕ). nat_le (length bytes) (length old)) same);
+  needed = sym len_is ∙ ap length same;
+  buffer = new_is ∙ ap (λ bytes. buffer_with bytes old) same;
 }
 
 -- none was, for this reason
-pub refused : (c : Config) (seed old new : List ℕ) (len : ℕ) (e : GenerateError) → IsSupportedConfig c → IsCause (sanitized c) seed e → RefusesRightly (sanitized c) seed e
-    → len ≡ 0 → new ≡ old → IsWritten seed old new len (refusal_code e)
-refused c seed old new len e supported cause rightly len_is new_is = record {
+pub refused : (c : Config) (seed old : List ℕ) (e : GenerateError) (code : ℕ) → IsSupportedConfig c → IsCause (sanitized c) seed e → RefusesRightly (sanitized c) seed e
+    → code ≡ refusal_code e → IsWritten seed old old 0 code
+refused c seed old e code supported cause rightly is = record {
   answer = Err e;
   answered = record {
     config = c;
@@ -46,7 +46,7 @@ refused c seed old new len e supported cause rightly len_is new_is = record {
     rightly = rightly;
     want_or_limit = rightly.total (is_askable c supported);
   };
-  told = refl;
-  needed = len_is;
-  buffer = new_is;
+  told = is;
+  needed = refl;
+  buffer = refl;
 }

@@ -16,7 +16,6 @@ pub fn generated_features() -> u32
 }
 
 // Makes the module of a seed, and writes it where it fits.
-#[tactic(auto, using(crate::proofs::WrittenLaws::made, crate::proofs::WrittenLaws::refused))]
 fn write_made(alloc: Global, seed: &[u8], buffer: &mut [u8], len: &mut usize) -> u32
     ensures { IsWritten seed.now buffer.old buffer.new len.new result }
 {

@@ -7,7 +7,6 @@ ghost use Rattle.wasm_gen_calls.specs.Verdicts.{IsChecked};
 ghost use Rattle.wasm_gen_calls.specs.declared.verdict.Verdict.{Verdict};
 
 /// What was generated and written is judged valid under `generated_features`, unless memory runs out.
-#[tactic(auto, using(crate::proofs::CallLaws::is_accepted))]
 pub fn generated_is_accepted()
     ensures { (seed old new : List ℕ) (len : ℕ) (told : Verdict) → IsWritten seed old new len yes
         → IsChecked generated_features (take len new) told → (told.kind ≡ yes) ⊎ (told.kind ≡ memory) }

@@ -5,7 +5,8 @@
 #include <time.h>
 #include <wasm_gen.h>
 
-enum { ROWS = 64, SEED = 1000, ROOM = 1 << 20, TURNS = 5 };
+/* (a seed of so many odd bytes gives a module of some 1,000) */
+enum { ROWS = 64, SEED = 1000, MODULE_SEED = 2200, ROOM = 1 << 20, TURNS = 5 };
 
 static struct row {
     uint8_t bytes[ROOM];
@@ -93,18 +94,17 @@ static void save(const char *folder, int i, const char *ending, const struct row
     must(file && fwrite(row->bytes, 1, row->length, file) == row->length && !fclose(file), name);
 }
 
-static void fill(struct row *seed, uint8_t bits) {
-    for (seed->length = 0; seed->length < SEED; seed->length++) seed->bytes[seed->length] = next_byte() | bits;
+static void fill(struct row *seed, size_t length, uint8_t bits) {
+    for (seed->length = 0; seed->length < length; seed->length++) seed->bytes[seed->length] = next_byte() | bits;
 }
 
-/* Modules of 900 to 1,100 bytes are those of seeds of odd bytes that give such ones. */
 static void prepare(const char *folder) {
-    struct row seed;
+    static struct row seed;
     for (int i = 0; i < ROWS; i++) {
-        fill(&random_seeds[i], 0);
-        fill(&odd_seeds[i], 1);
+        fill(&random_seeds[i], SEED, 0);
+        fill(&odd_seeds[i], SEED, 1);
         do {
-            fill(&seed, 1);
+            fill(&seed, MODULE_SEED, 1);
             modules[i].length = generate(&seed);
         } while (modules[i].length < 900 || modules[i].length > 1100);
         memcpy(modules[i].bytes, made, modules[i].length);

@@ -1,5 +1,5 @@
 #!/bin/sh
-# Calls a second of the static library in one process, on one core: `check` of the header alone and of modules of 1 KB, `generate` of seeds of 1 KB,
+# Calls a second of the static library in one process, by the time of one processor: `check` of the header alone and of modules of 1 KB, `generate` of seeds of 1 KB,
 # and both in turn; beside them node's `WebAssembly.validate` in a loop, and Debian's `wasm-validate` and `wasm-opt -ttf`, one process a call,
 # where they are there.
 set -eu
@@ -27,5 +27,5 @@ each() {
     echo "$name, one process a call: $(($# * 1000000000 / (end - begin))) a second"
 }
 
-each wasm-validate "$folder/*.wasm" wasm-validate --enable-all
+each wasm-validate "$folder/*.wasm" wasm-validate
 each 'wasm-opt -ttf' "$folder/*.seed" wasm-opt -ttf -o /dev/null

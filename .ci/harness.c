@@ -1,0 +1,224 @@
+/* Tests of the static library, one for each name: harness NAME FILE.., where each file is a module, and its bytes are a seed too. It is
+ * linked with -Wl,--wrap=malloc,--wrap=realloc,--wrap=free, so that blocks are counted, and one can be refused. */
+#include <pthread.h>
+#include <stdio.h>
+#include <stdlib.h>
+#include <string.h>
+#include <wasm_gen.h>
+
+enum { FILES = 64, ROOM = 1 << 20, FILL = 0xa5 };
+
+static struct input {
+    uint8_t *bytes;
+    size_t length;
+} inputs[FILES];
+static int count;
+
+void *__real_malloc(size_t size);
+void *__real_realloc(void *block, size_t size);
+void __real_free(void *block);
+
+/* Blocks that are held, allocations so far, and the one that is refused, of this thread; 0 refuses none. */
+static __thread long held, taken, refused;
+
+void *__wrap_malloc(size_t size) {
+    if (++taken == refused) return NULL;
+    held++;
+    return __real_malloc(size);
+}
+
+void *__wrap_realloc(void *block, size_t size) {
+    if (++taken == refused) return NULL;
+    held += !block;
+    return __real_realloc(block, size);
+}
+
+void __wrap_free(void *block) {
+    held -= !!block;
+    __real_free(block);
+}
+
+static void want(int is_so, const char *what, long number) {
+    if (is_so) return;
+    fprintf(stderr, "harness: %s, %ld\n", what, number);
+    exit(1);
+}
+
+static int is_filled(const uint8_t *bytes, size_t length) {
+    for (size_t i = 0; i < length; i++)
+        if (bytes[i] != FILL) return 0;
+    return 1;
+}
+
+/* A block of just this length, so that the address sanitizer sees what is touched beside it. */
+static uint8_t *filled(size_t length) {
+    uint8_t *bytes = __real_malloc(length ? length : 1);
+    memset(bytes, FILL, length);
+    return bytes;
+}
+
+static int is_refusal(const struct wasm_gen_verdict *it, uint32_t kind, uint64_t offset) {
+    return it->kind == kind && it->offset == offset && !it->types && !it->functions && !it->tables && !it->memories && !it->globals
+        && !it->tags && !it->elements && !it->exports;
+}
+
+static void codes(void) {
+    static const char *const names[] = {"yes", "malformed", "invalid", "limit", "operator", "body", "total", "order", "failed", "memory",
+        "features", "buffer", "config text", "config", "shape", "minimum", "empty choice", "type size", "", ""};
+    for (uint32_t kind = 0; kind < 20; kind++) {
+        size_t length = strlen(names[kind]);
+        for (size_t room = 0; room < 16; room++) {
+            uint8_t *buffer = filled(room);
+            want(wasm_gen_kind_name(kind, (char *)buffer, room) == length, "a name's length", kind);
+            int fits = length <= room;
+            want(!fits || !memcmp(buffer, names[kind], length), "a name", kind);
+            want(is_filled(buffer + fits * length, room - fits * length), "what stands beside a name", kind);
+            __real_free(buffer);
+        }
+        want(wasm_gen_kind_name(kind, NULL, 0) == length, "a name's length", kind);
+    }
+    want(!wasm_gen_kind_name(UINT32_MAX, NULL, 0), "the largest number", 0);
+    want(wasm_gen_version() == WASM_GEN_VERSION, "the version", 0);
+    want(wasm_gen_features_default() == 0x3ffff, "the default features", 0);
+    want((wasm_gen_features_generated() | 0x3ffff) == 0x3ffff, "the features of what is generated", 0);
+}
+
+static void checks(void) {
+    struct wasm_gen_verdict it;
+    want(wasm_gen_check(NULL, 0, wasm_gen_features_default(), &it) == WASM_GEN_MALFORMED, "no bytes", 0);
+    want(is_refusal(&it, WASM_GEN_MALFORMED, it.offset) && it.offset == 0, "the verdict on no bytes", 0);
+    for (int bit = 22; bit < 32; bit++) {
+        memset(&it, FILL, sizeof it);
+        want(wasm_gen_check(inputs[0].bytes, inputs[0].length, 1u << bit, &it) == WASM_GEN_FEATURES, "a bit that is no feature", bit);
+        want(is_refusal(&it, WASM_GEN_FEATURES, 0), "the verdict on a bit that is no feature", bit);
+    }
+    for (int i = 0; i < count; i++)
+        for (size_t length = 0; length <= inputs[i].length && length < 4096; length++) {
+            uint8_t *bytes = filled(length);
+            memcpy(bytes, inputs[i].bytes, length);
+            memset(&it, FILL, sizeof it);
+            uint32_t kind = wasm_gen_check(bytes, length, wasm_gen_features_default(), &it);
+            want(kind == it.kind && kind <= WASM_GEN_BODY, "the kind", length);
+            want(kind ? it.offset <= length && is_refusal(&it, kind, it.offset) : !it.offset, "the place", length);
+            __real_free(bytes);
+        }
+}
+
+static void buffers_of(const uint8_t *seed, size_t seed_length) {
+    static uint8_t module[ROOM];
+    size_t needed, length;
+    struct wasm_gen_verdict it;
+    want(wasm_gen_generate(NULL, 0, seed, seed_length, module, sizeof module, &needed) == WASM_GEN_YES, "a module", seed_length);
+    want(wasm_gen_check(module, needed, wasm_gen_features_generated(), &it) == WASM_GEN_YES, "a module is valid", seed_length);
+    want(wasm_gen_check(module, needed, wasm_gen_features_default(), &it) == WASM_GEN_YES, "a module is valid", seed_length);
+    want(wasm_gen_generate(NULL, 0, seed, seed_length, NULL, 0, &length) == WASM_GEN_BUFFER && length == needed, "no buffer", seed_length);
+    for (size_t room = 0; room < needed + 8; room++) {
+        uint8_t *buffer = filled(room);
+        int fits = room >= needed;
+        uint32_t code = wasm_gen_generate(NULL, 0, seed, seed_length, buffer, room, &length);
+        want(code == (fits ? WASM_GEN_YES : WASM_GEN_BUFFER) && length == needed, "a buffer's code and length", room);
+        want(!fits || !memcmp(buffer, module, needed), "what is written", room);
+        want(is_filled(buffer + fits * needed, room - fits * needed), "what stands beside it", room);
+        __real_free(buffer);
+    }
+}
+
+static void buffers(void) {
+    size_t length = 1;
+    uint8_t *buffer = filled(64);
+    want(wasm_gen_generate((const uint8_t *)"x", 1, NULL, 0, buffer, 64, &length) == WASM_GEN_CONFIG_TEXT, "a configuration's text", 0);
+    want(!length && is_filled(buffer, 64), "after a configuration's text", 0);
+    __real_free(buffer);
+    buffers_of(NULL, 0);
+    for (int i = 0; i < count; i++) buffers_of(inputs[i].bytes, inputs[i].length < 1024 ? inputs[i].length : 1024);
+}
+
+/* A call of each kind, and what they answer, as one number. */
+static uint64_t round_of(int i) {
+    static __thread uint8_t module[ROOM];
+    struct wasm_gen_verdict it;
+    size_t length;
+    uint64_t sum = wasm_gen_check(inputs[i].bytes, inputs[i].length, wasm_gen_features_default(), &it);
+    sum = sum * 31 + it.offset + it.types + it.functions + it.exports;
+    sum = sum * 31 + wasm_gen_generate(NULL, 0, inputs[i].bytes, inputs[i].length < 1024 ? inputs[i].length : 1024, module, ROOM, &length);
+    return sum * 31 + length + (length ? module[length - 1] : 0);
+}
+
+static void million(void) {
+    for (long turn = 0; turn < 500000; turn++) {
+        round_of(turn % count);
+        want(held == 0, "blocks that are held after a call", turn);
+    }
+}
+
+/* The verdict where the given allocation is refused; 0 refuses none. */
+static uint32_t refused_check(int i, long number, struct wasm_gen_verdict *it) {
+    memset(it, FILL, sizeof *it);
+    taken = 0, refused = number;
+    uint32_t kind = wasm_gen_check(inputs[i].bytes, inputs[i].length, wasm_gen_features_default(), it);
+    want(held == 0, "blocks that are held after a verdict", number);
+    refused = 0;
+    return kind;
+}
+
+static void refusals_of(int i) {
+    static uint8_t module[ROOM];
+    struct wasm_gen_verdict it;
+    size_t length, seed_length = inputs[i].length < 1024 ? inputs[i].length : 1024;
+    long number = 1;
+    for (; refused_check(i, number, &it), taken >= number; number++)
+        want(is_refusal(&it, WASM_GEN_MEMORY, 0), "a verdict without memory", number);
+    want(it.kind == refused_check(i, 0, &it), "a verdict with memory", number);
+    for (number = 1;; number++) {
+        memset(module, FILL, sizeof module);
+        taken = 0, refused = number;
+        uint32_t code = wasm_gen_generate(NULL, 0, inputs[i].bytes, seed_length, module, ROOM, &length);
+        refused = 0;
+        want(held == 0, "blocks that are held after a seed", number);
+        if (taken < number) break;
+        want(code == WASM_GEN_MEMORY && !length && is_filled(module, ROOM), "a seed without memory", number);
+    }
+    want(number > 1, "an allocation", i);
+}
+
+static void refusals(void) {
+    for (int i = 0; i < count; i++) refusals_of(i);
+}
+
+static uint64_t wanted[FILES];
+
+static void *turns(void *seed) {
+    for (long turn = 0; turn < 20000; turn++) {
+        int i = (int)((turn + (long)seed) % count);
+        want(round_of(i) == wanted[i] && held == 0, "an answer beside other threads", turn);
+    }
+    return NULL;
+}
+
+static void threads(void) {
+    pthread_t all[4];
+    for (int i = 0; i < count; i++) wanted[i] = round_of(i);
+    for (long i = 0; i < 4; i++) pthread_create(&all[i], NULL, turns, (void *)i);
+    for (int i = 0; i < 4; i++) pthread_join(all[i], NULL);
+}
+
+static void read_input(const char *name) {
+    FILE *file = fopen(name, "rb");
+    uint8_t *bytes = __real_malloc(ROOM);
+    size_t length = file && count < FILES ? fread(bytes, 1, ROOM, file) : 0;
+    want(length > 0, name, 0);
+    inputs[count++] = (struct input){bytes, length};
+    fclose(file);
+}
+
+int main(int words, char **word) {
+    static const struct {
+        const char *name;
+        void (*run)(void);
+    } tests[] = {{"codes", codes}, {"checks", checks}, {"buffers", buffers}, {"million", million}, {"refusals", refusals}, {"threads", threads}};
+    for (int i = 2; i < words; i++) read_input(word[i]);
+    held = taken = 0;
+    for (int i = 0; i < 6 && words > 2; i++)
+        if (!strcmp(word[1], tests[i].name)) return tests[i].run(), 0;
+    return 2;
+}

@@ -1,0 +1,3 @@
+pub mod CallLaws
+pub mod ConfigLaws
+pub mod WrittenLaws

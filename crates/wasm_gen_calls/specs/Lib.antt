@@ -1,0 +1,4 @@
+pub mod Buffers
+pub mod Codes
+pub mod Generate
+pub mod Verdicts

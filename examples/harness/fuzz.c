@@ -1,0 +1,33 @@
+/* A libFuzzer target: has any bytes judged, makes a module of them, and hands both to an engine. Put yours in place of `engine`. */
+#include <stdlib.h>
+#include <wasm_gen.h>
+
+/* What is fuzzed: it takes bytes, and whether they are a valid module. It ends the process where the engine says otherwise. */
+static void engine(const uint8_t *bytes, size_t length, int is_valid) {
+    (void)bytes, (void)length, (void)is_valid;
+}
+
+/* Judges the bytes, and hands them to the engine. Each kind has a branch of its own, which the fuzzer sees. */
+static void judge(const uint8_t *bytes, size_t length, uint32_t features, int is_generated) {
+    struct wasm_gen_verdict verdict;
+    switch (wasm_gen_check(bytes, length, features, &verdict)) {
+    case WASM_GEN_YES: engine(bytes, length, 1); return;
+    case WASM_GEN_MALFORMED: engine(bytes, length, 0); break;
+    case WASM_GEN_INVALID: engine(bytes, length, 0); break;
+    case WASM_GEN_LIMIT: break; /* an engine may have other limits, */
+    case WASM_GEN_OPERATOR: break; /* and more operators */
+    case WASM_GEN_BODY: engine(bytes, length, 0); break;
+    case WASM_GEN_MEMORY: return;
+    default: abort();
+    }
+    if (is_generated) abort();
+}
+
+int LLVMFuzzerTestOneInput(const uint8_t *data, size_t size) {
+    static uint8_t module[1 << 20];
+    size_t length;
+    judge(data, size, wasm_gen_features_default(), 0);
+    if (wasm_gen_generate(NULL, 0, data, size, module, sizeof module, &length) == WASM_GEN_YES)
+        judge(module, length, wasm_gen_features_generated(), 1);
+    return 0;
+}

@@ -1,7 +1,11 @@
 """The kit's command rt as a module, for the scripts of this repository: its way of checking a crate, and of using the processors."""
+import contextlib
+import glob
 import importlib.machinery
 import importlib.util
+import json
 import os
+import re
 import shutil
 import sys
 import tempfile
@@ -29,6 +33,68 @@ def asked_once(stamp):
     return asked
 
 
+def with_proofs(ci):
+    """Returns the kit's way of proving a crate for rt ci as one that leaves the proofs in the library, beside the statements, where the crate has wrong bodies:
+    they are tried over these, and the crate isn't proved a second time for that."""
+
+    def proved(crate, flags, tests):
+        if tests or not crate.makes_rlib() or not glob.glob(f"{crate.folder}/*/*.edit"):
+            return ci(crate, flags, tests)
+        crate.cuts_libraries = False
+        try:
+            return ci(crate, flags, tests)
+        finally:
+            del crate.cuts_libraries
+            # (with a stamp other commands would take it for one of theirs)
+            with contextlib.suppress(FileNotFoundError):
+                os.remove(f"{crate.folder}/out/rlib/stamp")
+
+    return proved
+
+
+def unpack_proofs(crate, to):
+    """Writes what the crate's library has of its proofs into a folder, as checks keep their work, and returns whether it has any."""
+    made = f"{crate.rlib}/toolchain/checked"
+    if not os.path.isfile(f"{made}.json"):
+        return False
+    with open(f"{made}.json") as it:
+        rows = [json.loads(line) for line in it]
+    # (beside the modules there are parts of them, which hold statements alone; a check makes anew what has too long a name for a file)
+    whole = [(name, at, size) for name, at, size in rows if "/" not in name and len(name) < 240]
+    with open(f"{made}.a", "rb") as archive:
+        for name, at, size in whole:
+            archive.seek(at)
+            module = archive.read(size)
+            folder = f"{to}/{re.search(rb'--@ kernel (.*)', module)[1].decode().replace('/', '_')}"
+            os.makedirs(folder, exist_ok=True)
+            with open(f"{folder}/{name}.oantt", "wb") as it:
+                it.write(module)
+    return bool(whole)
+
+
+def over_proofs(add_edits):
+    """Returns the kit's way of trying a crate's edits in must-fail/ as one that begins once the crate is proved, with what its library has of the proofs."""
+
+    def added(tasks, crate, edits, first, waits, is_well, kept, start=None, in_ci=True):
+        if in_ci and crate.makes_rlib():
+            first, start = waits, crate.rlib
+        return add_edits(tasks, crate, edits, first, waits, is_well, kept, start, in_ci)
+
+    return added
+
+
+def seeded_by_library(seeded):
+    """Returns the kit's way of making what a crate's edits are tried over as one that may start from the crate's library."""
+
+    def made(crate, flags, start=None):
+        if start != crate.rlib:
+            return seeded(crate, flags, start)
+        with tempfile.TemporaryDirectory(prefix="rt-proofs-") as room:
+            return seeded(crate, flags, room if unpack_proofs(crate, room) else None)
+
+    return made
+
+
 def load():
     path = os.path.realpath(shutil.which("rt") or "/opt/rattle/bin/rt")
     loader = importlib.machinery.SourceFileLoader("rt", path)
@@ -38,6 +104,9 @@ def load():
     # (another kit may have no such sum)
     if hasattr(crate, "stamp"):
         crate.stamp = asked_once(crate.stamp)
+    module.Crate.ci = with_proofs(module.Crate.ci)
+    module.add_edits = over_proofs(module.add_edits)
+    module.seeded = seeded_by_library(module.seeded)
     return module
 
 

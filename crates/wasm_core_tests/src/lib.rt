@@ -1,4 +1,4 @@
-//! Tests of features, types and errors of `wasm_core`, through its public calls.
+//! Tests of `wasm_core`: features, types and errors, numbers written and read, the reader of the binary format, sections and modules.
 #![tactic(auto)]
 
 #[cfg(test)]
@@ -6,4 +6,16 @@ mod errors;
 #[cfg(test)]
 mod features;
 #[cfg(test)]
+mod module;
+#[cfg(test)]
+mod numbers;
+#[cfg(test)]
+mod read_numbers;
+#[cfg(test)]
+mod reader;
+#[cfg(test)]
+mod type_section;
+#[cfg(test)]
 mod types;
+#[cfg(test)]
+mod widths;

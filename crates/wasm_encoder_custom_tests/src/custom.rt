@@ -2,7 +2,7 @@
 
 use std::borrow::{CowSlice, CowStr};
 use wasm_encoder_custom::custom_section::{CustomSection, RawCustomSection};
-use wasm_encoder_sections_tests::written::writes;
+use wasm_encoder_rows::written::writes;
 
 #[test]
 fn a_custom_section(rt: HostRuntime) {

@@ -3,7 +3,7 @@
 use std::alloc::Global;
 use wasm_encoder_custom::core_dump::{CoreDumpModulesSection, CoreDumpSection};
 use wasm_encoder_custom::core_dump_instances::CoreDumpInstancesSection;
-use wasm_encoder_sections_tests::written::writes;
+use wasm_encoder_rows::written::writes;
 
 fn program(alloc: Global) -> Option<bool> {
     let section = CoreDumpSection::new(alloc, "p").ok()?;

@@ -2,7 +2,7 @@
 
 use std::alloc::Global;
 use wasm_encoder_custom::branch_hints::{BranchHint, BranchHints};
-use wasm_encoder_sections_tests::written::writes;
+use wasm_encoder_rows::written::writes;
 
 const HINT: BranchHint = BranchHint {
     branch_func_offset: 5,

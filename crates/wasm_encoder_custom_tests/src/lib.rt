@@ -15,5 +15,3 @@ mod names;
 mod producers;
 #[cfg(test)]
 mod stacks;
-#[cfg(test)]
-mod written;

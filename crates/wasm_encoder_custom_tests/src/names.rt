@@ -3,7 +3,7 @@
 use std::alloc::Global;
 use wasm_encoder_custom::name_map::{IndirectNameMap, NameMap};
 use wasm_encoder_custom::name_section::NameSection;
-use wasm_encoder_sections_tests::written::writes;
+use wasm_encoder_rows::written::writes;
 
 fn module_name(alloc: Global) -> Option<bool> {
     let mut section = NameSection::new(alloc);

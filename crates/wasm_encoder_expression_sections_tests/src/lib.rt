@@ -13,5 +13,3 @@ mod globals;
 mod large;
 #[cfg(test)]
 mod tables;
-#[cfg(test)]
-mod written;

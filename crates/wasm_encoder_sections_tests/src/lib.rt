@@ -11,4 +11,3 @@ mod indexes;
 mod memories;
 #[cfg(test)]
 mod tables;
-pub mod written;

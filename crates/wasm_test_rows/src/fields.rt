@@ -42,25 +42,3 @@ pub fn four_fields(row: &str) -> Option<(&str, &str, &str, &str)> {
     let (second, third, fourth) = three_fields(rest)?;
     Some((first.trim(), second, third, fourth))
 }
-
-#[cfg(test)]
-mod tests {
-    use crate::fields::{count_of_rows, four_fields, has_word, is_row, three_fields, two_fields};
-
-    #[test]
-    fn fields_are_set_apart(rt: HostRuntime) {
-        assert!(rt; two_fields(" a b |c") == Some(("a b", "c")), "two");
-        assert!(rt; three_fields("a||c ") == Some(("a", "", "c")), "three");
-        assert!(rt;
-            four_fields("a|b|c|d|e") == Some(("a", "b", "c", "d|e")),
-            "four"
-        );
-        assert!(rt;
-            two_fields("a") == None && three_fields("a|b") == None,
-            "too few"
-        );
-        assert!(rt; count_of_rows("\na|b\n  // c\n\n d") == 2, "two rows");
-        assert!(rt; has_word("a or b", "b") && !has_word("ab", "b"), "words");
-        assert!(rt; is_row(" a") && !is_row("  // a") && !is_row("  "), "rows");
-    }
-}

@@ -27,37 +27,3 @@ pub fn check_rows<F: Fn(Global, &str) -> Option<bool>>(
         Err("another number of rows")
     }
 }
-
-#[cfg(test)]
-mod tests {
-    use crate::fields::two_fields;
-    use crate::rows::check_rows;
-    use std::alloc::Global;
-
-    fn holds(_alloc: Global, row: &str) -> Option<bool> {
-        let (first, second) = two_fields(row)?;
-        Some(first == second)
-    }
-
-    #[test]
-    fn rows_are_checked(rt: HostRuntime) {
-        let alloc = rt.alloc();
-        let table = "
-            // a | b
-            a | a
-
-            b | b
-        ";
-        assert!(rt; check_rows(alloc, table, 2, holds).is_ok(), "two rows");
-        let counted = check_rows(alloc, table, 3, holds);
-        assert!(rt; counted == Err("another number of rows"), "three");
-        assert!(rt;
-            check_rows(alloc, "a|a\na|b", 2, holds) == Err("a|b"),
-            "false"
-        );
-        assert!(rt;
-            check_rows(alloc, "a|a\na", 2, holds) == Err("a"),
-            "a field"
-        );
-    }
-}

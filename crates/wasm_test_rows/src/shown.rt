@@ -26,16 +26,3 @@ pub fn debugs_same<T: Debug, U: Debug>(alloc: Global, value: &T, other: &U) -> b
         Err(_) => false,
     }
 }
-
-#[cfg(test)]
-mod tests {
-    use crate::shown::{debugs, debugs_same, displays};
-
-    #[test]
-    fn values_show_themselves(rt: HostRuntime) {
-        let alloc = rt.alloc();
-        assert!(rt; displays(alloc, &"a", "a") && !displays(alloc, &"a", "b"));
-        assert!(rt; debugs(alloc, &Some(1), "Some(1)") && !debugs(alloc, &1, "2"));
-        assert!(rt; debugs_same(alloc, &1_u8, &1_u64) && !debugs_same(alloc, &1, &2));
-    }
-}

@@ -64,36 +64,3 @@ pub fn bool_of(field: &str) -> Option<bool>
         _ => None,
     }
 }
-
-#[cfg(test)]
-mod tests {
-    use crate::values::{are_bytes, bool_of, bytes_of, number_of, numbers_of, signed_of};
-
-    #[test]
-    fn values_are_read(rt: HostRuntime) {
-        assert!(rt;
-            number_of("4294967296") == Some(4_294_967_296) && number_of("-1") == None,
-            "numbers"
-        );
-        assert!(rt;
-            signed_of("-65") == Some(-65) && signed_of("") == None,
-            "with a sign"
-        );
-        assert!(rt;
-            bool_of("yes") == Some(true) && bool_of("no") == Some(false) && bool_of("") == None,
-            "yes or no"
-        );
-        assert!(rt;
-            are_bytes(rt.alloc(), "01 fe a0b1 20*2", b"\x01\xfe\xa0\xb1  "),
-            "bytes"
-        );
-        assert!(rt; bytes_of(rt.alloc(), "01*").is_none(), "no count");
-        assert!(rt; bytes_of(rt.alloc(), "01 f").is_none(), "half a byte");
-        let numbers = numbers_of(rt.alloc(), "7 0*3");
-        assert!(rt;
-            numbers.is_some_and(|it| it.as_slice() == [7, 0, 0, 0].as_slice()),
-            "a list"
-        );
-        assert!(rt; numbers_of(rt.alloc(), "7 *").is_none(), "no number");
-    }
-}

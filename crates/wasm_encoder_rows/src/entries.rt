@@ -1,23 +1,29 @@
-//! What sections write, and how long it is.
+//! Sections as lists of entries, each of a length.
 
+use crate::written::writes;
 use std::alloc::Global;
 use wasm_core_write::encode::Section;
 use wasm_encoder_expression_sections::data_section::DataSection;
 use wasm_encoder_expression_sections::element_section::ElementSection;
 use wasm_encoder_expression_sections::global_section::GlobalSection;
 use wasm_encoder_expression_sections::table_section::TableSection;
-use wasm_encoder_sections_tests::written::writes;
+use wasm_encoder_sections::export_section::ExportSection;
+use wasm_encoder_sections::function_section::FunctionSection;
+use wasm_encoder_sections::import_section::ImportSection;
+use wasm_encoder_sections::memory_section::MemorySection;
+use wasm_encoder_sections::tag_section::TagSection;
 use wasm_test_rows::values::numbers_of;
 
 /// A section that has entries.
 pub trait Entries: Section {
-    // How many there are, and whether there are none.
+    /// How many there are, and whether there are none.
     fn counts(&self) -> (u32, bool);
 
+    /// How many bytes an entry is written as, if there is such an entry.
     fn entry_len(&self, i: u32) -> Option<u64>;
 }
 
-impl Entries for TableSection {
+impl Entries for ExportSection {
     fn counts(&self) -> (u32, bool) {
         (self.len(), self.is_empty())
     }
@@ -27,7 +33,7 @@ impl Entries for TableSection {
     }
 }
 
-impl Entries for GlobalSection {
+impl Entries for FunctionSection {
     fn counts(&self) -> (u32, bool) {
         (self.len(), self.is_empty())
     }
@@ -37,7 +43,27 @@ impl Entries for GlobalSection {
     }
 }
 
-impl Entries for ElementSection {
+impl Entries for ImportSection {
+    fn counts(&self) -> (u32, bool) {
+        (self.len(), self.is_empty())
+    }
+
+    fn entry_len(&self, i: u32) -> Option<u64> {
+        self.item_len(i)
+    }
+}
+
+impl Entries for MemorySection {
+    fn counts(&self) -> (u32, bool) {
+        (self.len(), self.is_empty())
+    }
+
+    fn entry_len(&self, i: u32) -> Option<u64> {
+        self.item_len(i)
+    }
+}
+
+impl Entries for TagSection {
     fn counts(&self) -> (u32, bool) {
         (self.len(), self.is_empty())
     }
@@ -57,6 +83,36 @@ impl Entries for DataSection {
     }
 }
 
+impl Entries for ElementSection {
+    fn counts(&self) -> (u32, bool) {
+        (self.len(), self.is_empty())
+    }
+
+    fn entry_len(&self, i: u32) -> Option<u64> {
+        self.item_len(i)
+    }
+}
+
+impl Entries for GlobalSection {
+    fn counts(&self) -> (u32, bool) {
+        (self.len(), self.is_empty())
+    }
+
+    fn entry_len(&self, i: u32) -> Option<u64> {
+        self.item_len(i)
+    }
+}
+
+impl Entries for TableSection {
+    fn counts(&self) -> (u32, bool) {
+        (self.len(), self.is_empty())
+    }
+
+    fn entry_len(&self, i: u32) -> Option<u64> {
+        self.item_len(i)
+    }
+}
+
 // Whether a section has entries of these lengths, and no others.
 fn has_lengths<S: Entries>(section: &S, lengths: &[u32]) -> bool {
     let mut count = 0u32;
@@ -66,7 +122,9 @@ fn has_lengths<S: Entries>(section: &S, lengths: &[u32]) -> bool {
         }
         count = count.saturating_add(1);
     }
-    section.counts() == (count, count == 0) && section.entry_len(count).is_none()
+    let (entries, is_empty) = section.counts();
+    let is_counted = entries == count && is_empty == (count == 0);
+    is_counted && section.entry_len(count).is_none() && section.entry_len(u32::MAX).is_none()
 }
 
 /// Whether a section is the bytes of a field, and its entries have the lengths of another.

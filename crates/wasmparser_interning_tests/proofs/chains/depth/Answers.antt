@@ -1,7 +1,7 @@
 use Rattle.std.proofs.Common.{IfSome, ◌∙◌, subst, slice_get}
 use Rattle.wasmparser_chains.specs.Chains.{IsDepth}
 use Rattle.wasmparser_interning.specs.TypeTables.{TypeTables, sub_types}
-use Rattle.wasmparser_matching_tests.proofs.chains.depth.Goals as goal
+use Rattle.wasmparser_interning_tests.proofs.chains.depth.Goals as goal
 
 pub returns-in-Some : goal.returns-in-Some
 returns-in-Some c = subst (λ (tables : TypeTables). IfSome c.depth.result (IsDepth (slice_get (sub_types tables)) c.args.id)) (c.in-Some.ensures ∙ c.list.ensures.same) c.depth.ensures

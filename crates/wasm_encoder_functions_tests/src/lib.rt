@@ -1,5 +1,0 @@
-//! Tests of function bodies, through public calls alone.
-#![tactic(auto)]
-
-#[cfg(test)]
-mod functions;

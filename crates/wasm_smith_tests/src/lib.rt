@@ -1,7 +1,9 @@
-//! Tests of `wasm_smith` beside its configurations and draws, through its public calls.
+//! Tests of `wasm_smith` beside its configurations, through its public calls.
 #![tactic(auto)]
 
 #[cfg(test)]
 mod module;
+#[cfg(test)]
+mod unstructured;
 #[cfg(test)]
 mod witness;

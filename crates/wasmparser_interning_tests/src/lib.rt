@@ -1,5 +1,6 @@
 //! Tests of lists of types: what they hold, which types match and which are below which, chains of declared links, what a list answers of sizes and
-//! groups, what a validator fills and shares, and lists that are large or full. Unproved these are slow: `rt try --test --seconds 400`.
+//! groups, what a validator fills and shares, and lists that are large or full; and of lists of which copies are kept. Unproved these are slow:
+//! `rt try --test --seconds 400`.
 #![tactic(auto)]
 
 #[cfg(test)]
@@ -14,6 +15,8 @@ mod large_lists;
 mod matching;
 #[cfg(test)]
 mod sizes;
+#[cfg(test)]
+mod snapshot_list;
 #[cfg(test)]
 mod subtyping;
 #[cfg(test)]

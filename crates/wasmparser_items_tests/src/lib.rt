@@ -1,4 +1,4 @@
-//! Tests of items of sections that are read from bytes, of imports, and of imports by their names.
+//! Tests of what is read from bytes: items of sections, imports, imports by their names, and operators of bodies.
 #![tactic(auto)]
 
 #[cfg(test)]
@@ -9,3 +9,5 @@ mod import_names;
 mod imports;
 #[cfg(test)]
 mod items;
+#[cfg(test)]
+mod operators;

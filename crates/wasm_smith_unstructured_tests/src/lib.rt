@@ -1,5 +1,0 @@
-//! Tests of what is drawn from bytes.
-#![tactic(auto)]
-
-#[cfg(test)]
-mod unstructured;

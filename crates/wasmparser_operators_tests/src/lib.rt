@@ -1,5 +1,0 @@
-//! Tests of operators of bodies, through public calls.
-#![tactic(auto)]
-
-#[cfg(test)]
-mod operators;

@@ -95,6 +95,37 @@ def seeded_by_library(seeded):
     return made
 
 
+# The functions of a crate that its last check proved, by the crate's name.
+PROVED = {}
+
+
+def telling_names(checked):
+    """Returns the kit's way of checking a crate with some texts edited as one that notes which functions are proved where none is."""
+
+    def noted(crate, texts, flags, kept):
+        ran = checked(crate, texts, flags, kept)
+        if not texts:
+            PROVED[crate.name] = re.findall(r"(?m)^fn (\S+): proved", ran.stdout)
+        return ran
+
+    return noted
+
+
+def function_first(must_fail):
+    """Returns the kit's way of trying an edit of must-fail/ over what is proved as one that checks the edited function first, and the whole crate where that
+    leaves the verdict open: a function that isn't proved, by an error of its own, makes the crate not proved."""
+
+    def tried(crate, edit, flags, kept=None):
+        import rounds
+
+        error = rounds.error_of_function(crate, edit, PROVED[crate.name], kept) if kept and crate.name in PROVED else None
+        if error:
+            return rt.REFUSED, f"must-fail {crate.name}/{os.path.basename(edit)}: refused, as it must be: {error[:160]}"
+        return must_fail(crate, edit, flags, kept)
+
+    return tried
+
+
 def load():
     path = os.path.realpath(shutil.which("rt") or "/opt/rattle/bin/rt")
     loader = importlib.machinery.SourceFileLoader("rt", path)
@@ -107,6 +138,8 @@ def load():
     module.Crate.ci = with_proofs(module.Crate.ci)
     module.add_edits = over_proofs(module.add_edits)
     module.seeded = seeded_by_library(module.seeded)
+    module.checked = telling_names(module.checked)
+    module.must_fail_whole, module.must_fail = module.must_fail, function_first(module.must_fail)
     return module
 
 

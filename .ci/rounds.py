@@ -260,6 +260,11 @@ def error_of(crate, edit, kept):
     return told[0] if told else None
 
 
+def error_of_function(crate, path, names, kept):
+    """Returns the error of the function that the edit of this file changes, where that function isn't proved with it and all that it calls is, and else None."""
+    return error_of(crate, Edit(crate, path, functions_of(crate, names)), kept)
+
+
 def try_alone(crate, edit, kept):
     """Tries one edit: by its function alone, then as `rt must-fail` does, over a copy of what is kept, and where it is not refused so, from nothing. Returns
     whether it is refused, and what was seen."""
@@ -267,9 +272,9 @@ def try_alone(crate, edit, kept):
     if error:
         return True, f"{edit.name}: refused by its function: {error[:160]}"
     flags = ["--jobs", "1"]
-    verdict, text = over(kept, rt.must_fail, crate, edit.path, flags)
+    verdict, text = over(kept, rt.must_fail_whole, crate, edit.path, flags)
     if verdict not in ARE_REFUSALS:
-        verdict, text = rt.must_fail(crate, edit.path, flags)
+        verdict, text = rt.must_fail_whole(crate, edit.path, flags)
     return verdict in ARE_REFUSALS, text
 
 

@@ -1,6 +1,8 @@
 #!/usr/bin/env python3
-"""Tests rounds.py on a crate of three functions: that what is not refused for its own meaning is told."""
+"""Tests rounds.py, and how `.ci/rt ci` tries the edits of must-fail/, on a crate of three functions: that what is not refused for its own meaning is told."""
 import os
+import re
+import subprocess
 import sys
 import tempfile
 
@@ -38,6 +40,7 @@ pub fn second(n: u8) -> u8
 }
 """
 
+TOP = os.path.dirname(os.path.dirname(os.path.realpath(__file__)))
 # What is edited to what, and whether it must be told as refused.
 EDITS = {
     "wrong": ("    n + 1\n", "    n + 3\n", True),
@@ -48,6 +51,26 @@ EDITS = {
     "wrong_beside_one_that_does_not_compile": ("    n + 2\n", "    n + 1\n", True),
     "stands_nowhere": ("    n + 9\n", "    n\n", False),
 }
+
+
+def refused_in_rounds(room, folder):
+    """Returns the names of the edits that rounds.py refuses, or none where it doesn't tell of each."""
+    [crate] = kit.crates(room)
+    paths = [f"{folder}/wrong-bodies/{name}.edit" for name in EDITS]
+    trial = rounds.Trial(crate, paths, f"{room}/kept", 1).run()
+    os.chdir("/")
+    told = {*trial.refused, *trial.let_through} == {f"{name}.edit" for name in EDITS}
+    return {it.removesuffix(".edit") for it in trial.refused} if told else set()
+
+
+def refused_by_ci(room, folder):
+    """Returns the names of the edits that `.ci/rt ci` refuses, or none where it proves the crate a second time to try them."""
+    os.rename(f"{folder}/wrong-bodies", f"{folder}/must-fail")
+    ran = subprocess.run([f"{TOP}/.ci/rt", "ci", "--anew"], cwd=room, stdout=subprocess.PIPE, stderr=subprocess.STDOUT, text=True)
+    [crate] = kit.crates(room)
+    os.chdir("/")
+    refused = re.findall(r"must-fail sums/(\w+)\.edit: refused, as it must be: note: src/lib\.rt", ran.stdout)
+    return {*refused} if kit.unpack_proofs(crate, f"{room}/proofs") else set()
 
 
 def main():
@@ -61,14 +84,11 @@ def main():
         for path, text in files.items():
             with open(path, "w") as it:
                 it.write(text)
-        [crate] = kit.crates(room)
-        paths = [f"{folder}/wrong-bodies/{name}.edit" for name in EDITS]
-        trial = rounds.Trial(crate, paths, f"{room}/kept", 1).run()
-        os.chdir("/")
-    wrong = [name for name, (_, _, is_refused) in EDITS.items() if is_refused != (f"{name}.edit" in trial.refused)]
-    told = {*trial.refused, *trial.let_through} == {f"{name}.edit" for name in EDITS}
-    print(f"the script's own test: {'passed' if not wrong and told else f'FAILED: {wrong}'}")
-    return 0 if not wrong and told else 1
+        found = [refused_in_rounds(room, folder), refused_by_ci(room, folder)]
+    wanted = {name for name, (_, _, is_refused) in EDITS.items() if is_refused}
+    wrong = [it ^ wanted for it in found]
+    print(f"the script's own test: {'passed' if not any(wrong) else f'FAILED: {wrong}'}")
+    return 1 if any(wrong) else 0
 
 
 if __name__ == "__main__":

@@ -5,47 +5,54 @@ use std::alloc::Global;
 use std::test::Fail;
 use wasm_encoder_expression_sections::data_section::DataSection;
 use wasm_encoder_expression_sections::data_segment::{DataSegment, DataSegmentMode};
+use wasm_encoder_expressions::const_expr::ConstExpr;
 use wasm_encoder_rows::entries::holds;
 use wasm_test_rows::fields::{three_fields, word_and_rest};
 use wasm_test_rows::rows::check_rows;
 use wasm_test_rows::values::bytes_of;
 
-fn add_active(alloc: Global, section: &mut DataSection, mode: &str, bytes: &[u8]) -> Option<()> {
-    let (memory, offset) = word_and_rest(mode);
-    let memory_index = memory.parse().ok()?;
-    let offset = expression_of(alloc, offset)?;
-    if section.active(memory_index, &offset, bytes).is_err() {
-        return None;
-    }
-    Some(())
+fn is_placed(section: &mut DataSection, memory: u32, offset: &ConstExpr, bytes: &[u8]) -> bool {
+    section.active(memory, offset, bytes).is_ok()
 }
 
-fn add_segment(section: &mut DataSection, data: &[u8]) -> Option<()> {
+fn is_active(alloc: Global, section: &mut DataSection, place: &str, bytes: &[u8]) -> bool {
+    let (memory, offset) = word_and_rest(place);
+    match (memory.parse(), expression_of(alloc, offset)) {
+        (Ok(memory), Some(offset)) => is_placed(section, memory, &offset, bytes),
+        _ => false,
+    }
+}
+
+fn is_segment(section: &mut DataSection, data: &[u8]) -> bool {
     let mode = DataSegmentMode::Passive;
-    if section.segment(DataSegment { mode, data }).is_err() {
-        return None;
-    }
-    Some(())
+    section.segment(DataSegment { mode, data }).is_ok()
 }
 
-// `active`, a memory and an offset, or another call, and after `:` bytes; `segment` is a passive one by the call that takes any.
-fn add(alloc: Global, section: &mut DataSection, entry: &str) -> Option<()> {
+// `active`, a memory and an offset, or another call; `segment` is a passive one by the call that takes any.
+fn is_added(alloc: Global, section: &mut DataSection, mode: &str, bytes: &[u8]) -> bool {
+    let (name, place) = word_and_rest(mode);
+    match name {
+        "active" => is_active(alloc, section, place, bytes),
+        "segment" => is_segment(section, bytes),
+        "passive" => section.passive(bytes).is_ok(),
+        "raw" => section.raw(bytes).is_ok(),
+        _ => false,
+    }
+}
+
+// A mode, and after `:` bytes.
+fn add(alloc: Global, section: &mut DataSection, entry: &str) -> Option<bool> {
     let (mode, bytes) = entry.split_once(':')?;
     let bytes = bytes_of(alloc, bytes)?;
-    let is_refused = match word_and_rest(mode) {
-        ("active", place) => return add_active(alloc, section, place, &bytes),
-        ("segment", _) => return add_segment(section, &bytes),
-        ("passive", _) => section.passive(&bytes).is_err(),
-        ("raw", _) => section.raw(&bytes).is_err(),
-        _ => true,
-    };
-    if is_refused { None } else { Some(()) }
+    Some(is_added(alloc, section, mode, &bytes))
 }
 
 fn data_of(alloc: Global, entries: &str) -> Option<DataSection> {
     let mut section = DataSection::new(alloc);
     for entry in entries.split_terminator(';') {
-        add(alloc, &mut section, entry)?;
+        if add(alloc, &mut section, entry) != Some(true) {
+            return None;
+        }
     }
     Some(section)
 }

@@ -72,12 +72,6 @@ fn add_symbols(table: &mut SymbolTable, symbols: &str) -> Option<()> {
     Some(())
 }
 
-fn table_of(alloc: Global, symbols: &str) -> Option<SymbolTable> {
-    let mut table = SymbolTable::new(alloc);
-    add_symbols(&mut table, symbols)?;
-    Some(table)
-}
-
 // Symbols, and their subsection.
 const TABLES: &str = "
     | 08 01 00
@@ -100,8 +94,9 @@ const TABLES: &str = "
 
 fn table_row(alloc: Global, row: &str) -> Option<bool> {
     let (symbols, bytes) = two_fields(row)?;
-    let table = table_of(alloc, symbols)?;
-    Some(encodes(alloc, &table, bytes))
+    let mut table = SymbolTable::new(alloc);
+    let is_taken = add_symbols(&mut table, symbols).is_some();
+    Some(is_taken && encodes(alloc, &table, bytes))
 }
 
 #[test]
@@ -109,19 +104,19 @@ fn symbol_tables(rt: HostRuntime) -> Result<(), Fail> {
     Ok(check_rows(rt.alloc(), TABLES, 16, table_row)?)
 }
 
-fn add_table(alloc: Global, section: &mut LinkingSection, symbols: &str) -> Option<bool> {
-    let table = table_of(alloc, symbols)?;
-    Some(section.symbol_table(&table).is_ok())
+fn add_table(alloc: Global, section: &mut LinkingSection, symbols: &str) -> bool {
+    let mut table = SymbolTable::new(alloc);
+    let is_taken = add_symbols(&mut table, symbols).is_some();
+    is_taken && section.symbol_table(&table).is_ok()
 }
 
-fn section_of(alloc: Global, tables: &str) -> Option<LinkingSection> {
-    let mut section = LinkingSection::new(alloc);
+fn add_tables(alloc: Global, section: &mut LinkingSection, tables: &str) -> bool {
     for symbols in tables.split_terminator(';') {
-        if add_table(alloc, &mut section, symbols) != Some(true) {
-            return None;
+        if !add_table(alloc, section, symbols) {
+            return false;
         }
     }
-    Some(section)
+    true
 }
 
 // Tables, each before a semicolon, and the section.
@@ -136,8 +131,9 @@ const SECTIONS: &str = "
 
 fn section_row(alloc: Global, row: &str) -> Option<bool> {
     let (tables, bytes) = two_fields(row)?;
-    let section = section_of(alloc, tables)?;
-    Some(writes(alloc, &section, bytes))
+    let mut section = LinkingSection::new(alloc);
+    let is_taken = add_tables(alloc, &mut section, tables);
+    Some(is_taken && writes(alloc, &section, bytes))
 }
 
 #[test]

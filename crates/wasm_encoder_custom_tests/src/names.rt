@@ -5,28 +5,33 @@ use wasm_encoder_custom::name_map::{IndirectNameMap, NameMap};
 use wasm_encoder_custom::name_section::NameSection;
 use wasm_encoder_rows::written::writes;
 
-fn module_name(alloc: Global) -> Option<bool> {
+const MODULE: &str = "00 09 04 6e 61 6d 65 00 02 01 6d";
+
+// Whether the section is written so, also as a custom section.
+fn is_written(alloc: Global, section: &NameSection) -> bool {
+    match section.as_custom() {
+        Ok(custom) => writes(alloc, section, MODULE) && writes(alloc, &custom, MODULE),
+        Err(_) => false,
+    }
+}
+
+fn module_name(alloc: Global) -> bool {
     let mut section = NameSection::new(alloc);
-    section.module("m").ok()?;
-    Some(writes(alloc, &section, "00 09 04 6e 61 6d 65 00 02 01 6d"))
+    let is_taken = section.module("m").is_ok();
+    is_taken && is_written(alloc, &section)
 }
 
 #[test]
 fn a_module(rt: HostRuntime) {
-    assert!(rt; module_name(rt.alloc()) == Some(true));
+    assert!(rt; module_name(rt.alloc()));
 }
 
 // Index 1 is called `f`, and index 200 `g`.
-fn two_names(alloc: Global) -> Option<NameMap> {
-    let mut names = NameMap::new(alloc);
-    let is_new = names.is_empty();
-    names.append(1, "f").ok()?;
-    names.append(200, "g").ok()?;
-    if is_new && !names.is_empty() {
-        Some(names)
-    } else {
-        None
-    }
+fn add_names(names: &mut NameMap) -> bool {
+    names.is_empty()
+        && names.append(1, "f").is_ok()
+        && names.append(200, "g").is_ok()
+        && !names.is_empty()
 }
 
 fn add_maps(section: &mut NameSection, names: &NameMap) -> bool {
@@ -52,33 +57,40 @@ const MAPS: &str = "
     0b 08 02 01 01 66 c8 01 01 67
 ";
 
-fn all_maps(alloc: Global) -> Option<bool> {
-    let names = two_names(alloc)?;
+fn has_maps(alloc: Global, names: &NameMap) -> bool {
     let mut section = NameSection::new(alloc);
-    let is_taken = add_maps(&mut section, &names);
-    Some(is_taken && writes(alloc, &section, MAPS))
+    let is_taken = add_maps(&mut section, names);
+    is_taken && writes(alloc, &section, MAPS)
+}
+
+fn all_maps(alloc: Global) -> bool {
+    let mut names = NameMap::new(alloc);
+    add_names(&mut names) && has_maps(alloc, &names)
 }
 
 #[test]
 fn maps(rt: HostRuntime) {
-    assert!(rt; all_maps(rt.alloc()) == Some(true));
+    assert!(rt; all_maps(rt.alloc()));
 }
 
-fn indirect_map(alloc: Global) -> Option<IndirectNameMap> {
-    let names = two_names(alloc)?;
-    let mut map = IndirectNameMap::new(alloc);
-    map.append(3, &names).ok()?;
-    Some(map)
+fn add_indirect_maps(section: &mut NameSection, map: &IndirectNameMap) -> bool {
+    section.locals(map).is_ok()
+        && section.labels(map).is_ok()
+        && section.fields(map).is_ok()
+        && section.raw(12, b"\x00").is_ok()
 }
 
-fn all_indirect_maps(alloc: Global) -> Option<bool> {
-    let map = indirect_map(alloc)?;
+fn has_indirect_maps(alloc: Global, map: &IndirectNameMap) -> bool {
     let mut section = NameSection::new(alloc);
-    let is_taken = section.locals(&map).is_ok()
-        && section.labels(&map).is_ok()
-        && section.fields(&map).is_ok()
-        && section.raw(12, b"\x00").is_ok();
-    Some(is_taken && writes(alloc, &section, INDIRECT_MAPS))
+    let is_taken = add_indirect_maps(&mut section, map);
+    is_taken && writes(alloc, &section, INDIRECT_MAPS)
+}
+
+fn all_indirect_maps(alloc: Global) -> bool {
+    let mut names = NameMap::new(alloc);
+    let mut map = IndirectNameMap::new(alloc);
+    let is_taken = add_names(&mut names) && map.append(3, &names).is_ok();
+    is_taken && has_indirect_maps(alloc, &map)
 }
 
 const INDIRECT_MAPS: &str = "
@@ -91,17 +103,5 @@ const INDIRECT_MAPS: &str = "
 
 #[test]
 fn indirect_maps(rt: HostRuntime) {
-    assert!(rt; all_indirect_maps(rt.alloc()) == Some(true));
-}
-
-fn custom(alloc: Global) -> Option<bool> {
-    let mut section = NameSection::new(alloc);
-    section.module("m").ok()?;
-    let custom = section.as_custom().ok()?;
-    Some(writes(alloc, &custom, "00 09 04 6e 61 6d 65 00 02 01 6d"))
-}
-
-#[test]
-fn as_a_custom_section(rt: HostRuntime) {
-    assert!(rt; custom(rt.alloc()) == Some(true));
+    assert!(rt; all_indirect_maps(rt.alloc()));
 }

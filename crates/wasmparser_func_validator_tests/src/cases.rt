@@ -1,15 +1,16 @@
 //! An operator after others, in a body of a function of the example.
 
-use crate::running::{run, try_first};
-use crate::states::{has_failed, operands_of, state_of};
-use crate::validators::{define_locals, validator_in};
+use crate::states::{operands_of, state_of};
 use std::alloc::Global;
 use wasm_core_base::features::{Flags, WasmFeatures};
 use wasmparser_error::error::{Error, ErrorKind};
 use wasmparser_func_validator::func_to_validate::FuncValidatorAllocations;
 use wasmparser_func_validator::func_validator::FuncValidator;
+use wasmparser_func_validator_rows::failures::has_failed;
+use wasmparser_func_validator_rows::running::{run, try_first};
+use wasmparser_func_validator_rows::validators::{define_locals, validator_in};
 use wasmparser_resources::module_resources::WasmModuleResources;
-use wasmparser_resources_tests::listed_resources::ListedResources;
+use wasmparser_resources_rows::listed_resources::ListedResources;
 use wasmparser_types::ref_type::RefType;
 use wasmparser_types::val_type::ValType;
 

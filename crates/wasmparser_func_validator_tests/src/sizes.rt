@@ -1,9 +1,6 @@
 //! Many operands, blocks, labels, parameters and locals.
 
 use crate::cases::validator_of;
-use crate::running::run;
-use crate::states::has_failed;
-use crate::validators::{define_locals, validator_in};
 use std::alloc::Global;
 use std::test::Fail;
 use wasm_core_base::features::WasmFeatures;
@@ -13,8 +10,11 @@ use wasm_test_rows::values::bytes_of;
 use wasmparser_error::error::{Error, ErrorKind};
 use wasmparser_func_validator::func_to_validate::FuncValidatorAllocations;
 use wasmparser_func_validator::func_validator::FuncValidator;
+use wasmparser_func_validator_rows::failures::has_failed;
+use wasmparser_func_validator_rows::running::run;
+use wasmparser_func_validator_rows::validators::{define_locals, validator_in};
 use wasmparser_resources::module_resources::WasmModuleResources;
-use wasmparser_resources_tests::listed_resources::ListedResources;
+use wasmparser_resources_rows::listed_resources::ListedResources;
 use wasmparser_types::composite_type::FuncType;
 use wasmparser_types::sub_type::SubType;
 use wasmparser_types::val_type::ValType;

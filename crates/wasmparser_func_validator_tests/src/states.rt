@@ -2,13 +2,10 @@
 
 use crate::letters::letter_of;
 use std::alloc::Global;
-use wasmparser_error::error::{Error, ErrorKind};
 use wasmparser_func_validator::func_validator::FuncValidator;
 use wasmparser_operators::immediates::BlockType;
-use wasmparser_operators::operator::Operator;
 use wasmparser_resources::module_resources::WasmModuleResources;
 use wasmparser_stacks::frame::{Frame, FrameKind};
-use wasmparser_types::val_type::ValType;
 
 /// The known operands, the last one last.
 pub fn operands_of<R: WasmModuleResources>(
@@ -91,26 +88,4 @@ pub fn state_of<R: WasmModuleResources>(
     let blocks = blocks_of(alloc, validator)?;
     let locals = locals_of(alloc, validator)?;
     format!(in alloc; "{operands} | {blocks} | {locals}").ok()
-}
-
-/// Whether this is a refusal after another one.
-pub fn is_failed(answer: Result<(), Error>, place: u64) -> bool {
-    match answer {
-        Ok(()) => false,
-        Err(Error { offset, kind }) => offset == place && kind == ErrorKind::Failed,
-    }
-}
-
-/// Whether nothing is told, and all is refused.
-pub fn has_failed<R: WasmModuleResources>(validator: &mut FuncValidator<R>) -> bool {
-    let tells_nothing = validator.operand_stack_height() == 0
-        && validator.control_stack_height() == 0
-        && validator.len_locals() == 0
-        && validator.get_local_type(0).is_none()
-        && validator.get_operand_type(0).is_none()
-        && validator.get_control_frame(0).is_none();
-    tells_nothing
-        && is_failed(validator.op(9, &Operator::Nop), 9)
-        && is_failed(validator.try_op(8, &Operator::Nop), 8)
-        && is_failed(validator.define_locals(7, 1, ValType::I32), 7)
 }

@@ -1,17 +1,17 @@
 //! What getters tell after each operator.
 
 use crate::cases::validator_of;
-use crate::running::run;
 use crate::states::{blocks_of, operands_of, state_of};
-use crate::validators::FUNCTION;
 use std::alloc::Global;
 use std::test::Fail;
 use wasm_core_base::features::WasmFeatures;
 use wasm_test_rows::fields::two_fields;
 use wasm_test_rows::values::bytes_of;
 use wasmparser_func_validator::func_validator::FuncValidator;
+use wasmparser_func_validator_rows::running::run;
+use wasmparser_func_validator_rows::validators::FUNCTION;
 use wasmparser_resources::module_resources::WasmModuleResources;
-use wasmparser_resources_tests::listed_resources::ListedResources;
+use wasmparser_resources_rows::listed_resources::ListedResources;
 
 // Operators one after the other, and what stands after each: operands, and the open blocks with their types, heights, and a mark where the rest isn't reached.
 const STEPS: &str = "

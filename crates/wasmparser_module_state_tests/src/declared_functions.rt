@@ -1,6 +1,5 @@
 //! The functions that sections declare, and the data count that one states.
 
-use crate::judged::{JudgedState, answer, on_new_state};
 use std::alloc::Global;
 use std::test::Fail;
 use wasm_core_base::features::WasmFeatures;
@@ -8,6 +7,7 @@ use wasm_test_rows::fields::three_fields;
 use wasm_test_rows::rows::check_rows;
 use wasm_test_rows::values::number_of;
 use wasmparser_module_state::module_state::ModuleState;
+use wasmparser_module_state_rows::judged::{JudgedState, answer, on_new_state};
 
 // Sections after four functions, which are accepted; of each function whether it is declared; and the data count, if one is stated.
 const DECLARED: &str = "

@@ -1,6 +1,5 @@
 //! What a state tells to bodies, and a copy of it.
 
-use crate::judged::{JudgedState, answer, on_new_state};
 use std::alloc::Global;
 use std::test::Fail;
 use wasm_core_base::features::WasmFeatures;
@@ -8,6 +7,7 @@ use wasm_test_rows::fields::{three_fields, word_and_rest};
 use wasm_test_rows::rows::check_rows;
 use wasm_test_rows::values::number_of;
 use wasmparser_module_state::module_state::ModuleState;
+use wasmparser_module_state_rows::judged::{JudgedState, answer, on_new_state};
 use wasmparser_resources::module_resources::WasmModuleResources;
 use wasmparser_types::index::{CoreTypeId, PackedIndex};
 use wasmparser_types::ref_type::RefType;

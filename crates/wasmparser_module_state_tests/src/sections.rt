@@ -1,12 +1,12 @@
 //! Sections that are judged item by item, one after the other.
 
-use crate::judged::{JudgedState, OFFSET, answer};
 use std::alloc::Global;
 use std::test::Fail;
 use wasm_core_base::features::{Flags, WasmFeatures};
 use wasm_test_rows::fields::three_fields;
 use wasm_test_rows::rows::check_rows;
 use wasmparser_error::error::{Error, ErrorKind};
+use wasmparser_module_state_rows::judged::{JudgedState, OFFSET, answer};
 
 // Features that are switched beside the default ones; sections; and what the last of them is answered: `yes`, the kind of the refusal, or the name of
 // the limit that is passed. A refusal's place isn't before the section. All sections before the last are accepted.

@@ -1,6 +1,5 @@
 //! Groups of type sections: which are accepted, which ids their types get, and why others are refused.
 
-use crate::checked_section::CheckedSection;
 use std::alloc::Global;
 use std::test::Fail;
 use wasm_core_base::features::{Flags, WasmFeatures};
@@ -8,6 +7,7 @@ use wasm_test_rows::fields::{two_fields, word_and_rest};
 use wasm_test_rows::rows::check_rows;
 use wasm_test_rows::values::number_of;
 use wasmparser_error::error::{Error, ErrorKind};
+use wasmparser_rec_group_rows::checked_section::CheckedSection;
 use wasmparser_type_words::types::{id_of, sub_type_of, sub_types_of};
 use wasmparser_types::index::CoreTypeId;
 use wasmparser_types::sub_type::RecGroup;

@@ -1,10 +1,10 @@
 //! Limits on the types of a section.
 
-use crate::checked_section::CheckedSection;
 use std::alloc::{AllocError, Global};
 use wasm_core_base::features::WasmFeatures;
 use wasm_core_base::limits::Limit;
 use wasmparser_error::error::{Error, ErrorKind};
+use wasmparser_rec_group_rows::checked_section::CheckedSection;
 use wasmparser_types::composite_type::{CompositeType, FuncType, StructType};
 use wasmparser_types::index::PackedIndex;
 use wasmparser_types::sub_type::{RecGroup, SubType};

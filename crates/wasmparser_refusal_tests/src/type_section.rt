@@ -6,7 +6,7 @@ use wasm_core_base::features::WasmFeatures;
 use wasm_test_rows::fields::two_fields;
 use wasm_test_rows::rows::check_rows;
 use wasmparser_error::error::ErrorKind;
-use wasmparser_rec_group_tests::checked_section::CheckedSection;
+use wasmparser_rec_group_rows::checked_section::CheckedSection;
 use wasmparser_type_words::types::{id_of, sub_types_of};
 use wasmparser_types::index::CoreTypeId;
 use wasmparser_types::sub_type::RecGroup;

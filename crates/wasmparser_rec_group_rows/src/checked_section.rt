@@ -24,7 +24,7 @@ pub struct CheckedSection {
 
 impl Model for CheckedSection {
     ghost use Rattle.wasmparser_interning.specs.TypeTables.{TypeTables};
-    ghost use Rattle.wasmparser_rec_group_tests.specs.CheckedSections.{IsChecked};
+    ghost use Rattle.wasmparser_rec_group_rows.specs.CheckedSections.{IsChecked};
 
     ghost Value = { TypeTables };
 

@@ -170,3 +170,13 @@ pub fn answer(alloc: Global, state: &mut JudgedState, section: &str) -> Option<R
         }
     }
 }
+
+/// Whether all sections are accepted, with `;` between them; none where there is no such section.
+pub fn are_accepted(alloc: Global, state: &mut JudgedState, sections: &str) -> Option<bool> {
+    for section in sections.split_terminator(';') {
+        if answer(alloc, state, section)?.is_err() {
+            return Some(false);
+        }
+    }
+    Some(true)
+}

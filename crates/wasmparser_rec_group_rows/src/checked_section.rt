@@ -69,3 +69,16 @@ impl CheckedSection {
         )
     }
 }
+
+/// What holds of a new section. Who owns a section proves how each of its parts is let go of, so the tests leave that to this call.
+pub fn on_new_section<F: Fn(Global, &mut CheckedSection, &str) -> Option<bool>>(
+    alloc: Global,
+    features: WasmFeatures,
+    row: &str,
+    holds: F,
+) -> Option<bool>
+    requires { F.IsAlwaysCallable holds }
+{
+    let mut section = CheckedSection::new(alloc, features);
+    holds(alloc, &mut section, row)
+}

@@ -15,6 +15,18 @@ pub fn id_of(word: &str) -> Option<CoreTypeId> {
     Some(CoreTypeId::from_index(word.strip_prefix('#')?.parse().ok()?))
 }
 
+/// Whether these are the ids, in words.
+pub fn are_ids(ids: &[CoreTypeId], expected: &str) -> bool {
+    let mut words = expected.split_whitespace();
+    for id in ids {
+        match words.next() {
+            Some(word) if id_of(word) == Some(*id) => {}
+            _ => return false,
+        }
+    }
+    words.next().is_none()
+}
+
 /// An id, the place after `own.`, or an index in a module.
 pub fn index_of(word: &str) -> Option<PackedIndex> {
     if let Some(place) = word.strip_prefix("own.") {

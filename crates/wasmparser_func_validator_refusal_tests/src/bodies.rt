@@ -7,12 +7,12 @@ use wasm_test_rows::values::bytes_of;
 use wasmparser_error::error::{Error, ErrorKind};
 use wasmparser_func_validator::func_to_validate::FuncValidatorAllocations;
 use wasmparser_func_validator::func_validator::FuncValidator;
-use wasmparser_func_validator_tests::running::run;
-use wasmparser_func_validator_tests::states::has_failed;
-use wasmparser_func_validator_tests::validators::{define_locals, validator_in};
+use wasmparser_func_validator_rows::failures::has_failed;
+use wasmparser_func_validator_rows::running::run;
+use wasmparser_func_validator_rows::validators::{define_locals, validator_in};
 use wasmparser_operators::operators_reader::OperatorsReader;
 use wasmparser_resources::module_resources::WasmModuleResources;
-use wasmparser_resources_tests::listed_resources::ListedResources;
+use wasmparser_resources_rows::listed_resources::ListedResources;
 use wasmparser_types::ref_type::RefType;
 use wasmparser_types::val_type::ValType;
 

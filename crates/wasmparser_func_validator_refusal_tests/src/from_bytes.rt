@@ -9,9 +9,9 @@ use wasm_test_rows::rows::check_rows;
 use wasmparser_error::error::Error;
 use wasmparser_func_validator::func_to_validate::FuncValidatorAllocations;
 use wasmparser_func_validator::func_validator::FuncValidator;
-use wasmparser_func_validator_tests::states::has_failed;
+use wasmparser_func_validator_rows::failures::has_failed;
 use wasmparser_payloads::function_body::FunctionBody;
-use wasmparser_resources_tests::listed_resources::ListedResources;
+use wasmparser_resources_rows::listed_resources::ListedResources;
 
 // Bodies of a function that takes an `i32` and an `i64` and gives an `i32`, and why they are refused. They take room for runs of locals, operands, blocks in
 // blocks with a local that is set in them, second lists and jumps.

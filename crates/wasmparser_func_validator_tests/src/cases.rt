@@ -1,15 +1,16 @@
 //! An operator after others, in a body of a function of the example.
 
-use crate::running::{run, try_first};
-use crate::states::{has_failed, operands_of, state_of};
-use crate::validators::{define_locals, validator_in};
+use crate::states::{are_operands, is_state, state_of};
 use std::alloc::Global;
 use wasm_core_base::features::{Flags, WasmFeatures};
 use wasmparser_error::error::{Error, ErrorKind};
 use wasmparser_func_validator::func_to_validate::FuncValidatorAllocations;
 use wasmparser_func_validator::func_validator::FuncValidator;
+use wasmparser_func_validator_rows::failures::has_failed;
+use wasmparser_func_validator_rows::running::{run, try_first};
+use wasmparser_func_validator_rows::validators::{define_locals, validator_in};
 use wasmparser_resources::module_resources::WasmModuleResources;
-use wasmparser_resources_tests::listed_resources::ListedResources;
+use wasmparser_resources_rows::listed_resources::ListedResources;
 use wasmparser_types::ref_type::RefType;
 use wasmparser_types::val_type::ValType;
 
@@ -55,76 +56,77 @@ fn refusal_holds<R: WasmModuleResources>(
     }
 }
 
-fn outcome_in<R: WasmModuleResources>(
+// Whether an operator that is tried leaves these operands, or is refused without changing anything.
+fn is_tried<R: WasmModuleResources>(
     alloc: Global,
     validator: &mut FuncValidator<R>,
-    before: &[u8],
     operator: &[u8],
-) -> Option<String> {
-    declare(validator)?;
-    run(validator, before, 0).ok()?;
-    let offset = u32::try_from(before.len()).ok()?;
+    offset: u32,
+    expected: &str,
+) -> Option<bool> {
     let state = state_of(alloc, validator)?;
-    match try_first(validator, operator, offset) {
-        Ok(()) => operands_of(alloc, validator),
-        Err(error) => {
-            let stays = state_of(alloc, validator)?.as_str() == state.as_str();
-            if !stays || !refusal_holds(validator, error, operator, offset) {
-                return None;
-            }
-            String::from_str(alloc, REFUSED).ok()
-        }
+    let answer = try_first(validator, operator, offset);
+    let stays = is_state(alloc, validator, &state);
+    match answer {
+        Ok(()) => Some(are_operands(alloc, validator, expected)),
+        Err(error) => Some(
+            expected == REFUSED && stays && refusal_holds(validator, error, operator, offset),
+        ),
     }
 }
 
-/// The operands after an operator that is tried after others, or `refused`. None where another one is refused, or where the refusal changes anything.
-pub fn outcome(
-    alloc: Global,
-    resources: &ListedResources,
-    features: WasmFeatures,
-    before: &[u8],
-    operator: &[u8],
-) -> Option<String> {
-    let mut validator = validator_of(alloc, resources, features)?;
-    let text = outcome_in(alloc, &mut validator, before, operator);
-    drop(validator);
-    text
-}
-
-/// Whether an operator after others is refused.
-pub fn is_refused(
-    alloc: Global,
-    resources: &ListedResources,
-    features: WasmFeatures,
-    before: &[u8],
-    operator: &[u8],
-) -> Option<bool> {
-    let text = outcome(alloc, resources, features, before, operator)?;
-    Some(text.as_str() == REFUSED)
-}
-
-fn after_in<R: WasmModuleResources>(
+fn has_outcome_in<R: WasmModuleResources>(
     alloc: Global,
     validator: &mut FuncValidator<R>,
     before: &[u8],
     operator: &[u8],
-) -> Option<String> {
+    expected: &str,
+) -> Option<bool> {
     declare(validator)?;
     run(validator, before, 0).ok()?;
-    run(validator, operator, u32::try_from(before.len()).ok()?).ok()?;
-    operands_of(alloc, validator)
+    let offset = u32::try_from(before.len()).ok()?;
+    is_tried(alloc, validator, operator, offset, expected)
 }
 
-/// The operands after an operator that comes after others.
-pub fn after(
+/// Whether an operator that is tried after others leaves these operands, or is `refused` without changing anything. None where another one is refused.
+pub fn has_outcome(
     alloc: Global,
     resources: &ListedResources,
     features: WasmFeatures,
     before: &[u8],
     operator: &[u8],
-) -> Option<String> {
+    expected: &str,
+) -> Option<bool> {
     let mut validator = validator_of(alloc, resources, features)?;
-    let text = after_in(alloc, &mut validator, before, operator);
+    let holds = has_outcome_in(alloc, &mut validator, before, operator, expected);
     drop(validator);
-    text
+    holds
+}
+
+fn gives_in<R: WasmModuleResources>(
+    alloc: Global,
+    validator: &mut FuncValidator<R>,
+    before: &[u8],
+    operator: &[u8],
+    expected: &str,
+) -> Option<bool> {
+    declare(validator)?;
+    run(validator, before, 0).ok()?;
+    run(validator, operator, u32::try_from(before.len()).ok()?).ok()?;
+    Some(are_operands(alloc, validator, expected))
+}
+
+/// Whether an operator that comes after others leaves these operands.
+pub fn gives(
+    alloc: Global,
+    resources: &ListedResources,
+    features: WasmFeatures,
+    before: &[u8],
+    operator: &[u8],
+    expected: &str,
+) -> Option<bool> {
+    let mut validator = validator_of(alloc, resources, features)?;
+    let holds = gives_in(alloc, &mut validator, before, operator, expected);
+    drop(validator);
+    holds
 }

@@ -1,6 +1,6 @@
 //! Operators of each code, with the operands that they take and with others.
 
-use crate::cases::{after, is_refused, outcome};
+use crate::cases::{REFUSED, gives, has_outcome};
 use crate::letters::bytes_of_letters;
 use crate::more_features::stays_accepted_with_more;
 use std::alloc::Global;
@@ -9,7 +9,7 @@ use wasm_core_base::features::{Flags, WasmFeatures};
 use wasm_test_rows::fields::four_fields;
 use wasm_test_rows::rows::check_rows;
 use wasm_test_rows::values::bytes_of;
-use wasmparser_resources_tests::listed_resources::ListedResources;
+use wasmparser_resources_rows::listed_resources::ListedResources;
 
 // Operands, operators that take just these, what they give, and the features that each of them asks for. With those of `OTHERS` the operators have each code.
 const CODES: &str = "
@@ -175,9 +175,7 @@ pub fn feature_of(word: &str) -> Option<WasmFeatures> {
     }
 }
 
-// The operands from one of them on, with another one in place of one.
-fn operands_but(alloc: Global, takes: &str, first: usize, wrong: usize) -> Option<Vec<u8>> {
-    let mut letters = String::new(alloc);
+fn push_operands(letters: &mut String, takes: &str, first: usize, wrong: usize) -> Option<()> {
     for (index, letter) in takes.chars().enumerate() {
         if index >= first {
             let is_kept = index != wrong;
@@ -185,7 +183,30 @@ fn operands_but(alloc: Global, takes: &str, first: usize, wrong: usize) -> Optio
             letters.push(if is_kept { letter } else { other }).ok()?;
         }
     }
-    bytes_of_letters(alloc, &letters)
+    Some(())
+}
+
+// The operands from one of them on, with another one in place of one.
+fn operands_but(alloc: Global, takes: &str, first: usize, wrong: usize) -> Option<Vec<u8>> {
+    let mut letters = String::new(alloc);
+    match push_operands(&mut letters, takes, first, wrong) {
+        Some(()) => bytes_of_letters(alloc, &letters),
+        None => None,
+    }
+}
+
+// Whether an operator is refused after the operands from one of them on, with another one in place of one.
+fn refuses(
+    alloc: Global,
+    resources: &ListedResources,
+    takes: &str,
+    operator: &[u8],
+    first: usize,
+    wrong: usize,
+) -> Option<bool> {
+    let before = operands_but(alloc, takes, first, wrong)?;
+    let features = WasmFeatures::default();
+    has_outcome(alloc, resources, features, &before, operator, REFUSED)
 }
 
 // Whether an operator is refused where its first operand is missing, and where one of them is another.
@@ -196,16 +217,11 @@ fn refuses_others(
     operator: &[u8],
 ) -> Option<bool> {
     let count = takes.len();
-    let features = WasmFeatures::default();
-    if count > 0 {
-        let before = operands_but(alloc, takes, 1, count)?;
-        if !is_refused(alloc, resources, features, &before, operator)? {
-            return Some(false);
-        }
+    if count > 0 && !refuses(alloc, resources, takes, operator, 1, count)? {
+        return Some(false);
     }
     for wrong in 0..count {
-        let before = operands_but(alloc, takes, 0, wrong)?;
-        if !is_refused(alloc, resources, features, &before, operator)? {
+        if !refuses(alloc, resources, takes, operator, 0, wrong)? {
             return Some(false);
         }
     }
@@ -221,7 +237,7 @@ fn asks_for(
 ) -> Option<bool> {
     for word in features.split_whitespace() {
         let features = WasmFeatures::default().difference(feature_of(word)?);
-        if !is_refused(alloc, resources, features, &[0x00], operator)? {
+        if !has_outcome(alloc, resources, features, &[0x00], operator, REFUSED)? {
             return Some(false);
         }
     }
@@ -232,27 +248,35 @@ fn asks_for(
 fn is_given(
     alloc: Global,
     resources: &ListedResources,
-    takes: &str,
+    before: &[u8],
     operator: &[u8],
-    gives: &str,
+    expected: &str,
 ) -> Option<bool> {
-    let before = bytes_of_letters(alloc, takes)?;
     let features = WasmFeatures::default();
-    let given = after(alloc, resources, features, &before, operator)?;
-    let tried = outcome(alloc, resources, features, &before, operator)?;
-    let unknown = outcome(alloc, resources, features, &[0x00], operator)?;
-    let is_given = given.as_str() == gives && tried.as_str() == gives && unknown.as_str() == gives;
-    Some(is_given && stays_accepted_with_more(alloc, resources, &before, operator)?)
+    Some(
+        gives(alloc, resources, features, before, operator, expected)?
+            && has_outcome(alloc, resources, features, before, operator, expected)?
+            && has_outcome(alloc, resources, features, &[0x00], operator, expected)?
+            && stays_accepted_with_more(alloc, resources, before, operator)?,
+    )
+}
+
+// Whether a row holds of one of its operators.
+fn code_holds(alloc: Global, resources: &ListedResources, row: &str, word: &str) -> Option<bool> {
+    let (takes, _, expected, features) = four_fields(row)?;
+    let operator = bytes_of(alloc, word)?;
+    let before = bytes_of_letters(alloc, takes)?;
+    Some(
+        is_given(alloc, resources, &before, &operator, expected)?
+            && refuses_others(alloc, resources, takes, &operator)?
+            && asks_for(alloc, resources, features, &operator)?,
+    )
 }
 
 fn codes_hold(alloc: Global, resources: &ListedResources, row: &str) -> Option<bool> {
-    let (takes, operators, gives, features) = four_fields(row)?;
+    let (_, operators, _, _) = four_fields(row)?;
     for word in operators.split_whitespace() {
-        let operator = bytes_of(alloc, word)?;
-        let holds = is_given(alloc, resources, takes, &operator, gives)?
-            && refuses_others(alloc, resources, takes, &operator)?
-            && asks_for(alloc, resources, features, &operator)?;
-        if !holds {
+        if !code_holds(alloc, resources, row, word)? {
             return Some(false);
         }
     }

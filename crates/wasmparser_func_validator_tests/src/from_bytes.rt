@@ -1,7 +1,6 @@
 //! Bodies validated from their bytes, at once and operator by operator.
 
 use crate::cases::validator_of;
-use crate::states::{has_failed, is_failed};
 use std::alloc::Global;
 use std::test::Fail;
 use wasm_core_base::features::WasmFeatures;
@@ -11,9 +10,10 @@ use wasm_test_rows::rows::check_rows;
 use wasm_test_rows::values::bytes_of;
 use wasmparser_error::error::{Error, ErrorKind};
 use wasmparser_func_validator::func_validator::FuncValidator;
+use wasmparser_func_validator_rows::failures::{has_failed, is_failed};
 use wasmparser_operators::operators_reader::OperatorsReader;
 use wasmparser_payloads::function_body::FunctionBody;
-use wasmparser_resources_tests::listed_resources::ListedResources;
+use wasmparser_resources_rows::listed_resources::ListedResources;
 
 // Where bodies begin in the input.
 const START: u64 = 100;

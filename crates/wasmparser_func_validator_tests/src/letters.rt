@@ -3,7 +3,7 @@
 use std::alloc::Global;
 use wasm_test_rows::fields::three_fields;
 use wasm_test_rows::values::bytes_of;
-use wasmparser_type_words::types::func_type_of;
+use wasmparser_type_words::types::val_type_of;
 use wasmparser_types::val_type::ValType;
 
 // Letters of operands, types, and operators that give such operands.
@@ -68,34 +68,30 @@ fn bytes_of_letter(alloc: Global, letter: char) -> Option<Vec<u8>> {
     }
 }
 
+fn push_letter(alloc: Global, bytes: &mut Vec<u8>, letter: char) -> Option<()> {
+    let others = bytes_of_letter(alloc, letter)?;
+    bytes.extend_from_slice(&others).ok()
+}
+
+fn push_letters(alloc: Global, bytes: &mut Vec<u8>, letters: &str) -> Option<()> {
+    for letter in letters.chars() {
+        push_letter(alloc, bytes, letter)?;
+    }
+    Some(())
+}
+
 /// The operators of some letters, as bytes.
 pub fn bytes_of_letters(alloc: Global, letters: &str) -> Option<Vec<u8>> {
     let mut bytes = Vec::new(alloc);
-    for letter in letters.chars() {
-        let others = bytes_of_letter(alloc, letter)?;
-        bytes.extend_from_slice(&others).ok()?;
-    }
+    push_letters(alloc, &mut bytes, letters)?;
     Some(bytes)
 }
 
-/// The type of a word.
-pub fn type_of(alloc: Global, word: &str) -> Option<ValType> {
-    let params = format!(in alloc; "{word} ->").ok()?;
-    func_type_of(alloc, &params)?.params().get(0).copied()
-}
-
-fn is_type(alloc: Global, word: &str, ty: &ValType) -> bool {
-    match type_of(alloc, word) {
-        Some(it) => it == *ty,
-        None => false,
-    }
-}
-
 /// The letter of a type, `*` where no operand of the table has it.
-pub fn letter_of(alloc: Global, ty: &ValType) -> Option<char> {
+pub fn letter_of(ty: &ValType) -> Option<char> {
     for row in OPERANDS.lines() {
         let (letter, word, _) = three_fields(row)?;
-        if is_type(alloc, word, ty) {
+        if val_type_of(word) == Some(*ty) {
             return letter.chars().next();
         }
     }

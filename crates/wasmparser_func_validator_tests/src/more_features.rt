@@ -1,12 +1,12 @@
 //! Operators under some features, and under more.
 
 use crate::cases::{declare, validator_of};
-use crate::running::run;
 use std::alloc::Global;
 use wasm_core_base::features::{Flags, WasmFeatures};
 use wasmparser_func_validator::func_validator::FuncValidator;
+use wasmparser_func_validator_rows::running::run;
 use wasmparser_resources::module_resources::WasmModuleResources;
-use wasmparser_resources_tests::listed_resources::ListedResources;
+use wasmparser_resources_rows::listed_resources::ListedResources;
 
 fn accepts_in<R: WasmModuleResources>(
     validator: &mut FuncValidator<R>,
@@ -46,41 +46,32 @@ fn stays_accepted(
     Some(!accepts(alloc, resources, some, before, operator)?)
 }
 
-// Some features and the same with one more: the default ones, all of these but one, and none up to all. The last ones are the default ones and all.
-fn pairs_of(alloc: Global) -> Option<Vec<(WasmFeatures, WasmFeatures)>> {
-    let features = WasmFeatures::default();
-    let mut pairs = Vec::new(alloc);
-    let mut former = WasmFeatures::empty();
-    for shift in 0..32u32 {
-        let Some(flag) = WasmFeatures::from_bits(1 << shift) else {
-            continue;
-        };
-        let latter = former.union(flag);
-        pairs.push((features, features.union(flag))).ok()?;
-        pairs.push((features.difference(flag), features)).ok()?;
-        pairs.push((former, latter)).ok()?;
-        former = latter;
-    }
-    if former != WasmFeatures::all() {
-        return None;
-    }
-    pairs.push((features, former)).ok()?;
-    Some(pairs)
-}
-
-/// Whether an operator that is accepted stays so with each further feature, and with all.
+/// Whether an operator that is accepted stays so with each further feature, and with all: beside the default ones, beside all of these but one, and from none up to all.
 pub fn stays_accepted_with_more(
     alloc: Global,
     resources: &ListedResources,
     before: &[u8],
     operator: &[u8],
 ) -> Option<bool> {
-    let pairs = pairs_of(alloc)?;
-    for pair in pairs.iter() {
-        let (some, others) = *pair;
-        if !stays_accepted(alloc, resources, some, others, before, operator)? {
+    let features = WasmFeatures::default();
+    let mut former = WasmFeatures::empty();
+    for shift in 0..32u32 {
+        let Some(flag) = WasmFeatures::from_bits(1 << shift) else {
+            continue;
+        };
+        let (more, fewer, latter) = (
+            features.union(flag),
+            features.difference(flag),
+            former.union(flag),
+        );
+        let stays = stays_accepted(alloc, resources, features, more, before, operator)?
+            && stays_accepted(alloc, resources, fewer, features, before, operator)?
+            && stays_accepted(alloc, resources, former, latter, before, operator)?;
+        if !stays {
             return Some(false);
         }
+        former = latter;
     }
-    Some(true)
+    let stays = stays_accepted(alloc, resources, features, former, before, operator)?;
+    Some(stays && former == WasmFeatures::all())
 }

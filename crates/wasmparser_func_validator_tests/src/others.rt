@@ -1,6 +1,6 @@
 //! Operators after others: what they give, and where they are refused.
 
-use crate::cases::{REFUSED, after, outcome};
+use crate::cases::{REFUSED, gives, has_outcome};
 use crate::codes::feature_of;
 use crate::letters::bytes_of_letters;
 use crate::more_features::stays_accepted_with_more;
@@ -10,7 +10,7 @@ use wasm_core_base::features::{Flags, WasmFeatures};
 use wasm_test_rows::fields::four_fields;
 use wasm_test_rows::rows::check_rows;
 use wasm_test_rows::values::bytes_of;
-use wasmparser_resources_tests::listed_resources::ListedResources;
+use wasmparser_resources_rows::listed_resources::ListedResources;
 
 // Operators that come first, and each of the others after them: the operands that it leaves, or that it's refused; without some features.
 const OTHERS: &str = "
@@ -252,8 +252,8 @@ fn features_without(words: &str) -> Option<WasmFeatures> {
     Some(features)
 }
 
-// Whether an operator that is accepted if it's tried is accepted so too.
-fn gives(
+// Whether an operator that is accepted if it's tried is accepted so too, and stays so under more features.
+fn is_answered(
     alloc: Global,
     resources: &ListedResources,
     features: WasmFeatures,
@@ -261,26 +261,27 @@ fn gives(
     operator: &[u8],
     expected: &str,
 ) -> Option<bool> {
-    let tried = outcome(alloc, resources, features, before, operator)?;
-    if tried.as_str() != expected {
-        return Some(false);
-    }
-    if expected == REFUSED {
-        return Some(true);
-    }
-    let given = after(alloc, resources, features, before, operator)?;
-    Some(given.as_str() == expected)
+    Some(
+        has_outcome(alloc, resources, features, before, operator, expected)?
+            && (expected == REFUSED
+                || gives(alloc, resources, features, before, operator, expected)?)
+            && stays_accepted_with_more(alloc, resources, before, operator)?,
+    )
+}
+
+// Whether a row holds of one of its operators.
+fn other_holds(alloc: Global, resources: &ListedResources, row: &str, word: &str) -> Option<bool> {
+    let (letters, _, expected, features) = four_fields(row)?;
+    let features = features_without(features)?;
+    let operator = bytes_of(alloc, word)?;
+    let before = bytes_of_letters(alloc, letters)?;
+    is_answered(alloc, resources, features, &before, &operator, expected)
 }
 
 fn others_hold(alloc: Global, resources: &ListedResources, row: &str) -> Option<bool> {
-    let (letters, operators, expected, features) = four_fields(row)?;
-    let before = bytes_of_letters(alloc, letters)?;
-    let features = features_without(features)?;
+    let (_, operators, _, _) = four_fields(row)?;
     for word in operators.split_whitespace() {
-        let operator = bytes_of(alloc, word)?;
-        let holds = gives(alloc, resources, features, &before, &operator, expected)?
-            && stays_accepted_with_more(alloc, resources, &before, &operator)?;
-        if !holds {
+        if !other_holds(alloc, resources, row, word)? {
             return Some(false);
         }
     }

@@ -1,9 +1,6 @@
 //! Many operands, blocks, labels, parameters and locals.
 
 use crate::cases::validator_of;
-use crate::running::run;
-use crate::states::has_failed;
-use crate::validators::{define_locals, validator_in};
 use std::alloc::Global;
 use std::test::Fail;
 use wasm_core_base::features::WasmFeatures;
@@ -13,8 +10,11 @@ use wasm_test_rows::values::bytes_of;
 use wasmparser_error::error::{Error, ErrorKind};
 use wasmparser_func_validator::func_to_validate::FuncValidatorAllocations;
 use wasmparser_func_validator::func_validator::FuncValidator;
+use wasmparser_func_validator_rows::failures::has_failed;
+use wasmparser_func_validator_rows::running::run;
+use wasmparser_func_validator_rows::validators::{define_locals, validator_in};
 use wasmparser_resources::module_resources::WasmModuleResources;
-use wasmparser_resources_tests::listed_resources::ListedResources;
+use wasmparser_resources_rows::listed_resources::ListedResources;
 use wasmparser_types::composite_type::FuncType;
 use wasmparser_types::sub_type::SubType;
 use wasmparser_types::val_type::ValType;
@@ -32,12 +32,15 @@ const BODIES: &str = "
     4100*100000 6a*99999 0b
 ";
 
-fn is_accepted(alloc: Global, resources: &ListedResources, row: &str) -> Option<bool> {
-    let bytes = bytes_of(alloc, row)?;
+fn is_body_accepted(alloc: Global, resources: &ListedResources, bytes: &[u8]) -> Option<bool> {
     let mut validator = validator_of(alloc, resources, WasmFeatures::default())?;
-    let result = run(&mut validator, &bytes, 0);
+    let result = run(&mut validator, bytes, 0);
     drop(validator);
     Some(result.is_ok())
+}
+
+fn is_accepted(alloc: Global, resources: &ListedResources, row: &str) -> Option<bool> {
+    is_body_accepted(alloc, resources, &bytes_of(alloc, row)?)
 }
 
 fn bodies_hold(alloc: Global, resources: &ListedResources) -> Result<(), &'static str> {
@@ -149,22 +152,30 @@ fn locals_hold<R: WasmModuleResources>(validator: &mut FuncValidator<R>) -> Opti
     Some(are_told && is_full(validator)?)
 }
 
-fn many_locals(alloc: Global) -> Option<bool> {
-    let resources = ListedResources::example(alloc)?;
-    let holds = match validator_of(alloc, &resources, WasmFeatures::default()) {
+fn many_locals(alloc: Global, resources: &ListedResources) -> Result<(), &'static str> {
+    match validator_of(alloc, resources, WasmFeatures::default()) {
         Some(validator) => {
             let mut validator = validator;
             let holds = locals_hold(&mut validator);
             drop(validator);
-            holds
+            if holds == Some(true) {
+                Ok(())
+            } else {
+                Err("locals")
+            }
         }
-        None => None,
-    };
-    drop(resources);
-    holds
+        None => Err("no validator"),
+    }
 }
 
 #[test]
-fn locals_are_many(rt: HostRuntime) {
-    assert!(rt; many_locals(rt.alloc()) == Some(true));
+fn locals_are_many(rt: HostRuntime) -> Result<(), Fail> {
+    let alloc = rt.alloc();
+    let Some(resources) = ListedResources::example(alloc) else {
+        assert!(rt; false);
+        return Ok(());
+    };
+    let result = many_locals(alloc, &resources);
+    drop(resources);
+    Ok(result?)
 }

@@ -2,29 +2,25 @@
 
 use crate::letters::letter_of;
 use std::alloc::Global;
-use wasmparser_error::error::{Error, ErrorKind};
 use wasmparser_func_validator::func_validator::FuncValidator;
 use wasmparser_operators::immediates::BlockType;
-use wasmparser_operators::operator::Operator;
 use wasmparser_resources::module_resources::WasmModuleResources;
 use wasmparser_stacks::frame::{Frame, FrameKind};
-use wasmparser_types::val_type::ValType;
 
-/// The known operands, the last one last.
-pub fn operands_of<R: WasmModuleResources>(
-    alloc: Global,
+// The known operands, the last one last.
+fn push_operands<R: WasmModuleResources>(
+    text: &mut String,
     validator: &FuncValidator<R>,
-) -> Option<String> {
-    let mut text = String::new(alloc);
+) -> Option<()> {
     let height = validator.operand_stack_height();
     for place in 0..height {
         let letter = match validator.get_operand_type(height - 1 - place)? {
-            Some(ty) => letter_of(alloc, &ty)?,
+            Some(ty) => letter_of(&ty)?,
             None => '?',
         };
         text.push(letter).ok()?;
     }
-    Some(text)
+    Some(())
 }
 
 fn push_number(alloc: Global, text: &mut String, number: usize) -> Option<()> {
@@ -43,7 +39,7 @@ fn push_frame(alloc: Global, text: &mut String, frame: &Frame) -> Option<()> {
     text.push(kind).ok()?;
     match &frame.block_type {
         BlockType::Empty => {}
-        BlockType::Type(ty) => text.push(letter_of(alloc, ty)?).ok()?,
+        BlockType::Type(ty) => text.push(letter_of(ty)?).ok()?,
         BlockType::FuncType(index) => push_number(alloc, text, *index as usize)?,
     }
     text.push(':').ok()?;
@@ -54,32 +50,43 @@ fn push_frame(alloc: Global, text: &mut String, frame: &Frame) -> Option<()> {
     Some(())
 }
 
-/// The open blocks, the innermost one first.
-pub fn blocks_of<R: WasmModuleResources>(
+// The open blocks, the innermost one first.
+fn push_blocks<R: WasmModuleResources>(
     alloc: Global,
+    text: &mut String,
     validator: &FuncValidator<R>,
-) -> Option<String> {
-    let mut text = String::new(alloc);
+) -> Option<()> {
     for depth in 0..validator.control_stack_height() {
         if depth > 0 {
             text.push(' ').ok()?;
         }
-        push_frame(alloc, &mut text, validator.get_control_frame(depth)?)?;
+        push_frame(alloc, text, validator.get_control_frame(depth)?)?;
     }
-    Some(text)
+    Some(())
 }
 
-/// The types of the locals.
-pub fn locals_of<R: WasmModuleResources>(
-    alloc: Global,
+// The types of the locals.
+fn push_locals<R: WasmModuleResources>(
+    text: &mut String,
     validator: &FuncValidator<R>,
-) -> Option<String> {
-    let mut text = String::new(alloc);
+) -> Option<()> {
     for index in 0..validator.len_locals() {
-        let ty = validator.get_local_type(index)?;
-        text.push(letter_of(alloc, &ty)?).ok()?;
+        text.push(letter_of(&validator.get_local_type(index)?)?)
+            .ok()?;
     }
-    Some(text)
+    Some(())
+}
+
+fn push_state<R: WasmModuleResources>(
+    alloc: Global,
+    text: &mut String,
+    validator: &FuncValidator<R>,
+) -> Option<()> {
+    push_operands(text, validator)?;
+    text.push_str(", ").ok()?;
+    push_blocks(alloc, text, validator)?;
+    text.push_str(" | ").ok()?;
+    push_locals(text, validator)
 }
 
 /// Operands, open blocks and locals.
@@ -87,30 +94,27 @@ pub fn state_of<R: WasmModuleResources>(
     alloc: Global,
     validator: &FuncValidator<R>,
 ) -> Option<String> {
-    let operands = operands_of(alloc, validator)?;
-    let blocks = blocks_of(alloc, validator)?;
-    let locals = locals_of(alloc, validator)?;
-    format!(in alloc; "{operands} | {blocks} | {locals}").ok()
+    let mut text = String::new(alloc);
+    push_state(alloc, &mut text, validator)?;
+    Some(text)
 }
 
-/// Whether this is a refusal after another one.
-pub fn is_failed(answer: Result<(), Error>, place: u64) -> bool {
-    match answer {
-        Ok(()) => false,
-        Err(Error { offset, kind }) => offset == place && kind == ErrorKind::Failed,
-    }
+/// Whether these are the operands.
+pub fn are_operands<R: WasmModuleResources>(
+    alloc: Global,
+    validator: &FuncValidator<R>,
+    expected: &str,
+) -> bool {
+    let mut text = String::new(alloc);
+    push_operands(&mut text, validator).is_some() && text.as_str() == expected
 }
 
-/// Whether nothing is told, and all is refused.
-pub fn has_failed<R: WasmModuleResources>(validator: &mut FuncValidator<R>) -> bool {
-    let tells_nothing = validator.operand_stack_height() == 0
-        && validator.control_stack_height() == 0
-        && validator.len_locals() == 0
-        && validator.get_local_type(0).is_none()
-        && validator.get_operand_type(0).is_none()
-        && validator.get_control_frame(0).is_none();
-    tells_nothing
-        && is_failed(validator.op(9, &Operator::Nop), 9)
-        && is_failed(validator.try_op(8, &Operator::Nop), 8)
-        && is_failed(validator.define_locals(7, 1, ValType::I32), 7)
+/// Whether operands, open blocks and locals are these.
+pub fn is_state<R: WasmModuleResources>(
+    alloc: Global,
+    validator: &FuncValidator<R>,
+    expected: &str,
+) -> bool {
+    let mut text = String::new(alloc);
+    push_state(alloc, &mut text, validator).is_some() && text.as_str() == expected
 }

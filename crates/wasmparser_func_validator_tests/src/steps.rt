@@ -1,49 +1,50 @@
 //! What getters tell after each operator.
 
 use crate::cases::validator_of;
-use crate::running::run;
-use crate::states::{blocks_of, operands_of, state_of};
-use crate::validators::FUNCTION;
+use crate::states::is_state;
 use std::alloc::Global;
 use std::test::Fail;
 use wasm_core_base::features::WasmFeatures;
 use wasm_test_rows::fields::two_fields;
 use wasm_test_rows::values::bytes_of;
 use wasmparser_func_validator::func_validator::FuncValidator;
+use wasmparser_func_validator_rows::running::run;
+use wasmparser_func_validator_rows::validators::FUNCTION;
 use wasmparser_resources::module_resources::WasmModuleResources;
-use wasmparser_resources_tests::listed_resources::ListedResources;
+use wasmparser_resources_rows::listed_resources::ListedResources;
 
-// Operators one after the other, and what stands after each: operands, and the open blocks with their types, heights, and a mark where the rest isn't reached.
+// Operators one after the other, and what stands after each: operands, and the open blocks with their types, heights, and a mark where the rest isn't
+// reached; and the locals.
 const STEPS: &str = "
-    4100 | i, b1:0
-    4200 | il, b1:0
-    0240 | il, b:2 b1:0
-    2000 | ili, b:2 b1:0
-    0440 | il, c:2 b:2 b1:0
-    00 | il, c:2! b:2 b1:0
-    4100 | ili, c:2! b:2 b1:0
-    1a | il, c:2! b:2 b1:0
-    05 | il, e:2 b:2 b1:0
-    0c00 | il, e:2! b:2 b1:0
-    d4 | il?, e:2! b:2 b1:0
-    1a | il, e:2! b:2 b1:0
-    0b | il, b:2 b1:0
-    0b | il, b1:0
-    0301 | il, o1:0 b1:0
-    2300 | ili, o1:0 b1:0
-    2300 | ilii, o1:0 b1:0
-    0407 | ili, c7:2 o1:0 b1:0
-    0b | ili, o1:0 b1:0
-    1a | il, o1:0 b1:0
-    1a | i, o1:0 b1:0
-    0b | i, b1:0
-    026309 | i, bp:1 b1:0
-    d009 | ip, bp:1 b1:0
-    0b | ip, b1:0
-    1a | i, b1:0
-    0f | , b1:0!
-    1b | ?, b1:0!
-    0b | i,
+    4100 | i, b1:0 | il
+    4200 | il, b1:0 | il
+    0240 | il, b:2 b1:0 | il
+    2000 | ili, b:2 b1:0 | il
+    0440 | il, c:2 b:2 b1:0 | il
+    00 | il, c:2! b:2 b1:0 | il
+    4100 | ili, c:2! b:2 b1:0 | il
+    1a | il, c:2! b:2 b1:0 | il
+    05 | il, e:2 b:2 b1:0 | il
+    0c00 | il, e:2! b:2 b1:0 | il
+    d4 | il?, e:2! b:2 b1:0 | il
+    1a | il, e:2! b:2 b1:0 | il
+    0b | il, b:2 b1:0 | il
+    0b | il, b1:0 | il
+    0301 | il, o1:0 b1:0 | il
+    2300 | ili, o1:0 b1:0 | il
+    2300 | ilii, o1:0 b1:0 | il
+    0407 | ili, c7:2 o1:0 b1:0 | il
+    0b | ili, o1:0 b1:0 | il
+    1a | il, o1:0 b1:0 | il
+    1a | i, o1:0 b1:0 | il
+    0b | i, b1:0 | il
+    026309 | i, bp:1 b1:0 | il
+    d009 | ip, bp:1 b1:0 | il
+    0b | ip, b1:0 | il
+    1a | i, b1:0 | il
+    0f | , b1:0! | il
+    1b | ?, b1:0! | il
+    0b | i,  | il
 ";
 
 // Whether an operator leaves what a row says.
@@ -53,10 +54,8 @@ fn step_holds<R: WasmModuleResources>(
     row: &str,
 ) -> Option<bool> {
     let (operator, state) = two_fields(row)?;
-    let (operands, blocks) = state.split_once(',')?;
     run(validator, &bytes_of(alloc, operator)?, 0).ok()?;
-    let are_operands = operands_of(alloc, validator)?.as_str() == operands;
-    Some(are_operands && blocks_of(alloc, validator)?.as_str() == blocks.trim())
+    Some(is_state(alloc, validator, state))
 }
 
 // The first row that doesn't hold.
@@ -72,16 +71,15 @@ fn steps_hold<R: WasmModuleResources>(
     Ok(())
 }
 
-// What is told from the start on.
-fn is_told(alloc: Global, validator: &FuncValidator<&ListedResources>) -> Option<bool> {
-    let is_told = validator.index() == FUNCTION
+// Whether this is told from the start on.
+fn is_told(alloc: Global, validator: &FuncValidator<&ListedResources>) -> bool {
+    validator.index() == FUNCTION
         && *validator.features() == WasmFeatures::default()
         && validator.resources().imported_functions == 1
         && validator.len_locals() == 2
         && validator.get_operand_type(0).is_none()
-        && validator.get_control_frame(1).is_none();
-    let state = state_of(alloc, validator)?;
-    Some(is_told && state.as_str() == " | b1:0 | il")
+        && validator.get_control_frame(1).is_none()
+        && is_state(alloc, validator, ", b1:0 | il")
 }
 
 fn holds(alloc: Global, resources: &ListedResources) -> Result<(), &'static str> {
@@ -93,11 +91,7 @@ fn holds(alloc: Global, resources: &ListedResources) -> Result<(), &'static str>
     let is_told = is_told(alloc, &validator);
     let answer = steps_hold(alloc, &mut validator);
     drop(validator);
-    if is_told == Some(true) {
-        answer
-    } else {
-        Err("the start")
-    }
+    if is_told { answer } else { Err("the start") }
 }
 
 #[test]
@@ -107,7 +101,7 @@ fn getters_tell_of_each_step(rt: HostRuntime) -> Result<(), Fail> {
         assert!(rt; false);
         return Ok(());
     };
-    let answer = holds(alloc, &resources);
+    let result = holds(alloc, &resources);
     drop(resources);
-    Ok(answer?)
+    Ok(result?)
 }

@@ -1,9 +1,9 @@
 //! References in words.
 
+use wasmparser_type_words::names::named;
 use wasmparser_type_words::types::index_of;
 use wasmparser_types::heap_type::{AbstractHeapType, HeapType};
 use wasmparser_types::ref_type::RefType;
-use wasmparser_types_tests::ref_type::named;
 
 // The abstract heap types by their names.
 const ABSTRACT: &[(&str, AbstractHeapType)] = &[

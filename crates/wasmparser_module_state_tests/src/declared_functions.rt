@@ -1,6 +1,5 @@
 //! The functions that sections declare, and the data count that one states.
 
-use crate::judged::{JudgedState, answer, on_new_state};
 use std::alloc::Global;
 use std::test::Fail;
 use wasm_core_base::features::WasmFeatures;
@@ -8,6 +7,7 @@ use wasm_test_rows::fields::three_fields;
 use wasm_test_rows::rows::check_rows;
 use wasm_test_rows::values::number_of;
 use wasmparser_module_state::module_state::ModuleState;
+use wasmparser_module_state_rows::judged::{JudgedState, are_accepted, on_new_state};
 
 // Sections after four functions, which are accepted; of each function whether it is declared; and the data count, if one is stated.
 const DECLARED: &str = "
@@ -44,15 +44,6 @@ const DECLARED: &str = "
 const COUNT_OF_DECLARED: usize = 18;
 
 const FUNCTIONS: &str = "types 01 60 00 00; functions 04 00 00 00 00";
-
-fn are_accepted(alloc: Global, state: &mut JudgedState, sections: &str) -> Option<bool> {
-    for section in sections.split_terminator(';') {
-        if answer(alloc, state, section)?.is_err() {
-            return Some(false);
-        }
-    }
-    Some(true)
-}
 
 fn are_declared(state: &ModuleState, flags: &str) -> bool {
     for (place, flag) in flags.bytes().enumerate() {

@@ -5,7 +5,6 @@
 mod declared_functions;
 #[cfg(test)]
 mod import_sections;
-pub mod judged;
 #[cfg(test)]
 mod resources;
 #[cfg(test)]

@@ -1,6 +1,5 @@
 //! What a state tells to bodies, and a copy of it.
 
-use crate::judged::{JudgedState, answer, on_new_state};
 use std::alloc::Global;
 use std::test::Fail;
 use wasm_core_base::features::WasmFeatures;
@@ -8,6 +7,7 @@ use wasm_test_rows::fields::{three_fields, word_and_rest};
 use wasm_test_rows::rows::check_rows;
 use wasm_test_rows::values::number_of;
 use wasmparser_module_state::module_state::ModuleState;
+use wasmparser_module_state_rows::judged::{JudgedState, are_accepted, on_new_state};
 use wasmparser_resources::module_resources::WasmModuleResources;
 use wasmparser_types::index::{CoreTypeId, PackedIndex};
 use wasmparser_types::ref_type::RefType;
@@ -115,15 +115,6 @@ fn told<R: WasmModuleResources>(known: &R, question: &str) -> Option<u64> {
         "below" => is_below(known, rest),
         _ => told_at(known, word, index_of(rest)),
     }
-}
-
-fn are_accepted(alloc: Global, state: &mut JudgedState, sections: &str) -> Option<bool> {
-    for section in sections.split_terminator(';') {
-        if answer(alloc, state, section)?.is_err() {
-            return Some(false);
-        }
-    }
-    Some(true)
 }
 
 // A question, and what it is answered.

@@ -1,12 +1,12 @@
 //! Sections that are judged item by item, one after the other.
 
-use crate::judged::{JudgedState, OFFSET, answer};
 use std::alloc::Global;
 use std::test::Fail;
 use wasm_core_base::features::{Flags, WasmFeatures};
 use wasm_test_rows::fields::three_fields;
 use wasm_test_rows::rows::check_rows;
 use wasmparser_error::error::{Error, ErrorKind};
+use wasmparser_module_state_rows::judged::{JudgedState, OFFSET, answer, on_new_state};
 
 // Features that are switched beside the default ones; sections; and what the last of them is answered: `yes`, the kind of the refusal, or the name of
 // the limit that is passed. A refusal's place isn't before the section. All sections before the last are accepted.
@@ -223,7 +223,8 @@ fn words_of(answer: Result<(), Error>) -> &'static str {
 }
 
 // Whether the last section is answered so, and those before it are accepted.
-fn are_judged(alloc: Global, state: &mut JudgedState, sections: &str, last: &str) -> Option<bool> {
+fn are_judged(alloc: Global, state: &mut JudgedState, row: &str) -> Option<bool> {
+    let (_, sections, last) = three_fields(row)?;
     let mut answered = Ok(());
     for section in sections.split_terminator(';') {
         if answered.is_err() {
@@ -236,9 +237,8 @@ fn are_judged(alloc: Global, state: &mut JudgedState, sections: &str, last: &str
 
 /// Whether a row holds.
 pub fn holds(alloc: Global, row: &str) -> Option<bool> {
-    let (features, sections, last) = three_fields(row)?;
-    let mut state = JudgedState::new(alloc, features_of(features)?);
-    are_judged(alloc, &mut state, sections, last)
+    let (features, _, _) = three_fields(row)?;
+    on_new_state(alloc, features_of(features)?, row, are_judged)
 }
 
 #[test]

@@ -1,6 +1,6 @@
 //! Groups of type sections: which are accepted, which ids their types get, and why others are refused.
 
-use crate::checked_section::CheckedSection;
+use crate::limits::counted_group;
 use std::alloc::Global;
 use std::test::Fail;
 use wasm_core_base::features::{Flags, WasmFeatures};
@@ -8,15 +8,16 @@ use wasm_test_rows::fields::{two_fields, word_and_rest};
 use wasm_test_rows::rows::check_rows;
 use wasm_test_rows::values::number_of;
 use wasmparser_error::error::{Error, ErrorKind};
-use wasmparser_type_words::types::{id_of, sub_type_of, sub_types_of};
-use wasmparser_types::index::CoreTypeId;
+use wasmparser_rec_group_rows::checked_section::{CheckedSection, on_new_section};
+use wasmparser_type_words::types::{are_ids, group_of};
 use wasmparser_types::sub_type::RecGroup;
 
 // The place in the bytes that each call is handed.
 const OFFSET: u64 = 7;
 
 // Features, and groups that are added one after the other under these, each with the ids that its types get or the kind of its refusal. The default features
-// with others and without some. `module` begins another module, under the features that it names, and `types` tells how many types the list has.
+// with others and without some. `module` begins another module, under the features that it names, and `types` tells how many types the list has. A number begins types
+// that are counted (`counted_group`), which are added so many times, and `yes` tells that they are accepted.
 const SECTIONS: &str = "
     // equal groups have the same ids, and a member is no lone type
     | single func -> = #0; single func i32 -> = #1; single func -> = #0; types = 2
@@ -91,6 +92,10 @@ const SECTIONS: &str = "
     | group open : struct 0?, 0 : struct 2?, func -> = invalid; types = 3
     | group open : struct 0?, 0 : struct 2?, 0 : func -> = invalid; types = 0
     stack_switching | single open : func -> = #0; single 0 : func -> = #1; single open : cont 0 = #2; single 2 : cont 1 = #3; single open : cont 1 = #4; single 4 : cont 0 = invalid
+
+    // limits on depth, parameters, results and fields
+    | 64 below = yes; 1 below = Depth
+    | 1 func 1000 1000 = yes; 1 struct 10000 = yes; 1 func 1001 0 = Params; 1 func 0 1001 = Results; 1 struct 10001 = Fields
 ";
 
 // The default features, with this one or without it.
@@ -122,28 +127,13 @@ fn features_of(field: &str) -> Option<WasmFeatures> {
     Some(features)
 }
 
-fn group_of(alloc: Global, word: &str, types: &str) -> Option<RecGroup> {
-    match word {
-        "single" => Some(RecGroup::implicit(sub_type_of(alloc, types)?)),
-        "group" => Some(RecGroup::explicit(sub_types_of(alloc, types)?)),
-        _ => None,
-    }
-}
-
-// Whether these are the ids, in words.
-fn are_ids(ids: &[CoreTypeId], expected: &str) -> bool {
-    let mut words = expected.split_whitespace();
-    for id in ids {
-        match words.next() {
-            Some(word) if id_of(word) == Some(*id) => {}
-            _ => return false,
-        }
-    }
-    words.next().is_none()
-}
-
 fn is_refusal(error: Error, expected: &str) -> bool {
-    error.offset == OFFSET && error.kind != ErrorKind::Memory && error.kind.name() == expected
+    let is_kind = match error.kind {
+        ErrorKind::Memory => false,
+        ErrorKind::Limit(limit) => limit.name() == expected,
+        kind => kind.name() == expected,
+    };
+    is_kind && error.offset == OFFSET
 }
 
 // Whether adding a group answers so.
@@ -152,11 +142,28 @@ fn adds(section: &mut CheckedSection, group: RecGroup, expected: &str) -> bool {
     match section.add(group, OFFSET) {
         None => expected == "beyond",
         Some(Ok(())) => match section.type_ids().get(before..) {
-            Some(added) => are_ids(added, expected),
+            Some(added) => expected == "yes" || are_ids(added, expected),
             None => false,
         },
         Some(Err(error)) => section.type_ids().len() == before && is_refusal(error, expected),
     }
+}
+
+// Whether adding types that are counted answers so, each time.
+fn add_counted(
+    alloc: Global,
+    section: &mut CheckedSection,
+    times: &str,
+    words: &str,
+    expected: &str,
+) -> Option<bool> {
+    for _ in 0..times.parse::<u32>().ok()? {
+        let group = counted_group(alloc, section.type_ids().len(), words)?;
+        if !adds(section, group, expected) {
+            return Some(false);
+        }
+    }
+    Some(true)
 }
 
 fn step_holds(alloc: Global, section: &mut CheckedSection, step: &str) -> Option<bool> {
@@ -168,22 +175,26 @@ fn step_holds(alloc: Global, section: &mut CheckedSection, step: &str) -> Option
             section.next_module(alloc, features_of(types)?);
             Some(true)
         }
-        _ => Some(adds(section, group_of(alloc, word, types)?, expected.trim())),
+        "single" | "group" => Some(adds(section, group_of(alloc, word, types)?, expected.trim())),
+        times => add_counted(alloc, section, times, types, expected.trim()),
     }
 }
 
-fn section_holds(alloc: Global, row: &str) -> Option<bool> {
-    let (features, steps) = two_fields(row)?;
-    let mut section = CheckedSection::new(alloc, features_of(features)?);
+fn steps_hold(alloc: Global, section: &mut CheckedSection, steps: &str) -> Option<bool> {
     for step in steps.split_terminator(';') {
-        if !step_holds(alloc, &mut section, step)? {
+        if !step_holds(alloc, section, step)? {
             return Some(false);
         }
     }
     Some(true)
 }
 
+fn section_holds(alloc: Global, row: &str) -> Option<bool> {
+    let (features, steps) = two_fields(row)?;
+    on_new_section(alloc, features_of(features)?, steps, steps_hold)
+}
+
 #[test]
 fn groups_are_judged(rt: HostRuntime) -> Result<(), Fail> {
-    Ok(check_rows(rt.alloc(), SECTIONS, 57, section_holds)?)
+    Ok(check_rows(rt.alloc(), SECTIONS, 59, section_holds)?)
 }

@@ -1,104 +1,64 @@
-//! Limits on the types of a section.
+//! Types that are counted, as those that reach the limits on the types of a section and that pass them.
 
-use crate::checked_section::CheckedSection;
-use std::alloc::{AllocError, Global};
-use wasm_core_base::features::WasmFeatures;
-use wasm_core_base::limits::Limit;
-use wasmparser_error::error::{Error, ErrorKind};
+use std::alloc::Global;
+use wasm_test_rows::fields::word_and_rest;
 use wasmparser_types::composite_type::{CompositeType, FuncType, StructType};
 use wasmparser_types::index::PackedIndex;
 use wasmparser_types::sub_type::{RecGroup, SubType};
 use wasmparser_types::val_type::{FieldType, StorageType, ValType};
 
-fn section(alloc: Global) -> CheckedSection {
-    CheckedSection::new(alloc, WasmFeatures::default())
+// The index of the last type of so many, if there is one.
+fn last_of(count: usize) -> Option<PackedIndex> {
+    PackedIndex::from_module_index(u32::try_from(count.checked_sub(1)?).ok()?)
 }
 
-// An open empty structure below the type of this index, if there is one.
-fn below(alloc: Global, supertype: Option<u32>) -> Result<Option<RecGroup>, AllocError> {
+// An open structure without fields below the last type of so many.
+fn below(alloc: Global, count: usize) -> Option<RecGroup> {
     let mut supertype_idxs = Vec::new(alloc);
-    if let Some(index) = supertype {
-        match PackedIndex::from_module_index(index) {
-            Some(index) => supertype_idxs.push(index)?,
-            None => return Ok(None),
-        }
+    if let Some(index) = last_of(count) {
+        supertype_idxs.push(index).ok()?;
     }
-    let fields = Vec::new(alloc);
-    Ok(Some(RecGroup::implicit(SubType {
+    Some(RecGroup::implicit(SubType {
         is_final: false,
         supertype_idxs,
-        composite_type: CompositeType::Struct(StructType { fields }),
-    })))
+        composite_type: CompositeType::Struct(StructType {
+            fields: Vec::new(alloc),
+        }),
+    }))
 }
 
-// Whether a type is accepted, or refused for this limit.
-fn adds(section: &mut CheckedSection, group: RecGroup, limit: Option<Limit>) -> bool {
-    match (section.add(group, 3), limit) {
-        (Some(Ok(())), None) => true,
-        (Some(Err(Error { offset, kind })), Some(limit)) => {
-            offset == 3 && kind == ErrorKind::Limit(limit)
-        }
-        _ => false,
-    }
+fn numbers(alloc: Global, count: usize) -> Option<Vec<ValType>> {
+    vec![in alloc; ValType::I32; count].ok()
 }
 
-// Whether a chain of so many types is accepted, and the next one refused for its depth.
-fn chain_holds(alloc: Global, count: u32) -> Result<bool, AllocError> {
-    let mut section = section(alloc);
-    for index in 0..count {
-        let Some(group) = below(alloc, index.checked_sub(1))? else {
-            return Ok(false);
-        };
-        if !adds(&mut section, group, None) {
-            return Ok(false);
-        }
-    }
-    match below(alloc, count.checked_sub(1))? {
-        Some(group) => Ok(adds(&mut section, group, Some(Limit::Depth))),
-        None => Ok(false),
-    }
+fn func(alloc: Global, counts: &str) -> Option<RecGroup> {
+    let (params, results) = word_and_rest(counts);
+    let params = numbers(alloc, params.parse().ok()?)?;
+    let results = numbers(alloc, results.parse().ok()?)?;
+    Some(RecGroup::implicit(SubType::func(alloc, FuncType::new(params, results))))
 }
 
-#[test]
-fn depth_has_a_limit(rt: HostRuntime) {
-    assert!(rt; chain_holds(rt.alloc(), 64) == Ok(true));
-}
-
-fn numbers(alloc: Global, count: usize) -> Result<Vec<ValType>, AllocError> {
-    vec![in alloc; ValType::I32; count]
-}
-
-fn func(alloc: Global, params: usize, results: usize) -> Result<RecGroup, AllocError> {
-    let params = numbers(alloc, params)?;
-    let it = FuncType::new(params, numbers(alloc, results)?);
-    Ok(RecGroup::implicit(SubType::func(alloc, it)))
-}
-
-fn structure(alloc: Global, count: usize) -> Result<RecGroup, AllocError> {
+fn structure(alloc: Global, count: usize) -> Option<RecGroup> {
     let field = FieldType {
         element_type: StorageType::I8,
         mutable: false,
     };
-    let fields = vec![in alloc; field; count]?;
-    Ok(RecGroup::implicit(SubType {
+    let fields = vec![in alloc; field; count].ok()?;
+    Some(RecGroup::implicit(SubType {
         is_final: true,
         supertype_idxs: Vec::new(alloc),
         composite_type: CompositeType::Struct(StructType { fields }),
     }))
 }
 
-// Whether counts up to their limits are accepted, and those one past them refused.
-fn counts_hold(alloc: Global) -> Result<bool, AllocError> {
-    let mut section = section(alloc);
-    let most = adds(&mut section, func(alloc, 1_000, 1_000)?, None)
-        && adds(&mut section, structure(alloc, 10_000)?, None);
-    let past = adds(&mut section, func(alloc, 1_001, 0)?, Some(Limit::Params))
-        && adds(&mut section, func(alloc, 0, 1_001)?, Some(Limit::Results))
-        && adds(&mut section, structure(alloc, 10_001)?, Some(Limit::Fields));
-    Ok(most && past)
-}
-
-#[test]
-fn counts_have_limits(rt: HostRuntime) {
-    assert!(rt; counts_hold(rt.alloc()) == Ok(true));
+/// A group of one type that is counted, in a section of so many types: `below` is an open structure without fields below the last one, `func` a function type of so
+/// many parameters and results, and `struct` a structure of so many fields.
+pub fn counted_group(alloc: Global, count: usize, words: &str) -> Option<RecGroup> {
+    let (kind, counts) = word_and_rest(words);
+    match kind {
+        "below" => below(alloc, count),
+        "func" => func(alloc, counts),
+        "struct" => structure(alloc, counts.parse().ok()?),
+        _ => None,
+    }
 }

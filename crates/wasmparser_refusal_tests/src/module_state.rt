@@ -7,7 +7,7 @@ use wasm_test_rows::fields::three_fields;
 use wasm_test_rows::rows::check_rows;
 use wasmparser_error::error::{Error, ErrorKind};
 use wasmparser_module_state::module_state::ModuleState;
-use wasmparser_module_state_tests::judged::{JudgedState, answer, on_new_state};
+use wasmparser_module_state_rows::judged::{JudgedState, answer, on_new_state};
 
 // Sections, all of which are accepted.
 const SECTIONS: &str = "

@@ -12,21 +12,25 @@ const GROUP: [u8; 27] = [
     0x00, 0x5f, 0x02, 0x78, 0x00, 0x64, 0x03, 0x01, 0x5e, 0x7f, 0x01,
 ];
 
-fn read(alloc: Global) -> Result<RecGroup, Error> {
-    RecGroup::from_reader(alloc, &mut BinaryReader::new(&GROUP, 0))
+// Whether the group that reads has all of its types.
+fn reads_all(alloc: Global) -> Result<bool, Error> {
+    match RecGroup::from_reader(alloc, &mut BinaryReader::new(&GROUP, 0)) {
+        Ok(group) => Ok(group.types().len() == 4),
+        Err(error) => Err(error),
+    }
 }
 
 fn reads(alloc: Global) -> bool {
-    match read(alloc) {
-        Ok(group) => group.types().len() == 4,
+    match reads_all(alloc) {
+        Ok(are_all) => are_all,
         Err(_) => false,
     }
 }
 
 // Whether it reads, or memory ran out, which has no place.
 fn reads_or_runs_out(alloc: Global) -> bool {
-    match read(alloc) {
-        Ok(group) => group.types().len() == 4,
+    match reads_all(alloc) {
+        Ok(are_all) => are_all,
         Err(error) => error.kind == ErrorKind::Memory && error.offset == 0,
     }
 }

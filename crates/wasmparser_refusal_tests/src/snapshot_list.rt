@@ -13,14 +13,19 @@ fn counts_to(list: &SnapshotList<usize>, len: usize) -> bool {
     list.len() == len && list.get(len).is_none()
 }
 
+// Whether a copy has so many numbers; none where it is refused.
+fn is_copied(list: &mut SnapshotList<usize>, len: usize) -> Option<bool> {
+    match list.commit() {
+        Ok(copy) => Some(counts_to(&copy, len)),
+        Err(_) => None,
+    }
+}
+
 // Whether a copy of so many numbers is taken, at the second call where the first is refused.
 fn copies(list: &mut SnapshotList<usize>, len: usize) -> bool {
-    if let Ok(copy) = list.commit() {
-        return counts_to(&copy, len);
-    }
-    match list.commit() {
-        Ok(copy) => counts_to(list, len) && counts_to(&copy, len),
-        Err(_) => false,
+    match is_copied(list, len) {
+        Some(is_right) => is_right,
+        None => is_copied(list, len) == Some(true) && counts_to(list, len),
     }
 }
 
@@ -34,14 +39,18 @@ fn takes(list: &mut SnapshotList<usize>, number: usize) -> bool {
 }
 
 // Whether all numbers below this one do.
-fn takes_all(alloc: Global, len: usize) -> bool {
-    let mut list = SnapshotList::new(alloc);
+fn takes_each(list: &mut SnapshotList<usize>, len: usize) -> bool {
     for number in 0..len {
-        if !takes(&mut list, number) {
+        if !takes(list, number) {
             return false;
         }
     }
-    counts_to(&list, len)
+    counts_to(list, len)
+}
+
+fn takes_all(alloc: Global, len: usize) -> bool {
+    let mut list = SnapshotList::new(alloc);
+    takes_each(&mut list, len)
 }
 
 #[test]

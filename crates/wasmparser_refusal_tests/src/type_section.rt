@@ -6,9 +6,8 @@ use wasm_core_base::features::WasmFeatures;
 use wasm_test_rows::fields::two_fields;
 use wasm_test_rows::rows::check_rows;
 use wasmparser_error::error::ErrorKind;
-use wasmparser_rec_group_tests::checked_section::CheckedSection;
-use wasmparser_type_words::types::{id_of, sub_types_of};
-use wasmparser_types::index::CoreTypeId;
+use wasmparser_rec_group_rows::checked_section::{CheckedSection, on_new_section};
+use wasmparser_type_words::types::{are_ids, sub_types_of};
 use wasmparser_types::sub_type::RecGroup;
 
 // Groups that are added one after the other, and the ids that their types get.
@@ -38,27 +37,18 @@ fn takes(alloc: Global, section: &mut CheckedSection, types: &str) -> Option<boo
     }
 }
 
-// Whether these are the ids, in words.
-fn are_ids(ids: &[CoreTypeId], expected: &str) -> bool {
-    let mut words = expected.split_whitespace();
-    for id in ids {
-        match words.next() {
-            Some(word) if id_of(word) == Some(*id) => {}
-            _ => return false,
-        }
-    }
-    words.next().is_none()
-}
-
-fn holds(alloc: Global, row: &str) -> Option<bool> {
+fn takes_all(alloc: Global, section: &mut CheckedSection, row: &str) -> Option<bool> {
     let (groups, ids) = two_fields(row)?;
-    let mut section = CheckedSection::new(alloc, WasmFeatures::default());
     for types in groups.split_terminator(';') {
-        if !takes(alloc, &mut section, types)? {
+        if !takes(alloc, section, types)? {
             return Some(false);
         }
     }
     Some(are_ids(section.type_ids(), ids))
+}
+
+fn holds(alloc: Global, row: &str) -> Option<bool> {
+    on_new_section(alloc, WasmFeatures::default(), row, takes_all)
 }
 
 #[test]

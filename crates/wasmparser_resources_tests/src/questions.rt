@@ -1,48 +1,111 @@
 //! What the example answers.
 
-use crate::listed_resources::ListedResources;
 use std::alloc::Global;
 use std::rc::Rc;
 use std::test::Fail;
 use wasm_core_base::features::{Flags, WasmFeatures};
-use wasm_test_rows::fields::{three_fields, two_fields};
+use wasm_test_rows::fields::{three_fields, two_fields, word_and_rest};
 use wasm_test_rows::rows::check_rows;
 use wasm_test_rows::values::bool_of;
 use wasmparser_error::error::{Error, ErrorKind};
 use wasmparser_readers::val_type::val_is_of_module;
 use wasmparser_resources::module_resources::WasmModuleResources;
-use wasmparser_type_words::types::{func_type_of, id_of, sub_type_of};
+use wasmparser_resources_rows::listed_resources::ListedResources;
+use wasmparser_type_words::types::{id_of, sub_type_of, val_type_of};
 use wasmparser_types::index::CoreTypeId;
 use wasmparser_types::val_type::ValType;
 
 // The place in the bytes that calls are handed.
 const OFFSET: u64 = 7;
 
-// Kinds of items, indexes, and the types of the items, `-` where there is none. Indexes of 64 bits, and what can be set, have a `mut:`.
-const ITEMS: &str = "
-    table | 0 | funcref
-    table | 1 | mut:externref
-    table | 2 | anyref
-    table | 3 | #1?
-    table | 4 | -
-    table | 4294967295 | -
-    memory | 0 | i32
-    memory | 1 | mut:i32
-    memory | 2 | -
-    global | 0 | i32
-    global | 1 | mut:i64
-    global | 2 | mut:funcref
-    global | 3 | #8
-    global | 4 | -
-    element | 0 | funcref
-    element | 1 | externref
-    element | 2 | -
-";
+// Questions and their answers, by the first word of a row.
+const QUESTIONS: &str = "
+    // kinds of items, indexes, and the types of the items, `-` where there is none. Indexes of 64 bits, and what can be set, have a `mut:`.
+    item | table | 0 | funcref
+    item | table | 1 | mut:externref
+    item | table | 2 | anyref
+    item | table | 3 | #1?
+    item | table | 4 | -
+    item | table | 4294967295 | -
+    item | memory | 0 | i32
+    item | memory | 1 | mut:i32
+    item | memory | 2 | -
+    item | global | 0 | i32
+    item | global | 1 | mut:i64
+    item | global | 2 | mut:funcref
+    item | global | 3 | #8
+    item | global | 4 | -
+    item | element | 0 | funcref
+    item | element | 1 | externref
+    item | element | 2 | -
 
-fn value_type_of(alloc: Global, word: &str) -> Option<ValType> {
-    let types = func_type_of(alloc, format!(in alloc; "{word} ->").ok()?.as_str())?;
-    types.params().get(0).copied()
-}
+    // type indexes, and their types.
+    type | 0 | func ->
+    type | 1 | func i32 i64 -> i32
+    type | 2 | func -> i32 i64
+    type | 3 | struct i32 mut:i8 funcref
+    type | 4 | array mut:i64
+    type | 5 | struct func
+    type | 8 | func ->
+    type | 9 | open : struct i32
+    type | 10 | #8 : struct i32 i64
+    type | 11 | func #8? -> #8
+    type | 12 | -
+    type | 4294967295 | -
+
+    // functions: their indexes; type indexes and ids of types, or `-`; and whether each is declared and of an exact type.
+    function | 0 | 0 #1 | yes no
+    function | 1 | 1 #2 | no yes
+    function | 2 | 2 #4 | yes yes
+    function | 3 | 7 #7 | no yes
+    function | 4 | 11 #10 | yes yes
+    function | 5 | - | no no
+    function | 4294967295 | - | no no
+
+    // value types, what they become, `-` where they stand for nothing, and what is above them.
+    written | i32 | i32 | i32
+    written | v128 | v128 | v128
+    written | funcref | funcref | funcref
+    written | func | func | funcref
+    written | eqref | eqref | anyref
+    written | i31ref | i31ref | anyref
+    written | externref | externref | externref
+    written | 0? | #1? | funcref
+    written | 8 | #1 | funcref
+    written | 3? | #3? | anyref
+    written | 4 | #0 | anyref
+    written | 11 | #10 | funcref
+    written | 12? | - | -
+    written | 1000 | - | -
+
+    // types, and whether the first is below the second.
+    below | i32 i32 | yes
+    below | i32 i64 | no
+    below | f32 f64 | no
+    below | v128 v128 | yes
+    below | i32 funcref | no
+    below | funcref i32 | no
+    below | func funcref | yes
+    below | funcref func | no
+    below | funcref externref | no
+    below | i31ref eqref | yes
+    below | eqref anyref | yes
+    below | anyref eqref | no
+    below | #1 funcref | yes
+    below | #1? func | no
+    below | #1 #1? | yes
+    below | #1? #1 | no
+    below | #1 #2 | no
+    below | #9 #8 | yes
+    below | #8 #9 | no
+    below | #9? #8 | no
+    below | #3? eqref | yes
+    below | #0 anyref | yes
+    below | #0 i31ref | no
+    below | #5 funcref | no
+    below | func #1 | no
+    below | #77 anyref | yes
+";
 
 // An item's type, and what `mut:` says of it.
 fn item_at<R: WasmModuleResources>(resources: &R, kind: &str, at: u32) -> Option<(ValType, bool)> {
@@ -66,32 +129,16 @@ fn item_at<R: WasmModuleResources>(resources: &R, kind: &str, at: u32) -> Option
     }
 }
 
-fn item_holds<R: WasmModuleResources>(alloc: Global, resources: &R, row: &str) -> Option<bool> {
+fn item_holds<R: WasmModuleResources>(resources: &R, row: &str) -> Option<bool> {
     let (kind, at, expected) = three_fields(row)?;
     match item_at(resources, kind, at.parse().ok()?) {
         Some((ty, flag)) => {
             let word = expected.strip_prefix("mut:").unwrap_or(expected);
-            Some(value_type_of(alloc, word) == Some(ty) && flag == (word.len() < expected.len()))
+            Some(val_type_of(word) == Some(ty) && flag == (word.len() < expected.len()))
         }
         None => Some(expected == "-"),
     }
 }
-
-// Type indexes, and their types.
-const TYPES: &str = "
-    0 | func ->
-    1 | func i32 i64 -> i32
-    2 | func -> i32 i64
-    3 | struct i32 mut:i8 funcref
-    4 | array mut:i64
-    5 | struct func
-    8 | func ->
-    9 | open : struct i32
-    10 | #8 : struct i32 i64
-    11 | func #8? -> #8
-    12 | -
-    4294967295 | -
-";
 
 fn type_holds<R: WasmModuleResources>(alloc: Global, resources: &R, row: &str) -> Option<bool> {
     let (index, expected) = two_fields(row)?;
@@ -101,51 +148,18 @@ fn type_holds<R: WasmModuleResources>(alloc: Global, resources: &R, row: &str) -
     }
 }
 
-// Functions: their indexes; type indexes and ids of types, or `-`; and whether each is declared and of an exact type.
-const FUNCTIONS: &str = "
-    0 | 0 #1 | yes no
-    1 | 1 #2 | no yes
-    2 | 2 #4 | yes yes
-    3 | 7 #7 | no yes
-    4 | 11 #10 | yes yes
-    5 | - | no no
-    4294967295 | - | no no
-";
-
 fn function_holds<R: WasmModuleResources>(resources: &R, row: &str) -> Option<bool> {
-    let (index, type_words, answers) = three_fields(row)?;
+    let (index, ids, answers) = three_fields(row)?;
     let function = index.parse().ok()?;
-    let (is_declared, is_exact) = answers.split_once(' ')?;
-    let are_answered = resources.is_function_referenced(function) == bool_of(is_declared)?
-        && resources.has_function_exact_type(function) == bool_of(is_exact)?;
-    let ids = match type_words.split_once(' ') {
-        Some((index, id)) => (index.parse().ok(), id_of(id)),
-        None => (None, None),
-    };
-    let found = (
-        resources.type_index_of_function(function),
-        resources.type_id_of_function(function),
-    );
-    Some(are_answered && found == ids)
+    let (type_index, id) = word_and_rest(ids);
+    let (is_declared, is_exact) = word_and_rest(answers);
+    Some(
+        Some(resources.is_function_referenced(function)) == bool_of(is_declared)
+            && Some(resources.has_function_exact_type(function)) == bool_of(is_exact)
+            && resources.type_index_of_function(function) == type_index.parse().ok()
+            && resources.type_id_of_function(function) == id_of(id),
+    )
 }
-
-// Value types, what they become, `-` where they stand for nothing, and what is above them.
-const WRITTEN: &str = "
-    i32 | i32 | i32
-    v128 | v128 | v128
-    funcref | funcref | funcref
-    func | func | funcref
-    eqref | eqref | anyref
-    i31ref | i31ref | anyref
-    externref | externref | externref
-    0? | #1? | funcref
-    8 | #1 | funcref
-    3? | #3? | anyref
-    4 | #0 | anyref
-    11 | #10 | funcref
-    12? | - | -
-    1000 | - | -
-";
 
 fn top_of<R: WasmModuleResources>(resources: &R, ty: &ValType, top: &ValType) -> bool {
     match (ty, top) {
@@ -173,11 +187,11 @@ fn becomes<R: WasmModuleResources>(
     }
 }
 
-fn written_holds<R: WasmModuleResources>(alloc: Global, resources: &R, row: &str) -> Option<bool> {
+fn written_holds<R: WasmModuleResources>(resources: &R, row: &str) -> Option<bool> {
     let (word, meant, top) = three_fields(row)?;
-    let ty = value_type_of(alloc, word)?;
-    let meant = value_type_of(alloc, meant);
-    let is_below_top = match (&meant, value_type_of(alloc, top)) {
+    let ty = val_type_of(word)?;
+    let meant = val_type_of(meant);
+    let is_below_top = match (&meant, val_type_of(top)) {
         (Some(it), Some(top)) => top_of(resources, it, &top) && resources.is_subtype(*it, top),
         (None, None) => true,
         _ => false,
@@ -189,41 +203,11 @@ fn written_holds<R: WasmModuleResources>(alloc: Global, resources: &R, row: &str
     Some(is_below_top && becomes(resources, &ty, &features, meant) && is_refused == is_of_gc)
 }
 
-// Types, and whether the first is below the second.
-const BELOW: &str = "
-    i32 i32 | yes
-    i32 i64 | no
-    f32 f64 | no
-    v128 v128 | yes
-    i32 funcref | no
-    funcref i32 | no
-    func funcref | yes
-    funcref func | no
-    funcref externref | no
-    i31ref eqref | yes
-    eqref anyref | yes
-    anyref eqref | no
-    #1 funcref | yes
-    #1? func | no
-    #1 #1? | yes
-    #1? #1 | no
-    #1 #2 | no
-    #9 #8 | yes
-    #8 #9 | no
-    #9? #8 | no
-    #3? eqref | yes
-    #0 anyref | yes
-    #0 i31ref | no
-    #5 funcref | no
-    func #1 | no
-    #77 anyref | yes
-";
-
-fn below_holds<R: WasmModuleResources>(alloc: Global, resources: &R, row: &str) -> Option<bool> {
+fn below_holds<R: WasmModuleResources>(resources: &R, row: &str) -> Option<bool> {
     let (types, expected) = two_fields(row)?;
-    let (a, b) = types.split_once(' ')?;
-    let is_below = resources.is_subtype(value_type_of(alloc, a)?, value_type_of(alloc, b)?);
-    Some(is_below == bool_of(expected)?)
+    let (a, b) = word_and_rest(types);
+    let is_below = resources.is_subtype(val_type_of(a)?, val_type_of(b)?);
+    Some(Some(is_below) == bool_of(expected))
 }
 
 // The parameters of tags, and what is counted.
@@ -239,31 +223,24 @@ fn counts_hold<R: WasmModuleResources>(resources: &R) -> bool {
     are_tags && resources.element_count() == 2 && resources.data_count() == Some(2)
 }
 
+fn holds<R: WasmModuleResources>(alloc: Global, resources: &R, row: &str) -> Option<bool> {
+    let (kind, fields) = row.split_once('|')?;
+    match kind.trim() {
+        "item" => item_holds(resources, fields),
+        "type" => type_holds(alloc, resources, fields),
+        "function" => function_holds(resources, fields),
+        "written" => written_holds(resources, fields),
+        "below" => below_holds(resources, fields),
+        _ => None,
+    }
+}
+
 fn rows_hold<R: WasmModuleResources>(alloc: Global, resources: &R) -> Result<(), &'static str> {
     check_rows(
         alloc,
-        ITEMS,
-        17,
-        |alloc, row| item_holds(alloc, resources, row),
-    )?;
-    check_rows(
-        alloc,
-        TYPES,
-        12,
-        |alloc, row| type_holds(alloc, resources, row),
-    )?;
-    check_rows(alloc, FUNCTIONS, 7, |_, row| function_holds(resources, row))?;
-    check_rows(
-        alloc,
-        WRITTEN,
-        14,
-        |alloc, row| written_holds(alloc, resources, row),
-    )?;
-    check_rows(
-        alloc,
-        BELOW,
-        26,
-        |alloc, row| below_holds(alloc, resources, row),
+        QUESTIONS,
+        76,
+        |alloc, row| holds(alloc, resources, row),
     )
 }
 
@@ -281,6 +258,25 @@ fn ids_hold(resources: &ListedResources) -> bool {
     are_told && other.is_some()
 }
 
+// Whether the first id stands for an array, where the example is shared.
+fn is_array(shared: &Rc<ListedResources>) -> bool {
+    let first = shared.sub_type_at_id(CoreTypeId::from_index(0));
+    first.composite_type.as_array().is_some()
+}
+
+// Whether the example answers by itself, by reference and where it is shared.
+fn all_hold(alloc: Global, shared: &Rc<ListedResources>) -> Result<(), &'static str> {
+    let resources: &ListedResources = shared;
+    rows_hold(alloc, resources)?;
+    rows_hold(alloc, &resources)?;
+    rows_hold(alloc, shared)?;
+    if counts_hold(&resources) && counts_hold(shared) && ids_hold(resources) && is_array(shared) {
+        Ok(())
+    } else {
+        Err("what is counted, or what ids stand for")
+    }
+}
+
 #[test]
 fn the_example_answers(rt: HostRuntime) -> Result<(), Fail> {
     let alloc = rt.alloc();
@@ -288,30 +284,8 @@ fn the_example_answers(rt: HostRuntime) -> Result<(), Fail> {
         assert!(rt; false);
         return Ok(());
     };
-    let result = rows_hold(alloc, &resources);
-    let again = rows_hold(alloc, &&resources);
-    let are_counted = counts_hold(&&resources) && ids_hold(&resources);
-    drop(resources);
-    assert!(rt; are_counted && again.is_ok());
-    Ok(result?)
-}
-
-#[test]
-fn the_example_answers_where_it_is_shared(rt: HostRuntime) -> Result<(), Fail> {
-    let alloc = rt.alloc();
-    let Some(resources) = ListedResources::example(alloc) else {
-        assert!(rt; false);
-        return Ok(());
-    };
     let shared = Rc::new(alloc, resources)?;
-    let result = rows_hold(alloc, &shared);
-    let is_some = shared
-        .sub_type_at_id(CoreTypeId::from_index(0))
-        .composite_type
-        .as_array()
-        .is_some();
-    let are_counted = counts_hold(&shared);
+    let result = all_hold(alloc, &shared);
     drop(shared);
-    assert!(rt; are_counted && is_some);
     Ok(result?)
 }

@@ -1,6 +1,6 @@
 //! Calls on stacks as letters, and what the stacks hold as text.
 
-use std::alloc::{AllocError, Global};
+use std::alloc::AllocError;
 use wasmparser_operators::immediates::BlockType;
 use wasmparser_stacks::frame::{Frame, FrameKind};
 use wasmparser_stacks::operand::Operand;
@@ -93,13 +93,12 @@ pub fn letter_of(operand: Option<Operand>) -> char {
     }
 }
 
-/// The known operands, the last one first.
-pub fn operands_of(alloc: Global, stacks: &Stacks) -> Result<String, AllocError> {
-    let mut text = String::new(alloc);
+// The known operands, the last one first.
+fn push_operands(text: &mut String, stacks: &Stacks) -> Result<(), AllocError> {
     for depth in 0..stacks.operand_count() {
         text.push(letter_of(stacks.operand_at(depth)))?;
     }
-    Ok(text)
+    Ok(())
 }
 
 fn kind_of(frame: &Frame) -> char {
@@ -116,28 +115,40 @@ fn digit_of(number: usize) -> char {
     char::from_digit(digit, 10).unwrap_or('-')
 }
 
-/// The open blocks, the innermost one first: kind, height, and whether the rest isn't reached.
-pub fn blocks_of(alloc: Global, stacks: &Stacks) -> Result<String, AllocError> {
-    let mut text = String::new(alloc);
-    for depth in 0..stacks.frame_count() {
-        if let Some(frame) = stacks.frame_at(depth) {
-            text.push(kind_of(frame))?;
-            text.push(digit_of(frame.height))?;
-            if frame.unreachable {
-                text.push('!')?;
-            }
-        }
+fn push_frame(text: &mut String, frame: &Frame) -> Result<(), AllocError> {
+    text.push(kind_of(frame))?;
+    text.push(digit_of(frame.height))?;
+    if frame.unreachable {
+        text.push('!')?;
     }
-    Ok(text)
+    Ok(())
 }
 
-/// Which of the locals that the letters assign are assigned.
-pub fn assigned_of(alloc: Global, stacks: &Stacks) -> Result<String, AllocError> {
-    let mut text = String::new(alloc);
+// The open blocks, the innermost one first: kind, height, and whether the rest isn't reached.
+fn push_blocks(text: &mut String, stacks: &Stacks) -> Result<(), AllocError> {
+    for depth in 0..stacks.frame_count() {
+        if let Some(frame) = stacks.frame_at(depth) {
+            push_frame(text, frame)?;
+        }
+    }
+    Ok(())
+}
+
+// Which of the locals that the letters assign are assigned.
+fn push_assigned(text: &mut String, stacks: &Stacks) -> Result<(), AllocError> {
     for (local, letter) in [(0, 'x'), (1, 'z'), (FAR, 'y'), (FAR - 1, '-')] {
         if stacks.is_assigned(local) {
             text.push(letter)?;
         }
     }
-    Ok(text)
+    Ok(())
+}
+
+/// Appends the operands, the open blocks and the assigned locals, each after a `|` but the first.
+pub fn push_state(text: &mut String, stacks: &Stacks) -> Result<(), AllocError> {
+    push_operands(text, stacks)?;
+    text.push('|')?;
+    push_blocks(text, stacks)?;
+    text.push('|')?;
+    push_assigned(text, stacks)
 }

@@ -94,19 +94,31 @@ fn finds_all(locals: &Locals, places: &str) -> Option<bool> {
     Some(true)
 }
 
-fn holds(alloc: Global, row: &str) -> Option<bool> {
-    let (params, runs, count, places) = four_fields(row)?;
+// Parameters are defined first, and so of locals that are none.
+fn define_parameters(alloc: Global, locals: &mut Locals, params: &str) -> Option<()> {
     let mut types = Vec::new(alloc);
     for letter in params.chars() {
         types.push(type_of(letter)).ok()?;
     }
-    let mut locals = Locals::new(alloc);
-    locals.define_parameters(&types).ok()?;
-    let is_past = define_all(&mut locals, runs)?;
+    locals.reset();
+    locals.define_parameters(&types).ok()
+}
+
+fn row_holds(alloc: Global, locals: &mut Locals, row: &str) -> Option<bool> {
+    let (params, runs, count, places) = four_fields(row)?;
+    define_parameters(alloc, locals, params)?;
+    let is_past = define_all(locals, runs)?;
     let is_counted = is_past || count.parse::<u32>().ok() == Some(locals.len());
-    let are_found = finds_all(&locals, places)?;
+    let are_found = finds_all(locals, places)?;
     locals.reset();
     Some(is_past == (count == "limit") && is_counted && are_found && locals.len() == 0)
+}
+
+fn holds(alloc: Global, row: &str) -> Option<bool> {
+    let mut locals = Locals::new(alloc);
+    let holds = row_holds(alloc, &mut locals, row);
+    drop(locals);
+    holds
 }
 
 #[test]

@@ -1,7 +1,6 @@
 //! Many operands, blocks and locals.
 
 use std::alloc::{AllocError, Global};
-use std::test::Fail;
 use wasmparser_operators::immediates::BlockType;
 use wasmparser_stacks::frame::FrameKind;
 use wasmparser_stacks::locals::Locals;
@@ -60,31 +59,39 @@ fn assign(stacks: &mut Stacks, count: u32) -> Result<bool, AllocError> {
     Ok(are_assigned && !stacks.is_assigned(0) && !stacks.is_assigned(last))
 }
 
-fn stacks_hold(alloc: Global) -> Result<bool, AllocError> {
-    let mut stacks = Stacks::new(alloc);
-    let mut types = Vec::new(alloc);
-    types.resize(1_000, ValType::I64)?;
+// All of these again and again, on one value.
+fn are_deep(stacks: &mut Stacks, types: &[ValType]) -> Result<bool, AllocError> {
     let mut are_right = true;
     for _ in 0..3 {
         are_right = are_right
-            && nest(&mut stacks, 200_000)?
-            && nest_within_capacity(&mut stacks, 200_000)
-            && call(&mut stacks, &types, 200)?
-            && assign(&mut stacks, 50_000)?;
+            && nest(stacks, 200_000)?
+            && nest_within_capacity(stacks, 200_000)
+            && call(stacks, types, 200)?
+            && assign(stacks, 50_000)?;
         stacks.reset();
     }
     Ok(are_right)
 }
 
+fn types_hold(stacks: &mut Stacks, alloc: Global) -> bool {
+    let mut types = Vec::new(alloc);
+    types.resize(1_000, ValType::I64).is_ok() && are_deep(stacks, &types) == Ok(true)
+}
+
+fn stacks_hold(alloc: Global) -> bool {
+    let mut stacks = Stacks::new(alloc);
+    let holds = types_hold(&mut stacks, alloc);
+    drop(stacks);
+    holds
+}
+
 #[test]
-fn stacks_are_deep(rt: HostRuntime) -> Result<(), Fail> {
-    assert!(rt; stacks_hold(rt.alloc())?);
-    Ok(())
+fn stacks_are_deep(rt: HostRuntime) {
+    assert!(rt; stacks_hold(rt.alloc()));
 }
 
 // The locals of as many bodies, each with one run of all locals that there may be, and with as many runs of one.
-fn locals_hold(alloc: Global, bodies: u32) -> bool {
-    let mut locals = Locals::new(alloc);
+fn are_many(locals: &mut Locals, bodies: u32) -> bool {
     let mut are_right = true;
     for _ in 0..bodies {
         locals.reset();
@@ -101,6 +108,13 @@ fn locals_hold(alloc: Global, bodies: u32) -> bool {
         are_right = are_right && locals.get(index).is_some();
     }
     are_right && locals.define(1, ValType::F64).is_err() && locals.len() == 50_000
+}
+
+fn locals_hold(alloc: Global, bodies: u32) -> bool {
+    let mut locals = Locals::new(alloc);
+    let holds = are_many(&mut locals, bodies);
+    drop(locals);
+    holds
 }
 
 #[test]

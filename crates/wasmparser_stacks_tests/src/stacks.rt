@@ -1,134 +1,139 @@
 //! What stacks hold after calls.
 
-use crate::calls::{assigned_of, blocks_of, call_all, letter_of, operands_of};
-use std::alloc::{AllocError, Global};
+use crate::calls::{call_all, letter_of, push_state};
+use std::alloc::Global;
 use std::test::Fail;
-use wasm_test_rows::fields::{four_fields, three_fields, two_fields};
+use wasm_test_rows::fields::{three_fields, word_and_rest};
 use wasm_test_rows::rows::check_rows;
 use wasmparser_stacks::stacks::Stacks;
 use wasmparser_types::val_type::ValType;
 
-// Calls; and afterwards the operands, the open blocks and the assigned locals.
+// What is asked, calls, and the answer: of `state` the operands, the open blocks and the assigned locals afterwards.
 const CALLS: &str = "
     // operands of one list
-    il | li | |
-    il? | ?li | |
-    ilr | rli | |
-    ilf | fli | |
-    ilp | i | |
-    p | | |
-    iI | | |
-    ifF | i | |
-    ilI | li | |
-    ifI | fi | |
-    ?I | ? | |
-    il2 | | |
-    i2 | | |
-    fil2 | f | |
-    ils | lli | |
-    s | ll | |
-    ilfS | l | |
-    iS | l | |
-    filt | rif | |
-    t | ri | |
+    state | il | li||
+    state | il? | ?li||
+    state | ilr | rli||
+    state | ilf | fli||
+    state | ilp | i||
+    state | p | ||
+    state | iI | ||
+    state | ifF | i||
+    state | ilI | li||
+    state | ifI | fi||
+    state | ?I | ?||
+    state | il2 | ||
+    state | i2 | ||
+    state | fil2 | f||
+    state | ils | lli||
+    state | s | ll||
+    state | ilfS | l||
+    state | iS | l||
+    state | filt | rif||
+    state | t | ri||
 
     // blocks
-    b | | b0 |
-    ib | i | b1 |
-    ibl2 | i | b1 |
-    ibp | i | b1 |
-    ibI | i | b1 |
-    iblflpt | rii | b1 |
-    io | i | o0 |
-    bo | i | o0b0 |
-    lilc | lil | c1 |
-    bic | li | c0b0 |
-    biibc | liii | c2b2b0 |
-    cl) | | |
-    fcl] | ii | |
-    ffcll] | ii | |
-    ibl) | i | |
-    bib) | i | b0 |
-    ) | | |
-    ] | | |
-    e | | |
-    E | | |
-    cife | | e0 |
-    fficfE | lf | e1 |
-    bicixE | l | e0b0 |
+    state | b | |b0|
+    state | ib | i|b1|
+    state | ibl2 | i|b1|
+    state | ibp | i|b1|
+    state | ibI | i|b1|
+    state | iblflpt | rii|b1|
+    state | io | i|o0|
+    state | bo | i|o0b0|
+    state | lilc | lil|c1|
+    state | bic | li|c0b0|
+    state | biibc | liii|c2b2b0|
+    state | cl) | ||
+    state | fcl] | ii||
+    state | ffcll] | ii||
+    state | ibl) | i||
+    state | bib) | i|b0|
+    state | ) | ||
+    state | ] | ||
+    state | e | ||
+    state | E | ||
+    state | cife | |e0|
+    state | fficfE | lf|e1|
+    state | bicixE | l|e0b0|
 
     // what is never reached
-    ibu | i | b1! |
-    ibllu | i | b1! |
-    ibup | i | b1! |
-    ibu2 | i | b1! |
-    ibuI | i | b1! |
-    ibus | lli | b1! |
-    ibut | rii | b1! |
-    buc | li | c0b0! |
-    bucu | | c0!b0! |
-    bucuE | l | e0b0! |
-    bucu] | ii | b0! |
-    u | | |
+    state | ibu | i|b1!|
+    state | ibllu | i|b1!|
+    state | ibup | i|b1!|
+    state | ibu2 | i|b1!|
+    state | ibuI | i|b1!|
+    state | ibus | lli|b1!|
+    state | ibut | rii|b1!|
+    state | buc | li|c0b0!|
+    state | bucu | |c0!b0!|
+    state | bucuE | l|e0b0!|
+    state | bucu] | ii|b0!|
+    state | u | ||
 
     // assigned locals
-    x | | | x
-    yx | | | xy
-    xx | | | x
-    bx | | b0 | x
-    bx) | | | 
-    xby) | | | x
-    xbybx)] | ii | | x
-    xbybx) | | b0 | xy
-    xcyE | l | e0 | x
-    yby) | | | y
-    bxubx)y | | b0! | xy
-    iz | l | | z
-    z | l | | z
-    ilz | li | | z
-    xzz | l | | xz
-    bz) | | |
-    izbizy)x | l | | xz
+    state | x | ||x
+    state | yx | ||xy
+    state | xx | ||x
+    state | bx | |b0|x
+    state | bx) | ||
+    state | xby) | ||x
+    state | xbybx)] | ii||x
+    state | xbybx) | |b0|xy
+    state | xcyE | l|e0|x
+    state | yby) | ||y
+    state | bxubx)y | |b0!|xy
+    state | iz | l||z
+    state | z | l||z
+    state | ilz | li||z
+    state | xzz | l||xz
+    state | bz) | ||
+    state | izbizy)x | l||xz
 
     // another body
-    ilbxux. | | |
-    xy.y | | | y
-    yx.xb. | | |
+    state | ilbxux. | ||
+    state | xy.y | ||y
+    state | yx.xb. | ||
+
+    // what lies below none, one, two and three operands, and how many are known
+    look |  | ---- 0
+    look | i | i--- 1
+    look | lif | fil- 3
+    look | lib | ---- 0
+    look | libf? | ?f-- 2
+    look | libu | ???? 0
+    look | libuf | f??? 1
+    look | liburi | ir?? 2
+    look | libufb | ---- 0
+    look | libufb) | f??? 1
+
+    // how many others stand after operands of types i32 and i64 that are known, each in turn where there are several
+    known | il | 0
+    known | ili | 1
+    known | iil | 0
+    known | ililf | 13
+    known | ililil | 024
+    known | li |
+    known | i |
+    known | l |
+    known | ibl |
+    known | ilb |
+    known | ilbil | 0
+    known | bui |
+    known | bul |
+    known | buil | 0
+    known | bui? |
+    known | f?l |
 ";
 
-fn holds(alloc: Global, row: &str) -> Option<bool> {
-    let (calls, operands, blocks, assigned) = four_fields(row)?;
-    let mut stacks = Stacks::new(alloc);
-    call_all(&mut stacks, calls).ok()?;
-    let is_right = operands_of(alloc, &stacks).ok()?.as_str() == operands
-        && blocks_of(alloc, &stacks).ok()?.as_str() == blocks
-        && assigned_of(alloc, &stacks).ok()?.as_str() == assigned;
-    Some(is_right && stacks.is_closed() == blocks.is_empty())
+// Whether the operands, the open blocks and the assigned locals are these.
+fn is_state(alloc: Global, stacks: &Stacks, expected: &str) -> bool {
+    let mut text = String::new(alloc);
+    let is_written = push_state(&mut text, stacks).is_ok();
+    is_written && text.as_str() == expected && stacks.is_closed() == expected.contains("||")
 }
 
-#[test]
-fn calls_change_the_stacks(rt: HostRuntime) -> Result<(), Fail> {
-    Ok(check_rows(rt.alloc(), CALLS, 75, holds)?)
-}
-
-// Calls; then what lies below none, one, two and three operands, and how many are known.
-const LOOKS: &str = "
-     | ---- | 0
-    i | i--- | 1
-    lif | fil- | 3
-    lib | ---- | 0
-    libf? | ?f-- | 2
-    libu | ???? | 0
-    libuf | f??? | 1
-    liburi | ir?? | 2
-    libufb | ---- | 0
-    libufb) | f??? | 1
-";
-
-fn looks(alloc: Global, row: &str) -> Option<bool> {
-    let (calls, letters, known) = three_fields(row)?;
-    let mut stacks = Stacks::new(alloc);
-    call_all(&mut stacks, calls).ok()?;
+fn looks(stacks: &mut Stacks, letters: &str, known: &str) -> Option<bool> {
     let mut is_right = known.parse::<usize>().ok() == Some(stacks.known_len());
     for (depth, letter) in letters.chars().enumerate() {
         is_right = is_right && letter_of(stacks.peek(depth)) == letter;
@@ -137,35 +142,7 @@ fn looks(alloc: Global, row: &str) -> Option<bool> {
     Some(is_right && letter_of(stacks.pop()) == next)
 }
 
-#[test]
-fn operands_are_looked_at(rt: HostRuntime) -> Result<(), Fail> {
-    Ok(check_rows(rt.alloc(), LOOKS, 10, looks)?)
-}
-
-// Calls; and how many others stand after operands of types i32 and i64 that are known, each in turn where there are several.
-const KNOWN: &str = "
-    il | 0
-    ili | 1
-    iil | 0
-    ililf | 13
-    ililil | 024
-    li |
-    i |
-    l |
-    ibl |
-    ilb |
-    ilbil | 0
-    bui |
-    bul |
-    buil | 0
-    bui? |
-    f?l |
-";
-
-fn knows(alloc: Global, row: &str) -> Option<bool> {
-    let (calls, depths) = two_fields(row)?;
-    let mut stacks = Stacks::new(alloc);
-    call_all(&mut stacks, calls).ok()?;
+fn knows(stacks: &Stacks, depths: &str) -> Option<bool> {
     let types = [ValType::I32, ValType::I64];
     for depth in 0..6 {
         let digit = char::from_digit(depth as u32, 10)?;
@@ -176,7 +153,28 @@ fn knows(alloc: Global, row: &str) -> Option<bool> {
     Some(stacks.are_known(9, &[]))
 }
 
+fn row_holds(alloc: Global, stacks: &mut Stacks, row: &str) -> Option<bool> {
+    let (question, calls, answer) = three_fields(row)?;
+    call_all(stacks, calls).ok()?;
+    match question {
+        "state" => Some(is_state(alloc, stacks, answer)),
+        "look" => {
+            let (letters, known) = word_and_rest(answer);
+            looks(stacks, letters, known)
+        }
+        "known" => knows(stacks, answer),
+        _ => None,
+    }
+}
+
+fn holds(alloc: Global, row: &str) -> Option<bool> {
+    let mut stacks = Stacks::new(alloc);
+    let holds = row_holds(alloc, &mut stacks, row);
+    drop(stacks);
+    holds
+}
+
 #[test]
-fn operands_of_known_types_are_found(rt: HostRuntime) -> Result<(), Fail> {
-    Ok(check_rows(rt.alloc(), KNOWN, 16, knows)?)
+fn calls_change_the_stacks(rt: HostRuntime) -> Result<(), Fail> {
+    Ok(check_rows(rt.alloc(), CALLS, 101, holds)?)
 }

@@ -1,6 +1,7 @@
 //! Types in words. A number or vector type is its name, as is a reference to what is no defined type (`funcref`). A reference to a defined type is its
 //! place in the group (`own.1`), its id (`#1`) or its index in a module (`1`), followed by `?` where it may be null. A function type is `i32 #1? -> f32`.
 
+use crate::names::named_val_type;
 use std::alloc::Global;
 use wasm_test_rows::fields::word_and_rest;
 use wasmparser_types::composite_type::{ArrayType, CompositeType, ContType, FuncType, StructType};
@@ -8,11 +9,22 @@ use wasmparser_types::index::{CoreTypeId, PackedIndex};
 use wasmparser_types::ref_type::RefType;
 use wasmparser_types::sub_type::{RecGroup, SubType};
 use wasmparser_types::val_type::{FieldType, StorageType, ValType};
-use wasmparser_types_tests::val_type::val_type_of as plain_type_of;
 
 /// The id after `#`.
 pub fn id_of(word: &str) -> Option<CoreTypeId> {
     Some(CoreTypeId::from_index(word.strip_prefix('#')?.parse().ok()?))
+}
+
+/// Whether these are the ids, in words.
+pub fn are_ids(ids: &[CoreTypeId], expected: &str) -> bool {
+    let mut words = expected.split_whitespace();
+    for id in ids {
+        match words.next() {
+            Some(word) if id_of(word) == Some(*id) => {}
+            _ => return false,
+        }
+    }
+    words.next().is_none()
 }
 
 /// An id, the place after `own.`, or an index in a module.
@@ -26,9 +38,9 @@ pub fn index_of(word: &str) -> Option<PackedIndex> {
     }
 }
 
-// A value type.
-fn val_type_of(word: &str) -> Option<ValType> {
-    if let Some(it) = plain_type_of(word) {
+/// A value type.
+pub fn val_type_of(word: &str) -> Option<ValType> {
+    if let Some(it) = named_val_type(word) {
         return Some(it);
     }
     let name = word.strip_suffix('?').unwrap_or(word);

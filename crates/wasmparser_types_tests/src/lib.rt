@@ -3,5 +3,7 @@
 
 #[cfg(test)]
 mod index;
-pub mod ref_type;
-pub mod val_type;
+#[cfg(test)]
+mod ref_type;
+#[cfg(test)]
+mod val_type;

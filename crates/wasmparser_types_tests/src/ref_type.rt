@@ -4,6 +4,7 @@ use std::alloc::Global;
 use std::test::Fail;
 use wasm_test_rows::fields::four_fields;
 use wasm_test_rows::rows::check_rows;
+use wasmparser_type_words::names::named;
 use wasmparser_types::heap_type::{AbstractHeapType, HeapType};
 use wasmparser_types::ref_type::RefType;
 
@@ -44,39 +45,29 @@ const HEAP_TYPES: &[(&str, AbstractHeapType)] = &[
     ("NoCont", AbstractHeapType::NoCont),
 ];
 
-/// What has this name.
-pub fn named<T: Copy>(table: &[(&str, T)], name: &str) -> Option<T> {
-    for (it, found) in table {
-        if *it == name {
-            return Some(*found);
-        }
-    }
-    None
-}
-
 /// The constant of this name.
 pub fn constant(name: &str) -> Option<RefType> {
-    let names = [
-        ("FUNCREF", RefType::FUNCREF),
-        ("FUNC", RefType::FUNC),
-        ("EXTERNREF", RefType::EXTERNREF),
-        ("EXTERN", RefType::EXTERN),
-        ("ANYREF", RefType::ANYREF),
-        ("NULLREF", RefType::NULLREF),
-        ("NULLEXTERNREF", RefType::NULLEXTERNREF),
-        ("NULLFUNCREF", RefType::NULLFUNCREF),
-        ("EQREF", RefType::EQREF),
-        ("STRUCTREF", RefType::STRUCTREF),
-        ("ARRAYREF", RefType::ARRAYREF),
-        ("I31REF", RefType::I31REF),
-        ("EXNREF", RefType::EXNREF),
-        ("EXN", RefType::EXN),
-        ("NULLEXNREF", RefType::NULLEXNREF),
-        ("CONTREF", RefType::CONTREF),
-        ("CONT", RefType::CONT),
-        ("NULLCONTREF", RefType::NULLCONTREF),
-    ];
-    named(&names, name)
+    match name {
+        "FUNCREF" => Some(RefType::FUNCREF),
+        "FUNC" => Some(RefType::FUNC),
+        "EXTERNREF" => Some(RefType::EXTERNREF),
+        "EXTERN" => Some(RefType::EXTERN),
+        "ANYREF" => Some(RefType::ANYREF),
+        "NULLREF" => Some(RefType::NULLREF),
+        "NULLEXTERNREF" => Some(RefType::NULLEXTERNREF),
+        "NULLFUNCREF" => Some(RefType::NULLFUNCREF),
+        "EQREF" => Some(RefType::EQREF),
+        "STRUCTREF" => Some(RefType::STRUCTREF),
+        "ARRAYREF" => Some(RefType::ARRAYREF),
+        "I31REF" => Some(RefType::I31REF),
+        "EXNREF" => Some(RefType::EXNREF),
+        "EXN" => Some(RefType::EXN),
+        "NULLEXNREF" => Some(RefType::NULLEXNREF),
+        "CONTREF" => Some(RefType::CONTREF),
+        "CONT" => Some(RefType::CONT),
+        "NULLCONTREF" => Some(RefType::NULLCONTREF),
+        _ => None,
+    }
 }
 
 // What each question says.

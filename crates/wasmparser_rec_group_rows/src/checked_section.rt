@@ -24,7 +24,7 @@ pub struct CheckedSection {
 
 impl Model for CheckedSection {
     ghost use Rattle.wasmparser_interning.specs.TypeTables.{TypeTables};
-    ghost use Rattle.wasmparser_rec_group_tests.specs.CheckedSections.{IsChecked};
+    ghost use Rattle.wasmparser_rec_group_rows.specs.CheckedSections.{IsChecked};
 
     ghost Value = { TypeTables };
 
@@ -68,4 +68,17 @@ impl CheckedSection {
                 .canonicalize_and_intern_rec_group(&mut self.list, group, offset),
         )
     }
+}
+
+/// What holds of a new section. Who owns a section proves how each of its parts is let go of, so the tests leave that to this call.
+pub fn on_new_section<F: Fn(Global, &mut CheckedSection, &str) -> Option<bool>>(
+    alloc: Global,
+    features: WasmFeatures,
+    row: &str,
+    holds: F,
+) -> Option<bool>
+    requires { F.IsAlwaysCallable holds }
+{
+    let mut section = CheckedSection::new(alloc, features);
+    holds(alloc, &mut section, row)
 }

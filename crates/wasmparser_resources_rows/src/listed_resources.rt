@@ -5,7 +5,7 @@ ghost use Rattle.std.specs.List.{AllByRecursion};
 ghost use Rattle.wasm_bodies.specs.BodyContext.{heap_meant};
 ghost use Rattle.wasm_spec.specs.TypeReferences.{heap_map, heap_refs};
 ghost use Rattle.wasmparser_readers.specs.ModuleIndexes.{IsModuleIndex};
-ghost use Rattle.wasmparser_resources_tests.specs.Listed.{items_of, resources_of};
+ghost use Rattle.wasmparser_resources_rows.specs.Listed.{items_of, resources_of};
 ghost use Rattle.wasmparser_types.specs.HeapTypes.{Packs, heap_type};
 ghost use Rattle.wasmparser_types.specs.Index.{number_of};
 

@@ -1,7 +1,7 @@
 //! The types of a listed module.
 
 ghost use Rattle.std.specs.Prelude.{◌≡◌, ◌<◌, IfSome, nat_eq, option_map, slice_get};
-ghost use Rattle.wasmparser_resources_tests.specs.Listed.{composite_of, heap_top, is_declared_below, is_heap_below, is_val_below, sub_of};
+ghost use Rattle.wasmparser_resources_rows.specs.Listed.{composite_of, heap_top, is_declared_below, is_heap_below, is_val_below, sub_of};
 ghost use Rattle.wasmparser_types.specs.CompositeTypes.{composite_type};
 ghost use Rattle.wasmparser_types.specs.HeapTypes.{heap_type};
 ghost use Rattle.wasmparser_types.specs.Index.{packable};

@@ -67,10 +67,13 @@ impl JudgedState {
     ) -> Option<bool>
         requires { F.IsAlwaysCallable holds }
     {
-        match self.state.copy_resources() {
-            Ok(copy) => holds(&copy, row),
+        let copied = self.state.copy_resources();
+        let found = match &copied {
+            Ok(copy) => holds(copy, row),
             Err(_) => None,
-        }
+        };
+        drop(copied);
+        found
     }
 
     fn add<'a, T: FromReader<'a> + Entry>(
@@ -107,7 +110,9 @@ pub fn on_new_state<F: Fn(Global, &mut JudgedState, &str) -> Option<bool>>(
     requires { F.IsAlwaysCallable holds }
 {
     let mut state = JudgedState::new(alloc, features);
-    holds(alloc, &mut state, row)
+    let found = holds(alloc, &mut state, row);
+    drop(state);
+    found
 }
 
 // Imported items without their names, one after the other.
@@ -169,4 +174,14 @@ pub fn answer(alloc: Global, state: &mut JudgedState, section: &str) -> Option<R
             answer_bytes(alloc, state, name, &bytes)
         }
     }
+}
+
+/// Whether all sections are accepted, with `;` between them; none where there is no such section.
+pub fn are_accepted(alloc: Global, state: &mut JudgedState, sections: &str) -> Option<bool> {
+    for section in sections.split_terminator(';') {
+        if answer(alloc, state, section)?.is_err() {
+            return Some(false);
+        }
+    }
+    Some(true)
 }

@@ -2,7 +2,7 @@
 
 ghost use Rattle.std.specs.Prelude.{◌≡◌};
 ghost use Rattle.wasm_spec.specs.Subtyping.{abstract_of, bottom_of, is_abstract_below};
-ghost use Rattle.wasmparser_resources_tests.specs.Listed.{abstract_top};
+ghost use Rattle.wasmparser_resources_rows.specs.Listed.{abstract_top};
 ghost use Rattle.wasmparser_types.specs.CompositeTypes.{composite_type};
 ghost use Rattle.wasmparser_types.specs.HeapTypes.{abstract_heap_type};
 ghost use Rattle.wasmparser_types.specs.Index.{number_of};

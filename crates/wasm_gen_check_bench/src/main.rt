@@ -6,7 +6,8 @@ use std::process::ExitCode;
 use std::rt::{Clock, Env, Files};
 use std::time::{Duration, Instant};
 use std::{env, fs};
-use wasm_gen::check_inputs::first_session;
+use wasm_gen_calls::check::{check, default_features};
+use wasm_gen_calls::codes::code_name;
 
 fn main(rt: HostRuntime) -> ExitCode {
     match run(&rt) {
@@ -61,11 +62,7 @@ fn shortest_time<R: Clock + AllocGlobal>(
     Some(shortest)
 }
 
-// What a session of its own says of a module: `yes`, or the kind of the refusal.
+// What a validator of its own says of a module: `yes`, or the kind of the refusal.
 fn verdict_on(alloc: Global, bytes: &[u8]) -> &'static str {
-    let mut session = first_session(alloc);
-    match session.check(bytes) {
-        Ok(_) => "yes",
-        Err(e) => e.kind.name(),
-    }
+    code_name(check(alloc, bytes, default_features()).kind)
 }

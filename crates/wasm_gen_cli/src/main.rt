@@ -6,8 +6,6 @@ ghost use Rattle.std.specs.Prelude.{◌≡◌, ◌⊎◌};
 mod check;
 mod fault;
 mod generate;
-#[cfg(test)]
-mod tests;
 
 use std::process::ExitCode;
 use std::rt::{Env, Files};

@@ -2,6 +2,4 @@
 #![tactic(auto)]
 
 pub mod asked;
-mod command;
-#[cfg(test)]
-mod tests;
+pub mod command;

@@ -7,8 +7,7 @@ use wasm_test_rows::fields::four_fields;
 use wasm_test_rows::rows::check_rows;
 use wasm_test_rows::values::bytes_of;
 use wasmparser::error::{Error, ErrorKind};
-use wasmparser::validator::{Validator, validate};
-use wasmparser::validator_id::ValidatorId;
+use wasmparser_validator_rows::new_validator::{answer_under, refusal_of};
 
 // How many parameters and results, numbers all of them, a function has, the features, its body, and the kind of its refusal, or `valid`. `all SIMD` are all
 // features but that one. The function's type is the only one of its module.
@@ -139,16 +138,9 @@ fn module_of(alloc: Global, params: u16, results: u16, body: &[u8]) -> Result<Ve
     Ok(bytes)
 }
 
-// What is answered to a module under these features.
-fn answer_to(alloc: Global, features: WasmFeatures, bytes: &[u8]) -> Result<(), Error> {
-    let mut validator = Validator::new_with_features(alloc, features, ValidatorId::new(0));
-    let _ = validator.validate_all(bytes)?;
-    Ok(())
-}
-
 // Whether a module that is valid under some features is so under others.
 fn stays_valid(alloc: Global, some: WasmFeatures, others: WasmFeatures, bytes: &[u8]) -> bool {
-    answer_to(alloc, others, bytes).is_ok() || answer_to(alloc, some, bytes).is_err()
+    answer_under(alloc, others, bytes).is_ok() || answer_under(alloc, some, bytes).is_err()
 }
 
 // Whether a valid module stays valid with each further feature: beside some features, beside all of these but one, and in turn from none to all.
@@ -174,7 +166,7 @@ fn holds(alloc: Global, row: &str) -> Option<bool> {
     let body = bytes_of(alloc, bytes)?;
     let (params, results) = counts.split_once(' ')?;
     let module = module_of(alloc, params.parse().ok()?, results.parse().ok()?, &body).ok()?;
-    let is_answer = is_answer(alloc, answer_to(alloc, features, &module), expected);
+    let is_answer = is_answer(alloc, answer_under(alloc, features, &module), expected);
     Some(is_answer && stays_valid_with_more(alloc, features, &module))
 }
 
@@ -183,15 +175,23 @@ fn bodies_have_their_answers(rt: HostRuntime) -> Result<(), Fail> {
     Ok(check_rows(rt.alloc(), BODIES, 58, holds)?)
 }
 
+// Whether an operator is refused in the last four bytes.
+fn stands_in_the_body(refusal: Option<Error>, end: u64) -> bool {
+    match refusal {
+        Some(
+            Error {
+                kind: ErrorKind::Operator,
+                offset,
+            },
+        ) => offset < end && end - offset < 4,
+        _ => false,
+    }
+}
+
 #[test]
 fn refusal_stands_in_the_body(rt: HostRuntime) -> Result<(), Fail> {
     let module = module_of(rt.alloc(), 0, 0, b"\0\0\x06\x0b")?;
-    let refusal = validate(rt.alloc(), &module);
-    let end = module.len() as u64;
-    assert!(rt;
-        refusal.is_err_and(|it| it.kind == ErrorKind::Operator
-            && it.offset < end
-            && end - it.offset < 4)
-    );
+    let refusal = refusal_of(rt.alloc(), &module);
+    assert!(rt; stands_in_the_body(refusal, module.len() as u64));
     Ok(())
 }

@@ -9,14 +9,13 @@ use wasm_test_rows::fields::two_fields;
 use wasm_test_rows::rows::check_rows;
 use wasm_test_rows::values::bytes_of;
 use wasmparser::error::Error;
-use wasmparser::func_to_validate::FuncValidatorAllocations;
 use wasmparser::function_body::FunctionBody;
 use wasmparser::parser::Parser;
-use wasmparser::payload::Payload;
 use wasmparser::section_limited::SectionLimited;
-use wasmparser::valid_payload::ValidPayload;
 use wasmparser::validator::Validator;
 use wasmparser::validator_id::ValidatorId;
+use wasmparser_validator_rows::answers::{Sizes, answer_to_all, answer_to_end, answer_to_payload};
+use wasmparser_validator_rows::new_validator::{on_new_validator, on_new_validator_with};
 
 // Calls one after the other, each with its answer. The sections have one item each: a type of functions that take and give nothing, a function of it, a
 // memory, a data segment.
@@ -113,60 +112,36 @@ fn body_is(validator: &mut Validator, expected: &str) -> bool {
     is_answer(&validator.code_section_entry(&body), expected)
 }
 
-// (What is owned is dropped by a call, which is cheaper to prove.)
-fn end_is(validator: &mut Validator, expected: &str) -> bool {
-    let given = validator.end(30);
-    let holds = is_answer(&given, expected);
-    drop(given);
-    holds
-}
-
-fn all_is(validator: &mut Validator, bytes: &[u8], expected: &str) -> bool {
-    let given = validator.validate_all(bytes);
-    let holds = is_answer(&given, expected);
-    drop(given);
-    holds
-}
-
 // Other calls.
 fn other_is(validator: &mut Validator, call: &str, expected: &str) -> bool {
     match call {
         "body" => body_is(validator, expected),
-        "end" => end_is(validator, expected),
-        "all" => all_is(validator, MODULE, expected),
-        "allbad" => all_is(validator, &[0], expected),
-        "allbody" => all_is(validator, BROKEN_BODY, expected),
+        "end" => is_answer(&answer_to_end(validator, 30), expected),
+        "all" => is_answer(&answer_to_all(validator, MODULE), expected),
+        "allbad" => is_answer(&answer_to_all(validator, &[0]), expected),
+        "allbody" => is_answer(&answer_to_all(validator, BROKEN_BODY), expected),
         "types" => validator.types(0).is_some() == (expected == "some"),
         "reset" => validator.reset().is_ok() == (expected == "ok"),
         _ => false,
     }
 }
 
-fn answers(validator: &mut Validator, row: &str) -> bool {
+fn answers(_alloc: Global, validator: &mut Validator, row: &str) -> Option<bool> {
     for step in row.split_whitespace() {
-        let Some((call, expected)) = step.split_once('=') else {
-            return false;
-        };
+        let (call, expected) = step.split_once('=')?;
         let holds = match section_is(validator, call, expected) {
             Some(holds) => holds,
             None => other_is(validator, call, expected),
         };
         if !holds {
-            return false;
+            return Some(false);
         }
     }
-    validator.types(1).is_none() && validator.id() == ValidatorId::new(5)
+    Some(validator.types(1).is_none() && validator.id() == ValidatorId::new(5))
 }
 
 fn answers_in_turn(alloc: Global, row: &str) -> Option<bool> {
-    let mut validator = Validator::new_with_features(
-        alloc,
-        WasmFeatures::all(),
-        ValidatorId::new(5),
-    );
-    let holds = answers(&mut validator, row);
-    drop(validator);
-    Some(holds)
+    on_new_validator_with(alloc, WasmFeatures::all(), row, answers)
 }
 
 #[test]
@@ -190,29 +165,16 @@ fn judge_each(validator: &mut Validator) -> Result<(), Error> {
     Ok(())
 }
 
-// The same, and the end.
-fn count_each(validator: &mut Validator) -> Result<u32, Error> {
-    judge_each(validator)?;
-    let ended = validator.end(30);
-    let count = match &ended {
-        Ok(types) => Ok(types.as_ref().core_type_count_in_module()),
-        Err(e) => Err(*e),
-    };
-    drop(ended);
-    count
+// Whether no types are shown at its end.
+fn has_no_types(_alloc: Global, validator: &mut Validator, _row: &str) -> Option<bool> {
+    judge_each(validator).ok()?;
+    Some(answer_to_end(validator, 30).ok()?.types == 0)
 }
 
 #[test]
-fn each_section_has_a_call(rt: HostRuntime) -> Result<(), Fail> {
-    let mut validator = Validator::new_with_features(
-        rt.alloc(),
-        WasmFeatures::all(),
-        ValidatorId::new(5),
-    );
-    let count = count_each(&mut validator);
-    drop(validator);
-    assert!(rt; count == Ok(0));
-    Ok(())
+fn each_section_has_a_call(rt: HostRuntime) {
+    let holds = on_new_validator_with(rt.alloc(), WasmFeatures::all(), "", has_no_types);
+    assert!(rt; holds == Some(true));
 }
 
 // Modules, and what is answered to their payloads: how many functions and types there are, or what is refused.
@@ -242,26 +204,6 @@ const MODULES: &str = "
     0061736d01000000 010401600000 03020100        0a05010300 00 0b 0b03010100 | 1 1
 ";
 
-// Judges a payload, and the body that it is.
-fn judge(
-    alloc: Global,
-    validator: &mut Validator,
-    payload: &Payload<'_>,
-) -> Result<Option<(u32, u32)>, Error> {
-    match validator.payload(payload)? {
-        ValidPayload::Ok => Ok(None),
-        ValidPayload::Func(function, body) => {
-            let mut validator = function.into_validator(FuncValidatorAllocations::new(alloc))?;
-            validator.validate(&body)?;
-            Ok(None)
-        }
-        ValidPayload::End(types) => {
-            let view = types.as_ref();
-            Ok(Some((view.function_count(), view.core_type_count_in_module())))
-        }
-    }
-}
-
 fn is_answered(alloc: Global, validator: &mut Validator, row: &str) -> Option<bool> {
     let (bytes, expected) = two_fields(row)?;
     let bytes = bytes_of(alloc, bytes)?;
@@ -271,20 +213,17 @@ fn is_answered(alloc: Global, validator: &mut Validator, row: &str) -> Option<bo
             Ok(payload) => payload,
             Err(e) => return Some(e.kind.name() == expected),
         };
-        match judge(alloc, validator, &payload) {
+        match answer_to_payload(alloc, validator, &payload) {
             Ok(given) => sizes = given,
             Err(e) => return Some(e.kind.name() == expected),
         }
     }
-    let (functions, types) = sizes?;
+    let Sizes { functions, types } = sizes?;
     Some(format!(in alloc; "{functions} {types}").ok()?.as_str() == expected)
 }
 
 fn payloads_are_answered(alloc: Global, row: &str) -> Option<bool> {
-    let mut validator = Validator::new(alloc, ValidatorId::new(5));
-    let holds = is_answered(alloc, &mut validator, row);
-    drop(validator);
-    holds
+    on_new_validator(alloc, row, is_answered)
 }
 
 #[test]

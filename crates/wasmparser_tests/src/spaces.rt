@@ -14,8 +14,7 @@ use wasmparser::index::CoreTypeId;
 use wasmparser::parser::Parser;
 use wasmparser::payload::Payload;
 use wasmparser::types::TypesRef;
-use wasmparser::validator::Validator;
-use wasmparser::validator_id::ValidatorId;
+use wasmparser_validator_rows::new_validator::on_types;
 
 // What is shown of a module: the kinds of its types, the ids of its types, whether the items of its element segments may be null, what it exports and
 // imports, or its imports with their names. A function and a tag show how many parameters and results they have. In rows of own ids types aren't canonicalized.
@@ -225,14 +224,9 @@ fn features_for(kind: &str) -> WasmFeatures {
     WasmFeatures::all().difference(canonical)
 }
 
-// Whether a view of a module has what a field says of this kind.
-fn has(
-    alloc: Global,
-    view: TypesRef<'_>,
-    kind: &str,
-    bytes: &[u8],
-    expected: &str,
-) -> Option<bool> {
+// Whether a view of a module has what a row says.
+fn has(alloc: Global, view: TypesRef<'_>, bytes: &[u8], row: &str) -> Option<bool> {
+    let (kind, _, expected) = three_fields(row)?;
     match kind {
         "types" => has_types(view, expected),
         "ids" | "own ids" => has_ids(view, expected),
@@ -245,22 +239,14 @@ fn has(
 }
 
 fn holds(alloc: Global, row: &str) -> Option<bool> {
-    let (kind, bytes, expected) = three_fields(row)?;
-    let bytes = bytes_of(alloc, bytes)?;
-    let mut validator = Validator::new_with_features(
+    let (kind, bytes, _) = three_fields(row)?;
+    on_types(
         alloc,
         features_for(kind),
-        ValidatorId::new(7),
-    );
-    let verdict = validator.validate_all(&bytes);
-    // (dropped by calls, which are cheaper to prove)
-    drop(validator);
-    let found = match &verdict {
-        Ok(types) => has(alloc, types.as_ref(), kind, &bytes, expected),
-        Err(_) => None,
-    };
-    drop(verdict);
-    found
+        &bytes_of(alloc, bytes)?,
+        row,
+        has,
+    )
 }
 
 #[test]

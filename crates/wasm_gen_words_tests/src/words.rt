@@ -1,0 +1,101 @@
+//! Words, and what they ask for.
+
+use clap::{ArgMatches, Error};
+use std::alloc::{AllocError, Global};
+use std::test::Fail;
+use wasm_gen_words::asked::{Asked, WordsError, read_words};
+use wasm_gen_words::command::matches_of;
+use wasm_test_rows::fields::three_fields;
+use wasm_test_rows::rows::check_rows;
+
+// What is asked about words, the words after the program's name, and the answer.
+const ROWS: &str = "
+    // What clap refuses them for, and the status that they end with.
+    refusal  | check a        | none
+    refusal  | check a b      | none
+    refusal  | --help         | DisplayHelp 0
+    refusal  |                | DisplayHelpOnMissingArgumentOrSubcommand 2
+    refusal  | judge          | InvalidSubcommand 2
+    refusal  | check          | MissingRequiredArgument 2
+    refusal  | check --fast a | UnknownArgument 2
+    // The files that they name, all of them in turn.
+    check    | check a        | a
+    check    | check b a b    | b a b
+    generate | generate a     | a
+    // A part of the help that they ask for, and the beginning of what is wrong with them.
+    help     | --help         | Usage: wasm_gen <COMMAND>
+    wrong    |                | Makes and validates WebAssembly modules
+    wrong    | judge          | error: unrecognized subcommand 'judge'
+    wrong    | generate a b   | error: unexpected argument 'b' found
+";
+
+// The words of a command line.
+fn words_of(alloc: Global, field: &str) -> Result<Vec<String>, AllocError> {
+    let mut all = Vec::new(alloc);
+    all.push(String::from_str(alloc, "wasm_gen")?)?;
+    for word in field.split_whitespace() {
+        all.push(String::from_str(alloc, word)?)?;
+    }
+    Ok(all)
+}
+
+// Whether clap finds this to be wrong with the words.
+fn is_found(alloc: Global, found: &Result<ArgMatches<'_>, Error>, expected: &str) -> bool {
+    match found {
+        Ok(_) => expected == "none",
+        Err(e) => format!(in alloc; "{:?} {}", e.kind(), e.exit_code()).is_ok_and(|it| it.as_str()
+            == expected),
+    }
+}
+
+fn is_refused(alloc: Global, words: &[String], expected: &str) -> bool {
+    let found = matches_of(alloc, words);
+    let holds = is_found(alloc, &found, expected);
+    // (dropped by a call, which is cheaper to prove)
+    drop(found);
+    holds
+}
+
+// Whether the files are just those, in order.
+fn are(names: &[&str], files: &str) -> bool {
+    let mut left = names.iter();
+    for file in files.split_whitespace() {
+        match left.next() {
+            Some(name) if *name == file => {}
+            _ => return false,
+        }
+    }
+    left.next().is_none()
+}
+
+// Whether this is what is asked for.
+fn is_asked(asked: &Result<Asked<'_>, WordsError>, way: &str, expected: &str) -> bool {
+    match asked {
+        Ok(Asked::Check(names)) => way == "check" && are(names.as_slice(), expected),
+        Ok(Asked::Generate(name)) => way == "generate" && *name == expected,
+        Ok(Asked::Help(text)) => way == "help" && text.contains(expected),
+        Err(WordsError::Wrong(text)) => way == "wrong" && text.starts_with(expected),
+        Err(WordsError::Memory) => false,
+    }
+}
+
+fn asks(alloc: Global, words: &[String], way: &str, expected: &str) -> bool {
+    let asked = read_words(alloc, words);
+    let holds = is_asked(&asked, way, expected);
+    drop(asked);
+    holds
+}
+
+fn holds(alloc: Global, row: &str) -> Option<bool> {
+    let (way, words, expected) = three_fields(row)?;
+    let words = words_of(alloc, words).ok()?;
+    match way {
+        "refusal" => Some(is_refused(alloc, &words, expected)),
+        _ => Some(asks(alloc, &words, way, expected)),
+    }
+}
+
+#[test]
+fn words_ask_for_this(rt: HostRuntime) -> Result<(), Fail> {
+    Ok(check_rows(rt.alloc(), ROWS, 14, holds)?)
+}

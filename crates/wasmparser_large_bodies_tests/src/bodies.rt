@@ -8,8 +8,7 @@ use wasm_test_rows::fields::three_fields;
 use wasm_test_rows::rows::check_rows;
 use wasm_test_rows::values::bytes_of;
 use wasmparser::error::Error;
-use wasmparser::validator::Validator;
-use wasmparser::validator_id::ValidatorId;
+use wasmparser_validator_rows::new_validator::answer_under;
 
 // Rows have features, the body of a function that takes and gives nothing, and the kind of its refusal, or `valid`. A word with `#` stands there for each of
 // 50,000 numbers, which stand in place of `#`.
@@ -124,17 +123,10 @@ fn module_of(alloc: Global, body: &[u8]) -> Option<Vec<u8>> {
     Some(bytes)
 }
 
-// What is answered to a module under these features.
-fn answer_to(alloc: Global, features: WasmFeatures, bytes: &[u8]) -> Result<(), Error> {
-    let mut validator = Validator::new_with_features(alloc, features, ValidatorId::new(0));
-    let _ = validator.validate_all(bytes)?;
-    Ok(())
-}
-
 fn holds(alloc: Global, row: &str) -> Option<bool> {
     let (features, body, expected) = three_fields(row)?;
     let module = module_of(alloc, &body_of(alloc, body)?)?;
-    match answer_to(alloc, features_of(features)?, &module) {
+    match answer_under(alloc, features_of(features)?, &module) {
         Ok(()) => Some(expected == "valid"),
         Err(Error { kind, .. }) => {
             let shown = format!(in alloc; "{kind:?}").ok()?;

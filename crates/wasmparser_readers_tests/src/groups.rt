@@ -6,8 +6,9 @@ use wasm_core_read::binary_reader::BinaryReader;
 use wasm_test_rows::fields::{two_fields, word_and_rest};
 use wasm_test_rows::rows::check_rows;
 use wasm_test_rows::values::bytes_of;
+use wasmparser_error::error::{Error, ErrorKind};
 use wasmparser_readers::from_reader::FromReader;
-use wasmparser_type_words::types::group_of;
+use wasmparser_type_words::types::{sub_type_of, sub_types_of};
 use wasmparser_types::sub_type::RecGroup;
 
 // Bytes that begin with a group, and the group, or the kind of the refusal.
@@ -84,14 +85,24 @@ const GROUPS: &str = "
 
 const COUNT_OF_GROUPS: usize = 59;
 
-// Whether these bytes begin with this group, or are refused for what has this name, where there is none.
-fn is_read(alloc: Global, bytes: &[u8], group: Option<&RecGroup>, name: &str) -> bool {
-    match RecGroup::from_reader(alloc, &mut BinaryReader::new(bytes, 0)) {
-        Ok(it) => match group {
-            Some(group) => it == *group,
-            None => false,
-        },
-        Err(error) => group.is_none() && error.kind.name() == name,
+// A group in words.
+fn group_of(alloc: Global, words: &str) -> Option<RecGroup> {
+    let (kind, types) = word_and_rest(words);
+    match kind {
+        "single" => Some(RecGroup::implicit(sub_type_of(alloc, types)?)),
+        "group" => Some(RecGroup::explicit(sub_types_of(alloc, types)?)),
+        _ => None,
+    }
+}
+
+fn read(alloc: Global, bytes: &[u8]) -> Result<RecGroup, Error> {
+    RecGroup::from_reader(alloc, &mut BinaryReader::new(bytes, 0))
+}
+
+fn is_malformed(alloc: Global, bytes: &[u8]) -> bool {
+    match read(alloc, bytes) {
+        Ok(_) => false,
+        Err(e) => e.kind == ErrorKind::Malformed,
     }
 }
 
@@ -99,19 +110,32 @@ fn is_read(alloc: Global, bytes: &[u8], group: Option<&RecGroup>, name: &str) ->
 fn needs_all(alloc: Global, bytes: &[u8]) -> bool {
     for len in 0..bytes.len() {
         match bytes.get(..len) {
-            Some(front) if is_read(alloc, front, None, "malformed") => (),
+            Some(front) if is_malformed(alloc, front) => (),
             _ => return false,
         }
     }
     true
 }
 
-// Whether a group reads that is this one in words, and no group of fewer bytes; or why none reads.
+// Whether this group reads, and no group of fewer bytes.
+fn reads(alloc: Global, bytes: &[u8], group: &RecGroup) -> bool {
+    match read(alloc, bytes) {
+        Ok(it) => it == *group && needs_all(alloc, bytes),
+        Err(_) => false,
+    }
+}
+
+fn is_refused(alloc: Global, bytes: &[u8], name: &str) -> bool {
+    match read(alloc, bytes) {
+        Ok(_) => false,
+        Err(error) => error.kind.name() == name,
+    }
+}
+
 fn agrees(alloc: Global, bytes: &[u8], words: &str) -> bool {
-    let (kind, types) = word_and_rest(words);
-    match group_of(alloc, kind, types) {
-        Some(group) => is_read(alloc, bytes, Some(&group), "") && needs_all(alloc, bytes),
-        None => is_read(alloc, bytes, None, words),
+    match group_of(alloc, words) {
+        Some(group) => reads(alloc, bytes, &group),
+        None => is_refused(alloc, bytes, words),
     }
 }
 

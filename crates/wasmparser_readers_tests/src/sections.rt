@@ -34,8 +34,8 @@ const SECTIONS: &str = "
 const COUNT_OF_SECTIONS: usize = 14;
 
 // Whether an item, or the refusal, is the one in words.
-fn is_item(item: Result<(u64, u32), Error>, words: Option<&str>) -> Option<bool> {
-    let (what, place) = words?.split_once('@')?;
+fn is_item(item: Result<(u64, u32), Error>, words: &str) -> Option<bool> {
+    let (what, place) = words.split_once('@')?;
     let place = number_of(place)?;
     match item {
         Ok((offset, index)) => Some(offset == place && Some(u64::from(index)) == number_of(what)),
@@ -47,51 +47,46 @@ fn section_of(bytes: &[u8]) -> Option<SectionLimited<'_, u32>> {
     SectionLimited::new(BinaryReader::new(bytes, START)).ok()
 }
 
-fn has_items(alloc: Global, section: SectionLimited<'_, u32>, words: &str) -> bool {
+fn has_items(alloc: Global, bytes: &[u8], words: &str) -> Option<bool> {
     let mut expected = words.split_whitespace();
-    for item in section.into_iter_with_offsets(alloc) {
-        if is_item(item, expected.next()) != Some(true) {
-            return false;
+    for item in section_of(bytes)?.into_iter_with_offsets(alloc) {
+        if !is_item(item, expected.next()?)? {
+            return Some(false);
         }
     }
-    expected.next().is_none()
+    Some(expected.next().is_none())
 }
 
 // Whether an item without its place is the one in words.
-fn is_index(item: Result<u32, Error>, words: Option<&str>) -> Option<bool> {
-    let (what, _) = words?.split_once('@')?;
+fn is_index(item: Result<u32, Error>, words: &str) -> Option<bool> {
+    let (what, _) = words.split_once('@')?;
     match item {
         Ok(index) => Some(Some(u64::from(index)) == number_of(what)),
         Err(error) => Some(error.kind.name() == what),
     }
 }
 
-fn has_indexes(alloc: Global, section: SectionLimited<'_, u32>, words: &str) -> bool {
+fn has_indexes(alloc: Global, bytes: &[u8], words: &str) -> Option<bool> {
     let mut expected = words.split_whitespace();
-    for item in section.into_iter(alloc) {
-        if is_index(item, expected.next()) != Some(true) {
-            return false;
+    for item in section_of(bytes)?.into_iter(alloc) {
+        if !is_index(item, expected.next()?)? {
+            return Some(false);
         }
     }
-    expected.next().is_none()
-}
-
-fn is_section(alloc: Global, bytes: &[u8], words: &str) -> bool {
-    match (section_of(bytes), section_of(bytes)) {
-        (Some(section), Some(again)) => {
-            let range = section.range();
-            range.start == START
-                && range.end == START + bytes.len() as u64
-                && has_items(alloc, section, words)
-                && has_indexes(alloc, again, words)
-        }
-        _ => words == "none",
-    }
+    Some(expected.next().is_none())
 }
 
 fn holds(alloc: Global, row: &str) -> Option<bool> {
     let (field, words) = two_fields(row)?;
-    Some(is_section(alloc, &bytes_of(alloc, field)?, words))
+    let bytes = bytes_of(alloc, field)?;
+    let Some(section) = section_of(&bytes) else {
+        return Some(words == "none");
+    };
+    let range = section.range();
+    if range.start != START || range.end != START + bytes.len() as u64 {
+        return Some(false);
+    }
+    Some(has_items(alloc, &bytes, words)? && has_indexes(alloc, &bytes, words)?)
 }
 
 // A content of reference types, and how its items end: each `ok`, or the refusal with its place.
@@ -107,36 +102,30 @@ const REFERENCES: &str = "
 
 const COUNT_OF_REFERENCES: usize = 7;
 
-fn is_end(item: Result<RefType, Error>, words: Option<&str>) -> Option<bool> {
+fn is_end(item: Result<RefType, Error>, words: &str) -> Option<bool> {
     match item {
-        Ok(_) => Some(words? == "ok"),
+        Ok(_) => Some(words == "ok"),
         Err(error) => {
-            let (kind, place) = words?.split_once('@')?;
+            let (kind, place) = words.split_once('@')?;
             Some(error.kind.name() == kind && error.offset == number_of(place)?)
         }
     }
 }
 
-fn has_references(alloc: Global, section: SectionLimited<'_, RefType>, words: &str) -> bool {
+fn has_references(alloc: Global, bytes: &[u8], words: &str) -> Option<bool> {
     let mut expected = words.split_whitespace();
+    let section = SectionLimited::<'_, RefType>::new(BinaryReader::new(bytes, START)).ok()?;
     for item in section.into_iter(alloc) {
-        if is_end(item, expected.next()) != Some(true) {
-            return false;
+        if !is_end(item, expected.next()?)? {
+            return Some(false);
         }
     }
-    expected.next().is_none()
-}
-
-fn are_references(alloc: Global, bytes: &[u8], words: &str) -> bool {
-    match SectionLimited::new(BinaryReader::new(bytes, START)) {
-        Ok(section) => has_references(alloc, section, words),
-        Err(_) => false,
-    }
+    Some(expected.next().is_none())
 }
 
 fn references_hold(alloc: Global, row: &str) -> Option<bool> {
     let (field, words) = two_fields(row)?;
-    Some(are_references(alloc, &bytes_of(alloc, field)?, words))
+    has_references(alloc, &bytes_of(alloc, field)?, words)
 }
 
 #[test]

@@ -33,12 +33,21 @@ def asked_once(stamp):
     return asked
 
 
+# Crates that most others stand on: loading the proofs in their libraries, each time, takes longer than proving them once more for their edits.
+OFTEN_LOADED = ("wasm_core_read", "wasmparser_interning")
+
+
+def keeps_proofs(crate):
+    """Returns whether the crate's library is to hold its proofs beside its statements: whether there are edits in must-fail/ to be tried over them."""
+    return crate.makes_rlib() and crate.name not in OFTEN_LOADED and bool(glob.glob(f"{crate.folder}/must-fail/*.edit"))
+
+
 def with_proofs(ci):
-    """Returns the kit's way of proving a crate for rt ci as one that leaves the proofs in the library, beside the statements, where the crate has wrong bodies:
-    they are tried over these, and the crate isn't proved a second time for that."""
+    """Returns the kit's way of proving a crate for rt ci as one that leaves the proofs in the library, beside the statements, where the crate has edits in
+    must-fail/: they are tried over these, and the crate isn't proved a second time for that."""
 
     def proved(crate, flags, tests):
-        if tests or not crate.makes_rlib() or not glob.glob(f"{crate.folder}/*/*.edit"):
+        if tests or not keeps_proofs(crate):
             return ci(crate, flags, tests)
         crate.cuts_libraries = False
         try:
@@ -76,7 +85,7 @@ def over_proofs(add_edits):
     """Returns the kit's way of trying a crate's edits in must-fail/ as one that begins once the crate is proved, with what its library has of the proofs."""
 
     def added(tasks, crate, edits, first, waits, is_well, kept, start=None, in_ci=True):
-        if in_ci and crate.makes_rlib():
+        if in_ci and keeps_proofs(crate):
             first, start = waits, crate.rlib
         return add_edits(tasks, crate, edits, first, waits, is_well, kept, start, in_ci)
 

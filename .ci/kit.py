@@ -33,6 +33,37 @@ def asked_once(stamp):
     return asked
 
 
+# The root of a crate that has nothing but tests: each module that it names is compiled with the tests alone.
+ROOT_OF_TESTS = re.compile(r"(//!.*\n|#!\[.*\]\n|\n|#\[cfg\(test\)\]\nmod \w+;\n)*")
+
+
+def is_of_tests(crate):
+    """Returns whether a crate has tests and nothing else, so that its library is empty and nothing stands on it."""
+    root = f"{crate.folder}/src/lib.rt"
+    if not os.path.isfile(root) or not crate.has_tests():
+        return False
+    with open(root, encoding="utf-8") as it:
+        return bool(ROOT_OF_TESTS.fullmatch(it.read()))
+
+
+def once_with_tests(ci):
+    """Returns the kit's way of proving a crate for rt ci as one that proves a crate of tests once, with its tests, and makes no empty library of it."""
+
+    def proved(crate, flags, tests):
+        return 0 if not tests and is_of_tests(crate) else ci(crate, flags, tests)
+
+    return proved
+
+
+def whole_without_library(is_whole):
+    """Returns the kit's way of seeing whether a crate's files are all there as one that misses no library of a crate of tests."""
+
+    def whole(kept, crate, tests, files):
+        return is_whole(kept, crate, tests, files) or not (tests or files) and is_of_tests(crate)
+
+    return whole
+
+
 # Crates that most others stand on: loading the proofs in their libraries, each time, takes longer than proving them once more for their edits.
 OFTEN_LOADED = ("wasm_core_read", "wasmparser_interning")
 
@@ -144,7 +175,8 @@ def load():
     # (another kit may have no such sum)
     if hasattr(crate, "stamp"):
         crate.stamp = asked_once(crate.stamp)
-    module.Crate.ci = with_proofs(module.Crate.ci)
+    module.Crate.ci = once_with_tests(with_proofs(module.Crate.ci))
+    module.Kept.is_whole = whole_without_library(module.Kept.is_whole)
     module.add_edits = over_proofs(module.add_edits)
     module.seeded = seeded_by_library(module.seeded)
     module.checked = telling_names(module.checked)

@@ -1,5 +1,6 @@
 #!/usr/bin/env python3
-"""Tests rounds.py, and how `.ci/rt ci` tries the edits of must-fail/, on a crate of three functions: that what is not refused for its own meaning is told."""
+"""Tests rounds.py, and how `.ci/rt ci` tries the edits of must-fail/, on a crate of three functions: that what is not refused for its own meaning is told.
+And how `.ci/rt ci` proves crates of tests: once, with their tests, and none that isn't."""
 import os
 import re
 import subprocess
@@ -40,6 +41,18 @@ pub fn second(n: u8) -> u8
 }
 """
 
+# A test of the functions above, and one that asks for what a contract rules out.
+TEST = """//! Tests of sums.
+
+use sums::next;
+
+#[test]
+fn the_next_number(rt: HostRuntime) {
+    assert!(rt; next(NUMBER) > 1);
+}
+"""
+TESTS = {"good_tests": "1", "bad_tests": "100"}
+
 TOP = os.path.dirname(os.path.dirname(os.path.realpath(__file__)))
 # What is edited to what, and whether it must be told as refused.
 EDITS = {
@@ -73,20 +86,41 @@ def refused_by_ci(room, folder):
     return {*refused} if kit.unpack_proofs(crate, f"{room}/proofs") else set()
 
 
+def write(files):
+    """Writes texts into files by their paths, with the folders of these."""
+    for path, text in files.items():
+        os.makedirs(os.path.dirname(path), exist_ok=True)
+        with open(path, "w") as it:
+            it.write(text)
+
+
+def tests_are_proved_once(room):
+    """Returns whether `.ci/rt ci` tells the crate of tests that is not proved from the one that is, and makes no library of either."""
+    files = {f"{room}/crates.txt": "sums:\n" + "".join(f"{name}: sums\n" for name in TESTS), f"{room}/crates/sums/src/lib.rt": SOURCE}
+    for name, number in TESTS.items():
+        files[f"{room}/crates/{name}/src/lib.rt"] = "//! Tests of sums.\n#![tactic(auto)]\n\n#[cfg(test)]\nmod next;\n"
+        files[f"{room}/crates/{name}/src/next.rt"] = TEST.replace("NUMBER", number)
+    write(files)
+    ran = subprocess.run([f"{TOP}/.ci/rt", "ci", "--anew"], cwd=room, stdout=subprocess.PIPE, stderr=subprocess.STDOUT, text=True)
+    told = ["good_tests: its tests are proved", "bad_tests: its tests are NOT PROVED", "good_tests: its tests passed", "2 passed, 1 failed"]
+    made = [it for name in TESTS for it in [f"{room}/crates/{name}/out/rlib"] if os.path.exists(it)]
+    return all(it in ran.stdout for it in told) and not made
+
+
 def main():
     with tempfile.TemporaryDirectory(prefix="rt-own-test-") as room:
         folder = f"{room}/crates/sums"
-        for it in ("src", "wrong-bodies"):
-            os.makedirs(f"{folder}/{it}")
         files = {f"{room}/crates.txt": "sums:\n", f"{folder}/src/lib.rt": SOURCE}
         for name, (old, new, _) in EDITS.items():
             files[f"{folder}/wrong-bodies/{name}.edit"] = f"file: src/lib.rt\nold: {old.rstrip()}\nnew: {new.rstrip()}\n"
-        for path, text in files.items():
-            with open(path, "w") as it:
-                it.write(text)
+        write(files)
         found = [refused_in_rounds(room, folder), refused_by_ci(room, folder)]
+    with tempfile.TemporaryDirectory(prefix="rt-own-test-") as room:
+        is_once = tests_are_proved_once(room)
     wanted = {name for name, (_, _, is_refused) in EDITS.items() if is_refused}
     wrong = [it ^ wanted for it in found]
+    if not is_once:
+        wrong.append("crates of tests")
     print(f"the script's own test: {'passed' if not any(wrong) else f'FAILED: {wrong}'}")
     return 1 if any(wrong) else 0
 

@@ -1,10 +1,10 @@
 //! The stacks of core dumps.
 
+use crate::written::writes;
 use std::alloc::Global;
 use std::test::Fail;
 use wasm_encoder_custom::core_dump_stack::{CoreDumpStackSection, CoreDumpValue};
 use wasm_encoder_instructions::ieee::{Ieee32, Ieee64};
-use wasm_encoder_rows::written::writes;
 use wasm_test_rows::fields::four_fields;
 use wasm_test_rows::rows::check_rows;
 use wasm_test_rows::values::numbers_of;

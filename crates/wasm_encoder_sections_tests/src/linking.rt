@@ -1,10 +1,10 @@
 //! Symbol tables and linking sections.
 
+use crate::written::{encodes, writes};
 use std::alloc::Global;
 use std::test::Fail;
 use wasm_encoder_custom::linking::LinkingSection;
 use wasm_encoder_custom::symbol_table::{DataSymbolDefinition, SymbolTable};
-use wasm_encoder_rows::written::{encodes, writes};
 use wasm_test_rows::fields::two_fields;
 use wasm_test_rows::rows::check_rows;
 

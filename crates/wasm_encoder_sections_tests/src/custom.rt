@@ -1,8 +1,8 @@
 //! Custom sections of any bytes.
 
+use crate::written::writes;
 use std::borrow::{CowSlice, CowStr};
 use wasm_encoder_custom::custom_section::{CustomSection, RawCustomSection};
-use wasm_encoder_rows::written::writes;
 
 #[test]
 fn a_custom_section(rt: HostRuntime) {

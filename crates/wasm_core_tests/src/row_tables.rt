@@ -1,4 +1,4 @@
-//! Tables whose rows hold.
+//! The rows of tests: tables whose rows hold.
 
 use std::alloc::Global;
 use wasm_test_rows::fields::two_fields;

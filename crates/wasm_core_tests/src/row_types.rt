@@ -1,4 +1,4 @@
-//! Types as fields.
+//! The rows of tests: types as fields.
 
 use std::alloc::Global;
 use wasm_test_rows::shown::debugs;

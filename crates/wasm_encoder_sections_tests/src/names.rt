@@ -1,9 +1,9 @@
 //! Name sections.
 
+use crate::written::writes;
 use std::alloc::Global;
 use wasm_encoder_custom::name_map::{IndirectNameMap, NameMap};
 use wasm_encoder_custom::name_section::NameSection;
-use wasm_encoder_rows::written::writes;
 
 const MODULE: &str = "00 09 04 6e 61 6d 65 00 02 01 6d";
 

@@ -1,8 +1,8 @@
 //! Hints on branches.
 
+use crate::written::writes;
 use std::alloc::Global;
 use wasm_encoder_custom::branch_hints::{BranchHint, BranchHints};
-use wasm_encoder_rows::written::writes;
 
 const HINT: BranchHint = BranchHint {
     branch_func_offset: 5,

@@ -1,4 +1,4 @@
-//! What values show.
+//! The rows of tests: what values show.
 
 use wasm_test_rows::shown::{debugs, debugs_same, displays};
 

@@ -1,4 +1,4 @@
-//! The rows of a table, and their fields.
+//! The rows of tests: the rows of a table, and their fields.
 
 use wasm_test_rows::fields::{
     count_of_rows, four_fields, has_word, is_row, three_fields, two_fields,

@@ -1,4 +1,4 @@
-//! The values of fields.
+//! The rows of tests: the values of fields.
 
 use std::alloc::Global;
 use wasm_test_rows::values::{are_bytes, bool_of, bytes_of, number_of, numbers_of, signed_of};

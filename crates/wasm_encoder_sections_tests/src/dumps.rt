@@ -1,9 +1,9 @@
 //! Core dumps.
 
+use crate::written::writes;
 use std::alloc::Global;
 use wasm_encoder_custom::core_dump::{CoreDumpModulesSection, CoreDumpSection};
 use wasm_encoder_custom::core_dump_instances::CoreDumpInstancesSection;
-use wasm_encoder_rows::written::writes;
 
 fn program(alloc: Global) -> Option<bool> {
     let section = CoreDumpSection::new(alloc, "p").ok()?;

@@ -1,8 +1,8 @@
 //! The tools that made a module.
 
+use crate::written::writes;
 use std::alloc::Global;
 use wasm_encoder_custom::producers::{ProducersField, ProducersSection};
-use wasm_encoder_rows::written::writes;
 
 const LANGUAGE: &str =
     "00 1a 09 70 72 6f 64 75 63 65 72 73 01 08 6c 61 6e 67 75 61 67 65 01 01 43 02 31 31";

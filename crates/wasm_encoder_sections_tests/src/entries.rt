@@ -16,100 +16,62 @@ use wasm_test_rows::values::numbers_of;
 
 /// A section that has entries.
 pub trait Entries: Section {
-    /// How many there are, and whether there are none.
-    fn counts(&self) -> (u32, bool);
-
-    /// How many bytes an entry is written as, if there is such an entry.
-    fn entry_len(&self, i: u32) -> Option<u64>;
+    /// How many there are, whether there are none, and how many bytes one is written as, if there is such an entry. (One call tells all three, since
+    /// each impl is proved.)
+    fn entry(&self, i: u32) -> (u32, bool, Option<u64>);
 }
 
 impl Entries for ExportSection {
-    fn counts(&self) -> (u32, bool) {
-        (self.len(), self.is_empty())
-    }
-
-    fn entry_len(&self, i: u32) -> Option<u64> {
-        self.item_len(i)
+    fn entry(&self, i: u32) -> (u32, bool, Option<u64>) {
+        (self.len(), self.is_empty(), self.item_len(i))
     }
 }
 
 impl Entries for FunctionSection {
-    fn counts(&self) -> (u32, bool) {
-        (self.len(), self.is_empty())
-    }
-
-    fn entry_len(&self, i: u32) -> Option<u64> {
-        self.item_len(i)
+    fn entry(&self, i: u32) -> (u32, bool, Option<u64>) {
+        (self.len(), self.is_empty(), self.item_len(i))
     }
 }
 
 impl Entries for ImportSection {
-    fn counts(&self) -> (u32, bool) {
-        (self.len(), self.is_empty())
-    }
-
-    fn entry_len(&self, i: u32) -> Option<u64> {
-        self.item_len(i)
+    fn entry(&self, i: u32) -> (u32, bool, Option<u64>) {
+        (self.len(), self.is_empty(), self.item_len(i))
     }
 }
 
 impl Entries for MemorySection {
-    fn counts(&self) -> (u32, bool) {
-        (self.len(), self.is_empty())
-    }
-
-    fn entry_len(&self, i: u32) -> Option<u64> {
-        self.item_len(i)
+    fn entry(&self, i: u32) -> (u32, bool, Option<u64>) {
+        (self.len(), self.is_empty(), self.item_len(i))
     }
 }
 
 impl Entries for TagSection {
-    fn counts(&self) -> (u32, bool) {
-        (self.len(), self.is_empty())
-    }
-
-    fn entry_len(&self, i: u32) -> Option<u64> {
-        self.item_len(i)
+    fn entry(&self, i: u32) -> (u32, bool, Option<u64>) {
+        (self.len(), self.is_empty(), self.item_len(i))
     }
 }
 
 impl Entries for DataSection {
-    fn counts(&self) -> (u32, bool) {
-        (self.len(), self.is_empty())
-    }
-
-    fn entry_len(&self, i: u32) -> Option<u64> {
-        self.item_len(i)
+    fn entry(&self, i: u32) -> (u32, bool, Option<u64>) {
+        (self.len(), self.is_empty(), self.item_len(i))
     }
 }
 
 impl Entries for ElementSection {
-    fn counts(&self) -> (u32, bool) {
-        (self.len(), self.is_empty())
-    }
-
-    fn entry_len(&self, i: u32) -> Option<u64> {
-        self.item_len(i)
+    fn entry(&self, i: u32) -> (u32, bool, Option<u64>) {
+        (self.len(), self.is_empty(), self.item_len(i))
     }
 }
 
 impl Entries for GlobalSection {
-    fn counts(&self) -> (u32, bool) {
-        (self.len(), self.is_empty())
-    }
-
-    fn entry_len(&self, i: u32) -> Option<u64> {
-        self.item_len(i)
+    fn entry(&self, i: u32) -> (u32, bool, Option<u64>) {
+        (self.len(), self.is_empty(), self.item_len(i))
     }
 }
 
 impl Entries for TableSection {
-    fn counts(&self) -> (u32, bool) {
-        (self.len(), self.is_empty())
-    }
-
-    fn entry_len(&self, i: u32) -> Option<u64> {
-        self.item_len(i)
+    fn entry(&self, i: u32) -> (u32, bool, Option<u64>) {
+        (self.len(), self.is_empty(), self.item_len(i))
     }
 }
 
@@ -117,14 +79,14 @@ impl Entries for TableSection {
 fn has_lengths<S: Entries>(section: &S, lengths: &[u32]) -> bool {
     let mut count = 0u32;
     for length in lengths {
-        if section.entry_len(count) != Some(u64::from(*length)) {
+        if section.entry(count).2 != Some(u64::from(*length)) {
             return false;
         }
         count = count.saturating_add(1);
     }
-    let (entries, is_empty) = section.counts();
+    let (entries, is_empty, past) = section.entry(count);
     let is_counted = entries == count && is_empty == (count == 0);
-    is_counted && section.entry_len(count).is_none() && section.entry_len(u32::MAX).is_none()
+    is_counted && past.is_none() && section.entry(u32::MAX).2.is_none()
 }
 
 /// Whether a section is the bytes of a field, and its entries have the lengths of another.

@@ -1,4 +1,5 @@
-//! Tests of `wasm_core`: features, types and errors, numbers written and read, the reader of the binary format, sections and modules; and of the rows of tests.
+//! Tests of `wasm_core`: features, types and errors, numbers written and read, the reader of the binary format, sections and modules. Beside them are those
+//! of the rows of tests.
 #![tactic(auto)]
 
 #[cfg(test)]

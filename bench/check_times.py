@@ -1,5 +1,6 @@
 """Prints the rows of bench/check.sh, and ends with 1 where one is past its bound: `check_times.py PROGRAM DRIVER COUNTER FOLDER`. The modules are those that
-bench/check_modules.py and, in FOLDER/code, bench/code_modules.sh made. DRIVER validates a file so many times, COUNTER counts a program's allocations."""
+bench/check_modules.py and, in FOLDER/code, bench/code_modules.sh made. DRIVER is `wasm_bench`, or made from its source (bench/unproved.py); COUNTER counts a
+program's allocations."""
 import os
 import shutil
 import subprocess
@@ -70,7 +71,7 @@ def told(command):
 
 
 def by_ours(path):
-    return told([driver, path, str(TIMES["ours"])])
+    return told([driver, "check", path, str(TIMES["ours"])])
 
 
 def by_node(path):

@@ -6,16 +6,14 @@ set -eu
 cd "$(dirname "$0")/.."
 folder=$(mktemp -d)
 trap 'rm -rf "$folder"' EXIT
-.ci/build wasm_encoder_bench > /dev/null
-driver=$(pwd)/crates/wasm_encoder_bench
-(cd "$driver" && ../../.ci/rt run -- functions 1 0 > /dev/null 2>&1) || true
+. bench/driver.sh
 rustc --edition 2024 -O bench/encode/main.rs -o "$folder/append"
-python3 - "$driver/out/wasm_encoder_bench" "$folder/append" <<'PYTHON'
+python3 - "$driver" "$folder/append" <<'PYTHON'
 import subprocess, sys
-ours, rust = sys.argv[1:]
+ours, rust = [sys.argv[1], "encode"], [sys.argv[2]]
 slow = []
 def told(program, kind, count):
-    words = subprocess.run([program, kind, str(count), "9"], stdout=subprocess.PIPE, text=True, check=True).stdout.split()
+    words = subprocess.run([*program, kind, str(count), "9"], stdout=subprocess.PIPE, text=True, check=True).stdout.split()
     return int(words[0]), int(words[2])
 def rates(length, count, taken):
     return f"{length * 1000 / taken:.0f} MB/s, {count * 1000 / taken:.0f} million items/s"

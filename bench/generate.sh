@@ -4,9 +4,8 @@
 # ends at the first even byte; so the same is measured of seeds of odd bytes, which are drawn whole or make as much as there may be.
 set -eu
 . "$(dirname "$0")/setup.sh"
-driver=$(pwd)/crates/wasm_gen_bench
-(cd "$driver" && ../../.ci/rt run -- /dev/null 1 > /dev/null 2>&1) || true
-python3 - "$driver/out/wasm_gen_bench" "$folder" <<'PYTHON'
+. bench/driver.sh
+python3 - "$driver" "$folder" <<'PYTHON'
 import os, random, shutil, subprocess, sys, time
 driver, folder = sys.argv[1:]
 random.seed(7)
@@ -25,7 +24,7 @@ def best(command, count):
 slow = False
 for length in (1000, 10000):
     for kind in files:
-        taken, out = best([driver, f"{folder}/{kind}", str(length)], 5)
+        taken, out = best([driver, "generate", f"{folder}/{kind}", str(length)], 5)
         modules = (size + length - 1) // length
         print(f"generate, {kind} seeds of {length} bytes: {modules / taken:.0f} modules/s, {size / taken / 1e6:.1f} MB/s of seed, {out}")
         slow = slow or size / taken < 20e6

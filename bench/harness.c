@@ -104,7 +104,7 @@ static void make_code(void) {
     }
 }
 
-/* The shortest time of one call by the clock on the wall, as `wasm_gen_check_bench` takes it of the Rust call that this one stands on. */
+/* The shortest time of one call by the clock on the wall, as `wasm_bench check` takes it of the Rust call that this one stands on. */
 static void measure_shortest(void) {
     double shortest = 1;
     for (long turn = 0; turn < 200000; turn++) {

@@ -9,9 +9,9 @@ trap 'rm -rf "$folder"' EXIT
 clang -O2 -Wall -Wextra $(./wasm_gen_c --cflags) -o "$folder/harness" bench/harness.c $(./wasm_gen_c --libs)
 "$folder/harness" "$folder"
 # (the call of Rust that C's stands on, of the module whose shortest time the line above tells; a program of the gate)
-rust=crates/wasm_gen_check_bench/out/wasm_gen_check_bench
+rust=crates/wasm_bench/out/wasm_bench
 if [ -x $rust ]; then
-    echo "the same in Rust, the shortest time of a call: $($rust "$folder/00.wasm" 200000 | tail -n 1)"
+    echo "the same in Rust, the shortest time of a call: $($rust check "$folder/00.wasm" 200000 | tail -n 1)"
 fi
 if command -v node > /dev/null; then
     node bench/harness.js "$folder"

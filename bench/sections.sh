@@ -5,8 +5,7 @@
 # are all kept: twice as many are to take twice as long, or little more.
 set -eu
 . "$(dirname "$0")/setup.sh"
-driver=$(pwd)/crates/wasm_gen_session_bench
-(cd "$driver" && ../../.ci/rt run -- 1 > /dev/null 2>&1) || true
+. bench/driver.sh
 # (a process that holds the modules would lend its size to those that it starts)
 python3 - "$folder" <<'PYTHON'
 import sys
@@ -53,7 +52,7 @@ for size in ["large", "small"]:
             print(count, name, file=names)
 open(f"{sys.argv[1]}/empty.wasm", "wb").write(header)
 PYTHON
-python3 - "$program" "$folder" "$driver/out/wasm_gen_session_bench" <<'PYTHON'
+python3 - "$program" "$folder" "$driver" <<'PYTHON'
 import os, resource, shutil, subprocess, sys, time
 program, folder, driver = sys.argv[1:]
 
@@ -97,7 +96,7 @@ def keep(count):
     best = None
     for _ in range(5):
         before = resource.getrusage(resource.RUSAGE_CHILDREN).ru_utime
-        subprocess.run([driver, str(count)], stdout=subprocess.DEVNULL, check=True)
+        subprocess.run([driver, "session", str(count)], stdout=subprocess.DEVNULL, check=True)
         taken = resource.getrusage(resource.RUSAGE_CHILDREN).ru_utime - before
         best = taken if best is None else min(best, taken)
     return best

@@ -8,10 +8,8 @@
 # - a copy of a list after each of 1,000,000 pushes, beside the time for half as many.
 set -eu
 cd "$(dirname "$0")/.."
-.ci/build wasmparser_interning_bench > /dev/null
-driver=$(pwd)/crates/wasmparser_interning_bench
-(cd "$driver" && ../../.ci/rt run -- functions 0 > /dev/null 2>&1) || true
-python3 - "$driver/out/wasmparser_interning_bench" <<'PYTHON'
+. bench/driver.sh
+python3 - "$driver" <<'PYTHON'
 import os, subprocess, sys, time
 driver = sys.argv[1]
 past = []
@@ -19,7 +17,7 @@ def best(what, count):
     taken, peak = [], []
     for _ in range(5):
         begin = time.perf_counter()
-        child = subprocess.Popen([driver, what, str(count)], stdout=subprocess.PIPE)
+        child = subprocess.Popen([driver, "types", what, str(count)], stdout=subprocess.PIPE)
         answer = child.stdout.read().decode().strip()
         _, status, usage = os.wait4(child.pid, 0)
         taken.append(time.perf_counter() - begin)

@@ -1,4 +1,5 @@
-//! Tests of `wasm_core`: features, types and errors, numbers written and read, the reader of the binary format, sections and modules.
+//! Tests of `wasm_core`: features, types and errors, numbers written and read, the reader of the binary format, sections and modules. Beside them are those
+//! of the rows of tests.
 #![tactic(auto)]
 
 #[cfg(test)]
@@ -13,6 +14,16 @@ mod numbers;
 mod read_numbers;
 #[cfg(test)]
 mod reader;
+#[cfg(test)]
+mod row_fields;
+#[cfg(test)]
+mod row_tables;
+#[cfg(test)]
+mod row_types;
+#[cfg(test)]
+mod row_values;
+#[cfg(test)]
+mod shown_values;
 #[cfg(test)]
 mod type_section;
 #[cfg(test)]

@@ -1,12 +1,12 @@
 //! Data sections.
 
+use crate::entries::holds;
 use crate::expressions::expression_of;
 use std::alloc::Global;
 use std::test::Fail;
 use wasm_encoder_expression_sections::data_section::DataSection;
 use wasm_encoder_expression_sections::data_segment::{DataSegment, DataSegmentMode};
 use wasm_encoder_expressions::const_expr::ConstExpr;
-use wasm_encoder_rows::entries::holds;
 use wasm_test_rows::fields::{three_fields, word_and_rest};
 use wasm_test_rows::rows::check_rows;
 use wasm_test_rows::values::bytes_of;

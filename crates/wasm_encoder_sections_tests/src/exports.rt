@@ -1,9 +1,9 @@
 //! Export sections.
 
+use crate::entries::holds;
 use std::alloc::Global;
 use std::test::Fail;
 use wasm_core_write::encode_error::EncodeError;
-use wasm_encoder_rows::entries::holds;
 use wasm_encoder_sections::entity_type::ExportKind;
 use wasm_encoder_sections::export_section::ExportSection;
 use wasm_test_rows::fields::{three_fields, word_and_rest};

@@ -1,11 +1,11 @@
 //! Global sections.
 
+use crate::entries::holds;
 use crate::expressions::{expression_of, reference_of};
 use std::alloc::Global;
 use std::test::Fail;
 use wasm_core_types::types::ValType;
 use wasm_encoder_expression_sections::global_section::GlobalSection;
-use wasm_encoder_rows::entries::holds;
 use wasm_encoder_sections::entity_type::GlobalType;
 use wasm_test_rows::fields::{three_fields, word_and_rest};
 use wasm_test_rows::rows::check_rows;

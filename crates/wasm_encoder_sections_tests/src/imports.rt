@@ -1,9 +1,9 @@
 //! Import sections.
 
+use crate::entries::holds;
 use std::alloc::Global;
 use wasm_core_types::types::{AbstractHeapType, HeapType, RefType, ValType};
 use wasm_core_write::encode_error::EncodeError;
-use wasm_encoder_rows::entries::holds;
 use wasm_encoder_sections::entity_type::{
     EntityType, GlobalType, MemoryType, TableType, TagKind, TagType,
 };

@@ -1,10 +1,10 @@
 //! Sections of indexes: functions, tags, and those that are one number.
 
+use crate::entries::holds;
+use crate::written::writes;
 use std::alloc::Global;
 use std::test::Fail;
 use wasm_core_write::encode_error::EncodeError;
-use wasm_encoder_rows::entries::holds;
-use wasm_encoder_rows::written::writes;
 use wasm_encoder_sections::data_count_section::DataCountSection;
 use wasm_encoder_sections::entity_type::{TagKind, TagType};
 use wasm_encoder_sections::function_section::FunctionSection;

@@ -1,12 +1,12 @@
 //! Table sections.
 
+use crate::entries::holds;
 use crate::expressions::{expression_of, reference_of};
 use std::alloc::Global;
 use std::test::Fail;
 use wasm_core_write::encode_error::EncodeError;
 use wasm_encoder_expression_sections::table_section::TableSection;
 use wasm_encoder_expressions::const_expr::ConstExpr;
-use wasm_encoder_rows::entries::holds;
 use wasm_encoder_sections::entity_type::TableType;
 use wasm_test_rows::fields::{three_fields, word_and_rest};
 use wasm_test_rows::rows::check_rows;

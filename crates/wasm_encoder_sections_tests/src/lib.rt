@@ -1,16 +1,24 @@
-//! Tests of the encoder's sections but those on types and custom ones, through their public calls.
+//! Tests of the encoder's sections, custom ones too, but those on types, through their public calls.
 #![tactic(auto)]
 
 #[cfg(test)]
+mod custom;
+#[cfg(test)]
 mod data;
 #[cfg(test)]
+mod dumps;
+#[cfg(test)]
 mod elements;
+#[cfg(test)]
+mod entries;
 #[cfg(test)]
 mod exports;
 #[cfg(test)]
 mod expressions;
 #[cfg(test)]
 mod globals;
+#[cfg(test)]
+mod hints;
 #[cfg(test)]
 mod imports;
 #[cfg(test)]
@@ -20,6 +28,16 @@ mod initialised_tables;
 #[cfg(test)]
 mod large;
 #[cfg(test)]
+mod linking;
+#[cfg(test)]
 mod memories;
 #[cfg(test)]
+mod names;
+#[cfg(test)]
+mod producers;
+#[cfg(test)]
+mod stacks;
+#[cfg(test)]
 mod tables;
+#[cfg(test)]
+mod written;

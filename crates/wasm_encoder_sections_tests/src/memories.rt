@@ -1,8 +1,8 @@
 //! Memory sections, and the sizes of pages.
 
+use crate::entries::holds;
 use std::alloc::Global;
 use std::test::Fail;
-use wasm_encoder_rows::entries::holds;
 use wasm_encoder_sections::entity_type::MemoryType;
 use wasm_encoder_sections::memory_section::MemorySection;
 use wasm_test_rows::fields::three_fields;

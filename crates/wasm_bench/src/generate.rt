@@ -1,0 +1,46 @@
+//! For `bench/generate.sh`: cuts a file into seeds of one length and makes a module of each.
+
+use std::alloc::Global;
+use std::fs;
+use std::rt::Files;
+use wasm_gen::error::GenerateError;
+use wasm_gen::generate::generate;
+use wasm_gen::smith::supported_config;
+use wasm_gen::transfer::{MAX_INPUT, MAX_TURNS, read_whole};
+
+// How many modules were made, and of how many bytes.
+#[derive(Default, Drop)]
+struct Total {
+    modules: u64,
+    bytes: u64,
+}
+
+/// Makes a module of each seed in the file that the words name, and prints the totals.
+pub(crate) fn measure<R: Files + Print + AllocGlobal>(rt: &R, words: &[String]) -> Option<()> {
+    let [name, length] = words else {
+        return None;
+    };
+    let length = length.as_str().parse::<usize>().ok()?;
+    let total = total_of_file(rt, name.as_str(), length)?;
+    println!(rt; "{} modules of {} bytes", total.modules, total.bytes).ok()
+}
+
+// Reads the file and makes a module of each seed.
+fn total_of_file<R: Files + AllocGlobal>(rt: &R, name: &str, length: usize) -> Option<Total> {
+    let alloc = rt.alloc();
+    let mut file = fs::open(rt, name).ok()?;
+    let bytes = read_whole(alloc, &mut file, MAX_INPUT, MAX_TURNS).ok()?;
+    generate_each(alloc, &bytes, length).ok()
+}
+
+// Makes a module of each seed.
+fn generate_each(alloc: Global, bytes: &[u8], length: usize) -> Result<Total, GenerateError> {
+    let config = supported_config();
+    let mut total = Total::default();
+    for seed in bytes.chunks(length.max(1)) {
+        let module = generate(alloc, &config, seed)?;
+        total.modules = total.modules.wrapping_add(1);
+        total.bytes = total.bytes.wrapping_add(module.len() as u64);
+    }
+    Ok(total)
+}

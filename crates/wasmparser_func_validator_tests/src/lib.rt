@@ -1,4 +1,4 @@
-//! Tests of validators of bodies, through their public calls.
+//! Tests of validators of bodies, and of the stacks and the locals that they keep, through their public calls.
 #![tactic(auto)]
 
 #[cfg(test)]
@@ -10,11 +10,19 @@ mod from_bytes;
 #[cfg(test)]
 mod letters;
 #[cfg(test)]
+mod locals;
+#[cfg(test)]
 mod more_features;
 #[cfg(test)]
 mod others;
 #[cfg(test)]
 mod sizes;
+#[cfg(test)]
+mod stack_calls;
+#[cfg(test)]
+mod stack_sizes;
+#[cfg(test)]
+mod stacks;
 #[cfg(test)]
 mod states;
 #[cfg(test)]

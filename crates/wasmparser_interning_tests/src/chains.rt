@@ -4,12 +4,12 @@ ghost use Rattle.std.specs.Prelude.{IfSome, slice_get};
 ghost use Rattle.wasmparser_chains.specs.Chains.{IsDepth};
 ghost use Rattle.wasmparser_interning.specs.TypeTables.{sub_types};
 
+use crate::asked_list::AskedList;
 use std::alloc::Global;
 use std::test::Fail;
 use wasm_test_rows::rows::check_rows;
 use wasmparser_interning_rows::checked_list::CheckedList;
 use wasmparser_interning_rows::new_list::on_new_list;
-use wasmparser_matching_rows::asked_list::AskedList;
 use wasmparser_types::composite_type::{CompositeType, StructType};
 use wasmparser_types::index::{CoreTypeId, PackedIndex};
 use wasmparser_types::sub_type::SubType;

@@ -1,5 +1,6 @@
 //! Which types match which, in a list of types.
 
+use crate::asked_list::AskedList;
 use std::alloc::Global;
 use std::test::Fail;
 use wasm_test_rows::fields::three_fields;
@@ -7,7 +8,6 @@ use wasm_test_rows::rows::check_rows;
 use wasmparser_interning_rows::checked_list::CheckedList;
 use wasmparser_interning_rows::new_list::on_new_list;
 use wasmparser_interning_rows::steps::steps_hold;
-use wasmparser_matching_rows::asked_list::AskedList;
 use wasmparser_type_words::types::id_of;
 
 // What each row's list begins with: a structure, and one that is declared below it.

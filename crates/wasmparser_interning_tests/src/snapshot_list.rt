@@ -4,20 +4,29 @@ use std::alloc::{AllocError, Global};
 use std::test::Fail;
 use wasmparser_snapshots::snapshot_list::SnapshotList;
 
+// Whether a list and a copy of it, which was made when it had one number, each grow by themselves.
+fn grow_apart(
+    list: &mut SnapshotList<usize>,
+    kept: &mut SnapshotList<usize>,
+) -> Result<bool, AllocError> {
+    list.push(8)?;
+    let has_grown = list.len() == 2 && list[1] == 8;
+    let is_as_it_was = kept.len() == 1 && kept.get(0) == Some(&7) && kept.get(1).is_none();
+    kept.push(9)?;
+    let are_apart = kept.len() == 2 && kept[1] == 9 && list.len() == 2 && list[1] == 8;
+    Ok(has_grown && is_as_it_was && are_apart)
+}
+
+fn grows_apart(list: &mut SnapshotList<usize>) -> Result<bool, AllocError> {
+    list.push(7)?;
+    let mut kept = list.commit()?;
+    grow_apart(list, &mut kept)
+}
+
 #[test]
 fn copy_stays_as_it_was(rt: HostRuntime) -> Result<(), Fail> {
     let mut list = SnapshotList::new(rt.alloc());
-    assert!(rt; list.is_empty(), "new");
-    list.push(7usize)?;
-    let mut kept = list.commit()?;
-    list.push(8)?;
-    assert!(rt; list.len() == 2 && list[1] == 8, "the list");
-    assert!(rt;
-        kept.len() == 1 && kept.get(0) == Some(&7) && kept.get(1).is_none(),
-        "the copy"
-    );
-    kept.push(9)?;
-    assert!(rt; kept[1] == 9 && list[1] == 8, "each grows by itself");
+    assert!(rt; list.is_empty() && grows_apart(&mut list)?);
     Ok(())
 }
 
@@ -51,23 +60,43 @@ fn counts_to(list: &SnapshotList<usize>, len: usize) -> bool {
     list.len() == len && list.get(len).is_none() && list.get(usize::MAX).is_none()
 }
 
-// The numbers from 0 on, pushed one after the other, with a copy taken after each so many of them, and whether these copies stay as they were.
-fn keeps_copies(alloc: Global, len: usize, step: usize) -> Result<bool, AllocError> {
-    let mut list = SnapshotList::new(alloc);
-    let mut copies = Vec::new(alloc);
+// Pushes the numbers from 0 on, one after the other, and takes a copy after each so many of them.
+fn push_numbers(
+    list: &mut SnapshotList<usize>,
+    copies: &mut Vec<SnapshotList<usize>>,
+    len: usize,
+    step: usize,
+) -> Result<(), AllocError> {
     for number in 0..len {
         list.push(number)?;
         if list.len() % step.max(1) == 0 {
             copies.push(list.commit()?)?;
         }
     }
-    let mut are_kept = counts_to(&list, len);
+    Ok(())
+}
+
+// Whether there are so many numbers, and the copies have one step more each.
+fn are_counted(
+    list: &SnapshotList<usize>,
+    copies: &[SnapshotList<usize>],
+    len: usize,
+    step: usize,
+) -> bool {
+    let mut are_kept = counts_to(list, len);
     let mut count: usize = 0;
-    for copy in &copies {
+    for copy in copies {
         count = count.saturating_add(step);
         are_kept = are_kept && counts_to(copy, count);
     }
-    Ok(are_kept && copies.len() == len / step.max(1))
+    are_kept && copies.len() == len / step.max(1)
+}
+
+// Whether copies that are taken after each so many numbers stay as they were.
+fn keeps_copies(alloc: Global, len: usize, step: usize) -> Result<bool, AllocError> {
+    let (mut list, mut copies) = (SnapshotList::new(alloc), Vec::new(alloc));
+    push_numbers(&mut list, &mut copies, len, step)?;
+    Ok(are_counted(&list, &copies, len, step))
 }
 
 #[test]
@@ -79,17 +108,17 @@ fn copies_are_kept(rt: HostRuntime) -> Result<(), Fail> {
 }
 
 // The same of so many numbers, without a copy being kept.
-fn takes_copies(alloc: Global, len: usize) -> Result<bool, AllocError> {
-    let mut list = SnapshotList::new(alloc);
+fn takes_copies(list: &mut SnapshotList<usize>, len: usize) -> Result<bool, AllocError> {
     for number in 0..len {
         list.push(number)?;
         list.commit()?;
     }
-    Ok(counts_to(&list, len))
+    Ok(counts_to(list, len))
 }
 
 #[test]
 fn a_million_copies_share_their_elements(rt: HostRuntime) -> Result<(), Fail> {
-    assert!(rt; takes_copies(rt.alloc(), 1_000_000)?, "all are there");
+    let mut list = SnapshotList::new(rt.alloc());
+    assert!(rt; takes_copies(&mut list, 1_000_000)?, "all are there");
     Ok(())
 }

@@ -1,5 +1,7 @@
 //! Which heap types, references and value types are below which, and what is above all.
 
+use crate::asked_list::AskedList;
+use crate::references::ref_type_of;
 use std::alloc::Global;
 use std::test::Fail;
 use wasm_test_rows::fields::{has_word, three_fields, two_fields};
@@ -8,8 +10,6 @@ use wasmparser_interning::type_list::TypeList;
 use wasmparser_interning_rows::checked_list::CheckedList;
 use wasmparser_interning_rows::new_list::on_new_list;
 use wasmparser_interning_rows::steps::steps_hold;
-use wasmparser_matching_rows::asked_list::AskedList;
-use wasmparser_matching_rows::words::ref_type_of;
 use wasmparser_type_words::types::{func_type_of, id_of};
 use wasmparser_types::composite_type::FuncType;
 use wasmparser_types::index::CoreTypeId;

@@ -1,2 +1,0 @@
-mod Depths
-mod Tests

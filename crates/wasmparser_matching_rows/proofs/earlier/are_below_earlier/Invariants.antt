@@ -1,5 +1,0 @@
-use Rattle.wasmparser_matching_rows.specs.Earlier.{AreBelowEarlierTo}
-use Rattle.wasmparser_matching_rows.proofs.earlier.are_below_earlier.Given as goal
-
-abbrev pub invariant-loop-index : goal.invariant-loop-index
-invariant-loop-index l = AreBelowEarlierTo l.list l.index

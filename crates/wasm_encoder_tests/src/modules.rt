@@ -26,7 +26,7 @@ use wasm_encoder::table_section::TableSection;
 use wasm_encoder::tag_section::TagSection;
 use wasm_encoder::type_section::TypeSection;
 use wasm_encoder::types::{AbstractHeapType, FuncType, HeapType, RefType, ValType};
-use wasm_gen_check_tests::modules::answers_under;
+use wasm_gen_rows::answers::answers_under;
 
 fn types(alloc: Global) -> Result<TypeSection, EncodeError> {
     let mut types = TypeSection::new(alloc);

@@ -8,7 +8,7 @@ use wasm_smith::module::Module;
 use wasm_smith::supported::supported_config;
 use wasm_smith::unstructured::Unstructured;
 use wasm_smith::witness::witness;
-use wasm_smith_config_tests::settings::config_of;
+use wasm_smith_config_rows::settings::config_of;
 use wasm_test_rows::fields::four_fields;
 use wasm_test_rows::rows::check_rows;
 use wasm_test_rows::shown::debugs_same;

@@ -1,5 +1,7 @@
 //! Seeds for lists of types and functions.
 
+use crate::configs::config_of;
+use crate::generated::makes;
 use crate::lists::{Drawing, function_type, put};
 use std::alloc::Global;
 use std::test::Fail;
@@ -7,9 +9,7 @@ use wasm_core::types::{SubType, ValType};
 use wasm_gen::generate::generate;
 use wasm_gen::seed::seed_for;
 use wasm_gen::smith::{Config, supported_config};
-use wasm_gen_check_tests::modules::parts_of;
-use wasm_gen_generate_tests::configs::config_of;
-use wasm_gen_generate_tests::generated::makes;
+use wasm_gen_rows::modules::parts_of;
 use wasm_test_rows::fields::four_fields;
 use wasm_test_rows::rows::check_rows;
 use wasm_test_rows::values::number_of;
@@ -56,7 +56,7 @@ fn are_made(alloc: Global, number: u32, turn: u8) -> bool {
 fn drawn_lists_are_made_from_seeds(rt: HostRuntime) {
     for number in 0..1000u32 {
         for turn in 1..4u8 {
-            assert!(rt; are_made(rt.alloc(), number, turn), "{number}");
+            assert!(rt; are_made(rt.alloc(), number, turn));
         }
     }
 }

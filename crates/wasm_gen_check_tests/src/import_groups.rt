@@ -36,7 +36,8 @@ fn has_all_functions(_alloc: Global, view: TypesRef<'_>, _row: &str) -> bool {
 // Whether a session shows all functions of the group.
 fn is_shared(alloc: Global, session: &mut Session, row: &str) -> Option<bool> {
     let bytes = long_group(alloc).ok()?;
-    Some(on_types(alloc, session, &bytes, row, has_all_functions) == Ok(true))
+    let answer = on_types(alloc, session, &bytes, row, has_all_functions);
+    Some(matches!(answer, Ok(true)))
 }
 
 #[test]

@@ -52,7 +52,8 @@ fn are_exported(alloc: Global, view: TypesRef<'_>, expected: &str) -> bool {
 pub fn has_exports(alloc: Global, session: &mut Session, row: &str) -> Option<bool> {
     let (_, sections, expected) = three_fields(row)?;
     let bytes = module_of(alloc, sections)?;
-    Some(on_types(alloc, session, &bytes, expected, are_exported) == Ok(true))
+    let answer = on_types(alloc, session, &bytes, expected, are_exported);
+    Some(matches!(answer, Ok(true)))
 }
 
 // Whether a view counts what the line says.

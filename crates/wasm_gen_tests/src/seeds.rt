@@ -38,18 +38,27 @@ fn is_found(alloc: Global, groups: &[Vec<SubType>], functions: &[u32], module: &
     }
 }
 
-// Whether the lists of this number are made from the seed that is found for them, from one that spells them, and from that with a tail. With the tail
-// the types and functions are the same, since their sections, at the module's front, have the same bytes.
-fn are_made(alloc: Global, number: u32, turn: u8) -> bool {
-    let mut drawing = Drawing::new(alloc, number, turn);
-    let groups = drawing.groups(alloc);
+// Whether functions that are drawn for these groups are made with them from the seed that is found for both, from one that spells them, and from that with a
+// tail. With the tail the types and functions are the same, since their sections, at the module's front, have the same bytes.
+fn are_drawn(alloc: Global, drawing: &mut Drawing, groups: &[Vec<SubType>]) -> bool {
     let functions = drawing.functions(alloc, groups.len());
-    let are_made = is_found(alloc, &groups, &functions, &drawing.module)
+    let are_made = is_found(alloc, groups, &functions, &drawing.module)
         && makes_exactly(alloc, &drawing.seed, &drawing.module);
     for byte in [0x2a, 0x01, 0x01, 0xff, 0x00, 0x7f, 0x03, 0x02] {
         put(&mut drawing.seed, byte);
     }
     are_made && makes_front(alloc, &drawing.seed, &drawing.module, drawing.front_len)
+}
+
+// Whether the lists of this number are made.
+fn are_made(alloc: Global, number: u32, turn: u8) -> bool {
+    let mut drawing = Drawing::new(alloc, number, turn);
+    let groups = drawing.groups(alloc);
+    let are_made = are_drawn(alloc, &mut drawing, &groups);
+    // (dropped by calls, which are cheaper to prove)
+    drop(groups);
+    drop(drawing);
+    are_made
 }
 
 #[test]
@@ -138,9 +147,11 @@ fn seed_of(
     groups: &str,
     functions: &str,
 ) -> Option<Option<Vec<u8>>> {
-    let groups = groups_in(alloc, groups)?;
     let functions = functions_in(alloc, functions)?;
-    seed_for(alloc, config, &groups, &functions).ok()
+    let groups = groups_in(alloc, groups)?;
+    let seed = seed_for(alloc, config, &groups, &functions);
+    drop(groups);
+    seed.ok()
 }
 
 // Whether a seed makes these sections, or none was expected.

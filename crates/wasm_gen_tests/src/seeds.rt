@@ -38,8 +38,8 @@ fn is_found(alloc: Global, groups: &[Vec<SubType>], functions: &[u32], module: &
     }
 }
 
-// Whether functions that are drawn for these groups are made with them from the seed that is found for both, from one that spells them, and from that with a
-// tail. With the tail the types and functions are the same, since their sections, at the module's front, have the same bytes.
+// Whether these groups, and the functions that are drawn for them, are made from the seed that is found for both, from one that spells them, and from that with
+// a tail. With the tail the types and functions are the same, since their sections, at the module's front, have the same bytes.
 fn are_drawn(alloc: Global, drawing: &mut Drawing, groups: &[Vec<SubType>]) -> bool {
     let functions = drawing.functions(alloc, groups.len());
     let are_made = is_found(alloc, groups, &functions, &drawing.module)

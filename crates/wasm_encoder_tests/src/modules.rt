@@ -26,12 +26,12 @@ use wasm_encoder::table_section::TableSection;
 use wasm_encoder::tag_section::TagSection;
 use wasm_encoder::type_section::TypeSection;
 use wasm_encoder::types::{AbstractHeapType, FuncType, HeapType, RefType, ValType};
-use wasm_gen_check_tests::modules::answers_under;
+use wasm_gen_rows::answers::answers_under;
 
-fn types(alloc: Global) -> Result<TypeSection, EncodeError> {
+fn push_types(alloc: Global, module: &mut Module) -> Result<(), EncodeError> {
     let mut types = TypeSection::new(alloc);
     types.func(FuncType::new(Vec::new(alloc), Vec::new(alloc)))?;
-    Ok(types)
+    module.push(&types)
 }
 
 const TABLE: TableType = TableType {
@@ -148,25 +148,30 @@ fn push_names(alloc: Global, module: &mut Module) -> Result<(), EncodeError> {
     module.push(&names)
 }
 
-// A module with sections of most kinds, whose start function has this index.
-fn module_of(alloc: Global, start: u32) -> Result<Vec<u8>, EncodeError> {
-    let mut module = Module::new(alloc)?;
-    module.push(&types(alloc)?)?;
-    push_imports(alloc, &mut module)?;
-    push_functions(alloc, &mut module)?;
-    push_tables(alloc, &mut module)?;
-    push_memories(alloc, &mut module)?;
-    push_tags(alloc, &mut module)?;
-    push_globals(alloc, &mut module)?;
-    push_exports(alloc, &mut module)?;
+// Sections of most kinds, of which the start section has this index.
+fn push_sections(alloc: Global, module: &mut Module, start: u32) -> Result<(), EncodeError> {
+    push_types(alloc, module)?;
+    push_imports(alloc, module)?;
+    push_functions(alloc, module)?;
+    push_tables(alloc, module)?;
+    push_memories(alloc, module)?;
+    push_tags(alloc, module)?;
+    push_globals(alloc, module)?;
+    push_exports(alloc, module)?;
     module.push(&StartSection {
         function_index: start,
     })?;
-    push_elements(alloc, &mut module)?;
+    push_elements(alloc, module)?;
     module.push(&DataCountSection { count: 2 })?;
-    push_bodies(alloc, &mut module)?;
-    push_data(alloc, &mut module)?;
-    push_names(alloc, &mut module)?;
+    push_bodies(alloc, module)?;
+    push_data(alloc, module)?;
+    push_names(alloc, module)
+}
+
+// A module of these sections. (What owns a module has it alive at one exit alone, since each is to be proved.)
+fn module_of(alloc: Global, start: u32) -> Result<Vec<u8>, EncodeError> {
+    let mut module = Module::new(alloc)?;
+    push_sections(alloc, &mut module, start)?;
     Ok(module.finish())
 }
 

@@ -2,8 +2,9 @@
 
 use std::alloc::{AllocError, Global};
 use wasm_core::features::{Flags, WasmFeatures};
-use wasm_gen::judge::ValidatorId;
+use wasm_gen::judge::TypesRef;
 use wasm_gen::session::Session;
+use wasm_gen_rows::new_session::{on_new_session, on_types};
 
 // An import section with one group: the name of its module has 100,000 bytes, and 200,000 functions of the first type have one of 25 names each.
 fn push_group(section: &mut Vec<u8>) -> Result<(), AllocError> {
@@ -28,24 +29,19 @@ fn long_group(alloc: Global) -> Result<Vec<u8>, AllocError> {
     Ok(bytes)
 }
 
-// How many functions a session shows of these bytes.
-fn function_count(alloc: Global, bytes: &[u8]) -> Option<u32> {
-    let features = WasmFeatures::default().union(WasmFeatures::COMPACT_IMPORTS);
-    let mut session = Session::new(alloc, features, ValidatorId::new(0));
-    let count = match session.check(bytes) {
-        Ok(types) => Some(types.as_ref().function_count()),
-        Err(_) => None,
-    };
-    drop(session);
-    count
+fn has_all_functions(_alloc: Global, view: TypesRef<'_>, _row: &str) -> bool {
+    view.function_count() == 200_000
 }
 
-fn is_shared(alloc: Global) -> Option<bool> {
+// Whether a session shows all functions of the group.
+fn is_shared(alloc: Global, session: &mut Session, row: &str) -> Option<bool> {
     let bytes = long_group(alloc).ok()?;
-    Some(function_count(alloc, &bytes)? == 200_000)
+    let answer = on_types(alloc, session, &bytes, row, has_all_functions);
+    Some(matches!(answer, Ok(true)))
 }
 
 #[test]
 fn a_long_name_is_looked_up_once(rt: HostRuntime) {
-    assert!(rt; is_shared(rt.alloc()) == Some(true));
+    let features = WasmFeatures::default().union(WasmFeatures::COMPACT_IMPORTS);
+    assert!(rt; on_new_session(rt.alloc(), features, "", is_shared) == Some(true));
 }

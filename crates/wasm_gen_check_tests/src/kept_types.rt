@@ -1,11 +1,13 @@
 //! The types of many modules in one session: what their ids are, and how many there is room for.
 
-use crate::modules::{answers, module_of, new_session, parts_of};
 use std::alloc::Global;
 use std::test::Fail;
 use wasm_core::features::{Flags, WasmFeatures};
 use wasm_gen::judge::{ErrorKind, TypesRef, ValidatorId};
 use wasm_gen::session::Session;
+use wasm_gen_rows::answers::answers;
+use wasm_gen_rows::modules::{module_of, parts_of};
+use wasm_gen_rows::new_session::{on_new_session, on_types_after, on_types_of_both, renew};
 use wasm_test_rows::fields::{is_row, two_fields};
 use wasm_test_rows::rows::check_rows;
 
@@ -130,18 +132,20 @@ impl Met {
     }
 }
 
+fn agrees(met: &mut Met, types: TypesRef<'_>, module: &str) -> bool {
+    met.agrees(types, groups_of(module)) == Some(true)
+}
+
 // Whether the session answers on a row's module as it is to.
 fn is_met(alloc: Global, session: &mut Session, met: &mut Met, row: &str) -> Option<bool> {
     let (module, sections) = two_fields(row)?;
     let bytes = module_of(alloc, sections)?;
-    let verdict = session.check(&bytes);
-    let holds = match &verdict {
-        Ok(types) => met.agrees(types.as_ref(), groups_of(module)),
-        Err(error) => met.enter_all(groups_of(module), error.kind),
-    };
-    let is_yes = verdict.is_ok();
-    drop(verdict);
-    Some(holds? && is_yes != is_refused(module))
+    match on_types_after(session, &bytes, met, module, agrees) {
+        Ok(holds) => Some(holds && !is_refused(module)),
+        Err(e) => Some(
+            is_refused(module) && met.enter_all(groups_of(module), e.kind) == Some(true),
+        ),
+    }
 }
 
 // Whether a session answers so on three modules, one after the other.
@@ -159,22 +163,20 @@ fn are_all_met(
     Some(true)
 }
 
-// The same of a new session.
-fn are_met(alloc: Global, features: WasmFeatures, modules: [&str; 3]) -> Option<bool> {
-    let mut session = Session::new(alloc, features, ValidatorId::new(0));
-    let mut met = Met::new(features.needs_type_canonicalization());
-    let holds = are_all_met(alloc, &mut session, &mut met, modules);
-    drop(session);
-    holds
+// The same of a new session in the place of this one.
+fn are_met(alloc: Global, session: &mut Session, modules: [&str; 3]) -> Option<bool> {
+    renew(alloc, session);
+    let mut met = Met::new(session.features().needs_type_canonicalization());
+    are_all_met(alloc, session, &mut met, modules)
 }
 
 // In how many orders of three modules of a table, of which this is the first, the answers are as they are to be.
-fn count_after(alloc: Global, features: WasmFeatures, table: &str, first: &str) -> usize {
+fn count_after(alloc: Global, session: &mut Session, table: &str, first: &str) -> usize {
     let mut count = 0usize;
     for second in table.lines() {
         for third in table.lines() {
             let modules = [first, second, third];
-            if is_row(second) && is_row(third) && are_met(alloc, features, modules) == Some(true) {
+            if is_row(second) && is_row(third) && are_met(alloc, session, modules) == Some(true) {
                 count = count.saturating_add(1);
             }
         }
@@ -182,9 +184,13 @@ fn count_after(alloc: Global, features: WasmFeatures, table: &str, first: &str) 
     count
 }
 
+fn are_one_in_each_order(alloc: Global, session: &mut Session, first: &str) -> Option<bool> {
+    Some(count_after(alloc, session, MODULES, first) == 400)
+}
+
 fn equal_types_have_one_id(alloc: Global, first: &str) -> Option<bool> {
     let features = WasmFeatures::default().union(WasmFeatures::GC);
-    Some(count_after(alloc, features, MODULES, first) == 400)
+    on_new_session(alloc, features, first, are_one_in_each_order)
 }
 
 // Features under which each definition is a type of its own.
@@ -195,8 +201,12 @@ fn features_of_own_ids() -> WasmFeatures {
     WasmFeatures::default().difference(canonical)
 }
 
+fn are_many_in_each_order(alloc: Global, session: &mut Session, first: &str) -> Option<bool> {
+    Some(count_after(alloc, session, FUNCTIONS, first) == 36)
+}
+
 fn each_definition_has_an_id(alloc: Global, first: &str) -> Option<bool> {
-    Some(count_after(alloc, features_of_own_ids(), FUNCTIONS, first) == 36)
+    on_new_session(alloc, features_of_own_ids(), first, are_many_in_each_order)
 }
 
 #[test]
@@ -206,49 +216,47 @@ fn types_have_their_ids_in_each_order_of_modules(rt: HostRuntime) -> Result<(), 
 }
 
 // Whether a session answers so on modules of function types that are all kept.
-fn is_full(alloc: Global, session: &mut Session, types: &str, expected: &str) -> Option<bool> {
-    let bytes = parts_of(alloc, types)?;
-    Some(answers(alloc, session, &bytes, expected))
+fn is_full(alloc: Global, session: &mut Session, types: &str, expected: &str) -> bool {
+    match parts_of(alloc, types) {
+        Some(bytes) => answers(alloc, session, &bytes, expected),
+        None => false,
+    }
 }
 
 // Whether a list holds 1,048,576 types, and no more.
-fn fills_up(alloc: Global, session: &mut Session) -> Option<bool> {
+fn fills_up(alloc: Global, session: &mut Session, _row: &str) -> Option<bool> {
     let million = "header 01 c38db701 c0843d 600000*1000000";
     let others = "header 01 c3f208 c0fb02 600000*48576";
     let one = "header types";
-    let holds = is_full(alloc, session, million, "yes")?
-        && is_full(alloc, session, others, "yes")?
-        && is_full(alloc, session, one, "Total")?
-        && is_full(alloc, session, one, "Failed")?;
+    let holds = is_full(alloc, session, million, "yes")
+        && is_full(alloc, session, others, "yes")
+        && is_full(alloc, session, one, "Total")
+        && is_full(alloc, session, one, "Failed");
     session.restart(ValidatorId::new(1));
-    Some(holds && is_full(alloc, session, one, "yes")?)
+    Some(holds && is_full(alloc, session, one, "yes"))
 }
 
 // The same of groups that are held already.
-fn fills_up_by_known_groups(alloc: Global, session: &mut Session) -> Option<bool> {
+fn fills_up_by_known_groups(alloc: Global, session: &mut Session, _row: &str) -> Option<bool> {
     let million = "header 01 85897a 01 4ec0843d 5f00*1000000";
     let others = "header 01 85f705 01 4ec0fb02 5f00*48576";
     Some(
-        is_full(alloc, session, million, "yes")?
-            && is_full(alloc, session, others, "yes")?
-            && is_full(alloc, session, others, "Total")?,
+        is_full(alloc, session, million, "yes")
+            && is_full(alloc, session, others, "yes")
+            && is_full(alloc, session, others, "Total"),
     )
 }
 
 #[test]
 fn list_of_types_fills_up(rt: HostRuntime) {
-    let mut session = Session::new(rt.alloc(), features_of_own_ids(), ValidatorId::new(0));
-    let holds = fills_up(rt.alloc(), &mut session);
-    drop(session);
+    let holds = on_new_session(rt.alloc(), features_of_own_ids(), "", fills_up);
     assert!(rt; holds == Some(true));
 }
 
 #[test]
 fn known_groups_find_no_room_either(rt: HostRuntime) {
     let features = WasmFeatures::default().union(WasmFeatures::GC);
-    let mut session = Session::new(rt.alloc(), features, ValidatorId::new(0));
-    let holds = fills_up_by_known_groups(rt.alloc(), &mut session);
-    drop(session);
+    let holds = on_new_session(rt.alloc(), features, "", fills_up_by_known_groups);
     assert!(rt; holds == Some(true));
 }
 
@@ -266,24 +274,14 @@ fn stay(first: TypesRef<'_>, second: TypesRef<'_>) -> bool {
 }
 
 // Whether the types of one module are kept while the session checks another.
-fn keeps_types(alloc: Global, session: &mut Session) -> Option<bool> {
+fn keeps_types(alloc: Global, session: &mut Session, _row: &str) -> Option<bool> {
     let one = module_of(alloc, "01 06 01 60017f017c")?;
     let both = module_of(alloc, "01 09 02 600000 60017f017c")?;
-    let first = session.check(&one);
-    let second = session.check(&both);
-    let holds = match (&first, &second) {
-        (Ok(first), Ok(second)) => stay(first.as_ref(), second.as_ref()),
-        _ => false,
-    };
-    drop(first);
-    drop(second);
-    Some(holds)
+    Some(on_types_of_both(session, &one, &both, stay))
 }
 
 #[test]
 fn types_are_kept(rt: HostRuntime) {
-    let mut session = new_session(rt.alloc());
-    let holds = keeps_types(rt.alloc(), &mut session);
-    drop(session);
+    let holds = on_new_session(rt.alloc(), WasmFeatures::default(), "", keeps_types);
     assert!(rt; holds == Some(true));
 }

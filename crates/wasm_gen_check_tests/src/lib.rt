@@ -23,7 +23,6 @@ mod import_groups;
 mod kept_types;
 #[cfg(test)]
 mod lines;
-pub mod modules;
 #[cfg(test)]
 mod other_sections;
 #[cfg(test)]

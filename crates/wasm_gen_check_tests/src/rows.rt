@@ -1,6 +1,5 @@
 //! Rows of a module, and what new sessions answer on it.
 
-use crate::modules::{answers_under, module_of};
 use crate::views::{has_exports, has_line};
 use crate::{
     custom_sections, cuts, data_segments, elements, exports, function_limits, functions, globals,
@@ -9,6 +8,9 @@ use crate::{
 use std::alloc::Global;
 use std::test::Fail;
 use wasm_core::features::{Flags, WasmFeatures};
+use wasm_gen_rows::answers::answers_under;
+use wasm_gen_rows::modules::module_of;
+use wasm_gen_rows::new_session::on_new_session;
 use wasm_test_rows::fields::{has_word, three_fields};
 use wasm_test_rows::rows::check_rows;
 use wasm_test_rows::values::number_of;
@@ -103,17 +105,24 @@ fn answer_in(field: &str) -> &str {
     }
 }
 
-// Whether a row holds: features, or what is to be done; the sections of a module; and what comes of it.
-fn holds(alloc: Global, row: &str) -> Option<bool> {
-    let (way, sections, expected) = three_fields(row)?;
+// Whether new sessions answer so on a module: features, or what is to be done; the sections of the module; and what comes of it.
+fn are_answers(alloc: Global, way: &str, sections: &str, expected: &str) -> Option<bool> {
     let mut bytes = module_of(alloc, sections)?;
     match way {
         "each" => asks_for(alloc, &bytes, expected),
         "cuts" => Some(is_cut_at(alloc, &bytes, expected)),
         "ids" => has_ids(alloc, &mut bytes, expected),
-        "line" => Some(has_line(alloc, &bytes, expected)),
-        "exports" => Some(has_exports(alloc, &bytes, expected)),
         _ => Some(answers_under(alloc, features_of(way)?, &bytes, answer_in(expected))),
+    }
+}
+
+// Whether a row holds.
+fn holds(alloc: Global, row: &str) -> Option<bool> {
+    let (way, sections, expected) = three_fields(row)?;
+    match way {
+        "line" => on_new_session(alloc, WasmFeatures::default(), row, has_line),
+        "exports" => on_new_session(alloc, WasmFeatures::default(), row, has_exports),
+        _ => are_answers(alloc, way, sections, expected),
     }
 }
 

@@ -1,11 +1,12 @@
 //! What a session holds between modules.
 
-use crate::modules::{answers, new_session, parts_of, refusal_of};
 use std::alloc::Global;
-use std::mem;
 use wasm_core::features::{Flags, WasmFeatures};
 use wasm_gen::judge::ValidatorId;
 use wasm_gen::session::Session;
+use wasm_gen_rows::answers::{answers, refusal_of};
+use wasm_gen_rows::modules::parts_of;
+use wasm_gen_rows::new_session::{on_new_session, renew};
 use wasm_test_rows::fields::{four_fields, is_row};
 use wasm_test_rows::values::bool_of;
 
@@ -52,7 +53,7 @@ const ROWS: &str = "
 // Readies the session for a row.
 fn ready(alloc: Global, session: &mut Session, state: &str) -> Option<()> {
     match state {
-        "new" => drop(mem::replace(session, new_session(alloc))),
+        "new" => renew(alloc, session),
         "restarted" => session.restart(ValidatorId::new(7)),
         "on" => {}
         _ => return None,
@@ -71,9 +72,8 @@ fn holds(alloc: Global, session: &mut Session, row: &str) -> Option<bool> {
 }
 
 // How many rows hold, one after the other, before one that doesn't.
-fn count_of_true_rows(alloc: Global, session: &mut Session) -> usize {
+fn count_of_true_rows(alloc: Global, session: &mut Session, table: &str) -> usize {
     let mut count = 0usize;
-    let table = ROWS;
     for row in table.lines() {
         if !is_row(row) {
             continue;
@@ -86,48 +86,50 @@ fn count_of_true_rows(alloc: Global, session: &mut Session) -> usize {
     count
 }
 
-#[test]
-fn session_goes_on_or_has_failed(rt: HostRuntime) {
-    let mut session = new_session(rt.alloc());
-    let count = count_of_true_rows(rt.alloc(), &mut session);
-    drop(session);
-    assert!(rt; count == 31, "{count} rows hold");
+fn rows_hold(alloc: Global, session: &mut Session, table: &str) -> Option<bool> {
+    Some(count_of_true_rows(alloc, session, table) == 31)
 }
 
-// Whether the session has these features, and the id of this number.
-fn has(session: &Session, features: WasmFeatures, id: usize) -> bool {
-    session.features() == features && session.id() == ValidatorId::new(id)
+#[test]
+fn session_goes_on_or_has_failed(rt: HostRuntime) {
+    let holds = on_new_session(rt.alloc(), WasmFeatures::default(), ROWS, rows_hold);
+    assert!(rt; holds == Some(true));
+}
+
+fn handed_features() -> WasmFeatures {
+    WasmFeatures::GC.union(WasmFeatures::THREADS)
+}
+
+// Whether the session has the features that it was handed, and the id of this number.
+fn has(session: &Session, id: usize) -> bool {
+    session.features() == handed_features() && session.id() == ValidatorId::new(id)
 }
 
 // Whether it keeps them, also after a refusal and a restart.
-fn keeps(alloc: Global, session: &mut Session, features: WasmFeatures) -> bool {
-    let is_kept = has(session, features, 3)
-        && answers(alloc, session, &[], "Malformed")
-        && has(session, features, 3);
+fn keeps(alloc: Global, session: &mut Session, _row: &str) -> Option<bool> {
+    let is_kept = has(session, 3) && answers(alloc, session, &[], "Malformed") && has(session, 3);
     session.restart(ValidatorId::new(4));
-    is_kept && has(session, features, 4)
+    Some(is_kept && has(session, 4))
 }
 
 #[test]
 fn session_keeps_what_it_was_handed(rt: HostRuntime) {
-    let features = WasmFeatures::GC.union(WasmFeatures::THREADS);
-    let mut session = Session::new(rt.alloc(), features, ValidatorId::new(3));
-    let is_kept = keeps(rt.alloc(), &mut session, features);
-    drop(session);
-    assert!(rt; is_kept);
+    let is_kept = on_new_session(rt.alloc(), handed_features(), "", keeps);
+    assert!(rt; is_kept == Some(true));
 }
 
-// Where a section that is cut is refused.
-fn offset_of_cut(alloc: Global) -> Option<u64> {
-    let cut = parts_of(alloc, "header 00 05 01")?;
-    let mut session = new_session(alloc);
-    let refusal = refusal_of(&mut session, &cut);
-    drop(session);
-    Some(refusal?.offset)
+// Whether a section that is cut is refused within the bytes.
+fn is_refused_within(alloc: Global, session: &mut Session, cut: &str) -> Option<bool> {
+    let bytes = parts_of(alloc, cut)?;
+    match refusal_of(session, &bytes) {
+        Some(error) => Some(error.offset <= 11),
+        None => None,
+    }
 }
 
 #[test]
 fn refusal_stands_within_the_bytes(rt: HostRuntime) {
-    let offset = offset_of_cut(rt.alloc());
-    assert!(rt; offset.is_some_and(|it| it <= 11));
+    let cut = "header 00 05 01";
+    let is_within = on_new_session(rt.alloc(), WasmFeatures::default(), cut, is_refused_within);
+    assert!(rt; is_within == Some(true));
 }

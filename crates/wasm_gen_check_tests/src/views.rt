@@ -1,53 +1,59 @@
 //! What is written of modules, and what their views count.
 
-use crate::modules::new_session;
 use std::alloc::Global;
-use wasm_gen::judge::TypesRef;
+use wasm_gen::judge::{CoreExports, TypesRef};
 use wasm_gen::run::run_check;
+use wasm_gen::session::Session;
+use wasm_gen_rows::modules::module_of;
+use wasm_gen_rows::new_session::{on_types, renew};
+use wasm_test_rows::fields::three_fields;
 
-// Whether a new session writes the line.
-fn writes(alloc: Global, bytes: &[u8], line: &str) -> bool {
+// Whether the session writes the line.
+fn writes(alloc: Global, session: &mut Session, bytes: &[u8], line: &str) -> bool {
     let mut reader = bytes;
     let mut written = Vec::new(alloc);
-    let mut session = new_session(alloc);
-    let answer = run_check(alloc, &mut session, &mut reader, &mut written);
-    drop(session);
+    let answer = run_check(alloc, session, &mut reader, &mut written);
     answer == Ok(line.starts_with("yes")) && written.strip_suffix(b"\n") == Some(line.as_bytes())
 }
 
 // The number of a view's exports.
 fn export_count(view: TypesRef<'_>) -> usize {
-    view.core_exports().map_or(0, |it| it.count())
+    match view.core_exports() {
+        Some(exports) => exports.count(),
+        None => 0,
+    }
 }
 
-// Whether these are a view's exports, in order: the name of each, its kind and its index.
+// Whether this is the next export: its name, its kind and its index.
+fn is_next(alloc: Global, exports: &mut CoreExports<'_>, expected: &str) -> bool {
+    let Some(export) = exports.next() else {
+        return false;
+    };
+    match format!(in alloc; "{} {:?} {}", export.name, export.kind, export.index) {
+        Ok(shown) => shown.as_str() == expected,
+        Err(_) => false,
+    }
+}
+
+// Whether these are a view's exports, in order.
 fn are_exported(alloc: Global, view: TypesRef<'_>, expected: &str) -> bool {
     let Some(mut exports) = view.core_exports() else {
         return false;
     };
     for export in expected.split(", ") {
-        let shown = exports.next().and_then(|it| format!(in alloc;
-            "{} {:?} {}",
-            it.name, it.kind, it.index
-        ).ok());
-        if !shown.is_some_and(|it| it.as_str() == export) {
+        if !is_next(alloc, &mut exports, export) {
             return false;
         }
     }
     exports.next().is_none()
 }
 
-/// Whether the module is valid and exports these: names, kinds and indexes.
-pub fn has_exports(alloc: Global, bytes: &[u8], expected: &str) -> bool {
-    let mut session = new_session(alloc);
-    let verdict = session.check(bytes);
-    drop(session);
-    let holds = match &verdict {
-        Ok(types) => are_exported(alloc, types.as_ref(), expected),
-        Err(_) => false,
-    };
-    drop(verdict);
-    holds
+/// Whether the module of a row is valid and exports what the row says: names, kinds and indexes.
+pub fn has_exports(alloc: Global, session: &mut Session, row: &str) -> Option<bool> {
+    let (_, sections, expected) = three_fields(row)?;
+    let bytes = module_of(alloc, sections)?;
+    let answer = on_types(alloc, session, &bytes, expected, are_exported);
+    Some(matches!(answer, Ok(true)))
 }
 
 // Whether a view counts what the line says.
@@ -63,18 +69,25 @@ fn is_line_of(alloc: Global, view: TypesRef<'_>, line: &str) -> bool {
     let shown = format!(in alloc;
         "yes types={types} functions={functions} tables={tables} memories={memories} globals={globals} tags={tags} elements={elements} exports={exports}"
     );
-    shown.is_ok_and(|it| it.as_str() == line)
+    match shown {
+        Ok(shown) => shown.as_str() == line,
+        Err(_) => false,
+    }
 }
 
-/// Whether the line is written of a module, and its view counts what the line says.
-pub fn has_line(alloc: Global, bytes: &[u8], line: &str) -> bool {
-    let mut session = new_session(alloc);
-    let verdict = session.check(bytes);
-    drop(session);
-    let is_shown = match &verdict {
-        Ok(types) => is_line_of(alloc, types.as_ref(), line),
+// Whether the view of a module counts what the line says, or the module is refused so.
+fn is_shown(alloc: Global, session: &mut Session, bytes: &[u8], line: &str) -> bool {
+    match on_types(alloc, session, bytes, line, is_line_of) {
+        Ok(holds) => holds,
         Err(e) => line.strip_prefix("no ") == Some(e.kind.name()),
-    };
-    drop(verdict);
-    is_shown && writes(alloc, bytes, line)
+    }
+}
+
+/// Whether the line of a row is written of its module, and the module's view counts what the line says.
+pub fn has_line(alloc: Global, session: &mut Session, row: &str) -> Option<bool> {
+    let (_, sections, line) = three_fields(row)?;
+    let bytes = module_of(alloc, sections)?;
+    let is_shown = is_shown(alloc, session, &bytes, line);
+    renew(alloc, session);
+    Some(is_shown && writes(alloc, session, &bytes, line))
 }

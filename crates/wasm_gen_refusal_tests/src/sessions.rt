@@ -5,6 +5,8 @@ use std::test::Fail;
 use wasm_core::features::{Flags, WasmFeatures};
 use wasm_gen::judge::ValidatorId;
 use wasm_gen::session::Session;
+use wasm_gen_rows::answers::refusal_of;
+use wasm_gen_rows::new_session::on_new_session;
 use wasm_test_rows::fields::two_fields;
 use wasm_test_rows::rows::check_rows;
 use wasm_test_rows::values::bytes_of;
@@ -27,13 +29,10 @@ const MODULES: &str = "
 
 // What a session answers on a module.
 fn answer(session: &mut Session, bytes: &[u8]) -> &'static str {
-    let verdict = session.check(bytes);
-    let name = match &verdict {
-        Ok(_) => "yes",
-        Err(error) => error.kind.name(),
-    };
-    drop(verdict);
-    name
+    match refusal_of(session, bytes) {
+        None => "yes",
+        Some(error) => error.kind.name(),
+    }
 }
 
 // Whether a session answers so, after a restart where memory ran out and the session failed, and at the second time where it didn't fail.
@@ -51,18 +50,18 @@ fn answers(session: &mut Session, bytes: &[u8], expected: &str) -> bool {
     answer(session, bytes) == expected
 }
 
-fn holds(alloc: Global, row: &str) -> Option<bool> {
+fn is_answered(alloc: Global, session: &mut Session, row: &str) -> Option<bool> {
     let (expected, field) = two_fields(row)?;
     let bytes = match bytes_of(alloc, field) {
         Some(bytes) => bytes,
         // (the allocation that is refused may be one for the bytes)
         None => bytes_of(alloc, field)?,
     };
-    let mut session = Session::new(alloc, WasmFeatures::all(), ValidatorId::new(0));
-    let holds = answers(&mut session, &bytes, expected);
-    // (dropped by a call, which is cheaper to prove)
-    drop(session);
-    Some(holds)
+    Some(answers(session, &bytes, expected))
+}
+
+fn holds(alloc: Global, row: &str) -> Option<bool> {
+    on_new_session(alloc, WasmFeatures::all(), row, is_answered)
 }
 
 #[test]

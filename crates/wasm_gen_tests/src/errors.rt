@@ -42,6 +42,6 @@ fn shows(alloc: Global, error: RunError, text: &str) -> bool {
 #[test]
 fn error_has_its_text(rt: HostRuntime) {
     for (error, text) in ROWS {
-        assert!(rt; shows(rt.alloc(), *error, text), "{text}");
+        assert!(rt; shows(rt.alloc(), *error, text));
     }
 }

@@ -1,11 +1,28 @@
-//! Tests of `wasm_gen`'s commands over readers and writers, through its public calls.
+//! Tests of the words of `wasm_gen`'s command line, of its commands over readers and writers, and of the modules that are made of seeds and of the seeds for
+//! lists, through public calls.
 #![tactic(auto)]
 
 #[cfg(test)]
+mod answers;
+#[cfg(test)]
+mod configs;
+#[cfg(test)]
 mod errors;
+#[cfg(test)]
+mod fakes;
+#[cfg(test)]
+mod generated;
+#[cfg(test)]
+mod lists;
 #[cfg(test)]
 mod run_check;
 #[cfg(test)]
 mod run_generate;
 #[cfg(test)]
+mod seeds;
+#[cfg(test)]
 mod status;
+#[cfg(test)]
+mod transfer;
+#[cfg(test)]
+mod words;

@@ -1,13 +1,13 @@
 //! Checking what a reader gives.
 
+use crate::answers::is_front;
+use crate::fakes::{NarrowWriter, ScriptedReader, WhenFull};
 use std::alloc::Global;
 use wasm_core::features::WasmFeatures;
 use wasm_gen::error::RunError;
-use wasm_gen::judge::ValidatorId;
 use wasm_gen::run::run_check;
 use wasm_gen::session::Session;
-use wasm_gen_transfer_tests::answers::is_front;
-use wasm_gen_transfer_tests::fakes::{NarrowWriter, ScriptedReader, WhenFull};
+use wasm_gen_rows::new_session::{on_new_session, renew};
 
 const HEADER: &[u8] = b"\0asm\x01\0\0\0";
 
@@ -16,38 +16,42 @@ const CUT_HEADER: &[u8] = b"\0asm\x01\0\0";
 const YES: &str =
     "yes types=0 functions=0 tables=0 memories=0 globals=0 tags=0 elements=0 exports=0\n";
 
-fn new_session(alloc: Global) -> Session {
-    Session::new(alloc, WasmFeatures::default(), ValidatorId::new(0))
-}
-
 // Whether so many of these inputs are a yes in one session, which writes these lines.
-fn writes(alloc: Global, inputs: &[&[u8]], count: u32, lines: &str) -> bool {
-    let mut session = new_session(alloc);
+fn writes(alloc: Global, session: &mut Session, inputs: &[&[u8]], count: u32, lines: &str) -> bool {
     let mut written = Vec::new(alloc);
     let mut found = 0u32;
     for input in inputs {
         let mut reader = *input;
-        let answer = run_check(alloc, &mut session, &mut reader, &mut written);
+        let answer = run_check(alloc, session, &mut reader, &mut written);
         found = found.saturating_add(u32::from(answer == Ok(true)));
     }
-    drop(session);
     found == count && written.as_slice() == lines.as_bytes()
+}
+
+fn writes_of_a_module(alloc: Global, session: &mut Session, line: &str) -> Option<bool> {
+    Some(writes(alloc, session, &[HEADER], 1, line))
+}
+
+fn writes_of_refused_inputs(alloc: Global, session: &mut Session, lines: &str) -> Option<bool> {
+    Some(writes(alloc, session, &[CUT_HEADER, HEADER], 0, lines))
 }
 
 #[test]
 fn writes_a_line_for_each_answer(rt: HostRuntime) {
-    assert!(rt; writes(rt.alloc(), &[HEADER], 1, YES));
+    let alloc = rt.alloc();
+    let features = WasmFeatures::default();
+    let line = on_new_session(alloc, features, YES, writes_of_a_module);
+    assert!(rt; line == Some(true));
     let lines = "no malformed\nno failed\n";
-    assert!(rt; writes(rt.alloc(), &[CUT_HEADER, HEADER], 0, lines));
+    let lines = on_new_session(alloc, features, lines, writes_of_refused_inputs);
+    assert!(rt; lines == Some(true));
 }
 
 // Whether a writer of this room takes as much of the line of a yes, and the run is refused where that is not all.
-fn fills(alloc: Global, room: usize, when_full: WhenFull) -> bool {
+fn fills(alloc: Global, session: &mut Session, room: usize, when_full: WhenFull) -> bool {
     let mut reader = HEADER;
     let mut writer = NarrowWriter::new(alloc, room, when_full);
-    let mut session = new_session(alloc);
-    let answer = run_check(alloc, &mut session, &mut reader, &mut writer);
-    drop(session);
+    let answer = run_check(alloc, session, &mut reader, &mut writer);
     let expected = if room < YES.len() {
         Err(RunError::Write)
     } else {
@@ -56,29 +60,37 @@ fn fills(alloc: Global, room: usize, when_full: WhenFull) -> bool {
     answer == expected && is_front(&writer.taken, YES.as_bytes(), room)
 }
 
-#[test]
-fn writes_as_much_as_there_is_room(rt: HostRuntime) {
-    for room in 0..=YES.len() {
+// Whether it does so in a new session for each room.
+fn fills_each(alloc: Global, session: &mut Session, line: &str) -> Option<bool> {
+    for room in 0..=line.len() {
         for when_full in [WhenFull::Fails, WhenFull::TakesNone] {
-            assert!(rt; fills(rt.alloc(), room, when_full), "room for {room}");
+            renew(alloc, session);
+            if !fills(alloc, session, room, when_full) {
+                return Some(false);
+            }
         }
     }
+    Some(true)
+}
+
+#[test]
+fn writes_as_much_as_there_is_room(rt: HostRuntime) {
+    let holds = on_new_session(rt.alloc(), WasmFeatures::default(), YES, fills_each);
+    assert!(rt; holds == Some(true));
 }
 
 // Whether a read that fails is told, where nothing is written, and the session is as it was.
-fn fails_after(alloc: Global, script: &str) -> bool {
-    let mut session = new_session(alloc);
+fn fails_after(alloc: Global, session: &mut Session, script: &str) -> Option<bool> {
     let mut reader = ScriptedReader::new(script);
     let mut written = Vec::new(alloc);
-    let answer = run_check(alloc, &mut session, &mut reader, &mut written);
-    let has_failed = session.has_failed();
-    drop(session);
-    answer == Err(RunError::Read) && written.is_empty() && !has_failed
+    let answer = run_check(alloc, session, &mut reader, &mut written);
+    Some(answer == Err(RunError::Read) && written.is_empty() && !session.has_failed())
 }
 
 #[test]
 fn failed_read_writes_nothing(rt: HostRuntime) {
     for script in ["!", "\0!", "\0a!", "\0a~!", "\0a~s!"] {
-        assert!(rt; fails_after(rt.alloc(), script), "{script:?}");
+        let holds = on_new_session(rt.alloc(), WasmFeatures::default(), script, fails_after);
+        assert!(rt; holds == Some(true));
     }
 }

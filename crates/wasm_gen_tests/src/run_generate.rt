@@ -1,5 +1,7 @@
 //! Making a module of what a reader gives.
 
+use crate::answers::is_front;
+use crate::fakes::{NarrowWriter, ScriptedReader, WhenFull};
 use std::alloc::Global;
 use std::io;
 use wasm_core::limits::Limit;
@@ -7,8 +9,6 @@ use wasm_gen::device::Source;
 use wasm_gen::error::{GenerateError, RunError};
 use wasm_gen::run::run_generate;
 use wasm_gen::smith::{Config, supported_config};
-use wasm_gen_transfer_tests::answers::is_front;
-use wasm_gen_transfer_tests::fakes::{NarrowWriter, ScriptedReader, WhenFull};
 
 // A seed of one type and one function, and the bytes that are made of it.
 const SEED: &[u8] = &[0x01, 0x00, 0x00, 0x00, 0x01];
@@ -47,7 +47,7 @@ fn fills(alloc: Global, room: usize) -> bool {
 #[test]
 fn writes_as_much_as_there_is_room(rt: HostRuntime) {
     for room in 0..=MODULE.len() {
-        assert!(rt; fills(rt.alloc(), room), "room for {room}");
+        assert!(rt; fills(rt.alloc(), room));
     }
 }
 
@@ -78,7 +78,7 @@ fn writes_nothing_of_a_refused_seed(rt: HostRuntime) {
         config.max_types = *max_types;
         config.min_funcs = *min_funcs;
         let error = RunError::Generate(*cause);
-        assert!(rt; is_refused_for(rt.alloc(), &config, SEED, error), "{cause}");
+        assert!(rt; is_refused_for(rt.alloc(), &config, SEED, error));
     }
 }
 
@@ -87,10 +87,7 @@ fn writes_nothing_where_a_read_fails(rt: HostRuntime) {
     let config = supported_config();
     for script in ["!", "\x01!", "\x01~!", "\x01~\0!"] {
         let reader = ScriptedReader::new(script);
-        assert!(rt;
-            is_refused_for(rt.alloc(), &config, reader, RunError::Read),
-            "{script:?}"
-        );
+        assert!(rt; is_refused_for(rt.alloc(), &config, reader, RunError::Read));
     }
 }
 

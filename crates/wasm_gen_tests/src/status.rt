@@ -19,6 +19,6 @@ const ROWS: &[(&[Outcome], u8)] = &[
 #[test]
 fn status_is_that_of_the_worst_outcome(rt: HostRuntime) {
     for (outcomes, status) in ROWS {
-        assert!(rt; status_of(outcomes) == *status, "{outcomes:?}");
+        assert!(rt; status_of(outcomes) == *status);
     }
 }

@@ -1,6 +1,12 @@
-//! Tests of `wasm_smith` beside its configurations, through its public calls.
+//! Tests of `wasm_smith` through its public calls.
 #![tactic(auto)]
 
+#[cfg(test)]
+mod check;
+#[cfg(test)]
+mod config;
+#[cfg(test)]
+mod errors;
 #[cfg(test)]
 mod module;
 #[cfg(test)]

@@ -6,7 +6,7 @@ use wasm_smith::config::Config;
 use wasm_smith::module::Module;
 use wasm_smith::supported::supported_config;
 use wasm_smith::unstructured::Unstructured;
-use wasm_smith_config_tests::settings::config_of;
+use wasm_smith_config_rows::settings::config_of;
 use wasm_test_rows::fields::four_fields;
 use wasm_test_rows::rows::check_rows;
 use wasm_test_rows::shown::{debugs, debugs_same, displays};
@@ -26,20 +26,29 @@ const MADE: &str = "
     min_types=1 max_types=0 | | refused | bad configuration: min_types
 ";
 
+fn has_types(alloc: Global, module: &Module, types: &str) -> bool {
+    let expected = sub_types_of(alloc, types);
+    let holds = debugs_same(alloc, &Some(module.types()), &expected);
+    // (dropped by a call, which is cheaper to prove)
+    drop(expected);
+    holds
+}
+
 // Whether a module has this configuration, these types, and these functions and locals.
 fn has_parts(alloc: Global, module: &Module, config: Config, types: &str, rest: &str) -> bool {
     let parts = (module.funcs(), module.locals());
-    module.config() == &config
-        && debugs_same(alloc, &Some(module.types()), &sub_types_of(alloc, types))
-        && debugs(alloc, &parts, rest)
+    module.config() == &config && has_types(alloc, module, types) && debugs(alloc, &parts, rest)
 }
 
 // Whether what is expected is made of the bytes, or the cause of the refusal is.
 fn makes(alloc: Global, config: Config, bytes: &[u8], types: &str, rest: &str) -> bool {
-    match Module::new(alloc, config, &mut Unstructured::new(bytes)) {
-        Ok(module) => has_parts(alloc, &module, config, types, rest),
-        Err(error) => types == "refused" && displays(alloc, &error, rest),
-    }
+    let made = Module::new(alloc, config, &mut Unstructured::new(bytes));
+    let holds = match &made {
+        Ok(module) => has_parts(alloc, module, config, types, rest),
+        Err(error) => types == "refused" && displays(alloc, error, rest),
+    };
+    drop(made);
+    holds
 }
 
 fn holds(alloc: Global, row: &str) -> Option<bool> {

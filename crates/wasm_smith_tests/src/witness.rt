@@ -8,7 +8,7 @@ use wasm_smith::module::Module;
 use wasm_smith::supported::supported_config;
 use wasm_smith::unstructured::Unstructured;
 use wasm_smith::witness::witness;
-use wasm_smith_config_tests::settings::config_of;
+use wasm_smith_config_rows::settings::config_of;
 use wasm_test_rows::fields::four_fields;
 use wasm_test_rows::rows::check_rows;
 use wasm_test_rows::shown::debugs_same;
@@ -98,10 +98,14 @@ fn makes(
     funcs: &[u32],
     seed: &[u8],
 ) -> bool {
-    match Module::new(alloc, config, &mut Unstructured::new(seed)) {
-        Ok(module) => has_lists(alloc, &module, groups, funcs),
+    let made = Module::new(alloc, config, &mut Unstructured::new(seed));
+    let holds = match &made {
+        Ok(module) => has_lists(alloc, module, groups, funcs),
         Err(_) => false,
-    }
+    };
+    // (dropped by a call, which is cheaper to prove)
+    drop(made);
+    holds
 }
 
 // Whether the lists have the seed that is expected, or have none.
@@ -124,9 +128,11 @@ fn has_seed(
 fn holds(alloc: Global, row: &str) -> Option<bool> {
     let (settings, groups, funcs, expected) = four_fields(row)?;
     let config = config_of(supported_config(), settings)?;
-    let groups = groups_of(alloc, groups)?;
     let funcs = numbers_of(alloc, funcs)?;
-    Some(has_seed(alloc, config, (&groups, &funcs), expected))
+    let groups = groups_of(alloc, groups)?;
+    let holds = has_seed(alloc, config, (&groups, &funcs), expected);
+    drop(groups);
+    Some(holds)
 }
 
 #[test]

@@ -1,10 +1,10 @@
 //! Configurations put in order, and the features that they ask for.
 
-use crate::settings::config_of;
 use std::alloc::Global;
 use std::test::Fail;
-use wasm_core_base::features::{Flags, WasmFeatures};
-use wasm_smith_config::config::Config;
+use wasm_core::features::{Flags, WasmFeatures};
+use wasm_smith::config::Config;
+use wasm_smith_config_rows::settings::config_of;
 use wasm_test_rows::fields::two_fields;
 use wasm_test_rows::rows::check_rows;
 

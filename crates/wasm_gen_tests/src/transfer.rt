@@ -33,7 +33,7 @@ fn reads_a_slice_whole(rt: HostRuntime) {
         CHUNK_SIZE + 1,
         3 * CHUNK_SIZE,
     ] {
-        assert!(rt; is_read_whole(rt.alloc(), &input[..size]), "at {size}");
+        assert!(rt; is_read_whole(rt.alloc(), &input[..size]));
     }
 }
 
@@ -89,7 +89,7 @@ fn is_read_within(alloc: Global, most: usize) -> bool {
 #[test]
 fn reads_no_more_than_is_allowed(rt: HostRuntime) {
     for most in 0..=TEXT.len() {
-        assert!(rt; is_read_within(rt.alloc(), most), "at {most}");
+        assert!(rt; is_read_within(rt.alloc(), most));
     }
 }
 
@@ -151,7 +151,7 @@ fn fills(alloc: Global, room: usize, when_full: WhenFull) -> bool {
 fn writes_as_much_as_there_is_room(rt: HostRuntime) {
     for room in 0..=TEXT.len() {
         for when_full in [WhenFull::Fails, WhenFull::TakesNone] {
-            assert!(rt; fills(rt.alloc(), room, when_full), "room for {room}");
+            assert!(rt; fills(rt.alloc(), room, when_full));
         }
     }
 }

@@ -43,8 +43,10 @@ fn words_of(alloc: Global, field: &str) -> Result<Vec<String>, AllocError> {
 fn is_found(alloc: Global, found: &Result<ArgMatches<'_>, Error>, expected: &str) -> bool {
     match found {
         Ok(_) => expected == "none",
-        Err(e) => format!(in alloc; "{:?} {}", e.kind(), e.exit_code()).is_ok_and(|it| it.as_str()
-            == expected),
+        Err(e) => match format!(in alloc; "{:?} {}", e.kind(), e.exit_code()) {
+            Ok(shown) => shown.as_str() == expected,
+            Err(_) => false,
+        },
     }
 }
 

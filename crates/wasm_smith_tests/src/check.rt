@@ -1,11 +1,11 @@
 //! Which configurations are allowed.
 
-use crate::settings::config_of;
 use std::alloc::Global;
 use std::test::Fail;
-use wasm_smith_config::config::Config;
-use wasm_smith_config::error::Error;
-use wasm_smith_config::supported::supported_config;
+use wasm_smith::config::Config;
+use wasm_smith::error::Error;
+use wasm_smith::supported::supported_config;
+use wasm_smith_config_rows::settings::config_of;
 use wasm_test_rows::fields::two_fields;
 use wasm_test_rows::rows::check_rows;
 

@@ -2,7 +2,7 @@
 
 use std::alloc::{AllocError, Global};
 use std::test::Fail;
-use wasm_smith_config::error::Error;
+use wasm_smith::error::Error;
 use wasm_smith_unstructured::error::{EmptyChoose, NotEnoughData};
 use wasm_test_rows::fields::two_fields;
 use wasm_test_rows::rows::check_rows;

@@ -1,16 +1,7 @@
-//! The bytes of modules, and what a session answers on them.
+//! The bytes of modules.
 
 use std::alloc::Global;
-use wasm_core::features::WasmFeatures;
-use wasm_gen::judge::{Error, ValidatorId};
-use wasm_gen::session::Session;
-use wasm_test_rows::fields::has_word;
 use wasm_test_rows::values::bytes_of;
-
-/// A session with the default features.
-pub fn new_session(alloc: Global) -> Session {
-    Session::new(alloc, WasmFeatures::default(), ValidatorId::new(0))
-}
 
 // The digits that a word stands for: those of a frequent part, or its own.
 fn digits_of(word: &str) -> &str {
@@ -60,35 +51,4 @@ pub fn module_of(alloc: Global, field: &str) -> Option<Vec<u8>> {
     extend_with(alloc, &mut bytes, "header")?;
     extend_with(alloc, &mut bytes, field)?;
     Some(bytes)
-}
-
-/// The session's refusal, or none where the answer is a yes.
-pub fn refusal_of(session: &mut Session, bytes: &[u8]) -> Option<Error> {
-    let verdict = session.check(bytes);
-    let refusal = match &verdict {
-        Ok(_) => None,
-        Err(e) => Some(*e),
-    };
-    // (dropped by a call, which is cheaper to prove)
-    drop(verdict);
-    refusal
-}
-
-/// Whether the session gives an answer of the field: `yes`, or the kind of a refusal as `Debug` writes it.
-pub fn answers(alloc: Global, session: &mut Session, bytes: &[u8], expected: &str) -> bool {
-    match refusal_of(session, bytes) {
-        None => has_word(expected, "yes"),
-        Some(e) => match format!(in alloc; "{:?}", e.kind) {
-            Ok(found) => has_word(expected, found.as_str()),
-            Err(_) => false,
-        },
-    }
-}
-
-/// Whether a new session with these features gives the answer.
-pub fn answers_under(alloc: Global, features: WasmFeatures, bytes: &[u8], expected: &str) -> bool {
-    let mut session = Session::new(alloc, features, ValidatorId::new(0));
-    let holds = answers(alloc, &mut session, bytes, expected);
-    drop(session);
-    holds
 }

@@ -1,5 +1,7 @@
 //! Seeds for lists of types and functions.
 
+use crate::configs::config_of;
+use crate::generated::makes;
 use crate::lists::{Drawing, function_type, put};
 use std::alloc::Global;
 use std::test::Fail;
@@ -7,9 +9,7 @@ use wasm_core::types::{SubType, ValType};
 use wasm_gen::generate::generate;
 use wasm_gen::seed::seed_for;
 use wasm_gen::smith::{Config, supported_config};
-use wasm_gen_check_tests::modules::parts_of;
-use wasm_gen_generate_tests::configs::config_of;
-use wasm_gen_generate_tests::generated::makes;
+use wasm_gen_rows::modules::parts_of;
 use wasm_test_rows::fields::four_fields;
 use wasm_test_rows::rows::check_rows;
 use wasm_test_rows::values::number_of;
@@ -38,13 +38,11 @@ fn is_found(alloc: Global, groups: &[Vec<SubType>], functions: &[u32], module: &
     }
 }
 
-// Whether the lists of this number are made from the seed that is found for them, from one that spells them, and from that with a tail. With the tail
-// the types and functions are the same, since their sections, at the module's front, have the same bytes.
-fn are_made(alloc: Global, number: u32, turn: u8) -> bool {
-    let mut drawing = Drawing::new(alloc, number, turn);
-    let groups = drawing.groups(alloc);
+// Whether these groups, and the functions that are drawn for them, are made from the seed that is found for both, from one that spells them, and from that with
+// a tail. With the tail the types and functions are the same, since their sections, at the module's front, have the same bytes.
+fn are_drawn(alloc: Global, drawing: &mut Drawing, groups: &[Vec<SubType>]) -> bool {
     let functions = drawing.functions(alloc, groups.len());
-    let are_made = is_found(alloc, &groups, &functions, &drawing.module)
+    let are_made = is_found(alloc, groups, &functions, &drawing.module)
         && makes_exactly(alloc, &drawing.seed, &drawing.module);
     for byte in [0x2a, 0x01, 0x01, 0xff, 0x00, 0x7f, 0x03, 0x02] {
         put(&mut drawing.seed, byte);
@@ -52,11 +50,22 @@ fn are_made(alloc: Global, number: u32, turn: u8) -> bool {
     are_made && makes_front(alloc, &drawing.seed, &drawing.module, drawing.front_len)
 }
 
+// Whether the lists of this number are made.
+fn are_made(alloc: Global, number: u32, turn: u8) -> bool {
+    let mut drawing = Drawing::new(alloc, number, turn);
+    let groups = drawing.groups(alloc);
+    let are_made = are_drawn(alloc, &mut drawing, &groups);
+    // (dropped by calls, which are cheaper to prove)
+    drop(groups);
+    drop(drawing);
+    are_made
+}
+
 #[test]
 fn drawn_lists_are_made_from_seeds(rt: HostRuntime) {
     for number in 0..1000u32 {
         for turn in 1..4u8 {
-            assert!(rt; are_made(rt.alloc(), number, turn), "{number}");
+            assert!(rt; are_made(rt.alloc(), number, turn));
         }
     }
 }
@@ -138,9 +147,11 @@ fn seed_of(
     groups: &str,
     functions: &str,
 ) -> Option<Option<Vec<u8>>> {
-    let groups = groups_in(alloc, groups)?;
     let functions = functions_in(alloc, functions)?;
-    seed_for(alloc, config, &groups, &functions).ok()
+    let groups = groups_in(alloc, groups)?;
+    let seed = seed_for(alloc, config, &groups, &functions);
+    drop(groups);
+    seed.ok()
 }
 
 // Whether a seed makes these sections, or none was expected.

@@ -7,7 +7,8 @@ use wasm_core::features::WasmFeatures;
 use wasm_gen::error::GenerateError;
 use wasm_gen::generate::generate;
 use wasm_gen::smith::{Config, supported_config};
-use wasm_gen_check_tests::modules::{answers_under, module_of, parts_of};
+use wasm_gen_rows::answers::answers_under;
+use wasm_gen_rows::modules::{module_of, parts_of};
 use wasm_test_rows::fields::three_fields;
 use wasm_test_rows::rows::check_rows;
 
@@ -100,8 +101,7 @@ fn seeds_make_these_modules(rt: HostRuntime) -> Result<(), Fail> {
 #[test]
 fn modules_of_one_byte_are_accepted(rt: HostRuntime) {
     for byte in 0..=255u8 {
-        let is_accepted = is_accepted(rt.alloc(), &supported_config(), &[byte]);
-        assert!(rt; is_accepted, "{byte}");
+        assert!(rt; is_accepted(rt.alloc(), &supported_config(), &[byte]));
     }
 }
 
@@ -143,10 +143,7 @@ fn is_turned_accepted(alloc: Global, bits: u8, step: u8) -> bool {
 fn modules_of_other_configurations_are_accepted(rt: HostRuntime) {
     for bits in 0..32u8 {
         for step in [1u8, 3, 7, 11] {
-            assert!(rt;
-                is_turned_accepted(rt.alloc(), bits, step),
-                "{bits} and {step}"
-            );
+            assert!(rt; is_turned_accepted(rt.alloc(), bits, step));
         }
     }
 }

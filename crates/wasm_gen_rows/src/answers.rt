@@ -1,0 +1,38 @@
+//! What a session answers, without what it gives.
+
+use std::alloc::Global;
+use wasm_core::features::WasmFeatures;
+use wasm_gen::judge::{Error, ValidatorId};
+use wasm_gen::session::Session;
+use wasm_test_rows::fields::has_word;
+
+/// The session's refusal, or none where the answer is a yes.
+pub fn refusal_of(session: &mut Session, bytes: &[u8]) -> Option<Error> {
+    let verdict = session.check(bytes);
+    let refusal = match &verdict {
+        Ok(_) => None,
+        Err(e) => Some(*e),
+    };
+    // (dropped by a call, which is cheaper to prove)
+    drop(verdict);
+    refusal
+}
+
+/// Whether the session gives an answer of the field: `yes`, or the kind of a refusal as `Debug` writes it.
+pub fn answers(alloc: Global, session: &mut Session, bytes: &[u8], expected: &str) -> bool {
+    match refusal_of(session, bytes) {
+        None => has_word(expected, "yes"),
+        Some(e) => match format!(in alloc; "{:?}", e.kind) {
+            Ok(found) => has_word(expected, found.as_str()),
+            Err(_) => false,
+        },
+    }
+}
+
+/// Whether a new session with these features gives the answer.
+pub fn answers_under(alloc: Global, features: WasmFeatures, bytes: &[u8], expected: &str) -> bool {
+    let mut session = Session::new(alloc, features, ValidatorId::new(0));
+    let holds = answers(alloc, &mut session, bytes, expected);
+    drop(session);
+    holds
+}

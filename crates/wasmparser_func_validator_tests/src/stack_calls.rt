@@ -101,7 +101,8 @@ fn push_operands(text: &mut String, stacks: &Stacks) -> Result<(), AllocError> {
     Ok(())
 }
 
-fn kind_of(frame: &Frame) -> char {
+/// The letter of a block's kind.
+pub fn kind_of(frame: &Frame) -> char {
     match frame.kind {
         FrameKind::Block => 'b',
         FrameKind::Loop => 'o',

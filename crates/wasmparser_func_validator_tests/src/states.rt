@@ -1,11 +1,12 @@
 //! What a validator tells, as text.
 
 use crate::letters::letter_of;
+use crate::stack_calls::kind_of;
 use std::alloc::Global;
 use wasmparser_func_validator::func_validator::FuncValidator;
 use wasmparser_operators::immediates::BlockType;
 use wasmparser_resources::module_resources::WasmModuleResources;
-use wasmparser_stacks::frame::{Frame, FrameKind};
+use wasmparser_stacks::frame::Frame;
 
 // The known operands, the last one last.
 fn push_operands<R: WasmModuleResources>(
@@ -30,13 +31,7 @@ fn push_number(alloc: Global, text: &mut String, number: usize) -> Option<()> {
 
 // An open block: its kind, its type, its height, and whether the rest isn't reached.
 fn push_frame(alloc: Global, text: &mut String, frame: &Frame) -> Option<()> {
-    let kind = match frame.kind {
-        FrameKind::Block => 'b',
-        FrameKind::Loop => 'o',
-        FrameKind::If => 'c',
-        FrameKind::Else => 'e',
-    };
-    text.push(kind).ok()?;
+    text.push(kind_of(frame)).ok()?;
     match &frame.block_type {
         BlockType::Empty => {}
         BlockType::Type(ty) => text.push(letter_of(ty)?).ok()?,

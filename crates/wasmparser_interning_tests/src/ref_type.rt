@@ -1,49 +1,31 @@
 //! References: their parts, the constants, and the questions.
 
+use crate::references::abstract_heap_type_of;
 use std::alloc::Global;
 use std::test::Fail;
 use wasm_test_rows::fields::four_fields;
 use wasm_test_rows::rows::check_rows;
-use wasmparser_type_words::names::named;
-use wasmparser_types::heap_type::{AbstractHeapType, HeapType};
+use wasmparser_types::heap_type::HeapType;
 use wasmparser_types::ref_type::RefType;
 
 // An abstract heap type, the one question that says yes of references to it, and the constants for them: that with null, and that without, where there
 // is one.
 const ABSTRACT_HEAP_TYPES: &str = "
-    Func | is_func_ref | FUNCREF | FUNC
-    Extern | is_extern_ref | EXTERNREF | EXTERN
-    Any | is_any_ref | ANYREF |
-    None | is_none_ref | NULLREF |
-    NoExtern | is_noextern_ref | NULLEXTERNREF |
-    NoFunc | is_nofunc_ref | NULLFUNCREF |
-    Eq | is_eq_ref | EQREF |
-    Struct | is_struct_ref | STRUCTREF |
-    Array | is_array_ref | ARRAYREF |
-    I31 | is_i31_ref | I31REF |
-    Exn | is_exn_ref | EXNREF | EXN
-    NoExn | is_noexn_ref | NULLEXNREF |
-    Cont | is_cont_ref | CONTREF | CONT
-    NoCont | is_nocont_ref | NULLCONTREF |
+    func | is_func_ref | FUNCREF | FUNC
+    extern | is_extern_ref | EXTERNREF | EXTERN
+    any | is_any_ref | ANYREF |
+    none | is_none_ref | NULLREF |
+    noextern | is_noextern_ref | NULLEXTERNREF |
+    nofunc | is_nofunc_ref | NULLFUNCREF |
+    eq | is_eq_ref | EQREF |
+    struct | is_struct_ref | STRUCTREF |
+    array | is_array_ref | ARRAYREF |
+    i31 | is_i31_ref | I31REF |
+    exn | is_exn_ref | EXNREF | EXN
+    noexn | is_noexn_ref | NULLEXNREF |
+    cont | is_cont_ref | CONTREF | CONT
+    nocont | is_nocont_ref | NULLCONTREF |
 ";
-
-// The abstract heap types by their names.
-const HEAP_TYPES: &[(&str, AbstractHeapType)] = &[
-    ("Func", AbstractHeapType::Func),
-    ("Extern", AbstractHeapType::Extern),
-    ("Any", AbstractHeapType::Any),
-    ("None", AbstractHeapType::None),
-    ("NoExtern", AbstractHeapType::NoExtern),
-    ("NoFunc", AbstractHeapType::NoFunc),
-    ("Eq", AbstractHeapType::Eq),
-    ("Struct", AbstractHeapType::Struct),
-    ("Array", AbstractHeapType::Array),
-    ("I31", AbstractHeapType::I31),
-    ("Exn", AbstractHeapType::Exn),
-    ("NoExn", AbstractHeapType::NoExn),
-    ("Cont", AbstractHeapType::Cont),
-    ("NoCont", AbstractHeapType::NoCont),
-];
 
 /// The constant of this name.
 pub fn constant(name: &str) -> Option<RefType> {
@@ -122,7 +104,7 @@ pub fn are_references(heap_type: HeapType, question: &str) -> Option<bool> {
 
 fn holds(_alloc: Global, row: &str) -> Option<bool> {
     let (name, question, with_null, without) = four_fields(row)?;
-    let heap_type = HeapType::Abstract(named(HEAP_TYPES, name)?);
+    let heap_type = HeapType::Abstract(abstract_heap_type_of(name)?);
     let is_constant = RefType::new(true, heap_type) == constant(with_null);
     let are_constants = is_constant
         && (without.is_empty() || RefType::new(false, heap_type) == constant(without));

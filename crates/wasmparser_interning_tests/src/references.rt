@@ -23,9 +23,14 @@ const ABSTRACT: &[(&str, AbstractHeapType)] = &[
     ("nocont", AbstractHeapType::NoCont),
 ];
 
+/// The abstract heap type of this name.
+pub fn abstract_heap_type_of(word: &str) -> Option<AbstractHeapType> {
+    named(ABSTRACT, word)
+}
+
 /// A reference to an abstract heap type by its name, or to a defined type by its id (`#1`) or its place in a group (`own.1`).
 pub fn ref_type_of(is_nullable: bool, word: &str) -> Option<RefType> {
-    match named(ABSTRACT, word) {
+    match abstract_heap_type_of(word) {
         Some(it) => RefType::new(is_nullable, HeapType::Abstract(it)),
         None => Some(RefType::concrete(is_nullable, index_of(word)?)),
     }

@@ -17,12 +17,16 @@ pub(crate) fn measure<R: Files + Print + Clock + AllocGlobal>(
     };
     let times = times.as_str().parse::<u32>().ok()?;
     let bytes = fs::read(rt, name.as_str()).ok()?;
-    let verdict = verdict_on(rt.alloc(), &bytes);
+    tell(rt, &bytes, times)
+}
+
+fn tell<R: Print + Clock + AllocGlobal>(rt: &R, bytes: &[u8], times: u32) -> Option<()> {
+    let verdict = verdict_on(rt.alloc(), bytes);
     println!(rt; "{}", verdict).ok()?;
     if times == 0 {
         return Some(());
     }
-    let shortest = shortest_time(rt, &bytes, verdict, times)?;
+    let shortest = shortest_time(rt, bytes, verdict, times)?;
     println!(rt; "{} ns", shortest.as_nanos()).ok()
 }
 

@@ -5,7 +5,7 @@ use std::fs;
 use std::rt::Files;
 use wasm_gen::error::GenerateError;
 use wasm_gen::generate::generate;
-use wasm_gen::smith::supported_config;
+use wasm_gen::smith::{Config, supported_config};
 use wasm_gen::transfer::{MAX_INPUT, MAX_TURNS, read_whole};
 
 // How many modules were made, and of how many bytes.
@@ -38,9 +38,19 @@ fn generate_each(alloc: Global, bytes: &[u8], length: usize) -> Result<Total, Ge
     let config = supported_config();
     let mut total = Total::default();
     for seed in bytes.chunks(length.max(1)) {
-        let module = generate(alloc, &config, seed)?;
-        total.modules = total.modules.wrapping_add(1);
-        total.bytes = total.bytes.wrapping_add(module.len() as u64);
+        add_module(alloc, &mut total, &config, seed)?;
     }
     Ok(total)
+}
+
+fn add_module(
+    alloc: Global,
+    total: &mut Total,
+    config: &Config,
+    seed: &[u8],
+) -> Result<(), GenerateError> {
+    let module = generate(alloc, config, seed)?;
+    total.modules = total.modules.wrapping_add(1);
+    total.bytes = total.bytes.wrapping_add(module.len() as u64);
+    Ok(())
 }

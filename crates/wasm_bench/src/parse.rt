@@ -23,19 +23,26 @@ pub(crate) fn measure<R: Files + Print + AllocGlobal>(rt: &R, words: &[String]) 
 }
 
 fn count_in_file<R: Files + AllocGlobal>(rt: &R, name: &str, times: u32) -> Option<u64> {
-    let alloc = rt.alloc();
     let bytes = fs::read(rt, name).ok()?;
+    count_each_time(rt.alloc(), &bytes, times)
+}
+
+fn count_each_time(alloc: Global, bytes: &[u8], times: u32) -> Option<u64> {
     let mut count: u64 = 0;
     for _ in 0..times {
-        count = count_in_module(alloc, &bytes)?;
+        count = count_in_module(alloc, bytes)?;
     }
     Some(count)
 }
 
-// Prints a line for each payload.
+// Prints a line for each payload of the file.
 fn show_file<R: Files + Print + AllocGlobal>(rt: &R, name: &str) -> Option<()> {
     let bytes = fs::read(rt, name).ok()?;
-    for payload in Parser::new(0).parse_all(&bytes) {
+    show(rt, &bytes)
+}
+
+fn show<R: Print>(rt: &R, bytes: &[u8]) -> Option<()> {
+    for payload in Parser::new(0).parse_all(bytes) {
         print_payload(rt, &payload.ok()?)?;
     }
     Some(())

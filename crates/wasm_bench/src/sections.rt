@@ -8,6 +8,7 @@ use wasm_encoder::const_expr::ConstExpr;
 use wasm_encoder::data_section::DataSection;
 use wasm_encoder::element_section::ElementSection;
 use wasm_encoder::element_segment::Elements;
+use wasm_encoder::encode::Encode;
 use wasm_encoder::entity_type::{
     EntityType, ExportKind, GlobalType, MemoryType, TableType, TagKind, TagType,
 };
@@ -27,130 +28,195 @@ pub(crate) fn time<R: Print + Clock + AllocGlobal>(
     count: u32,
     times: u32,
 ) -> Option<()> {
-    let alloc = rt.alloc();
     match kind {
-        "imports" => tell(rt, &imports(alloc, count)?, times),
-        "functions" => tell(rt, &functions(alloc, count)?, times),
-        "tables" => tell(rt, &tables(alloc, count)?, times),
-        "memories" => tell(rt, &memories(alloc, count)?, times),
-        "tags" => tell(rt, &tags(alloc, count)?, times),
-        "globals" => tell(rt, &globals(alloc, count)?, times),
-        "exports" => tell(rt, &exports(alloc, count)?, times),
-        "elements" => tell(rt, &elements(alloc, count)?, times),
-        "bodies" => tell(rt, &bodies(alloc, count)?, times),
-        "data" => tell(rt, &data(alloc, count)?, times),
+        "imports" => time_filled::<R, ImportSection>(rt, count, times),
+        "functions" => time_filled::<R, FunctionSection>(rt, count, times),
+        "tables" => time_filled::<R, TableSection>(rt, count, times),
+        "memories" => time_filled::<R, MemorySection>(rt, count, times),
+        "tags" => time_filled::<R, TagSection>(rt, count, times),
+        "globals" => time_filled::<R, GlobalSection>(rt, count, times),
+        "exports" => time_filled::<R, ExportSection>(rt, count, times),
+        "elements" => time_filled::<R, ElementSection>(rt, count, times),
+        "bodies" => time_filled::<R, CodeSection>(rt, count, times),
+        "data" => time_filled::<R, DataSection>(rt, count, times),
         _ => None,
     }
 }
 
-fn imports(alloc: Global, count: u32) -> Option<ImportSection> {
-    let mut section = ImportSection::new(alloc);
-    for _ in 0..count {
-        section
-            .import("env", "names", EntityType::Function(5))
-            .ok()?;
-    }
-    Some(section)
+// A section that is filled with equal items.
+trait Filled: Encode {
+    fn empty(alloc: Global) -> Self;
+
+    // Adds so many items.
+    fn fill(&mut self, alloc: Global, count: u32) -> Option<()>;
 }
 
-fn functions(alloc: Global, count: u32) -> Option<FunctionSection> {
-    let mut section = FunctionSection::new(alloc);
-    for _ in 0..count {
-        section.function(5).ok()?;
-    }
-    Some(section)
+// (Once for all kinds, since who owns a section proves how it is let go of.)
+fn time_filled<R: Print + Clock + AllocGlobal, S: Filled + Drop>(
+    rt: &R,
+    count: u32,
+    times: u32,
+) -> Option<()> {
+    let mut section = S::empty(rt.alloc());
+    section.fill(rt.alloc(), count)?;
+    tell(rt, &section, times)
 }
 
-fn tables(alloc: Global, count: u32) -> Option<TableSection> {
-    let mut section = TableSection::new(alloc);
-    for _ in 0..count {
-        let ty = TableType {
-            element_type: RefType {
-                nullable: true,
-                heap_type: HeapType::Abstract(AbstractHeapType::Func),
-            },
-            table64: false,
-            minimum: 1,
-            maximum: Some(2),
-        };
-        section.table(ty).ok()?;
+impl Filled for ImportSection {
+    fn empty(alloc: Global) -> ImportSection {
+        ImportSection::new(alloc)
     }
-    Some(section)
+
+    fn fill(&mut self, _alloc: Global, count: u32) -> Option<()> {
+        for _ in 0..count {
+            self.import("env", "names", EntityType::Function(5)).ok()?;
+        }
+        Some(())
+    }
 }
 
-fn memories(alloc: Global, count: u32) -> Option<MemorySection> {
-    let mut section = MemorySection::new(alloc);
-    for _ in 0..count {
-        let ty = MemoryType {
-            minimum: 1,
-            maximum: Some(2),
-            memory64: false,
-            shared: false,
-            page_size_log2: None,
-        };
-        section.memory(ty).ok()?;
+impl Filled for FunctionSection {
+    fn empty(alloc: Global) -> FunctionSection {
+        FunctionSection::new(alloc)
     }
-    Some(section)
+
+    fn fill(&mut self, _alloc: Global, count: u32) -> Option<()> {
+        for _ in 0..count {
+            self.function(5).ok()?;
+        }
+        Some(())
+    }
 }
 
-fn tags(alloc: Global, count: u32) -> Option<TagSection> {
-    let mut section = TagSection::new(alloc);
-    for _ in 0..count {
-        let ty = TagType {
-            kind: TagKind::Exception,
-            func_type_idx: 5,
-        };
-        section.tag(ty).ok()?;
+impl Filled for TableSection {
+    fn empty(alloc: Global) -> TableSection {
+        TableSection::new(alloc)
     }
-    Some(section)
+
+    fn fill(&mut self, _alloc: Global, count: u32) -> Option<()> {
+        for _ in 0..count {
+            let ty = TableType {
+                element_type: RefType {
+                    nullable: true,
+                    heap_type: HeapType::Abstract(AbstractHeapType::Func),
+                },
+                table64: false,
+                minimum: 1,
+                maximum: Some(2),
+            };
+            self.table(ty).ok()?;
+        }
+        Some(())
+    }
 }
 
-fn globals(alloc: Global, count: u32) -> Option<GlobalSection> {
-    let init = ConstExpr::i32_const(alloc, 42).ok()?;
-    let mut section = GlobalSection::new(alloc);
-    for _ in 0..count {
-        let ty = GlobalType {
-            val_type: ValType::I32,
-            mutable: false,
-        };
-        section.global(ty, &init).ok()?;
+impl Filled for MemorySection {
+    fn empty(alloc: Global) -> MemorySection {
+        MemorySection::new(alloc)
     }
-    Some(section)
+
+    fn fill(&mut self, _alloc: Global, count: u32) -> Option<()> {
+        for _ in 0..count {
+            let ty = MemoryType {
+                minimum: 1,
+                maximum: Some(2),
+                memory64: false,
+                shared: false,
+                page_size_log2: None,
+            };
+            self.memory(ty).ok()?;
+        }
+        Some(())
+    }
 }
 
-fn exports(alloc: Global, count: u32) -> Option<ExportSection> {
-    let mut section = ExportSection::new(alloc);
-    for _ in 0..count {
-        section.export("names", ExportKind::Func, 5).ok()?;
+impl Filled for TagSection {
+    fn empty(alloc: Global) -> TagSection {
+        TagSection::new(alloc)
     }
-    Some(section)
+
+    fn fill(&mut self, _alloc: Global, count: u32) -> Option<()> {
+        for _ in 0..count {
+            let ty = TagType {
+                kind: TagKind::Exception,
+                func_type_idx: 5,
+            };
+            self.tag(ty).ok()?;
+        }
+        Some(())
+    }
 }
 
-fn elements(alloc: Global, count: u32) -> Option<ElementSection> {
-    let offset = ConstExpr::i32_const(alloc, 0).ok()?;
-    let mut section = ElementSection::new(alloc);
-    for _ in 0..count {
-        section
-            .active(None, &offset, Elements::Functions(&[1; 16]))
-            .ok()?;
+impl Filled for GlobalSection {
+    fn empty(alloc: Global) -> GlobalSection {
+        GlobalSection::new(alloc)
     }
-    Some(section)
+
+    fn fill(&mut self, alloc: Global, count: u32) -> Option<()> {
+        let init = ConstExpr::i32_const(alloc, 42).ok()?;
+        for _ in 0..count {
+            let ty = GlobalType {
+                val_type: ValType::I32,
+                mutable: false,
+            };
+            self.global(ty, &init).ok()?;
+        }
+        Some(())
+    }
 }
 
-// Bodies of 1 KiB each.
-fn bodies(alloc: Global, count: u32) -> Option<CodeSection> {
-    let mut section = CodeSection::new(alloc);
-    for _ in 0..count {
-        section.raw(&[1; 1024]).ok()?;
+impl Filled for ExportSection {
+    fn empty(alloc: Global) -> ExportSection {
+        ExportSection::new(alloc)
     }
-    Some(section)
+
+    fn fill(&mut self, _alloc: Global, count: u32) -> Option<()> {
+        for _ in 0..count {
+            self.export("names", ExportKind::Func, 5).ok()?;
+        }
+        Some(())
+    }
 }
 
-fn data(alloc: Global, count: u32) -> Option<DataSection> {
-    let offset = ConstExpr::i32_const(alloc, 0).ok()?;
-    let mut section = DataSection::new(alloc);
-    for _ in 0..count {
-        section.active(0, &offset, &[1; 16]).ok()?;
+impl Filled for ElementSection {
+    fn empty(alloc: Global) -> ElementSection {
+        ElementSection::new(alloc)
     }
-    Some(section)
+
+    fn fill(&mut self, alloc: Global, count: u32) -> Option<()> {
+        let offset = ConstExpr::i32_const(alloc, 0).ok()?;
+        for _ in 0..count {
+            self.active(None, &offset, Elements::Functions(&[1; 16]))
+                .ok()?;
+        }
+        Some(())
+    }
+}
+
+impl Filled for CodeSection {
+    fn empty(alloc: Global) -> CodeSection {
+        CodeSection::new(alloc)
+    }
+
+    // Bodies of 1 KiB each.
+    fn fill(&mut self, _alloc: Global, count: u32) -> Option<()> {
+        for _ in 0..count {
+            self.raw(&[1; 1024]).ok()?;
+        }
+        Some(())
+    }
+}
+
+impl Filled for DataSection {
+    fn empty(alloc: Global) -> DataSection {
+        DataSection::new(alloc)
+    }
+
+    fn fill(&mut self, alloc: Global, count: u32) -> Option<()> {
+        let offset = ConstExpr::i32_const(alloc, 0).ok()?;
+        for _ in 0..count {
+            self.active(0, &offset, &[1; 16]).ok()?;
+        }
+        Some(())
+    }
 }

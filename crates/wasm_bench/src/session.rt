@@ -11,31 +11,44 @@ pub(crate) fn measure<R: Print + AllocGlobal>(rt: &R, words: &[String]) -> Optio
         return None;
     };
     let count = count.as_str().parse::<u32>().ok()?;
-    let kept = keep_types(rt.alloc(), count)?;
-    println!(rt;
-        "{} modules show {} types",
-        kept.len(),
-        count_types(kept.as_slice())
-    )
-    .ok()
+    let mut kept = Vec::new(rt.alloc());
+    let is_told = keep_and_tell(rt, &mut kept, count);
+    drop(kept);
+    is_told
+}
+
+// (A vector of types and a session are each owned where there is one exit: letting go of them is dear to prove.)
+fn keep_and_tell<R: Print + AllocGlobal>(rt: &R, kept: &mut Vec<Types>, count: u32) -> Option<()> {
+    keep_types(rt.alloc(), kept, count)?;
+    let types = count_types(kept.as_slice());
+    println!(rt; "{} modules show {} types", kept.len(), types).ok()
 }
 
 // Judges so many modules in one session, and keeps the types of each.
-fn keep_types(alloc: Global, count: u32) -> Option<Vec<Types>> {
+fn keep_types(alloc: Global, kept: &mut Vec<Types>, count: u32) -> Option<()> {
     let mut session = Session::new(alloc, WasmFeatures::default(), ValidatorId::new(0));
-    let kept = keep_each(alloc, &mut session, count);
+    let is_kept = keep_each(alloc, &mut session, kept, count);
     drop(session);
-    kept
+    is_kept
 }
 
-fn keep_each(alloc: Global, session: &mut Session, count: u32) -> Option<Vec<Types>> {
-    let mut kept = Vec::new(alloc);
+fn keep_each(
+    alloc: Global,
+    session: &mut Session,
+    kept: &mut Vec<Types>,
+    count: u32,
+) -> Option<()> {
     for number in 0..count {
-        let bytes = module_of(alloc, number).ok()?;
-        let types = session.check(&bytes).ok()?;
+        let types = types_of(alloc, session, number)?;
         kept.push(types).ok()?;
     }
-    Some(kept)
+    Some(())
+}
+
+// The types of the module of a number.
+fn types_of(alloc: Global, session: &mut Session, number: u32) -> Option<Types> {
+    let bytes = module_of(alloc, number).ok()?;
+    session.check(&bytes).ok()
 }
 
 // A module with one function type, whose 32 parameters tell the bits of a number.

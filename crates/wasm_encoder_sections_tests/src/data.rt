@@ -1,13 +1,13 @@
 //! Data sections.
 
-use crate::entries::holds;
+use crate::entries::{Rows, row};
 use crate::expressions::expression_of;
 use std::alloc::Global;
 use std::test::Fail;
 use wasm_encoder_expression_sections::data_section::DataSection;
 use wasm_encoder_expression_sections::data_segment::{DataSegment, DataSegmentMode};
 use wasm_encoder_expressions::const_expr::ConstExpr;
-use wasm_test_rows::fields::{three_fields, word_and_rest};
+use wasm_test_rows::fields::word_and_rest;
 use wasm_test_rows::rows::check_rows;
 use wasm_test_rows::values::bytes_of;
 
@@ -40,27 +40,21 @@ fn is_added(alloc: Global, section: &mut DataSection, mode: &str, bytes: &[u8]) 
     }
 }
 
-// A mode, and after `:` bytes.
-fn add(alloc: Global, section: &mut DataSection, entry: &str) -> Option<bool> {
-    let (mode, bytes) = entry.split_once(':')?;
-    let bytes = bytes_of(alloc, bytes)?;
-    Some(is_added(alloc, section, mode, &bytes))
-}
+impl Rows for DataSection {
+    fn empty(alloc: Global) -> DataSection {
+        DataSection::new(alloc)
+    }
 
-fn data_of(alloc: Global, entries: &str) -> Option<DataSection> {
-    let mut section = DataSection::new(alloc);
-    for entry in entries.split_terminator(';') {
-        if add(alloc, &mut section, entry) != Some(true) {
-            return None;
+    // A mode, and after `:` bytes.
+    fn add(&mut self, alloc: Global, entry: &str) -> Option<()> {
+        let (mode, bytes) = entry.split_once(':')?;
+        let bytes = bytes_of(alloc, bytes)?;
+        if is_added(alloc, self, mode, &bytes) {
+            Some(())
+        } else {
+            None
         }
     }
-    Some(section)
-}
-
-fn data_row(alloc: Global, row: &str) -> Option<bool> {
-    let (entries, lengths, bytes) = three_fields(row)?;
-    let section = data_of(alloc, entries)?;
-    holds(alloc, &section, lengths, bytes)
 }
 
 const DATA: &str = "
@@ -76,6 +70,6 @@ const DATA: &str = "
 
 #[test]
 fn data_sections(rt: HostRuntime) -> Result<(), Fail> {
-    check_rows(rt.alloc(), DATA, 8, data_row)?;
+    check_rows(rt.alloc(), DATA, 8, row::<DataSection>)?;
     Ok(())
 }

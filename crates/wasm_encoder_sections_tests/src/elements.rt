@@ -1,13 +1,14 @@
 //! Element sections.
 
-use crate::entries::holds;
+use crate::entries::{Rows, row};
 use crate::expressions::{expression_of, reference_of};
 use std::alloc::Global;
 use std::test::Fail;
+use wasm_core_types::types::RefType;
 use wasm_encoder_expression_sections::element_section::ElementSection;
 use wasm_encoder_expression_sections::element_segment::{ElementMode, ElementSegment, Elements};
 use wasm_encoder_expressions::const_expr::ConstExpr;
-use wasm_test_rows::fields::{three_fields, word_and_rest};
+use wasm_test_rows::fields::word_and_rest;
 use wasm_test_rows::rows::check_rows;
 use wasm_test_rows::values::{bytes_of, numbers_of};
 
@@ -51,11 +52,16 @@ fn add_elements(
     if is_refused { None } else { Some(()) }
 }
 
-fn expressions_of(alloc: Global, words: &str) -> Option<Vec<ConstExpr>> {
-    let mut expressions = Vec::new(alloc);
+fn put_expressions(alloc: Global, expressions: &mut Vec<ConstExpr>, words: &str) -> Option<()> {
     for word in words.split_terminator(',') {
         expressions.push(expression_of(alloc, word)?).ok()?;
     }
+    Some(())
+}
+
+fn expressions_of(alloc: Global, words: &str) -> Option<Vec<ConstExpr>> {
+    let mut expressions = Vec::new(alloc);
+    put_expressions(alloc, &mut expressions, words)?;
     Some(expressions)
 }
 
@@ -67,39 +73,45 @@ fn add_raw(alloc: Global, section: &mut ElementSection, bytes: &str) -> Option<(
     Some(())
 }
 
-// A mode, and after `:` the word `indexes` and indexes, or a type and expressions between commas; or `raw`, and after `:` bytes.
-fn add(alloc: Global, section: &mut ElementSection, entry: &str) -> Option<()> {
-    let (mode, elements) = entry.split_once(':')?;
-    if mode.trim() == "raw" {
-        return add_raw(alloc, section, elements);
-    }
-    let (name, items) = word_and_rest(elements);
-    if name == "indexes" {
-        let indexes = numbers_of(alloc, items)?;
-        return add_elements(alloc, section, mode, Elements::Functions(&indexes));
-    }
-    let ty = reference_of(name)?;
-    let expressions = expressions_of(alloc, items)?;
-    add_elements(
-        alloc,
-        section,
-        mode,
-        Elements::Expressions(ty, &expressions),
-    )
+fn add_functions(
+    alloc: Global,
+    section: &mut ElementSection,
+    mode: &str,
+    indexes: &str,
+) -> Option<()> {
+    let indexes = numbers_of(alloc, indexes)?;
+    add_elements(alloc, section, mode, Elements::Functions(&indexes))
 }
 
-fn elements_of(alloc: Global, entries: &str) -> Option<ElementSection> {
-    let mut section = ElementSection::new(alloc);
-    for entry in entries.split_terminator(';') {
-        add(alloc, &mut section, entry)?;
-    }
-    Some(section)
+fn add_expressions(
+    alloc: Global,
+    section: &mut ElementSection,
+    mode: &str,
+    ty: RefType,
+    words: &str,
+) -> Option<()> {
+    let expressions = expressions_of(alloc, words)?;
+    let elements = Elements::Expressions(ty, &expressions);
+    add_elements(alloc, section, mode, elements)
 }
 
-fn element_row(alloc: Global, row: &str) -> Option<bool> {
-    let (entries, lengths, bytes) = three_fields(row)?;
-    let section = elements_of(alloc, entries)?;
-    holds(alloc, &section, lengths, bytes)
+impl Rows for ElementSection {
+    fn empty(alloc: Global) -> ElementSection {
+        ElementSection::new(alloc)
+    }
+
+    // A mode, and after `:` the word `indexes` and indexes, or a type and expressions between commas; or `raw`, and after `:` bytes.
+    fn add(&mut self, alloc: Global, entry: &str) -> Option<()> {
+        let (mode, elements) = entry.split_once(':')?;
+        if mode.trim() == "raw" {
+            return add_raw(alloc, self, elements);
+        }
+        let (name, items) = word_and_rest(elements);
+        if name == "indexes" {
+            return add_functions(alloc, self, mode, items);
+        }
+        add_expressions(alloc, self, mode, reference_of(name)?, items)
+    }
 }
 
 const ELEMENTS: &str = "
@@ -123,6 +135,6 @@ const ELEMENTS: &str = "
 
 #[test]
 fn element_sections(rt: HostRuntime) -> Result<(), Fail> {
-    check_rows(rt.alloc(), ELEMENTS, 16, element_row)?;
+    check_rows(rt.alloc(), ELEMENTS, 16, row::<ElementSection>)?;
     Ok(())
 }

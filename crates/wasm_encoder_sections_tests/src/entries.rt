@@ -12,6 +12,7 @@ use wasm_encoder_sections::function_section::FunctionSection;
 use wasm_encoder_sections::import_section::ImportSection;
 use wasm_encoder_sections::memory_section::MemorySection;
 use wasm_encoder_sections::tag_section::TagSection;
+use wasm_test_rows::fields::three_fields;
 use wasm_test_rows::values::numbers_of;
 
 /// A section that has entries.
@@ -75,6 +76,15 @@ impl Entries for TableSection {
     }
 }
 
+/// A section whose entries are told in words.
+pub trait Rows: Entries {
+    /// One without entries.
+    fn empty(alloc: Global) -> Self;
+
+    /// Adds the entry that is told, if it can.
+    fn add(&mut self, alloc: Global, entry: &str) -> Option<()>;
+}
+
 // Whether a section has entries of these lengths, and no others.
 fn has_lengths<S: Entries>(section: &S, lengths: &[u32]) -> bool {
     let mut count = 0u32;
@@ -93,4 +103,20 @@ fn has_lengths<S: Entries>(section: &S, lengths: &[u32]) -> bool {
 pub fn holds<S: Entries>(alloc: Global, section: &S, lengths: &str, bytes: &str) -> Option<bool> {
     let lengths = numbers_of(alloc, lengths)?;
     Some(has_lengths(section, &lengths) && writes(alloc, section, bytes))
+}
+
+// A section of these entries, with `;` between them.
+fn section_of<S: Rows + Drop>(alloc: Global, entries: &str) -> Option<S> {
+    let mut section = S::empty(alloc);
+    for entry in entries.split_terminator(';') {
+        section.add(alloc, entry)?;
+    }
+    Some(section)
+}
+
+/// Whether a row holds: entries, how long each is, and the section. (Once for all kinds, since who owns a section proves how it is let go of.)
+pub fn row<S: Rows + Drop>(alloc: Global, row: &str) -> Option<bool> {
+    let (entries, lengths, bytes) = three_fields(row)?;
+    let section = section_of::<S>(alloc, entries)?;
+    holds(alloc, &section, lengths, bytes)
 }

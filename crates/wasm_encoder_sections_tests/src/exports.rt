@@ -1,12 +1,12 @@
 //! Export sections.
 
-use crate::entries::holds;
+use crate::entries::{Rows, row};
 use std::alloc::Global;
 use std::test::Fail;
 use wasm_core_write::encode_error::EncodeError;
 use wasm_encoder_sections::entity_type::ExportKind;
 use wasm_encoder_sections::export_section::ExportSection;
-use wasm_test_rows::fields::{three_fields, word_and_rest};
+use wasm_test_rows::fields::word_and_rest;
 use wasm_test_rows::rows::check_rows;
 
 fn kind_of(word: &str) -> Option<ExportKind> {
@@ -20,30 +20,22 @@ fn kind_of(word: &str) -> Option<ExportKind> {
     }
 }
 
-// The kind, the index, and the name, which may be empty.
-fn add(section: &mut ExportSection, entry: &str) -> Option<()> {
-    let (kind, rest) = word_and_rest(entry);
-    let (index, name) = word_and_rest(rest);
-    let kind = kind_of(kind)?;
-    let index = index.parse().ok()?;
-    if section.export(name, kind, index).is_err() {
-        return None;
+impl Rows for ExportSection {
+    fn empty(alloc: Global) -> ExportSection {
+        ExportSection::new(alloc)
     }
-    Some(())
-}
 
-fn exports_of(alloc: Global, entries: &str) -> Option<ExportSection> {
-    let mut section = ExportSection::new(alloc);
-    for entry in entries.split_terminator(';') {
-        add(&mut section, entry)?;
+    // The kind, the index, and the name, which may be empty.
+    fn add(&mut self, _alloc: Global, entry: &str) -> Option<()> {
+        let (kind, rest) = word_and_rest(entry);
+        let (index, name) = word_and_rest(rest);
+        let kind = kind_of(kind)?;
+        let index = index.parse().ok()?;
+        if self.export(name, kind, index).is_err() {
+            return None;
+        }
+        Some(())
     }
-    Some(section)
-}
-
-fn export_row(alloc: Global, row: &str) -> Option<bool> {
-    let (entries, lengths, bytes) = three_fields(row)?;
-    let section = exports_of(alloc, entries)?;
-    holds(alloc, &section, lengths, bytes)
 }
 
 const EXPORTS: &str = "
@@ -54,7 +46,7 @@ const EXPORTS: &str = "
 
 #[test]
 fn export_sections(rt: HostRuntime) -> Result<(), Fail> {
-    check_rows(rt.alloc(), EXPORTS, 3, export_row)?;
+    check_rows(rt.alloc(), EXPORTS, 3, row::<ExportSection>)?;
     Ok(())
 }
 

@@ -1,13 +1,13 @@
 //! Global sections.
 
-use crate::entries::holds;
+use crate::entries::{Rows, row};
 use crate::expressions::{expression_of, reference_of};
 use std::alloc::Global;
 use std::test::Fail;
 use wasm_core_types::types::ValType;
 use wasm_encoder_expression_sections::global_section::GlobalSection;
 use wasm_encoder_sections::entity_type::GlobalType;
-use wasm_test_rows::fields::{three_fields, word_and_rest};
+use wasm_test_rows::fields::word_and_rest;
 use wasm_test_rows::rows::check_rows;
 use wasm_test_rows::values::bytes_of;
 
@@ -43,27 +43,19 @@ fn add_typed(alloc: Global, section: &mut GlobalSection, name: &str, rest: &str)
     Some(())
 }
 
-// `raw` and bytes, or a type, whether it is a `var` or a `const`, and the operators of an expression.
-fn add(alloc: Global, section: &mut GlobalSection, entry: &str) -> Option<()> {
-    let (name, rest) = word_and_rest(entry);
-    if name == "raw" {
-        return add_raw(alloc, section, rest);
+impl Rows for GlobalSection {
+    fn empty(alloc: Global) -> GlobalSection {
+        GlobalSection::new(alloc)
     }
-    add_typed(alloc, section, name, rest)
-}
 
-fn globals_of(alloc: Global, entries: &str) -> Option<GlobalSection> {
-    let mut section = GlobalSection::new(alloc);
-    for entry in entries.split_terminator(';') {
-        add(alloc, &mut section, entry)?;
+    // `raw` and bytes, or a type, whether it is a `var` or a `const`, and the operators of an expression.
+    fn add(&mut self, alloc: Global, entry: &str) -> Option<()> {
+        let (name, rest) = word_and_rest(entry);
+        if name == "raw" {
+            return add_raw(alloc, self, rest);
+        }
+        add_typed(alloc, self, name, rest)
     }
-    Some(section)
-}
-
-fn global_row(alloc: Global, row: &str) -> Option<bool> {
-    let (entries, lengths, bytes) = three_fields(row)?;
-    let section = globals_of(alloc, entries)?;
-    holds(alloc, &section, lengths, bytes)
 }
 
 const GLOBALS: &str = "
@@ -79,6 +71,6 @@ const GLOBALS: &str = "
 
 #[test]
 fn global_sections(rt: HostRuntime) -> Result<(), Fail> {
-    check_rows(rt.alloc(), GLOBALS, 8, global_row)?;
+    check_rows(rt.alloc(), GLOBALS, 8, row::<GlobalSection>)?;
     Ok(())
 }

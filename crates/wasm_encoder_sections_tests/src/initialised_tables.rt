@@ -1,6 +1,6 @@
 //! Table sections.
 
-use crate::entries::holds;
+use crate::entries::{Rows, row};
 use crate::expressions::{expression_of, reference_of};
 use std::alloc::Global;
 use std::test::Fail;
@@ -8,7 +8,7 @@ use wasm_core_write::encode_error::EncodeError;
 use wasm_encoder_expression_sections::table_section::TableSection;
 use wasm_encoder_expressions::const_expr::ConstExpr;
 use wasm_encoder_sections::entity_type::TableType;
-use wasm_test_rows::fields::{three_fields, word_and_rest};
+use wasm_test_rows::fields::word_and_rest;
 use wasm_test_rows::rows::check_rows;
 use wasm_test_rows::values::{bool_of, number_of};
 
@@ -36,30 +36,22 @@ fn add_initialised(alloc: Global, section: &mut TableSection, ty: &str, init: &s
     Some(())
 }
 
-// A type, and after `=` an expression if there is one.
-fn add(alloc: Global, section: &mut TableSection, entry: &str) -> Option<()> {
-    if let Some((ty, init)) = entry.split_once('=') {
-        return add_initialised(alloc, section, ty, init);
+impl Rows for TableSection {
+    fn empty(alloc: Global) -> TableSection {
+        TableSection::new(alloc)
     }
-    let ty = table_type_of(entry)?;
-    if section.table(ty).is_err() {
-        return None;
-    }
-    Some(())
-}
 
-fn tables_of(alloc: Global, entries: &str) -> Option<TableSection> {
-    let mut section = TableSection::new(alloc);
-    for entry in entries.split_terminator(';') {
-        add(alloc, &mut section, entry)?;
+    // A type, and after `=` an expression if there is one.
+    fn add(&mut self, alloc: Global, entry: &str) -> Option<()> {
+        if let Some((ty, init)) = entry.split_once('=') {
+            return add_initialised(alloc, self, ty, init);
+        }
+        let ty = table_type_of(entry)?;
+        if self.table(ty).is_err() {
+            return None;
+        }
+        Some(())
     }
-    Some(section)
-}
-
-fn table_row(alloc: Global, row: &str) -> Option<bool> {
-    let (entries, lengths, bytes) = three_fields(row)?;
-    let section = tables_of(alloc, entries)?;
-    holds(alloc, &section, lengths, bytes)
 }
 
 const TABLES: &str = "
@@ -73,7 +65,7 @@ const TABLES: &str = "
 
 #[test]
 fn table_sections(rt: HostRuntime) -> Result<(), Fail> {
-    check_rows(rt.alloc(), TABLES, 6, table_row)?;
+    check_rows(rt.alloc(), TABLES, 6, row::<TableSection>)?;
     Ok(())
 }
 
@@ -89,19 +81,24 @@ fn is_taken(section: &mut TableSection, ty: TableType, init: &ConstExpr) -> bool
     }
 }
 
-fn are_taken(alloc: Global) -> Option<bool> {
+// Whether six tables go in.
+fn are_taken(section: &mut TableSection, ty: TableType, init: &ConstExpr) -> bool {
+    for _ in 0..6_u32 {
+        if !is_taken(section, ty, init) {
+            return false;
+        }
+    }
+    section.len() == 6
+}
+
+fn all_are_taken(alloc: Global) -> Option<bool> {
     let ty = table_type_of("func 1 - no")?;
     let init = expression_of(alloc, "d2 00").or_else(|| expression_of(alloc, "d2 00"))?;
     let mut section = TableSection::new(alloc);
-    for _ in 0..6_u32 {
-        if !is_taken(&mut section, ty, &init) {
-            return Some(false);
-        }
-    }
-    Some(section.len() == 6)
+    Some(are_taken(&mut section, ty, &init))
 }
 
 #[test]
 fn refusals_change_nothing(rt: HostRuntime) {
-    assert!(rt; are_taken(rt.alloc()) == Some(true));
+    assert!(rt; all_are_taken(rt.alloc()) == Some(true));
 }

@@ -8,6 +8,7 @@ use wasm_encoder_expression_sections::data_section::DataSection;
 use wasm_encoder_expression_sections::element_section::ElementSection;
 use wasm_encoder_expression_sections::element_segment::Elements;
 use wasm_encoder_expression_sections::global_section::GlobalSection;
+use wasm_encoder_expressions::const_expr::ConstExpr;
 use wasm_encoder_sections::entity_type::GlobalType;
 
 const COUNT: u32 = 100_000;
@@ -44,20 +45,29 @@ fn many_segments(alloc: Global) -> Option<bool> {
     has_len(alloc, &section, 900_006)
 }
 
-// One segment: its form and type, the number of expressions in 3 bytes, and 3 bytes for each.
-fn many_expressions(alloc: Global) -> Option<bool> {
-    let mut expressions = Vec::new(alloc);
+fn put_expressions(alloc: Global, expressions: &mut Vec<ConstExpr>) -> Option<()> {
     for _ in 0..COUNT {
         expressions.push(expression_of(alloc, "d2 00")?).ok()?;
     }
+    Some(())
+}
+
+// One segment: its form and type, the number of expressions in 3 bytes, and 3 bytes for each.
+fn has_expressions(alloc: Global, expressions: &[ConstExpr]) -> Option<bool> {
     let ty = RefType {
         nullable: true,
         heap_type: HeapType::Abstract(AbstractHeapType::Func),
     };
     let mut section = ElementSection::new(alloc);
-    let elements = Elements::Expressions(ty, &expressions);
+    let elements = Elements::Expressions(ty, expressions);
     section.push_passive(elements).ok()?;
     has_len(alloc, &section, 300_009)
+}
+
+fn many_expressions(alloc: Global) -> Option<bool> {
+    let mut expressions = Vec::new(alloc);
+    put_expressions(alloc, &mut expressions)?;
+    has_expressions(alloc, &expressions)
 }
 
 #[test]

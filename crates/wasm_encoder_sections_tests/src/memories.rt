@@ -1,11 +1,10 @@
 //! Memory sections, and the sizes of pages.
 
-use crate::entries::holds;
+use crate::entries::{Rows, row};
 use std::alloc::Global;
 use std::test::Fail;
 use wasm_encoder_sections::entity_type::MemoryType;
 use wasm_encoder_sections::memory_section::MemorySection;
-use wasm_test_rows::fields::three_fields;
 use wasm_test_rows::rows::check_rows;
 use wasm_test_rows::values::{bool_of, number_of};
 
@@ -26,20 +25,17 @@ fn memory_of(entry: &str) -> Option<MemoryType> {
     })
 }
 
-fn memories_of(alloc: Global, entries: &str) -> Option<MemorySection> {
-    let mut section = MemorySection::new(alloc);
-    for entry in entries.split_terminator(';') {
-        if section.memory(memory_of(entry)?).is_err() {
+impl Rows for MemorySection {
+    fn empty(alloc: Global) -> MemorySection {
+        MemorySection::new(alloc)
+    }
+
+    fn add(&mut self, _alloc: Global, entry: &str) -> Option<()> {
+        if self.memory(memory_of(entry)?).is_err() {
             return None;
         }
+        Some(())
     }
-    Some(section)
-}
-
-fn memory_row(alloc: Global, row: &str) -> Option<bool> {
-    let (entries, lengths, bytes) = three_fields(row)?;
-    let section = memories_of(alloc, entries)?;
-    holds(alloc, &section, lengths, bytes)
 }
 
 const MEMORIES: &str = "
@@ -51,7 +47,7 @@ const MEMORIES: &str = "
 
 #[test]
 fn memory_sections(rt: HostRuntime) -> Result<(), Fail> {
-    check_rows(rt.alloc(), MEMORIES, 4, memory_row)?;
+    check_rows(rt.alloc(), MEMORIES, 4, row::<MemorySection>)?;
     Ok(())
 }
 

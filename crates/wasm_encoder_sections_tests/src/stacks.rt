@@ -7,7 +7,6 @@ use wasm_encoder_custom::core_dump_stack::{CoreDumpStackSection, CoreDumpValue};
 use wasm_encoder_instructions::ieee::{Ieee32, Ieee64};
 use wasm_test_rows::fields::four_fields;
 use wasm_test_rows::rows::check_rows;
-use wasm_test_rows::values::numbers_of;
 
 // A value: `missing`, `i32/-1`, or `f32/BITS`.
 fn value_of(word: &str) -> Option<CoreDumpValue> {
@@ -23,8 +22,7 @@ fn value_of(word: &str) -> Option<CoreDumpValue> {
 }
 
 // Values with spaces between them, each of which may be followed by how often it stands there.
-fn values_of(alloc: Global, field: &str) -> Option<Vec<CoreDumpValue>> {
-    let mut values = Vec::new(alloc);
+fn put_values(values: &mut Vec<CoreDumpValue>, field: &str) -> Option<()> {
     for word in field.split_whitespace() {
         let (word, count) = word.split_once('*').unwrap_or((word, "1"));
         let value = value_of(word)?;
@@ -32,22 +30,39 @@ fn values_of(alloc: Global, field: &str) -> Option<Vec<CoreDumpValue>> {
             values.push(value).ok()?;
         }
     }
+    Some(())
+}
+
+fn values_of(alloc: Global, field: &str) -> Option<Vec<CoreDumpValue>> {
+    let mut values = Vec::new(alloc);
+    put_values(&mut values, field)?;
     Some(values)
+}
+
+// Three numbers: an instance, a function and an offset.
+fn place_of(field: &str) -> Option<[u32; 3]> {
+    let mut words = field.split_whitespace();
+    let instance = words.next()?.parse().ok()?;
+    let function = words.next()?.parse().ok()?;
+    let offset = words.next()?.parse().ok()?;
+    if words.next().is_none() {
+        Some([instance, function, offset])
+    } else {
+        None
+    }
 }
 
 // Adds a frame so often.
 fn repeat_frame(
     section: &mut CoreDumpStackSection,
     count: u32,
-    place: &[u32],
+    place: [u32; 3],
     locals: &[CoreDumpValue],
     operands: &[CoreDumpValue],
 ) -> bool {
-    let [instance, function, offset] = place else {
-        return false;
-    };
+    let [instance, function, offset] = place;
     for _ in 0..count {
-        let added = section.frame(*instance, *function, *offset, locals, operands);
+        let added = section.frame(instance, function, offset, locals, operands);
         if added.is_err() {
             return false;
         }
@@ -64,10 +79,10 @@ fn add_frame(
 ) -> Option<bool> {
     let (place, values) = frame.split_once(':')?;
     let (locals, operands) = values.split_once(':')?;
-    let place = numbers_of(alloc, place)?;
+    let place = place_of(place)?;
     let locals = values_of(alloc, locals)?;
     let operands = values_of(alloc, operands)?;
-    let is_added = repeat_frame(section, count, &place, &locals, &operands);
+    let is_added = repeat_frame(section, count, place, &locals, &operands);
     Some(is_added)
 }
 

@@ -11,9 +11,6 @@ use Rattle.wasmparser_operators.specs.OperatorReading.{Kept, block_type_at, code
 use Rattle.wasmparser_operators.proofs.CodeTables.{not_some}
 use Rattle.wasmparser_operators.proofs.OtherCodes.{both, counted, is_off}
 
-unread : {X : Type 0} → (ℕ → Option X) → ℕ → Bool
-unread read k = not (is_some (read k))
-
 is_none : {X : Type 0} (o : Option X) → not (is_some o) ≡ true → o ≡ None
 is_none o e = not_some o (is_off (is_some o) e)
 

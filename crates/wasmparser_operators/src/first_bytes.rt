@@ -90,7 +90,7 @@ pub(crate) fn read_call_from<'a>(
     }
 }
 
-// Reads a constant after its first byte.
+// Reads a constant after its first byte. Each is read in a way of its own, by a `match`: at a `?` in an arm the borrow checker shows twice as much.
 #[inline(always)]
 #[tactic(auto, unfolding(crate::specs::CodeTables::row_of, crate::specs::OperatorReading::shape_of))]
 pub(crate) fn read_constant_from<'a>(
@@ -103,18 +103,22 @@ pub(crate) fn read_constant_from<'a>(
     ensures whole { IfOk result IsWhole }
 {
     match code {
-        0x41 => Ok(Operator::I32Const {
-            value: reader.read_var_i32()?,
-        }),
-        0x42 => Ok(Operator::I64Const {
-            value: reader.read_var_i64()?,
-        }),
-        0x43 => Ok(Operator::F32Const {
-            bits: reader.read_f32_bits()?,
-        }),
-        0x44 => Ok(Operator::F64Const {
-            bits: reader.read_f64_bits()?,
-        }),
+        0x41 => match reader.read_var_i32() {
+            Ok(value) => Ok(Operator::I32Const { value }),
+            Err(error) => Err(error),
+        },
+        0x42 => match reader.read_var_i64() {
+            Ok(value) => Ok(Operator::I64Const { value }),
+            Err(error) => Err(error),
+        },
+        0x43 => match reader.read_f32_bits() {
+            Ok(bits) => Ok(Operator::F32Const { bits }),
+            Err(error) => Err(error),
+        },
+        0x44 => match reader.read_f64_bits() {
+            Ok(bits) => Ok(Operator::F64Const { bits }),
+            Err(error) => Err(error),
+        },
         0x00..=0x40 => Err(no_operator(reader)),
         0x45..=0xff => Err(no_operator(reader)),
     }

@@ -9,3 +9,4 @@ pub mod OperatorForms
 mod OperatorLaws
 mod OtherCodes
 pub mod ReaderLaws
+mod UnreadParts

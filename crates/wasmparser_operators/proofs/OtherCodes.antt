@@ -9,14 +9,14 @@ use Rattle.wasm_core_read.proofs.Forms.{some_is}
 use Rattle.wasmparser_operators.specs.OperatorAnswers.{is_other_code}
 use Rattle.wasmparser_operators.specs.OperatorReading.{code_from, code_at}
 
-both : (a b : Bool) → (a && b) ≡ true → (a ≡ true) × (b ≡ true)
+pub both : (a b : Bool) → (a && b) ≡ true → (a ≡ true) × (b ≡ true)
 both true b e = (refl, e)
 both false b e = absurd cc
 
 -- ---- bytes
 
 -- a test of numbers that follow one another holds of each
-counted : (test : ℕ → Bool) (low n b : ℕ) → list_all test (counted_from low n) ≡ true → low ≤ b → b < low + n → test b ≡ true
+pub counted : (test : ℕ → Bool) (low n b : ℕ) → list_all test (counted_from low n) ≡ true → low ≤ b → b < low + n → test b ≡ true
 counted test low zero b e l h = absurd (omega (arith, l, h))
 counted test low (suc n) b e l h =
     let p = both (test low) (list_all test (counted_from (suc low) n)) e in
@@ -31,7 +31,7 @@ counted test low (suc n) b e l h =
 others : (low n b : ℕ) → list_all (λ k. is_other_code (Byte k)) (counted_from low n) ≡ true → low ≤ b → b < low + n → is_other_code (Byte b) ≡ true
 others low n b e l h = counted (λ k. is_other_code (Byte k)) low n b e l h
 
-is_off : (b : Bool) → not b ≡ true → b ≡ false
+pub is_off : (b : Bool) → not b ≡ true → b ≡ false
 is_off true e = absurd cc
 is_off false e = refl
 

@@ -7,7 +7,8 @@ ghost use Rattle.wasmparser_operators.specs.OperatorReading.{Packed, coded_at, o
 ghost use Rattle.wasmparser_operators.specs.OperatorValues.{IsWhole, operator};
 
 use crate::br_table::read_labels;
-use crate::immediates::{read_block_type, read_index_with, read_null_type};
+use crate::families::{read_block_from, read_function_from, read_jump_from};
+use crate::immediates::{read_index_with, read_null_type, read_two};
 use crate::operator::Operator;
 use crate::scalars::scalar;
 use crate::second_codes::no_operator;
@@ -44,23 +45,10 @@ pub(crate) fn read_control_from<'a>(
     match code {
         0x00 => Ok(Operator::Unreachable),
         0x01 => Ok(Operator::Nop),
-        0x02 => Ok(Operator::Block {
-            blockty: read_block_type(reader)?,
-        }),
-        0x03 => Ok(Operator::Loop {
-            blockty: read_block_type(reader)?,
-        }),
-        0x04 => Ok(Operator::If {
-            blockty: read_block_type(reader)?,
-        }),
+        0x02..=0x04 => read_block_from(code, reader),
         0x05 => Ok(Operator::Else),
         0x0b => Ok(Operator::End),
-        0x0c => Ok(Operator::Br {
-            relative_depth: reader.read_var_u32()?,
-        }),
-        0x0d => Ok(Operator::BrIf {
-            relative_depth: reader.read_var_u32()?,
-        }),
+        0x0c | 0x0d => read_jump_from(code, reader),
         0x0e => Ok(Operator::BrTable {
             targets: read_labels(reader)?,
         }),
@@ -83,27 +71,15 @@ pub(crate) fn read_call_from<'a>(
     ensures whole { IfOk result IsWhole }
 {
     match code {
-        0x10 => Ok(Operator::Call {
-            function_index: reader.read_var_u32()?,
-        }),
+        0x10 | 0x12 | 0x14 | 0x15 => read_function_from(code, reader),
         0x11 => read_call_indirect(reader),
-        0x12 => Ok(Operator::ReturnCall {
-            function_index: reader.read_var_u32()?,
-        }),
         0x13 => {
-            let type_index = reader.read_var_u32()?;
-            let table_index = reader.read_var_u32()?;
+            let (type_index, table_index) = read_two(reader)?;
             Ok(Operator::ReturnCallIndirect {
                 type_index,
                 table_index,
             })
         }
-        0x14 => Ok(Operator::CallRef {
-            type_index: reader.read_var_u32()?,
-        }),
-        0x15 => Ok(Operator::ReturnCallRef {
-            type_index: reader.read_var_u32()?,
-        }),
         0x1a => Ok(Operator::Drop),
         0x1b => Ok(Operator::Select),
         0x1c => read_typed_select(reader),
@@ -114,84 +90,36 @@ pub(crate) fn read_call_from<'a>(
     }
 }
 
-// Reads an operator on a local, a global or a table after its first byte.
-#[inline(always)]
-#[tactic(auto, using(crate::proofs::CodeGaps::gaps), unfolding(crate::specs::CodeTables::row_of, crate::specs::OperatorReading::shape_of))]
-pub(crate) fn read_variable_from<'a>(
-    code: u8,
-    reader: &mut BinaryReader<'a>,
-) -> Result<Operator<'a>, Malformed>
-    requires from { 0x20 ≤ code }
-    requires to { code ≤ 0x27 }
-    ensures read { Answers operator reader.old reader.new result (operator_from Packed reader.old.features code reader.old.rest) }
-    ensures whole { IfOk result IsWhole }
-{
-    match code {
-        0x20 => Ok(Operator::LocalGet {
-            local_index: reader.read_var_u32()?,
-        }),
-        0x21 => Ok(Operator::LocalSet {
-            local_index: reader.read_var_u32()?,
-        }),
-        0x22 => Ok(Operator::LocalTee {
-            local_index: reader.read_var_u32()?,
-        }),
-        0x23 => Ok(Operator::GlobalGet {
-            global_index: reader.read_var_u32()?,
-        }),
-        0x24 => Ok(Operator::GlobalSet {
-            global_index: reader.read_var_u32()?,
-        }),
-        0x25 => Ok(Operator::TableGet {
-            table: reader.read_var_u32()?,
-        }),
-        0x26 => Ok(Operator::TableSet {
-            table: reader.read_var_u32()?,
-        }),
-        0x27 => Err(no_operator(reader)),
-        0x00..=0x1f => Err(no_operator(reader)),
-        0x28..=0xff => Err(no_operator(reader)),
-    }
-}
-
-// Reads a constant, or an operator on a memory's size, after its first byte.
+// Reads a constant after its first byte. Each is read in a way of its own, by a `match`: at a `?` in an arm the borrow checker shows twice as much.
 #[inline(always)]
 #[tactic(auto, unfolding(crate::specs::CodeTables::row_of, crate::specs::OperatorReading::shape_of))]
 pub(crate) fn read_constant_from<'a>(
     code: u8,
     reader: &mut BinaryReader<'a>,
 ) -> Result<Operator<'a>, Malformed>
-    requires from { 0x3f ≤ code }
+    requires from { 0x41 ≤ code }
     requires to { code ≤ 0x44 }
     ensures read { Answers operator reader.old reader.new result (operator_from Packed reader.old.features code reader.old.rest) }
     ensures whole { IfOk result IsWhole }
 {
     match code {
-        0x3f => {
-            let several = reader.features().multi_memory();
-            Ok(Operator::MemorySize {
-                mem: read_index_with(several, reader)?,
-            })
-        }
-        0x40 => {
-            let several = reader.features().multi_memory();
-            Ok(Operator::MemoryGrow {
-                mem: read_index_with(several, reader)?,
-            })
-        }
-        0x41 => Ok(Operator::I32Const {
-            value: reader.read_var_i32()?,
-        }),
-        0x42 => Ok(Operator::I64Const {
-            value: reader.read_var_i64()?,
-        }),
-        0x43 => Ok(Operator::F32Const {
-            bits: reader.read_f32_bits()?,
-        }),
-        0x44 => Ok(Operator::F64Const {
-            bits: reader.read_f64_bits()?,
-        }),
-        0x00..=0x3e => Err(no_operator(reader)),
+        0x41 => match reader.read_var_i32() {
+            Ok(value) => Ok(Operator::I32Const { value }),
+            Err(error) => Err(error),
+        },
+        0x42 => match reader.read_var_i64() {
+            Ok(value) => Ok(Operator::I64Const { value }),
+            Err(error) => Err(error),
+        },
+        0x43 => match reader.read_f32_bits() {
+            Ok(bits) => Ok(Operator::F32Const { bits }),
+            Err(error) => Err(error),
+        },
+        0x44 => match reader.read_f64_bits() {
+            Ok(bits) => Ok(Operator::F64Const { bits }),
+            Err(error) => Err(error),
+        },
+        0x00..=0x40 => Err(no_operator(reader)),
         0x45..=0xff => Err(no_operator(reader)),
     }
 }
@@ -230,17 +158,10 @@ pub(crate) fn read_reference_from<'a>(
             hty: read_null_type(reader)?,
         }),
         0xd1 => Ok(Operator::RefIsNull),
-        0xd2 => Ok(Operator::RefFunc {
-            function_index: reader.read_var_u32()?,
-        }),
+        0xd2 => read_function_from(code, reader),
         0xd3 => Ok(Operator::RefEq),
         0xd4 => Ok(Operator::RefAsNonNull),
-        0xd5 => Ok(Operator::BrOnNull {
-            relative_depth: reader.read_var_u32()?,
-        }),
-        0xd6 => Ok(Operator::BrOnNonNull {
-            relative_depth: reader.read_var_u32()?,
-        }),
+        0xd5 | 0xd6 => read_jump_from(code, reader),
         0xc5..=0xcf => Err(no_operator(reader)),
         0xd7..=0xfa => Err(no_operator(reader)),
         0x00..=0xc4 => Err(no_operator(reader)),

@@ -1,7 +1,7 @@
 //! What stands after the codes of operators (Core Specification 3.0, Binary Format, "Instructions").
 
 ghost use Rattle.std.specs.Prelude.{◌≡◌, IfOk};
-ghost use Rattle.wasm_core_read.specs.Reading.{Answers, bytes_at, unsigned_at};
+ghost use Rattle.wasm_core_read.specs.Reading.{Answers, bytes_at, pair_at, unsigned_at};
 ghost use Rattle.wasm_core_read.specs.TypeReading.{heap_index_at, heap_type_at};
 ghost use Rattle.wasm_spec.specs.Features.{has, MultiMemory};
 ghost use Rattle.wasm_spec.specs.TypeReferences.{heap_map};
@@ -131,6 +131,15 @@ pub(crate) fn read_index_with(
         return Err(Malformed { offset });
     }
     Ok(0)
+}
+
+// Reads two indexes.
+pub(crate) fn read_two(reader: &mut BinaryReader<'_>) -> Result<(u32, u32), Malformed>
+    ensures { Answers (λ x. x) reader.old reader.new result (pair_at (unsigned_at 32) (unsigned_at 32) reader.old.rest) }
+{
+    let first = reader.read_var_u32()?;
+    let second = reader.read_var_u32()?;
+    Ok((first, second))
 }
 
 // Reads an exponent, and a memory where there may be several.

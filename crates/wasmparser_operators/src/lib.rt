@@ -3,6 +3,7 @@
 
 mod accesses;
 pub mod br_table;
+mod families;
 mod first_bytes;
 pub mod immediates;
 pub mod laws;

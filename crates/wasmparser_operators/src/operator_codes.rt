@@ -5,10 +5,10 @@ ghost use Rattle.wasm_core_read.specs.Reading.{Answers};
 ghost use Rattle.wasmparser_operators.specs.OperatorReading.{Packed, kept_operator_at, operator_from};
 ghost use Rattle.wasmparser_operators.specs.OperatorValues.{IsWhole, operator};
 
-use crate::accesses::{read_load_from, read_part_load_from, read_store_from};
+use crate::accesses::{read_load_from, read_store_from};
+use crate::families::{read_memory_size_from, read_variable_from};
 use crate::first_bytes::{
     read_call_from, read_constant_from, read_control_from, read_reference_from, read_scalar_from,
-    read_variable_from,
 };
 use crate::operator::Operator;
 use crate::second_codes::{
@@ -16,6 +16,28 @@ use crate::second_codes::{
 };
 use wasm_core_read::binary_reader::BinaryReader;
 use wasm_core_read::malformed::Malformed;
+
+// Reads an operator of two codes after its first byte.
+#[inline(always)]
+#[tactic(auto, using(crate::proofs::UnreadParts::second_codes))]
+fn read_prefixed_from<'a>(
+    code: u8,
+    reader: &mut BinaryReader<'a>,
+) -> Result<Operator<'a>, Malformed>
+    requires from { 0xfb ≤ code }
+    requires to { code ≤ 0xfd }
+    ensures read { Answers operator reader.old reader.new result (operator_from Packed reader.old.features code reader.old.rest) }
+    ensures whole { IfOk result IsWhole }
+{
+    let number = reader.read_var_u32()?;
+    match code {
+        0xfb => read_aggregate_from(number, reader),
+        0xfc => read_saturating_from(number, reader),
+        0xfd => read_vector_from(number, reader),
+        0x00..=0xfa => Err(no_operator(reader)),
+        0xfe..=0xff => Err(no_operator(reader)),
+    }
+}
 
 // Reads an operator after its first byte.
 #[inline(always)]
@@ -30,25 +52,15 @@ fn read_operator_from<'a>(
     match code {
         0x00..=0x0f => read_control_from(code, reader),
         0x10..=0x1f => read_call_from(code, reader),
-        0x20..=0x27 => read_variable_from(code, reader),
-        0x28..=0x2f => read_load_from(code, reader),
-        0x30..=0x35 => read_part_load_from(code, reader),
+        0x20..=0x26 => read_variable_from(code, reader),
+        0x27 => Err(no_operator(reader)),
+        0x28..=0x35 => read_load_from(code, reader),
         0x36..=0x3e => read_store_from(code, reader),
-        0x3f..=0x44 => read_constant_from(code, reader),
+        0x3f..=0x40 => read_memory_size_from(code, reader),
+        0x41..=0x44 => read_constant_from(code, reader),
         0x45..=0xc4 => read_scalar_from(code, reader),
         0xc5..=0xfa => read_reference_from(code, reader),
-        0xfb => {
-            let number = reader.read_var_u32()?;
-            read_aggregate_from(number, reader)
-        }
-        0xfc => {
-            let number = reader.read_var_u32()?;
-            read_saturating_from(number, reader)
-        }
-        0xfd => {
-            let number = reader.read_var_u32()?;
-            read_vector_from(number, reader)
-        }
+        0xfb..=0xfd => read_prefixed_from(code, reader),
         0xfe..=0xff => Err(no_operator(reader)),
     }
 }

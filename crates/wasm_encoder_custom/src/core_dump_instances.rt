@@ -21,7 +21,7 @@ use wasm_core_write::leb128::{len_u64, put_u64};
 use wasm_encoder_sections::kept_list::KeptList;
 
 // An instance: its module, and the indexes of its memories and globals.
-#[derive(Debug, Drop)]
+#[derive(Drop)]
 struct KeptInstance {
     origin: u32,
     memories: Vec<u32>,

@@ -85,7 +85,7 @@ impl Encoding for CoreDumpValue {
 }
 
 // A frame: where it stands in the code, and what it holds.
-#[derive(Debug, Drop)]
+#[derive(Drop)]
 struct KeptFrame {
     instance_index: u32,
     function_index: u32,

@@ -72,7 +72,7 @@ fn put_optional<T: Encoding>(value: &Option<T>, sink: &mut Vec<u8>)
 }
 
 // A symbol of a function, a global or a table.
-#[derive(Debug, Drop)]
+#[derive(Drop)]
 struct IndexedSymbol {
     flags: u32,
     index: u32,
@@ -117,7 +117,7 @@ impl Encoding for IndexedSymbol {
 }
 
 // A symbol of data.
-#[derive(Debug, Drop)]
+#[derive(Drop)]
 struct DataSymbol {
     flags: u32,
     name: Name,
@@ -142,7 +142,7 @@ impl Encoding for DataSymbol {
 }
 
 // A symbol, as it is kept.
-#[derive(Debug, Drop)]
+#[derive(Drop)]
 enum Symbol {
     Function(IndexedSymbol),
     Data(DataSymbol),

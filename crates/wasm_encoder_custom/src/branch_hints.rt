@@ -47,7 +47,7 @@ impl Encoding for BranchHint {
 const HINT_SIZE: u8 = 1;
 
 // A function, and its hints.
-#[derive(Drop)]
+#[derive(Debug, Drop)]
 struct KeptHints {
     function: u32,
     hints: Vec<BranchHint>,

@@ -10,18 +10,18 @@ ghost use Rattle.wasm_spec.specs.Shortest.{framed_encoding};
 
 use crate::core_dump::ENTRY;
 use crate::custom_section::CustomSection;
-use crate::framing::{custom_len, encode_custom, total_size, written};
+use crate::framing::{custom_len, encode_custom, written};
 use std::alloc::Global;
 use std::borrow::{CowSlice, CowStr};
 use std::marker::Model;
 use wasm_core_write::encode::{Encode, Section};
 use wasm_core_write::encode_error::EncodeError;
-use wasm_core_write::encoding::{Encoding, list_size, put_list};
+use wasm_core_write::encoding::{Encoding, add_sizes, list_size, put_list};
 use wasm_core_write::leb128::{len_u64, put_u64};
 use wasm_encoder_sections::kept_list::KeptList;
 
 // An instance: its module, and the indexes of its memories and globals.
-#[derive(Drop)]
+#[derive(Debug, Drop)]
 struct KeptInstance {
     origin: u32,
     memories: Vec<u32>,
@@ -33,8 +33,8 @@ impl Encoding for KeptInstance {
 
     #[tactic(auto, using(wasm_spec::proofs::ListEncodings::parts), unfolding(crate::specs::KeptDumps::dumped_instance_bytes, crate::specs::CoreDumps::dumped_instance_encoding))]
     fn size(&self) -> Result<u64, EncodeError> {
-        let lists = list_size(&self.memories)? + list_size(&self.globals)?;
-        total_size(1 + len_u64(u64::from(self.origin)) as u64 + lists)
+        let lists = add_sizes(list_size(&self.memories)?, list_size(&self.globals)?)?;
+        add_sizes(1 + len_u64(u64::from(self.origin)) as u64, lists)
     }
 
     #[tactic(auto, using(wasm_spec::proofs::ListEncodings::parts), unfolding(crate::specs::KeptDumps::dumped_instance_bytes, crate::specs::CoreDumps::dumped_instance_encoding))]

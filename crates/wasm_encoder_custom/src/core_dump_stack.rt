@@ -10,7 +10,7 @@ ghost use Rattle.wasm_spec.specs.Shortest.{framed_encoding};
 
 use crate::core_dump::{DumpedName, ENTRY};
 use crate::custom_section::CustomSection;
-use crate::framing::{custom_len, encode_custom, total_size, written};
+use crate::framing::{custom_len, encode_custom, written};
 use std::alloc::Global;
 use std::borrow::{CowSlice, CowStr};
 use std::marker::Model;
@@ -85,7 +85,7 @@ impl Encoding for CoreDumpValue {
 }
 
 // A frame: where it stands in the code, and what it holds.
-#[derive(Drop)]
+#[derive(Debug, Drop)]
 struct KeptFrame {
     instance_index: u32,
     function_index: u32,
@@ -102,8 +102,8 @@ impl Encoding for KeptFrame {
         let instance = len_u64(u64::from(self.instance_index)) as u64;
         let function = len_u64(u64::from(self.function_index)) as u64;
         let offset = len_u64(u64::from(self.code_offset)) as u64;
-        let lists = list_size(&self.locals)? + list_size(&self.stack)?;
-        total_size(1 + instance + function + offset + lists)
+        let lists = add_sizes(list_size(&self.locals)?, list_size(&self.stack)?)?;
+        add_sizes(1 + instance + function + offset, lists)
     }
 
     #[tactic(auto, using(wasm_spec::proofs::ListEncodings::parts, crate::proofs::StackLists::steps), unfolding(crate::specs::KeptStacks::dumped_frame_bytes, crate::specs::CoreDumpStacks::dumped_frame_encoding))]

@@ -12,16 +12,6 @@ use wasm_core_write::encoding::{Encoding, add_sizes};
 use wasm_core_write::leb128::{len_u64, put_u64};
 use wasm_encoder_sections::names::{name_size, put_name};
 
-/// The number of bytes of several encodings, one after the other.
-pub fn total_size(total: u64) -> Result<u64, EncodeError>
-    ensures { Measures result total total }
-{
-    if total > 4_294_967_295 {
-        return Err(EncodeError::TooLong);
-    }
-    Ok(total)
-}
-
 // The number of bytes of a section's name and of what it holds.
 #[tactic(auto, using(wasm_spec::proofs::ListEncodings::parts), unfolding(crate::specs::CustomSections::custom_content))]
 fn content_size<T: Encoding>(name: &str, content: &T) -> Result<u64, EncodeError>

@@ -15,7 +15,7 @@ use wasm_encoder_sections::kept_list::KeptList;
 use wasm_encoder_sections::names::Name;
 
 // A name of what has an index.
-#[derive(Drop)]
+#[derive(Debug, Drop)]
 struct Naming {
     index: u32,
     name: Name,
@@ -116,7 +116,7 @@ impl Encode for NameMap {
 }
 
 // Names of what stands in what has an index, as the bytes of their map.
-#[derive(Drop)]
+#[derive(Debug, Drop)]
 struct IndirectNaming {
     index: u32,
     names: Vec<u8>,

@@ -16,7 +16,7 @@ use wasm_encoder_sections::kept_list::KeptList;
 use wasm_encoder_sections::names::Name;
 
 // A tool, and its version.
-#[derive(Drop)]
+#[derive(Debug, Drop)]
 struct KeptValue {
     name: Name,
     version: Name,
@@ -130,7 +130,7 @@ impl Encode for ProducersField {
 }
 
 // A field: its name, and the bytes of its tools.
-#[derive(Drop)]
+#[derive(Debug, Drop)]
 struct KeptField {
     name: Name,
     values: Vec<u8>,

@@ -8,14 +8,13 @@ ghost use Rattle.wasm_encoder_custom.specs.Subsections.{subsection_encoding, sub
 
 use crate::framing::written;
 use std::alloc::Global;
-use std::fmt;
 use std::marker::Model;
 use wasm_core_write::encode_error::EncodeError;
 use wasm_core_write::encoding::{Encoding, add_sizes, bytes_size, put_bytes};
 use wasm_core_write::leb128::{len_u64, put_u64};
 
 // An id, and a content.
-#[derive(Drop)]
+#[derive(Debug, Drop)]
 struct Subsection {
     id: u8,
     content: Vec<u8>,
@@ -90,7 +89,7 @@ pub fn encode_subsection<T: Encoding>(
 }
 
 /// Parts in the order in which they were added. Contracts see the list of them.
-#[derive(Drop)]
+#[derive(Debug, Drop)]
 pub struct Subsections {
     parts: Vec<Subsection>,
 }
@@ -149,15 +148,6 @@ impl Subsections {
         let _size = bytes_size(content)?;
         let content = content.to_vec(alloc)?;
         self.push_owned(id, content)
-    }
-}
-
-/// Shows how many parts there are, and none of them.
-impl fmt::Debug for Subsections {
-    fn fmt<W: fmt::Write>(&self, f: &mut fmt::Formatter<W>) -> fmt::Result {
-        f.debug_struct("Subsections")
-            .field("len", &self.parts.len())
-            .finish_non_exhaustive()
     }
 }
 

@@ -8,7 +8,6 @@ ghost use Rattle.wasm_encoder_custom.specs.Linking.{encoding_if_given, symbols_e
 ghost use Rattle.wasm_encoder_custom.specs.Linking as spec;
 ghost use Rattle.wasm_encoder_custom.specs.Subsections.{subsection_encoding};
 
-use crate::framing::total_size;
 use crate::subsections::{encode_subsection, subsection_len};
 use std::alloc::Global;
 use std::marker::Model;
@@ -73,7 +72,7 @@ fn put_optional<T: Encoding>(value: &Option<T>, sink: &mut Vec<u8>)
 }
 
 // A symbol of a function, a global or a table.
-#[derive(Drop)]
+#[derive(Debug, Drop)]
 struct IndexedSymbol {
     flags: u32,
     index: u32,
@@ -118,7 +117,7 @@ impl Encoding for IndexedSymbol {
 }
 
 // A symbol of data.
-#[derive(Drop)]
+#[derive(Debug, Drop)]
 struct DataSymbol {
     flags: u32,
     name: Name,
@@ -130,8 +129,8 @@ impl Encoding for DataSymbol {
 
     #[tactic(auto, using(wasm_spec::proofs::ListEncodings::parts, crate::proofs::SymbolLists::optional_steps), unfolding(crate::specs::KeptSymbols::data_symbol_bytes, wasm_encoder_sections::specs::CoreItems::name_bytes, crate::specs::Linking::data_symbol_encoding))]
     fn size(&self) -> Result<u64, EncodeError> {
-        let named = len_u64(u64::from(self.flags)) as u64 + self.name.size()?;
-        total_size(named + optional_size(&self.definition)?)
+        let named = add_sizes(len_u64(u64::from(self.flags)) as u64, self.name.size()?)?;
+        add_sizes(named, optional_size(&self.definition)?)
     }
 
     #[tactic(auto, using(wasm_spec::proofs::ListEncodings::parts, crate::proofs::SymbolLists::optional_steps), unfolding(crate::specs::KeptSymbols::data_symbol_bytes, wasm_encoder_sections::specs::CoreItems::name_bytes, crate::specs::Linking::data_symbol_encoding))]
@@ -143,7 +142,7 @@ impl Encoding for DataSymbol {
 }
 
 // A symbol, as it is kept.
-#[derive(Drop)]
+#[derive(Debug, Drop)]
 enum Symbol {
     Function(IndexedSymbol),
     Data(DataSymbol),

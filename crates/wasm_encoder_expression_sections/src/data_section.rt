@@ -18,7 +18,7 @@ use wasm_encoder_expressions::const_expr::ConstExpr;
 use wasm_encoder_sections::kept_list::KeptList;
 
 // A segment, or the bytes of one.
-#[derive(Drop)]
+#[derive(Debug, Drop)]
 enum Item {
     Active {
         memory_index: u32,
@@ -30,7 +30,7 @@ enum Item {
 }
 
 // What is kept of a segment. Contracts see its encoding.
-#[derive(Drop)]
+#[derive(Debug, Drop)]
 struct KeptData(Item);
 
 impl Model for KeptData {

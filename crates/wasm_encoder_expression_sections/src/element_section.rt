@@ -18,14 +18,14 @@ use wasm_encoder_expressions::const_expr::ConstExpr;
 use wasm_encoder_sections::kept_list::KeptList;
 
 // A segment, or the bytes of one.
-#[derive(Drop)]
+#[derive(Debug, Drop)]
 enum Item {
     Segment(KeptSegment),
     Raw(RawBytes),
 }
 
 // What is kept of a segment. Contracts see its encoding.
-#[derive(Drop)]
+#[derive(Debug, Drop)]
 struct KeptElement(Item);
 
 impl Model for KeptElement {

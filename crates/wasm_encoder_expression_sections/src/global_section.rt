@@ -17,14 +17,14 @@ use wasm_encoder_sections::entity_type::GlobalType;
 use wasm_encoder_sections::kept_list::KeptList;
 
 // A global, or the bytes of one.
-#[derive(Drop)]
+#[derive(Debug, Drop)]
 enum Item {
     Global { ty: GlobalType, init: ConstExpr },
     Raw(RawBytes),
 }
 
 // What is kept of a global. Contracts see its encoding.
-#[derive(Drop)]
+#[derive(Debug, Drop)]
 struct KeptGlobal(Item);
 
 impl Model for KeptGlobal {

@@ -19,7 +19,7 @@ fn copied(alloc: Global, bytes: &[u8]) -> Result<Vec<u8>, EncodeError>
 }
 
 /// Bytes that are written as they are.
-#[derive(Drop)]
+#[derive(Debug, Drop)]
 pub struct RawBytes {
     bytes: Vec<u8>,
 }
@@ -56,7 +56,7 @@ impl Encoding for RawBytes {
 }
 
 /// Bytes that are written after their number.
-#[derive(Drop)]
+#[derive(Debug, Drop)]
 pub struct CountedBytes {
     bytes: Vec<u8>,
 }

@@ -16,7 +16,7 @@ use wasm_core_write::type_encodings::heap_code_of;
 use wasm_encoder_expressions::const_expr::ConstExpr;
 
 // The elements of a segment that is kept.
-#[derive(Drop)]
+#[derive(Debug, Drop)]
 pub enum KeptElements {
     Functions(Vec<u32>),
     Expressions(RefType, Vec<ConstExpr>),
@@ -84,7 +84,7 @@ impl KeptElements {
 }
 
 // When the elements of a segment that is kept are used. The table is the one that is written.
-#[derive(Drop)]
+#[derive(Debug, Drop)]
 pub enum KeptMode {
     Active {
         table: Option<u32>,
@@ -95,7 +95,7 @@ pub enum KeptMode {
 }
 
 /// An element segment that is kept. Contracts see its encoding.
-#[derive(Drop)]
+#[derive(Debug, Drop)]
 pub struct KeptSegment {
     mode: KeptMode,
     elements: KeptElements,

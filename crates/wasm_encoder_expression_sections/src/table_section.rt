@@ -16,7 +16,7 @@ use wasm_encoder_sections::entity_type::TableType;
 use wasm_encoder_sections::kept_list::KeptList;
 
 // A table that is kept. Contracts see its encoding.
-#[derive(Drop)]
+#[derive(Debug, Drop)]
 struct KeptTable {
     ty: TableType,
     init: Option<ConstExpr>,

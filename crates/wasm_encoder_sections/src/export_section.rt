@@ -17,7 +17,7 @@ use wasm_core_write::encoding::{Encoding, add_sizes, encode_framed, framed_len};
 use wasm_core_write::leb128::{len_u64, put_u64};
 
 // What is exported, under a name of its own.
-#[derive(Drop)]
+#[derive(Debug, Drop)]
 struct Export {
     name: Name,
     kind: ExportKind,

@@ -1,7 +1,6 @@
 //! Imports, as they are kept and written (Core Specification, Binary Format, Modules, "Import Section").
 
 ghost use Rattle.std.specs.Prelude.{◌≡◌, ◌≤◌, ◌+◌, ◌++◌, map, length, vec_len, vec_capacity, IfOk, IfErr};
-ghost use Rattle.wasm_core_write.specs.Encoding.{Measures};
 ghost use Rattle.wasm_encoder_sections.specs.CoreImports.{lent_item, lent_import, lent_entry, item_of, item_bytes, entry_of, entry_bytes};
 
 use crate::entity_type::EntityType;
@@ -12,14 +11,14 @@ use wasm_core_write::encode_error::EncodeError;
 use wasm_core_write::encoding::{Encoding, add_sizes, list_size, put_list};
 
 /// One of several imports from a module, as it is kept.
-#[derive(Drop)]
+#[derive(Debug, Drop)]
 pub struct KeptItem {
     name: Name,
     ty: EntityType,
 }
 
 /// An import, or several that share the name of their module, as they are kept.
-#[derive(Drop)]
+#[derive(Debug, Drop)]
 pub enum KeptImports {
     Single {
         module: Name,
@@ -52,16 +51,6 @@ impl Encoding for KeptItem {
     }
 }
 
-// The length of several encodings, one after the other.
-fn total_size(total: u64) -> Result<u64, EncodeError>
-    ensures { Measures result total total }
-{
-    if total > 4_294_967_295 {
-        return Err(EncodeError::TooLong);
-    }
-    Ok(total)
-}
-
 // What stands between the module's name and what it shares.
 const COMPACT: u8 = 0x00;
 
@@ -76,14 +65,16 @@ impl Encoding for KeptImports {
     fn size(&self) -> Result<u64, EncodeError> {
         match self {
             KeptImports::Single { module, name, ty } => {
-                total_size(module.size()? + name.size()? + ty.size()?)
+                let item = add_sizes(name.size()?, ty.size()?)?;
+                add_sizes(module.size()?, item)
             }
             KeptImports::Items { module, items } => {
-                total_size(module.size()? + 2 + list_size(items)?)
+                let items = add_sizes(2, list_size(items)?)?;
+                add_sizes(module.size()?, items)
             }
             KeptImports::Names { module, ty, names } => {
-                let shared = 2 + ty.size()?;
-                total_size(module.size()? + shared + list_size(names)?)
+                let names = add_sizes(add_sizes(2, ty.size()?)?, list_size(names)?)?;
+                add_sizes(module.size()?, names)
             }
         }
     }

@@ -6,14 +6,13 @@ ghost use Rattle.wasm_core_write.specs.Encoding.{Measures, TellsItem};
 ghost use Rattle.wasm_spec.specs.Shortest.{list_encoding};
 
 use std::alloc::Global;
-use std::fmt;
 use std::marker::Model;
 use wasm_core_write::encode_error::EncodeError;
 use wasm_core_write::encoding::{Encoding, add_sizes, item_len, put_list};
 use wasm_core_write::leb128::len_u64;
 
 /// Items in the order in which they were added. Contracts see the list of them.
-#[derive(Drop)]
+#[derive(Debug, Drop)]
 pub struct KeptList<T: Encoding + Drop> {
     items: Vec<T>,
     // The length of the items' encodings, one after the other, so that writing need not measure them.
@@ -99,16 +98,6 @@ impl<T: Encoding + Drop> KeptList<T> {
         ensures { TellsItem T.encoding self.now i result }
     {
         item_len(&self.items, i)
-    }
-}
-
-/// Shows how many items there are and how long their encodings are together, and none of them.
-impl<T: Encoding + Drop> fmt::Debug for KeptList<T> {
-    fn fmt<W: fmt::Write>(&self, f: &mut fmt::Formatter<W>) -> fmt::Result {
-        f.debug_struct("KeptList")
-            .field("len", &self.len())
-            .field("size", &self.size)
-            .finish_non_exhaustive()
     }
 }
 

@@ -1,9 +1,9 @@
 -- Operators that are read as what stands after their code is read: where that doesn't read, none of a whole family does.
-use Rattle.std.proofs.Common.{◌≡◌, ◌≤◌, ◌<◌, ◌+◌, ◌==◌, ℕ, Bool, true, false, not, ◌&&◌, ◌||◌, eqb, List, [], ◌∷◌, Option, None, is_some, refl, subst, sym, inl, inr, arith}
+use Rattle.std.proofs.Common.{◌≡◌, ◌≤◌, ◌<◌, ◌+◌, ◌==◌, ℕ, true, not, List, [], ◌∷◌, Option, None, is_some, refl, subst, sym, inl, inr, arith}
 use Rattle.std.proofs.lemmas.Bool.Decides.{eqb_tells}
 use Rattle.std.specs.List.{list_all, list_any}
 use Rattle.wasm_bodies.specs.OperatorExamples.{counted_from}
-use Rattle.wasm_bodies.specs.OperatorRows.{Byte, Prefixed}
+use Rattle.wasm_bodies.specs.OperatorRows.{Prefixed}
 use Rattle.wasm_core_read.specs.Reading.{unsigned_at, pair_at}
 use Rattle.wasm_spec.specs.Features.{Features, has, MultiMemory}
 use Rattle.wasmparser_operators.specs.CodeTables.{row_of}
@@ -48,10 +48,6 @@ pub memory_size_unread : (kept : Kept) (features : Features) (b : ℕ) (bytes : 
 unfolding shape_of row_of
 memory_size_unread kept features b bytes l h e = none_at (λ k. operator_from kept features k bytes) 0x3f 2 b (rw e refl) l (omega (arith, h))
 
-pub second_code_unread : (kept : Kept) (features : Features) (b : ℕ) (bytes : List ℕ) → 0xfb ≤ b → b ≤ 0xfd → unsigned_at 32 bytes ≡ None → operator_from kept features b bytes ≡ None
-unfolding shape_of row_of
-second_code_unread kept features b bytes l h e = none_at (λ k. operator_from kept features k bytes) 0xfb 3 b (rw e refl) l (omega (arith, h))
-
 pub jump_unread : (kept : Kept) (features : Features) (b : ℕ) (bytes : List ℕ) → list_any (λ k. b == k) (0x0c ∷ 0x0d ∷ 0xd5 ∷ 0xd6 ∷ []) ≡ true → unsigned_at 32 bytes ≡ None → operator_from kept features b bytes ≡ None
 unfolding shape_of row_of
 jump_unread kept features b bytes among e = none_among (λ k. operator_from kept features k bytes) (0x0c ∷ 0x0d ∷ 0xd5 ∷ 0xd6 ∷ []) b (rw e refl) among
@@ -81,8 +77,6 @@ pub ruleset blocks = (block_unread)
 pub ruleset variables = (variable_unread)
 
 pub ruleset memory_sizes = (memory_size_unread)
-
-pub ruleset second_codes = (second_code_unread)
 
 pub ruleset jumps = (jump_unread)
 

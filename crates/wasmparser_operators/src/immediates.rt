@@ -134,6 +134,7 @@ pub(crate) fn read_index_with(
 }
 
 // Reads two indexes.
+#[inline(always)]
 pub(crate) fn read_two(reader: &mut BinaryReader<'_>) -> Result<(u32, u32), Malformed>
     ensures { Answers (λ x. x) reader.old reader.new result (pair_at (unsigned_at 32) (unsigned_at 32) reader.old.rest) }
 {

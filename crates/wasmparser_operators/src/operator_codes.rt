@@ -17,29 +17,7 @@ use crate::second_codes::{
 use wasm_core_read::binary_reader::BinaryReader;
 use wasm_core_read::malformed::Malformed;
 
-// Reads an operator of two codes after its first byte.
-#[inline(always)]
-#[tactic(auto, using(crate::proofs::UnreadParts::second_codes))]
-fn read_prefixed_from<'a>(
-    code: u8,
-    reader: &mut BinaryReader<'a>,
-) -> Result<Operator<'a>, Malformed>
-    requires from { 0xfb ≤ code }
-    requires to { code ≤ 0xfd }
-    ensures read { Answers operator reader.old reader.new result (operator_from Packed reader.old.features code reader.old.rest) }
-    ensures whole { IfOk result IsWhole }
-{
-    let number = reader.read_var_u32()?;
-    match code {
-        0xfb => read_aggregate_from(number, reader),
-        0xfc => read_saturating_from(number, reader),
-        0xfd => read_vector_from(number, reader),
-        0x00..=0xfa => Err(no_operator(reader)),
-        0xfe..=0xff => Err(no_operator(reader)),
-    }
-}
-
-// Reads an operator after its first byte.
+// Reads an operator after its first byte. Where a second code follows, a `match` takes the borrow checker less time than a `?`.
 #[inline(always)]
 #[tactic(auto, using(crate::proofs::CodeGaps::gaps))]
 fn read_operator_from<'a>(
@@ -60,7 +38,18 @@ fn read_operator_from<'a>(
         0x41..=0x44 => read_constant_from(code, reader),
         0x45..=0xc4 => read_scalar_from(code, reader),
         0xc5..=0xfa => read_reference_from(code, reader),
-        0xfb..=0xfd => read_prefixed_from(code, reader),
+        0xfb => match reader.read_var_u32() {
+            Ok(number) => read_aggregate_from(number, reader),
+            Err(error) => Err(error),
+        },
+        0xfc => match reader.read_var_u32() {
+            Ok(number) => read_saturating_from(number, reader),
+            Err(error) => Err(error),
+        },
+        0xfd => match reader.read_var_u32() {
+            Ok(number) => read_vector_from(number, reader),
+            Err(error) => Err(error),
+        },
         0xfe..=0xff => Err(no_operator(reader)),
     }
 }

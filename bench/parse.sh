@@ -6,8 +6,10 @@ set -eu
 cd "$(dirname "$0")/.."
 folder=$(mktemp -d)
 trap 'rm -rf "$folder"' EXIT
-. bench/driver.sh
-python3 - "$driver" "$folder" <<'PYTHON'
+.ci/build wasmparser_parse_bench > /dev/null
+driver=$(pwd)/crates/wasmparser_parse_bench
+(cd "$driver" && ../../.ci/rt run -- /dev/null 0 > /dev/null 2>&1) || true
+python3 - "$driver/out/wasmparser_parse_bench" "$folder" <<'PYTHON'
 import subprocess, sys, time
 driver, folder = sys.argv[1:]
 size = 64 << 20
@@ -41,7 +43,7 @@ modules = {
 }
 def run(path, times):
     begin = time.perf_counter()
-    child = subprocess.Popen([driver, "parse", path, str(times)], stdout=subprocess.PIPE)
+    child = subprocess.Popen([driver, path, str(times)], stdout=subprocess.PIPE)
     answer = child.stdout.read().decode().split()
     if child.wait():
         sys.exit(f"{path}: status {child.returncode}")

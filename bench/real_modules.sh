@@ -12,7 +12,9 @@ folder=$(mktemp -d)
 trap 'rm -rf "$folder"' EXIT
 ./wasm_gen --help > /dev/null
 program=$(pwd)/crates/wasm_gen_cli/out/wasm_gen_cli
-. bench/driver.sh
+.ci/build wasmparser_parse_bench > /dev/null
+driver=$(pwd)/crates/wasmparser_parse_bench
+(cd "$driver" && ../../.ci/rt run -- /dev/null 0 > /dev/null 2>&1) || true
 cat > "$folder/small.c" <<'SOURCE'
 __attribute__((import_module("env"), import_name("log"))) void print(int);
 static int table[64];
@@ -55,7 +57,7 @@ SOURCE
     /usr/bin/rustc --target wasm32-unknown-unknown -O words.rs -o rustc.wasm
     HOME="$folder" GOOS=js GOARCH=wasm /usr/bin/go build -o go.wasm hello.go
 )
-python3 - "$driver" "$program" "$folder" small.o clang.wasm debug.o clang-debug.wasm rustc.wasm go.wasm <<'PYTHON'
+python3 - "$driver/out/wasmparser_parse_bench" "$program" "$folder" small.o clang.wasm debug.o clang-debug.wasm rustc.wasm go.wasm <<'PYTHON'
 import re, subprocess, sys
 
 driver, program, folder, *names = sys.argv[1:]
@@ -73,7 +75,7 @@ def sections_told(path):
 
 
 def payloads_told(path):
-    found = [it.split(" ", 3) for it in lines_of(driver, "parse", path, "show")]
+    found = [it.split(" ", 3) for it in lines_of(driver, path, "show")]
     return [(kind, int(start), int(end), rest) for kind, start, end, rest in found]
 
 

@@ -1,15 +1,13 @@
 //! The program that the scripts in `bench/` time, and of which they take what it prints: its first word says what is measured, by the file of
-//! that name. Several may be asked for, with the word `then` between them.
+//! that name. Several may be asked for, with the word `then` between them. Reading has a program of its own: here the compiler wouldn't inline
+//! what both validating and that call, and either would be slower than where it stands alone.
 #![tactic(auto)]
 
 mod chains;
 mod check;
 mod encode;
 mod generate;
-mod items;
-mod lines;
 mod lists;
-mod parse;
 mod sections;
 mod session;
 mod types;
@@ -22,7 +20,6 @@ const USAGE: &str = "\
 usage: wasm_bench generate FILE LENGTH
        wasm_bench session MODULES
        wasm_bench check FILE TIMES
-       wasm_bench parse FILE TIMES|show
        wasm_bench types (functions|fronts|members|subtypes|commits) COUNT
        wasm_bench encode KIND COUNT TIMES
        wasm_bench ONE OF THESE then ANOTHER ..";
@@ -63,7 +60,6 @@ fn measure<R: Files + Print + Clock + AllocGlobal>(rt: &R, words: &[String]) -> 
         "generate" => generate::measure(rt, words),
         "session" => session::measure(rt, words),
         "check" => check::measure(rt, words),
-        "parse" => parse::measure(rt, words),
         "types" => types::measure(rt, words),
         "encode" => encode::measure(rt, words),
         _ => None,

@@ -1,17 +1,39 @@
-//! For `bench/parse.sh` and `bench/real_modules.sh`: goes over the payloads of a module, and over the items of
+//! A driver for `bench/parse.sh` and `bench/real_modules.sh`: goes over the payloads of a module, and over the items of
 //! each section.
+#![tactic(auto)]
+
+mod items;
+mod lines;
 
 use crate::items::count_items;
 use crate::lines::print_payload;
 use std::alloc::Global;
-use std::fs;
-use std::rt::Files;
+use std::process::ExitCode;
+use std::rt::{Env, Files};
+use std::{env, fs};
 use wasmparser_payloads::parser::Parser;
 
-/// Reads the file that the words name, and shows its payloads, or goes over its items as often as they say and prints how
+fn main(rt: HostRuntime) -> ExitCode {
+    match run(&rt) {
+        Some(()) => ExitCode::SUCCESS,
+        None => {
+            let _ = eprintln!(rt; "usage: wasmparser_parse_bench FILE TIMES|show");
+            ExitCode::FAILURE
+        }
+    }
+}
+
+// Does what the program's words ask for.
+fn run<R: Env + Files + Print + AllocGlobal>(rt: &R) -> Option<()> {
+    let args = env::args(rt).ok()?;
+    let words = args.collect::<Vec<String>>(rt.alloc()).ok()?;
+    print_count(rt, words.as_slice())
+}
+
+// Reads the file that the words name, and shows its payloads, or goes over its items as often as they say and prints how
 // many there are.
-pub(crate) fn measure<R: Files + Print + AllocGlobal>(rt: &R, words: &[String]) -> Option<()> {
-    let [name, times] = words else {
+fn print_count<R: Files + Print + AllocGlobal>(rt: &R, words: &[String]) -> Option<()> {
+    let [_, name, times] = words else {
         return None;
     };
     if times.as_str() == "show" {
@@ -23,26 +45,19 @@ pub(crate) fn measure<R: Files + Print + AllocGlobal>(rt: &R, words: &[String]) 
 }
 
 fn count_in_file<R: Files + AllocGlobal>(rt: &R, name: &str, times: u32) -> Option<u64> {
+    let alloc = rt.alloc();
     let bytes = fs::read(rt, name).ok()?;
-    count_each_time(rt.alloc(), &bytes, times)
-}
-
-fn count_each_time(alloc: Global, bytes: &[u8], times: u32) -> Option<u64> {
     let mut count: u64 = 0;
     for _ in 0..times {
-        count = count_in_module(alloc, bytes)?;
+        count = count_in_module(alloc, &bytes)?;
     }
     Some(count)
 }
 
-// Prints a line for each payload of the file.
+// Prints a line for each payload.
 fn show_file<R: Files + Print + AllocGlobal>(rt: &R, name: &str) -> Option<()> {
     let bytes = fs::read(rt, name).ok()?;
-    show(rt, &bytes)
-}
-
-fn show<R: Print>(rt: &R, bytes: &[u8]) -> Option<()> {
-    for payload in Parser::new(0).parse_all(bytes) {
+    for payload in Parser::new(0).parse_all(&bytes) {
         print_payload(rt, &payload.ok()?)?;
     }
     Some(())

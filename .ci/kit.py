@@ -166,7 +166,7 @@ def function_first(must_fail):
     return tried
 
 
-# The most memory that a check of one of this repository's crates is planned to take: the dearest took 3 GB. By lines of code the kit plans 7 GB for
+# The most memory that a check of one of this repository's crates is planned to take: the dearest took 3.8 GB. By lines of code the kit plans 7 GB for
 # several, and then leaves processors idle that have memory enough.
 MOST_MEMORY = 4_000_000_000
 

@@ -1,5 +1,8 @@
 //! What a session answers, without what it gives.
 
+ghost use Rattle.std.specs.Prelude.{◌≡◌, IsSomeAnd, true};
+ghost use Rattle.wasmparser_error.specs.declared.error.ErrorKind.TheVariants.{Failed};
+
 use std::alloc::Global;
 use wasm_core::features::WasmFeatures;
 use wasm_gen::judge::{Error, ValidatorId};
@@ -7,7 +10,12 @@ use wasm_gen::session::Session;
 use wasm_test_rows::fields::has_word;
 
 /// The session's refusal, or none where the answer is a yes.
-pub fn refusal_of(session: &mut Session, bytes: &[u8]) -> Option<Error> {
+pub fn refusal_of(session: &mut Session, bytes: &[u8]) -> Option<Error>
+    ensures failed { session.old.has_failed ≡ true → IsSomeAnd result (λ e. e.kind ≡ Failed) }
+    ensures stays { session.old.has_failed ≡ true → session.new ≡ session.old }
+    ensures features { session.new.features ≡ session.old.features }
+    ensures id { session.new.id ≡ session.old.id }
+{
     let verdict = session.check(bytes);
     let refusal = match &verdict {
         Ok(_) => None,

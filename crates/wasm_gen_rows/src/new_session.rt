@@ -1,5 +1,7 @@
 //! Sessions that are made for a row, and what they show of modules.
 
+ghost use Rattle.std.specs.Prelude.{◌≡◌, [], false};
+
 use std::alloc::Global;
 use std::mem;
 use wasm_core::features::WasmFeatures;
@@ -22,7 +24,9 @@ pub fn on_new_session<F: Fn(Global, &mut Session, &str) -> Option<bool>>(
 }
 
 /// Puts a new session with the same features in the place of this one.
-pub fn renew(alloc: Global, session: &mut Session) {
+pub fn renew(alloc: Global, session: &mut Session)
+    ensures { session.new ≡ record { features = session.old.features; id = 3; has_failed = false; held = [] } }
+{
     let next = Session::new(alloc, session.features(), ValidatorId::new(3));
     drop(mem::replace(session, next));
 }

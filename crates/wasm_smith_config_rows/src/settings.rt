@@ -1,10 +1,16 @@
 //! Configurations by their settings: `max_types=1 gc_enabled=yes`.
 
+ghost use Rattle.std.specs.Prelude.{◌≡◌, IfNone, false};
+ghost use Rattle.wasm_smith_config_rows.specs.Settings.{with_maximums, with_minimums, with_switches};
+
 use wasm_smith_config::config::Config;
 use wasm_test_rows::values::bool_of;
 
 // Sets a switch, if there is one of this name.
-fn set_switch(config: &mut Config, name: &str, is_on: bool) -> bool {
+fn set_switch(config: &mut Config, name: &str, is_on: bool) -> bool
+    ensures others { with_switches config.new config.old ≡ config.old }
+    ensures unknown { result ≡ false → config.new ≡ config.old }
+{
     match name {
         "allow_floats" => config.allow_floats = is_on,
         "allow_invalid_funcs" => config.allow_invalid_funcs = is_on,
@@ -33,7 +39,10 @@ fn set_switch(config: &mut Config, name: &str, is_on: bool) -> bool {
     true
 }
 
-fn set_minimum(config: &mut Config, name: &str, count: u32) -> bool {
+fn set_minimum(config: &mut Config, name: &str, count: u32) -> bool
+    ensures others { with_minimums config.new config.old ≡ config.old }
+    ensures unknown { result ≡ false → config.new ≡ config.old }
+{
     match name {
         "min_types" => config.min_types = count,
         "min_imports" => config.min_imports = count,
@@ -51,7 +60,10 @@ fn set_minimum(config: &mut Config, name: &str, count: u32) -> bool {
     true
 }
 
-fn set_maximum(config: &mut Config, name: &str, count: u32) -> bool {
+fn set_maximum(config: &mut Config, name: &str, count: u32) -> bool
+    ensures others { with_maximums config.new config.old ≡ config.old }
+    ensures unknown { result ≡ false → config.new ≡ config.old }
+{
     match name {
         "max_types" => config.max_types = count,
         "max_imports" => config.max_imports = count,
@@ -72,7 +84,10 @@ fn set_maximum(config: &mut Config, name: &str, count: u32) -> bool {
 }
 
 // The same of counts that are wider than 32 bits.
-fn set_size(config: &mut Config, name: &str, value: &str) -> Option<()> {
+fn set_size(config: &mut Config, name: &str, value: &str) -> Option<()>
+    ensures others { with_maximums config.new config.old ≡ config.old }
+    ensures unknown { IfNone result (config.new ≡ config.old) }
+{
     match name {
         "max_table_elements" => config.max_table_elements = value.parse().ok()?,
         "max_memory32_bytes" => config.max_memory32_bytes = value.parse().ok()?,
@@ -83,7 +98,9 @@ fn set_size(config: &mut Config, name: &str, value: &str) -> Option<()> {
 }
 
 // Sets what is named to its value, if it can.
-fn set(config: &mut Config, name: &str, value: &str) -> bool {
+fn set(config: &mut Config, name: &str, value: &str) -> bool
+    ensures unknown { result ≡ false → config.new ≡ config.old }
+{
     if let Some(is_on) = bool_of(value) {
         return set_switch(config, name, is_on);
     }

@@ -1,5 +1,5 @@
 """Prints the rows of bench/check.sh, and ends with 1 where one is past its bound: `check_times.py PROGRAM DRIVER COUNTER FOLDER`. The modules are those that
-bench/check_modules.py and, in FOLDER/code, bench/code_modules.sh made. DRIVER is `wasm_bench`, or made from its source (bench/unproved.py); COUNTER counts a
+bench/check_modules.py and, in FOLDER/code, bench/code_modules.sh made. DRIVER is `wasm_bench`, or made from its source (.ci/unproved.py); COUNTER counts a
 program's allocations."""
 import os
 import shutil
@@ -7,21 +7,12 @@ import subprocess
 import sys
 import time
 
+from in_process import peers, times_of
+
 program, driver, counter, folder = sys.argv[1:]
 ROUNDS = 5
-# How often a round has a file validated in one process, by ours and by node.
-TIMES = {"ours": 10, "node": 30}
 # What a cost that should be equal may differ by.
 NOISE = 1.25
-SCRIPT_OF_NODE = """const [name, times] = process.argv.slice(1);
-const bytes = require('fs').readFileSync(name);
-let answer, shortest = Infinity;
-for (let i = 0; i < times; i++) {
-    const begin = process.hrtime.bigint();
-    answer = WebAssembly.validate(bytes);
-    shortest = Math.min(shortest, Number(process.hrtime.bigint() - begin));
-}
-console.log(answer ? 'yes' : 'no', shortest, 'ns');"""
 past = []
 
 
@@ -64,54 +55,8 @@ def large_modules():
             whole_run(f"node WebAssembly.validate, {module}", ["node", "-e", script, path], size)
 
 
-def told(command):
-    """A verdict and nanoseconds, which a process prints."""
-    words = subprocess.run(command, stdout=subprocess.PIPE, text=True, check=True).stdout.split()
-    return words[0], int(float(words[1]))
-
-
-def by_ours(path):
-    return told([driver, "check", path, str(TIMES["ours"])])
-
-
-def by_node(path):
-    return told(["node", "--single-threaded", "-e", SCRIPT_OF_NODE, path, str(TIMES["node"])])
-
-
-def by_wabt(path):
-    """(the time of a process)"""
-    begin = time.perf_counter_ns()
-    status = subprocess.run(["wasm-validate", path], stderr=subprocess.DEVNULL).returncode
-    return "yes" if status == 0 else "no" if status > 0 else "crash", time.perf_counter_ns() - begin
-
-
-def peers():
-    found = {"ours": by_ours}
-    if shutil.which("node"):
-        found["node"] = by_node
-    if shutil.which("wasm-validate"):
-        found["wabt"] = by_wabt
-    for tool, package in [("node", "nodejs"), ("wasm-validate", "wabt")]:
-        if not shutil.which(tool):
-            print(f"{tool} is missing: apt-get install {package}", file=sys.stderr)
-    return found
-
-
-def times_of(paths):
-    """What each peer says of each file, and the shortest time. Each round asks all peers of all files, so that other work of the machine hits all alike."""
-    empty, asked = path_of("empty"), peers()
-    best = {}
-    for _ in range(ROUNDS):
-        for path in [empty, *paths]:
-            for peer, ask in asked.items():
-                verdict, taken = ask(path)
-                known = best.get((path, peer), (verdict, taken))
-                best[path, peer] = verdict if verdict == known[0] else "unsteady", min(taken, known[1])
-    for path in paths:
-        if "wabt" in asked:
-            verdict, taken = best[path, "wabt"]
-            best[path, "wabt"] = verdict, max(1, taken - best[empty, "wabt"][1])
-    return best
+def times_of_modules(paths):
+    return times_of(peers(driver), paths, path_of("empty"), ROUNDS)
 
 
 def is_agreed(ours, node):
@@ -175,7 +120,7 @@ def real_modules():
     with open(f"{folder}/code/names") as names:
         modules = [line.split(maxsplit=1) for line in names]
     named = [(what.strip(), f"{folder}/code/{name}.wasm") for name, what in modules]
-    best = times_of([path for _, path in named])
+    best = times_of_modules([path for _, path in named])
     for what, path in named:
         compare(what, path, best)
     if not os.path.exists("/usr/bin/time"):
@@ -192,7 +137,7 @@ LINEAR = [("one body", "small bodies", NOISE), ("twice the nested blocks", "nest
 
 def linear_costs():
     names = [it for large, small, _ in LINEAR for it in (large, small)] + ["labels of results"]
-    best = times_of([path_of(it) for it in names])
+    best = times_of_modules([path_of(it) for it in names])
     for name in names:
         # (node has a limit of 65,520 labels; those of many results have no bound, since each label is judged by all of its results)
         compare(name, path_of(name), best, may_differ=name == "labels")

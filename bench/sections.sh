@@ -1,6 +1,6 @@
 #!/bin/sh
 # Seconds and peak memory of `wasm_gen check` on modules of a million items of a kind: imports of globals, exports, globals, functions and expressions of element
-# segments, segments, and operands of constant expressions. Beside it node's WebAssembly.validate on files of 100,000 items, where node is there. A module
+# segments, segments, and operands of constant expressions; then the time of files of 100,000 items in memory, beside node's WebAssembly.validate and wabt's, where these are there. A module
 # is to take 1.5 s and 100 bytes an item beyond the input at most; where one takes more, the status is 1. Last come many modules of one session whose types
 # are all kept: twice as many are to take twice as long, or little more.
 set -eu
@@ -52,8 +52,9 @@ for size in ["large", "small"]:
             print(count, name, file=names)
 open(f"{sys.argv[1]}/empty.wasm", "wb").write(header)
 PYTHON
-python3 - "$program" "$folder" "$driver" <<'PYTHON'
-import os, resource, shutil, subprocess, sys, time
+PYTHONPATH=bench python3 - "$program" "$folder" "$driver" <<'PYTHON'
+import os, resource, subprocess, sys, time
+from in_process import peers, times_of
 program, folder, driver = sys.argv[1:]
 
 def measure(path):
@@ -73,24 +74,24 @@ def modules(size):
         count, name = line.split(maxsplit=1)
         yield int(count), name.strip(), f"{folder}/{size}{at}.wasm"
 
-script = """const bytes = require('fs').readFileSync(process.argv[1]);
-const begin = process.hrtime.bigint();
-const answer = WebAssembly.validate(bytes);
-console.log(Number(process.hrtime.bigint() - begin) / 1e6, answer ? 'yes' : 'no');"""
 past = False
-start = measure(f"{folder}/empty.wasm")[0]
 for count, name, path in modules("large"):
     taken, peak, out = measure(path)
     size = os.path.getsize(path)
     # (16 MiB for the process, which begins as a copy of this one)
     past |= taken > 1.5 or peak > size + 100 * count + (16 << 20) or not out.startswith("yes")
     print(f"{count:,} {name}: {taken:.2f} s, {peak / 2**20:.0f} MiB at most for {size / 2**20:.0f} MiB, answers {out.split()[0]}")
-if shutil.which("node"):
-    print(f"{'of 100,000, without the start of the program, which takes':s} {start * 1e3:.1f} ms:")
-    for count, name, path in modules("small"):
-        taken = measure(path)[0] - start
-        said = subprocess.run(["node", "-e", script, path], stdout=subprocess.PIPE, text=True).stdout.split()
-        print(f"  {count:,} {name}: {taken * 1e3:.1f} ms with reading the file; node's call: {float(said[0]):.1f} ms, answers {said[1]}")
+small = [*modules("small")]
+best = times_of(peers(driver), [path for _, _, path in small], f"{folder}/empty.wasm", 3)
+print("in memory, the shortest of many times:")
+for count, name, path in small:
+    verdict, taken = best[path, "ours"]
+    row = f"  {count:,} {name}: {verdict}, {taken / 1e6:.2f} ms"
+    for peer in ["node", "wabt"]:
+        if (path, peer) in best:
+            answer, its = best[path, peer]
+            row += f"; {peer}: {answer}, {its / 1e6:.2f} ms" + (f", ours is {taken / its:.2f} of it" if answer == "yes" else "")
+    print(row)
 
 def keep(count):
     best = None

@@ -1,8 +1,9 @@
 //! What a command line asks for.
 
-ghost use Rattle.std.specs.Prelude.{◌≡◌, ◌≢◌, ◌⊎◌, [], Some, IfOk, IfErr, IsSome, Err, codes};
-ghost use Rattle.clap.specs.Matches.{subcommand_name_of};
-ghost use Rattle.clap.specs.Words.{kind_of};
+ghost use Rattle.std.specs.Prelude.{◌≡◌, ◌≢◌, ◌⊎◌, IfOk, IfErr, Err, map, option_map};
+ghost use Rattle.std.specs.String.{string_bytes};
+ghost use Rattle.clap.specs.Words.{kind_of, subcommand_rows_of};
+ghost use Rattle.wasm_gen_words.specs.Asked.{AreRefused, AskFor, Asks, IsHelp, files_of, seed_of};
 
 use crate::command::matches_of;
 use clap::error::ErrorKind;
@@ -41,14 +42,14 @@ impl From<AllocError> for WordsError {
 
 // The file that the seed is in, where a module is to be made.
 fn seed_name<'a>(matches: &ArgMatches<'a>) -> Option<&'a str>
-    ensures { IsSome result → subcommand_name_of matches.now ≡ Some (codes "generate") }
+    ensures { option_map (λ name. name.now) result ≡ seed_of (subcommand_rows_of matches.now) }
 {
     matches.subcommand_matches("generate")?.get_str("SEED")
 }
 
 // The files that are to be validated.
 fn file_names<'a>(alloc: Global, matches: &ArgMatches<'a>) -> Result<Vec<&'a str>, AllocError>
-    ensures { IfOk result (λ names. subcommand_name_of matches.now ≢ Some (codes "check") → names.items ≡ []) }
+    ensures { IfOk result (λ names. map (λ name. name.now) names.items ≡ files_of (subcommand_rows_of matches.now)) }
 {
     let Some(found) = matches.subcommand_matches("check") else {
         return Ok(Vec::new(alloc));
@@ -60,7 +61,10 @@ fn file_names<'a>(alloc: Global, matches: &ArgMatches<'a>) -> Result<Vec<&'a str
 }
 
 // What is asked for by words in which nothing is wrong.
-fn asked_by<'a>(alloc: Global, matches: &ArgMatches<'a>) -> Result<Asked<'a>, WordsError> {
+fn asked_by<'a>(alloc: Global, matches: &ArgMatches<'a>) -> Result<Asked<'a>, WordsError>
+    ensures asked { IfOk result (Asks (subcommand_rows_of matches.now)) }
+    ensures memory { IfErr result (λ e. e ≡ WordsError.Memory) }
+{
     match seed_name(matches) {
         Some(name) => Ok(Asked::Generate(name)),
         None => Ok(Asked::Check(file_names(alloc, matches)?)),
@@ -69,7 +73,7 @@ fn asked_by<'a>(alloc: Global, matches: &ArgMatches<'a>) -> Result<Asked<'a>, Wo
 
 // Help where that was asked for, and else what is wrong with the words.
 fn text_of<'a>(alloc: Global, error: &Error) -> Result<Asked<'a>, WordsError>
-    ensures help { IfOk result (λ _. (kind_of error.now ≡ ErrorKind.DisplayHelp) ⊎ (kind_of error.now ≡ ErrorKind.DisplayVersion)) }
+    ensures help { IfOk result (λ asked. IsHelp asked × ((kind_of error.now ≡ ErrorKind.DisplayHelp) ⊎ (kind_of error.now ≡ ErrorKind.DisplayVersion))) }
     ensures wrong { IfErr result (λ e. e ≢ WordsError.Memory
         → (kind_of error.now ≢ ErrorKind.DisplayHelp) × (kind_of error.now ≢ ErrorKind.DisplayVersion)) }
     ensures memory { kind_of error.now ≡ ErrorKind.OutOfMemory → result ≡ Err WordsError.Memory }
@@ -86,7 +90,13 @@ fn text_of<'a>(alloc: Global, error: &Error) -> Result<Asked<'a>, WordsError>
 }
 
 /// What the words of a command line ask for, the program's name being the first.
-pub fn read_words<'a>(alloc: Global, words: &'a [String]) -> Result<Asked<'a>, WordsError> {
+///
+/// # Errors
+/// `Wrong` where something is wrong with the words, which is told by a text that no clause sees; `Memory` where memory runs out.
+pub fn read_words<'a>(alloc: Global, words: &'a [String]) -> Result<Asked<'a>, WordsError>
+    ensures asked { IfOk result (AskFor (map string_bytes words.now)) }
+    ensures refused { IfErr result (AreRefused (map string_bytes words.now)) }
+{
     match matches_of(alloc, words) {
         Ok(matches) => asked_by(alloc, &matches),
         Err(error) => text_of(alloc, &error),

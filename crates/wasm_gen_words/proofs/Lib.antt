@@ -1,0 +1,4 @@
+pub mod Examples
+pub mod Faults
+pub mod Found
+pub mod Plain

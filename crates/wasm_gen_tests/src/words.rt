@@ -24,8 +24,13 @@ const ROWS: &str = "
     generate | generate a     | a
     // A part of the help that they ask for, and the beginning of what is wrong with them.
     help     | --help         | Usage: wasm_gen <COMMAND>
+    help     | help           | Usage: wasm_gen <COMMAND>
+    help     | help check     | Usage: wasm_gen check <FILE>...
+    help     | check a --help | Usage: wasm_gen check <FILE>...
     wrong    |                | Makes and validates WebAssembly modules
     wrong    | judge          | error: unrecognized subcommand 'judge'
+    wrong    | help judge     | error: unrecognized subcommand 'judge'
+    wrong    | generate       | error: the following required arguments were not provided:
     wrong    | generate a b   | error: unexpected argument 'b' found
 ";
 
@@ -99,5 +104,5 @@ fn holds(alloc: Global, row: &str) -> Option<bool> {
 
 #[test]
 fn words_ask_for_this(rt: HostRuntime) -> Result<(), Fail> {
-    Ok(check_rows(rt.alloc(), ROWS, 14, holds)?)
+    Ok(check_rows(rt.alloc(), ROWS, 19, holds)?)
 }

@@ -50,3 +50,20 @@ two_seeds = refl
 unknown_flag : fault_of program (words (codes "check" ∷ codes "--fast" ∷ codes "a" ∷ [])) ≡ kind.UnknownArgument ∷ []
 unfolding clap_on_literals
 unknown_flag = refl
+
+no_seed : fault_of program (words (codes "generate" ∷ [])) ≡ kind.MissingRequiredArgument ∷ []
+unfolding clap_on_literals
+no_seed = refl
+
+-- (clap's contract leaves open which it is; a test holds it to help)
+help_as_a_command : fault_of program (words (codes "help" ∷ codes "check" ∷ [])) ≡ kind.DisplayHelp ∷ kind.InvalidSubcommand ∷ []
+unfolding clap_on_literals
+help_as_a_command = refl
+
+named_as_a_flag : files_of (subcommand_of program (words (codes "check" ∷ codes "--" ∷ codes "-a" ∷ []))) ≡ codes "-a" ∷ []
+unfolding clap_on_literals
+named_as_a_flag = refl
+
+named_as_a_command : seed_of (subcommand_of program (words (codes "generate" ∷ codes "check" ∷ []))) ≡ Some (codes "check")
+unfolding clap_on_literals
+named_as_a_command = refl

@@ -22,7 +22,7 @@ check = with_rule (new_app (codes "check")) files
 abbrev pub generate : App
 generate = with_rule (new_app (codes "generate")) seed
 
--- the program, which asks for one of its commands, before these are added
+-- the program, which asks for one of its commands and shows help where there are no words, before these are added
 abbrev pub alone : App
 alone = let new = new_app (codes "wasm_gen") in record new { top = record new.top { subcommand_required = true; arg_required_else_help = true } }
 

@@ -71,7 +71,7 @@ fn asked_by<'a>(alloc: Global, matches: &ArgMatches<'a>) -> Result<Asked<'a>, Wo
     }
 }
 
-// Help where that was asked for, and else what is wrong with the words.
+// Help where that was asked for, and else what is wrong with the words, or that memory ran out.
 fn text_of<'a>(alloc: Global, error: &Error) -> Result<Asked<'a>, WordsError>
     ensures help { IfOk result (λ asked. IsHelp asked × ((kind_of error.now ≡ ErrorKind.DisplayHelp) ⊎ (kind_of error.now ≡ ErrorKind.DisplayVersion))) }
     ensures wrong { IfErr result (λ e. e ≢ WordsError.Memory
@@ -92,7 +92,7 @@ fn text_of<'a>(alloc: Global, error: &Error) -> Result<Asked<'a>, WordsError>
 /// What the words of a command line ask for, the program's name being the first.
 ///
 /// # Errors
-/// `Wrong` where something is wrong with the words, which is told by a text that no clause sees; `Memory` where memory runs out.
+/// `Wrong` where something is wrong with the words, `Memory` where memory runs out. No clause sees the texts of `Wrong` and `Help`, nor that memory did run out.
 pub fn read_words<'a>(alloc: Global, words: &'a [String]) -> Result<Asked<'a>, WordsError>
     ensures asked { IfOk result (AskFor (map string_bytes words.now)) }
     ensures refused { IfErr result (AreRefused (map string_bytes words.now)) }

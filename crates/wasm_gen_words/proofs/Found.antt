@@ -1,12 +1,12 @@
--- What is found for a command that was met.
-use Rattle.std.proofs.Common.{◌≡◌, ◌∙◌, Bool, true, false, List, Option, Some, None, refl, sym, ap, ap₂, option_map}
-use Rattle.std.specs.Cmp.Lexicographic.{bytes_decides, nat_list_eq_equiv}
-use Rattle.std.specs.Prelude.{bytes_eq, unwrap_or, if◌then◌else◌}
+-- What is found for a command that words name.
+use Rattle.std.proofs.Common.{◌≡◌, ◌∙◌, List, Option, Some, None, refl, ap, ap₂, option_map}
+use Rattle.std.specs.Cmp.Lexicographic.{nat_list_eq_equiv}
+use Rattle.std.specs.Prelude.{unwrap_or}
 use Rattle.clap.specs.Words.{Row, Text}
 use Rattle.wasm_gen_words.specs.Asked.{found_for}
 
 module _ {B : Type 0} (f : B → Text × List Row) where
-  -- a command that was met, by its name and by what was found
+  -- such a command, by its name and by what was found
   met : (command : Text) (rows : List Row) (it : Option B) → option_map (λ b. (f b).0) it ≡ Some command → option_map (λ p. p.1) (option_map f it) ≡ Some rows
       → option_map f it ≡ Some (command, rows)
   met command rows (Some b) name found = ap₂ (λ n r. Some (n, r)) (ap (λ o. unwrap_or o command) name) (ap (λ o. unwrap_or o rows) found)
@@ -20,12 +20,3 @@ module _ {A : Type 0} (find_in : List Row → Option A) (command : Text) where
     pub found_where_met : (rows : List Row) (it : Option B) → option_map (λ b. (f b).0) it ≡ Some command → option_map (λ p. p.1) (option_map f it) ≡ Some rows
         → found_for command find_in (option_map f it) ≡ find_in rows
     found_where_met rows it name found = ap (found_for command find_in) (met f command rows it name found) ∙ found_in rows
-
-    -- nothing is found for a command that wasn't met
-    pub none_elsewhere : (it : Option B) → (option_map (λ b. (f b).0) it ≡ Some command → ⊥) → found_for command find_in (option_map f it) ≡ None
-    none_elsewhere None other = refl
-    none_elsewhere (Some b) other = by (bytes_eq (f b).0 command) refl
-      where
-        by : (same : Bool) → same ≡ bytes_eq (f b).0 command → (if same then find_in (f b).1 else None) ≡ None
-        by true is = absurd (other (ap Some ((bytes_decides (f b).0 command).0 (sym is))))
-        by false is = refl

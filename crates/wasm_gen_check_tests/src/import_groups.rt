@@ -1,8 +1,9 @@
 //! A group of many imports that share the long name of a module: it is looked up once.
 
 use std::alloc::{AllocError, Global};
+use std::iter::Iterator;
 use wasm_core::features::{Flags, WasmFeatures};
-use wasm_gen::judge::TypesRef;
+use wasm_gen::judge::{CoreImports, TypesRef};
 use wasm_gen::session::Session;
 use wasm_gen_rows::new_session::{on_new_session, on_types};
 
@@ -29,8 +30,31 @@ fn long_group(alloc: Global) -> Result<Vec<u8>, AllocError> {
     Ok(bytes)
 }
 
+// How many of the next imports have this name, one after the other.
+fn count_named(imports: &mut CoreImports<'_>, letter: u8, most: u32) -> u32 {
+    for count in 0..most {
+        let name = match imports.next() {
+            Some((_, name, _)) => name,
+            None => return count,
+        };
+        if name.as_bytes().first().copied() != Some(letter) {
+            return count;
+        }
+    }
+    most
+}
+
+// Whether all functions are shown, and as imports those of each name together.
 fn has_all_functions(_alloc: Global, view: TypesRef<'_>, _row: &str) -> bool {
-    view.function_count() == 200_000
+    let Ok(Some(mut imports)) = view.core_imports() else {
+        return false;
+    };
+    for letter in b'a'..b'z' {
+        if count_named(&mut imports, letter, 8_000) != 8_000 {
+            return false;
+        }
+    }
+    imports.next().is_none() && view.function_count() == 200_000
 }
 
 // Whether a session shows all functions of the group.

@@ -136,6 +136,16 @@ impl<'a> ConstExpr<'a> {
         fork(&self.reader)
     }
 
+    /// The same expression, for a call that is seldom made: one that isn't lent to it needs no memory where it isn't.
+    #[inline(always)]
+    pub fn fork(&self) -> ConstExpr<'a>
+        ensures { result ≡ self.now }
+    {
+        ConstExpr {
+            reader: fork(&self.reader),
+        }
+    }
+
     /// A fast way to the operator of most expressions: those of three bytes, which are a code, a number below 64 and the end. It has none where the
     /// expression isn't like that, of one operator too.
     #[inline(always)]
@@ -178,7 +188,11 @@ impl Pass for Expression {
         if passes_short(reader) {
             return Ok(());
         }
-        pass_operators(reader)
+        // (a copy, so that the reader needs no memory where this isn't called)
+        let mut copy = fork(reader);
+        let result = pass_operators(&mut copy);
+        *reader = copy;
+        result
     }
 }
 

@@ -1,5 +1,6 @@
 mod AggregateLaws
 mod AloneLaws
+mod FunctionLaws
 mod Meanings
 mod OperandLists
 pub mod SeenLaws

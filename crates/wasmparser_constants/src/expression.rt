@@ -1,6 +1,8 @@
 //! Whether a constant expression gives a value of a type (Core Specification 3.0, Validation, "Constant Expressions").
 
-ghost use Rattle.std.specs.Prelude.{◌≡◌, IfSome, Some};
+ghost use Rattle.std.specs.Prelude.{◌≡◌, ◌↔◌, IfSome, IsTrue, Some};
+ghost use Rattle.wasm_spec.specs.Subtyping.{ValBelow};
+ghost use Rattle.wasm_spec.specs.Trees.{unrolled};
 ghost use Rattle.wasm_spec.specs.TypeReferences.{val_refs};
 ghost use Rattle.wasm_validity.specs.ConstantTyping.{IsConstantOf, Leaves, effect, puts};
 ghost use Rattle.wasmparser_const_exprs.specs.ConstExprs.{expression_of};
@@ -112,6 +114,19 @@ impl<'a> Scope<'a> {
         }
     }
 
+    // Whether a type is below another that all can be compared with, with a fast way for numbers.
+    #[inline(always)]
+    fn is_below_wanted(&self, ty: &ValType, wanted: &ValType) -> bool
+        requires ids { AreIds (known self.now) (val_refs (val_type ty.now)) }
+        requires wanted { IsWanted (known self.now) (val_type wanted.now) }
+        ensures { IsTrue result ↔ ValBelow unrolled (meant_type (known self.now) (val_type ty.now)) (meant_type (known self.now) (val_type wanted.now)) }
+    {
+        match (ty, wanted) {
+            (ValType::I32, ValType::I32) | (ValType::I64, ValType::I64) => true,
+            _ => self.types.is_subtype(*ty, *wanted),
+        }
+    }
+
     // One operand is left, below this type.
     fn check_last(&self, operands: &mut Operands, wanted: &ValType) -> Result<(), Error>
         requires known { AreKnown (known self.now) operands.old }
@@ -178,13 +193,13 @@ impl<'a> Scope<'a> {
         ensures { Judges self.now.offset (IsConstantOf (features_of self.now) (context self.now) (meant_type (known self.now) (val_type wanted.now)) (expression_of expression.now.rest)) result }
     {
         if let Some(ty) = self.type_short(expression) {
-            if !self.types.is_subtype(ty, *wanted) {
+            if !self.is_below_wanted(&ty, wanted) {
                 return Err(self.broken());
             }
             return Ok(());
         }
-        // (a copy, so that the scope needs no memory where this isn't called)
-        let scope = *self;
-        scope.check_any(operands, expression, wanted)
+        // (copies, so that these need no memory where this isn't called)
+        let (scope, wanted) = (*self, *wanted);
+        scope.check_any(operands, &expression.fork(), &wanted)
     }
 }

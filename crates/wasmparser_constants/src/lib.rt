@@ -3,6 +3,7 @@
 
 mod aggregates;
 pub mod expression;
+pub mod functions;
 mod lookups;
 pub mod operands;
 pub mod scope;

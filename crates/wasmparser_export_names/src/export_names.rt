@@ -9,8 +9,12 @@ use crate::name_hasher::NameHasher;
 use indexmap::IndexMap;
 use std::alloc::{AllocError, Global};
 use std::marker::Model;
+use wasm_core_base::limits::MAX_WASM_EXPORTS;
 use wasmparser_items::export::{Export, ExternalKind};
 use wasmparser_readers::section_limited::SectionLimited;
+
+// How many bytes an export takes at least: the length of its name, its kind and its index.
+const LEAST_LEN: usize = 3;
 
 /// What an export is, its name aside.
 #[derive(Clone, Copy, Debug, PartialEq, Eq)]
@@ -47,13 +51,20 @@ impl ExportNames {
         }
     }
 
-    /// No exports, ready for those of a section: finding them by name takes no longer where the names were chosen to make it slow.
+    /// No exports, ready for those of a section, with room for them if there is memory for it: finding them by name takes no longer where the names were chosen to make it slow.
     pub fn for_section<'a>(alloc: Global, section: &SectionLimited<'a, Export<'a>>) -> ExportNames
         ensures { result ≡ [] }
     {
-        ExportNames {
-            map: IndexMap::with_hasher(alloc, NameHasher::after(section.remaining_buffer())),
-        }
+        let bytes = section.remaining_buffer();
+        let hasher = NameHasher::after(bytes);
+        let most = (MAX_WASM_EXPORTS as usize).min(bytes.len() / LEAST_LEN);
+        let count = most.min(section.count() as usize);
+        let map = match IndexMap::with_capacity_and_hasher(alloc, count, hasher) {
+            Ok(map) => map,
+            // (without room, exports ask for it as they come)
+            Err(_) => IndexMap::with_hasher(alloc, hasher),
+        };
+        ExportNames { map }
     }
 
     /// How many exports there are.

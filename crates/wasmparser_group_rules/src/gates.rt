@@ -4,6 +4,7 @@ ghost use Rattle.std.specs.Prelude.{◌≡◌, map};
 ghost use Rattle.std.specs.List.{list_all};
 ghost use Rattle.wasm_core_base.specs.Features.{feature_set};
 ghost use Rattle.wasm_spec.specs.Gates as spec;
+ghost use Rattle.wasm_spec.specs.Types.{Ref};
 ghost use Rattle.wasmparser_types.specs.CompositeTypes.{composite_type, func_type};
 ghost use Rattle.wasmparser_types.specs.HeapTypes.{abstract_heap_type, heap_type};
 ghost use Rattle.wasmparser_types.specs.RecGroups.{rec_group};
@@ -13,6 +14,7 @@ ghost use Rattle.wasmparser_types.specs.ValTypes.{field_type, storage_type, val_
 use wasm_core_base::features::WasmFeatures;
 use wasmparser_types::composite_type::{CompositeType, FuncType};
 use wasmparser_types::heap_type::{AbstractHeapType, HeapType};
+use wasmparser_types::ref_type::RefType;
 use wasmparser_types::sub_type::{RecGroup, SubType};
 use wasmparser_types::val_type::{FieldType, StorageType, ValType};
 
@@ -49,7 +51,16 @@ fn is_allowed_heap(features: WasmFeatures, nullable: bool, heap: HeapType) -> bo
     }
 }
 
+// Whether a module may write a reference type.
+#[inline(never)]
+fn is_allowed_reference(features: WasmFeatures, it: RefType) -> bool
+    ensures { result ≡ spec.is_allowed (feature_set features) (Ref it.nullable it.heap_type) }
+{
+    features.reference_types() && is_allowed_heap(features, it.is_nullable(), it.heap_type())
+}
+
 /// Whether a module may write a value type under these features.
+#[inline(always)]
 pub fn is_allowed(features: WasmFeatures, it: &ValType) -> bool
     ensures { result ≡ spec.is_allowed (feature_set features) (val_type it.now) }
 {
@@ -57,10 +68,7 @@ pub fn is_allowed(features: WasmFeatures, it: &ValType) -> bool
         ValType::I32 | ValType::I64 => true,
         ValType::F32 | ValType::F64 => features.floats(),
         ValType::V128 => features.simd(),
-        ValType::Ref(it) => {
-            features.reference_types()
-                && is_allowed_heap(features, it.is_nullable(), it.heap_type())
-        }
+        ValType::Ref(it) => is_allowed_reference(features, *it),
     }
 }
 

@@ -1,4 +1,4 @@
--- What imports are found by.
+-- What imports are grouped by.
 use Rattle.std.proofs.Common.{◌≡◌, ◌<◌, inl, inr, Bool, true, false, List, [], ◌∷◌, ◌++◌, ℕ, zero, suc, length, refl, sym, ◌∙◌, arith}
 use Rattle.std.proofs.lemmas.Bool.{and_parts, and_cases, and_left, and_right, eqb-true, cases_order}
 use Rattle.std.proofs.lemmas.Bool.Decides.{eqb_tells}
@@ -8,27 +8,19 @@ use Rattle.std.specs.List.{AllByRecursion, IsDistinct}
 use Rattle.std.specs.Prelude.{bytes_eq, nat_eq, slice_get, ◌&&◌}
 use Rattle.wasmparser_import_names.specs.ImportNames.{module_at}
 use Rattle.wasmparser_import_names.specs.declared.import_key.ImportKey.{ImportKey}
-use Rattle.wasmparser_import_names.specs.declared.import_key.ImportQuery.{ImportQuery}
 
--- ---- keys and what finds them
+-- ---- keys
 
 abbrev pub same_key : ImportKey → ImportKey → Bool
-same_key a b = nat_eq a.origin b.origin && bytes_eq a.name b.name
+same_key a b = nat_eq a.origin b.origin && bytes_eq a.name.now b.name.now
 
 pub same_keys : IsEquivalence same_key
-same_keys = and_equiv (on_equiv (λ k. k.origin) nat_eq_equiv) (on_equiv (λ k. k.name) nat_list_eq_equiv)
+same_keys = and_equiv (on_equiv (λ k. k.origin) nat_eq_equiv) (on_equiv (λ k. k.name.now) nat_list_eq_equiv)
 
-pub same_parts : (a b : ImportKey) → same_key a b ≡ true → (a.origin ≡ b.origin) × (a.name ≡ b.name)
+pub same_parts : (a b : ImportKey) → same_key a b ≡ true → (a.origin ≡ b.origin) × (a.name.now ≡ b.name.now)
 same_parts a b same =
-    let p = and_parts (nat_eq a.origin b.origin) (bytes_eq a.name b.name) same in
-    (eqb-true a.origin b.origin p.0, (bytes_decides a.name b.name).0 p.1)
-
-abbrev pub key_of : ImportQuery → ImportKey
-key_of query = record { origin = query.origin; name = query.name.now }
-
--- a query that is equivalent to a key is so to the keys that are equal to it, and to no other
-pub as_equal : (query : ImportQuery) (a b : ImportKey) → same_key (key_of query) a ≡ true → same_key (key_of query) b ≡ same_key a b
-as_equal query a b same = same_keys.congr (key_of query) a b same
+    let p = and_parts (nat_eq a.origin b.origin) (bytes_eq a.name.now b.name.now) same in
+    (eqb-true a.origin b.origin p.0, (bytes_decides a.name.now b.name.now).0 p.1)
 
 -- ---- names of modules, each of which is kept once
 
@@ -58,8 +50,8 @@ differs modules m n apart few few' other = elim (cases_order m n) [
 
 -- the names of other keys differ
 pub other_parts : (modules : List (List ℕ)) → IsDistinct bytes_eq modules → (key other : ImportKey) → key.origin < length modules → other.origin < length modules → same_key key other ≡ false
-    → (bytes_eq (module_at modules key.origin) (module_at modules other.origin) && bytes_eq key.name other.name) ≡ false
-other_parts modules apart key other known known' differ = elim (and_cases (nat_eq key.origin other.origin) (bytes_eq key.name other.name) differ) [
+    → (bytes_eq (module_at modules key.origin) (module_at modules other.origin) && bytes_eq key.name.now other.name.now) ≡ false
+other_parts modules apart key other known known' differ = elim (and_cases (nat_eq key.origin other.origin) (bytes_eq key.name.now other.name.now) differ) [
   | inl origin ↦ and_left _ _ (differs modules key.origin other.origin apart known known' origin)
   | inr name ↦ and_right _ _ name
 ]

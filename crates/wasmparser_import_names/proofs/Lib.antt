@@ -1,3 +1,4 @@
 mod Keys
+mod KeptImports
 mod ModuleNames
 mod Names

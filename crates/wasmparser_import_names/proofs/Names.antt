@@ -10,7 +10,6 @@ use Rattle.std.specs.declared.alloc.AllocError.{AllocError}
 use Rattle.indexmap.specs.IndexMap.{insert_entry}
 use Rattle.wasm_validity.specs.ImportedItems.{Imported, have_same_names, with_import}
 use Rattle.wasmparser_import_names.proofs.Keys.{known_before, other_parts, same_bytes, same_key, same_keys, same_parts}
-use Rattle.wasmparser_import_names.specs.ModuleNames.{with_name}
 use Rattle.wasmparser_import_names.specs.ImportNames.{Kept, NamedItems, imported, module_at, imports_of, imports_in, AreKept}
 use Rattle.wasmparser_import_names.specs.declared.import_key.ImportKey.{ImportKey}
 use Rattle.wasmparser_import_names.specs.declared.imported_items.ImportedItem.{ImportedItem}
@@ -66,10 +65,10 @@ one_more origin name item (x ∷ items) rest = ap (λ l. imported origin name x 
 
 module _ (modules : List (List ℕ)) (apart : IsDistinct bytes_eq modules) (key : ImportKey) (known : key.origin < length modules) where
   abbrev for_key : ImportedItem → Imported
-  for_key item = imported (module_at modules key.origin) key.name item
+  for_key item = imported (module_at modules key.origin) key.name.now item
 
   -- an equal key has the same names
-  for_same : (k : ImportKey) (item : ImportedItem) → same_key key k ≡ true → imported (module_at modules k.origin) k.name item ≡ for_key item
+  for_same : (k : ImportKey) (item : ImportedItem) → same_key key k ≡ true → imported (module_at modules k.origin) k.name.now item ≡ for_key item
   for_same k item same =
       let p = same_parts key k same in
       sym (ap₂ (λ (origin : ℕ) name. imported (module_at modules origin) name item) p.0 p.1)
@@ -105,10 +104,10 @@ module _ (modules : List (List ℕ)) (apart : IsDistinct bytes_eq modules) (key 
       ∙ ap (λ i. imports_of modules e ++ i ∷ imports_in modules entries) (for_same e.0 item same)
       ∙ sym (after_all_same (for_key item) _ _ e.1 (imports_in modules entries) kept.0.1 (same_names e.0 same) (others item entries none kept.1))
     where
-      same_names : (k : ImportKey) → same_key key k ≡ true → (bytes_eq (module_at modules key.origin) (module_at modules k.origin) && bytes_eq key.name k.name) ≡ true
+      same_names : (k : ImportKey) → same_key key k ≡ true → (bytes_eq (module_at modules key.origin) (module_at modules k.origin) && bytes_eq key.name.now k.name.now) ≡ true
       same_names k same =
           let p = same_parts key k same in
-          ap₂ (λ (origin : ℕ) name. bytes_eq (module_at modules key.origin) (module_at modules origin) && bytes_eq key.name name) (sym p.0) (sym p.1) ∙ same_bytes (module_at modules key.origin) key.name
+          ap₂ (λ (origin : ℕ) name. bytes_eq (module_at modules key.origin) (module_at modules origin) && bytes_eq key.name.now name) (sym p.0) (sym p.1) ∙ same_bytes (module_at modules key.origin) key.name.now
 
   known_key : (item : ImportedItem) (old : List ImportedItem) (entries : List NamedItems)
       → IsDistinct same_key (keys_of entries) → AreKept modules entries → Some old ≡ lookup (same_key key) entries
@@ -146,22 +145,6 @@ module _ (modules : List (List ℕ)) (test : ImportKey → Bool) where
       by further true found = ap (λ (o : Option (List ImportedItem)). (e.0, unwrap_or o e.1) ∷ entries) found
       by further false found = ap (λ l. e ∷ l) (further found)
 
--- ---- names of modules that come later
-
-module _ (modules more : List (List ℕ)) where
-  -- a known one stays
-  same_module : (n : ℕ) → n < length modules → module_at (modules ++ more) n ≡ module_at modules n
-  same_module n few = ap (λ o. unwrap_or o []) (known_before modules more n few)
-
-  pub same_imports : (entries : List NamedItems) → AreKept modules entries → imports_in (modules ++ more) entries ≡ imports_in modules entries
-  same_imports [] kept = refl
-  same_imports (e ∷ entries) kept =
-      ap₂ (λ origin l. map (imported origin e.0.name) e.1 ++ l) (same_module e.0.origin kept.0.0) (same_imports entries kept.1)
-
-  pub still_kept : (entries : List NamedItems) → AreKept modules entries → AreKept (modules ++ more) entries
-  still_kept [] kept = tt
-  still_kept (e ∷ entries) kept = ((omega (arith, length-append modules more, kept.0.0), kept.0.1), still_kept entries kept.1)
-
 -- ---- what `push` leaves
 
 -- the items of a key that are as before
@@ -171,16 +154,14 @@ unchanged test old items entries new found same writes = writes ∙ ap (set_valu
 module _ (modules : List (List ℕ)) (apart : IsDistinct bytes_eq modules) (key : ImportKey) (known : key.origin < length modules) (item : ImportedItem) where
   pub pushed : (old items : List ImportedItem) (entries new : List NamedItems) → IsDistinct same_key (keys_of entries) → AreKept modules entries → Some old ≡ lookup (same_key key) entries
       → items ≡ old ++ item ∷ [] → new ≡ set_value (same_key key) entries items
-      → imports_in modules new ≡ with_import (imports_in modules entries) (imported (module_at modules key.origin) key.name item)
+      → imports_in modules new ≡ with_import (imports_in modules entries) (imported (module_at modules key.origin) key.name.now item)
   pushed old items entries new distinct kept found is writes =
       ap (imports_in modules) (writes ∙ ap (set_value (same_key key) entries) is) ∙ known_key modules apart key known item old entries distinct kept found
 
-  pub inserted : (new_name : List ℕ) (entries new : List NamedItems) → new_name ≡ key.name → AreKept modules entries → lookup (same_key key) entries ≡ None
-      → new ≡ insert_entry same_key entries (record { origin = key.origin; name = new_name }) (item ∷ [])
-      → imports_in modules new ≡ with_import (imports_in modules entries) (imported (module_at modules key.origin) key.name item)
-  inserted new_name entries new is kept absent inserts =
-      ap (imports_in modules) (inserts ∙ ap (λ name. insert_entry same_key entries (record { origin = key.origin; name = name }) (item ∷ [])) is)
-      ∙ new_key modules apart key known item entries (none_passes_from_lookup _ entries absent) kept
+  pub inserted : (entries new : List NamedItems) → AreKept modules entries → lookup (same_key key) entries ≡ None → new ≡ insert_entry same_key entries key (item ∷ [])
+      → imports_in modules new ≡ with_import (imports_in modules entries) (imported (module_at modules key.origin) key.name.now item)
+  inserted entries new kept absent inserts =
+      ap (imports_in modules) inserts ∙ new_key modules apart key known item entries (none_passes_from_lookup _ entries absent) kept
 
 module _ (modules : List (List ℕ)) (item : ImportedItem) where
   pub pushed_kept : (test : ImportKey → Bool) (old items : List ImportedItem) (entries new : List NamedItems) → AreKept modules entries → items ≡ old ++ item ∷ [] → new ≡ set_value test entries items → AreKept modules new
@@ -195,25 +176,3 @@ module _ (modules : List (List ℕ)) (item : ImportedItem) where
     where
       cons_nil : item ∷ [] ≢ []
       cons_nil none = absurd cc
-
--- ---- one name more of a module
-
-module _ (modules : List (List ℕ)) (name : List ℕ) (entries : List NamedItems) (kept : AreKept modules entries) where
-  named_more : imports_in (with_name modules name) entries ≡ imports_in modules entries
-  named_more = by (list_any (bytes_eq name) modules)
-    where
-      by : (b : Bool) → imports_in (if b then modules else modules ++ name ∷ []) entries ≡ imports_in modules entries
-      by true = refl
-      by false = same_imports modules (name ∷ []) entries kept
-
-  pub kept_more : AreKept (with_name modules name) entries
-  kept_more = by (list_any (bytes_eq name) modules)
-    where
-      by : (b : Bool) → AreKept (if b then modules else modules ++ name ∷ []) entries
-      by true = kept
-      by false = still_kept modules (name ∷ []) entries kept
-
-  pub numbered : (result : Result ℕ AllocError) (new : List (List ℕ)) → OnOk result (new ≡ with_name modules name)
-      → OnOk result (◌≡◌ {A = Kept} (record { modules = new; imports = imports_in new entries }) (record { modules = with_name modules name; imports = imports_in modules entries }))
-  numbered (Ok n) new is = rw is (ap (λ imports. record { modules = with_name modules name; imports = imports }) named_more)
-  numbered (Err e) new is = tt

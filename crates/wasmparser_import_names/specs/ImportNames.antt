@@ -4,7 +4,7 @@ use Rattle.std.specs.List.{AllByRecursion}
 use Rattle.wasm_validity.specs.ImportedItems.{Imported}
 use Rattle.wasmparser_items.specs.Exports.{external_kind}
 use Rattle.wasmparser_import_names.specs.declared.import_key.ImportKey.{ImportKey}
-use Rattle.wasmparser_import_names.specs.declared.import_names.NamedImport.{NamedImport}
+use Rattle.wasmparser_import_names.specs.declared.named_import.NamedImport.{NamedImport}
 use Rattle.wasmparser_import_names.specs.declared.imported_items.ImportedItem.{ImportedItem}
 
 -- an item that is imported by these names
@@ -30,7 +30,7 @@ NamedItems = ImportKey × List ImportedItem
 module _ (modules : List (List ℕ)) where
   -- the imports of two names
   abbrev pub imports_of : NamedItems → List Imported
-  imports_of entry = map (imported (module_at modules entry.0.origin) entry.0.name) entry.1
+  imports_of entry = map (imported (module_at modules entry.0.origin) entry.0.name.now) entry.1
 
   -- those of all names
   abbrev pub imports_in : List NamedItems → List Imported

@@ -1,3 +1,4 @@
 pub mod ImportNames
 pub mod ImportedItems
+pub mod KeptImports
 pub mod ModuleNames

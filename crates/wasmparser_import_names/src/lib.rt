@@ -1,7 +1,9 @@
 //! The imports of a module by their names: a part of `wasmparser`.
 #![tactic(auto)]
 
+mod import_groups;
 pub mod import_key;
 pub mod import_names;
 pub mod imported_items;
 pub mod module_names;
+pub mod named_import;

@@ -41,6 +41,11 @@ impl ModuleNames {
         }
     }
 
+    /// What the names are hashed by.
+    pub fn hasher(&self) -> NameHasher {
+        *self.names.hasher()
+    }
+
     /// Whether there are no names.
     pub fn is_empty(&self) -> bool
         ensures { result ≡ nat_eq (length self.now) 0 }

@@ -1,5 +1,5 @@
 -- Functions that constant expressions name are there, and which functions are declared changes nothing of what an expression gives.
-use Rattle.std.proofs.Common.{◌≡◌, ◌<◌, ℕ, Bool, true, false, IfOk, Err, Ok, Result, List, [], ◌∷◌, length, map, Option, Some, None, option_map, slice_get, refl, sym, ap, subst, ◌∙◌}
+use Rattle.std.proofs.Common.{◌≡◌, ◌<◌, ℕ, Bool, true, false, IfOk, IfSome, Err, Ok, Result, List, [], ◌∷◌, length, map, Option, Some, None, option_map, slice_get, refl, sym, ap, subst, ◌∙◌}
 use Rattle.std.proofs.lemmas.List.{length-map}
 use Rattle.std.proofs.lemmas.Option.{slice_get_within}
 use Rattle.wasm_spec.specs.Constants.{ConstantOperator, I32Const, I64Const, F32Const, F64Const, V128Const, RefNull, RefFunc, GlobalGet, I32Add, I32Sub, I32Mul, I64Add, I64Sub, I64Mul, StructNew, StructNewDefault, ArrayNew, ArrayNewDefault, ArrayNewFixed, AnyConvertExtern, ExternConvertAny, RefI31, ConstantExpression}
@@ -100,6 +100,12 @@ module _ (features : Features) (cx : Context) where
       → IfOk result (λ _. AreThere cx (named_in expression))
   named_there type expression place (Ok x) judged = initialiser_there type expression (initialiser_in features cx type expression judged)
   named_there type expression place (Err e) judged = tt
+
+  -- a function that an expression refers to and nothing else
+  pub function_there : (type : ValType ℕ) (expression : ConstantExpression) (result : Option ℕ) → IfSome result (λ function. expression ≡ RefFunc function ∷ [])
+      → IfSome result (λ _. IsConstantFor features cx type expression) → IfSome result (λ function. AreThere cx (function ∷ []))
+  function_there type expression None parts is = tt
+  function_there type expression (Some function) parts is = subst (λ parts. AreThere cx (named_in parts)) parts (initialiser_there type expression is)
 
 -- ---- exports
 

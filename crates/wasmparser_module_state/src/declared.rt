@@ -1,6 +1,6 @@
 //! The functions that are declared outside of bodies (Core Specification 3.0, Validation, "Contexts" and "Modules").
 
-ghost use Rattle.std.specs.Prelude.{◌≡◌, IfErr, IfOk};
+ghost use Rattle.std.specs.Prelude.{◌≡◌, ◌∷◌, [], IfErr, IfOk};
 ghost use Rattle.wasm_validity.specs.Context.{exported_function, named_in, with_functions};
 ghost use Rattle.wasmparser_const_exprs.specs.ConstExprs.{expression_of};
 ghost use Rattle.wasmparser_error.specs.declared.error.ErrorKind.TheVariants as kinds;
@@ -44,6 +44,19 @@ impl ModuleState {
         ensures room { HasRoom self.new }
     {
         self.declared.insert_named(expression);
+    }
+
+    // Declares a function.
+    #[inline(always)]
+    #[tactic(auto, using(crate::proofs::DeclaredLaws::fitting_steps))]
+    pub(crate) fn declare_function(&mut self, function: u32)
+        requires room { HasRoom self.old }
+        requires named { AreThere (context self.old) (function ∷ []) }
+        ensures declared { context self.new ≡ record (context self.old) { declared = with_functions (context self.old).declared (function ∷ []) } }
+        ensures types { self.new.types ≡ self.old.types }
+        ensures room { HasRoom self.new }
+    {
+        self.declared.insert(function);
     }
 
     // Declares what is exported, where it is a function.

@@ -74,7 +74,8 @@ impl FunctionSet {
         ensures room { room self.new ≡ room self.old }
     {
         let Some(operator) = expression.short_operator() else {
-            self.insert_all(expression);
+            // (a copy, so that the expression needs no memory where this isn't called)
+            self.insert_all(&expression.fork());
             return;
         };
         if let ConstOperator::RefFunc { function_index } = operator {

@@ -11,6 +11,7 @@ ghost use Rattle.wasmparser_module_state.specs.Items.{cut_off};
 ghost use Rattle.wasmparser_module_state.specs.State.{context, item, unnamed};
 
 use crate::module_state::ModuleState;
+use wasm_core_base::limits::MAX_WASM_IMPORTS;
 use wasmparser_error::error::Error;
 use wasmparser_export_names::name_hasher::NameHasher;
 use wasmparser_import_names::import_names::ImportNames;
@@ -19,6 +20,9 @@ use wasmparser_imports::imports::Imports;
 use wasmparser_items::export::ExternalKind;
 use wasmparser_items::type_ref::TypeRef;
 use wasmparser_readers::section_limited::SectionLimited;
+
+// How many bytes an import takes at least: the lengths of two names, its kind and a byte of its type.
+const LEAST_LEN: usize = 4;
 
 // The kind of an imported item.
 pub(crate) fn kind_of(ty: &TypeRef) -> ExternalKind
@@ -41,13 +45,15 @@ impl ModuleState {
         &self.imported
     }
 
-    /// Makes ready for the imports of a section, so that names can hardly be chosen that collide.
+    /// Makes ready for the imports of a section, with room for them if there is memory for it, so that names can hardly be chosen that collide.
     pub fn start_imports<'a>(&mut self, section: &SectionLimited<'a, Imports<'a>>)
         ensures same { context self.new ≡ context self.old }
         ensures types { self.new.types ≡ self.old.types }
     {
-        self.imported
-            .start_with(NameHasher::after(section.remaining_buffer()));
+        let bytes = section.remaining_buffer();
+        let most = (MAX_WASM_IMPORTS as usize).min(bytes.len() / LEAST_LEN);
+        let count = most.min(section.count() as usize);
+        self.imported.start_with(NameHasher::after(bytes), count);
     }
 
     // The index that the next imported item of a kind has.

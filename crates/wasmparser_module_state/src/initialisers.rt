@@ -1,6 +1,7 @@
 //! Constant expressions of a module, each of which is to give a value of a type (Core Specification 3.0, Validation, "Constant Expressions").
 
-ghost use Rattle.std.specs.Prelude.{◌≡◌, ◌↔◌, [], IfErr, IfOk, IsTrue};
+ghost use Rattle.std.specs.Prelude.{◌≡◌, ◌↔◌, ◌∷◌, [], IfErr, IfOk, IfSome, IsTrue};
+ghost use Rattle.wasm_spec.specs.Constants.{RefFunc};
 ghost use Rattle.wasm_spec.specs.TypeReferences.{val_map};
 ghost use Rattle.wasm_validity.specs.ConstantTyping.{IsConstantFor};
 ghost use Rattle.wasm_validity.specs.Context.{named_in, with_functions};
@@ -13,6 +14,7 @@ ghost use Rattle.wasmparser_types.specs.ValTypes.{val_type};
 
 use crate::module_state::ModuleState;
 use wasmparser_const_exprs::const_expr::ConstExpr;
+use wasmparser_constants::functions::Functions;
 use wasmparser_constants::scope::Scope;
 use wasmparser_error::error::Error;
 use wasmparser_types::val_type::ValType;
@@ -71,6 +73,21 @@ impl ModuleState {
         scope.check_initialiser(&mut self.operands, expression, ty)
     }
 
+    // The function that an expression refers to, where a reference to any function is wanted: a fast way, which has none of other expressions.
+    #[inline(always)]
+    fn function_named(&self, expression: &ConstExpr<'_>, ty: &ValType) -> Option<u32>
+        ensures names { IfSome result (λ function. expression_of expression.now.rest ≡ RefFunc function ∷ []) }
+        ensures constant { IfSome result (λ _. IsConstantFor (features_of self.now) (context self.now) (val_map number_of (val_type ty.now)) (expression_of expression.now.rest)) }
+        ensures named { IfSome result (λ function. AreThere (context self.now) (function ∷ [])) }
+    {
+        let functions = Functions {
+            types: &self.types,
+            imported: &self.imported_functions,
+            own: &self.own_functions,
+        };
+        functions.function_named(expression, ty)
+    }
+
     /// Judges that an expression gives a value of this type, and declares the functions that it names.
     #[inline(always)]
     pub(crate) fn add_initialiser(
@@ -87,6 +104,10 @@ impl ModuleState {
         ensures types { self.new.types ≡ self.old.types }
         ensures room { HasRoom self.new }
     {
+        if let Some(function) = self.function_named(expression, ty) {
+            self.declare_function(function);
+            return Ok(());
+        }
         self.check_initialiser(expression, ty, offset)?;
         self.declare_named(expression);
         Ok(())

@@ -15,6 +15,7 @@ ghost use Rattle.wasmparser_types.specs.ValTypes.{val_type, storage_type, field_
 use crate::from_reader::{FromReader, Item};
 use crate::heap_type::{abstract_of, abstract_reference, read_reference};
 use crate::part::Part;
+use crate::passing::fork;
 use std::alloc::Global;
 use wasm_core_read::binary_reader::BinaryReader;
 use wasm_core_read::malformed::Malformed;
@@ -44,10 +45,8 @@ fn val_type_of(code: u8) -> Option<ValType>
 }
 
 // Reads a value type after its first byte.
-pub(crate) fn read_val_type_from(
-    code: u8,
-    reader: &mut BinaryReader<'_>,
-) -> Result<ValType, Malformed>
+#[inline(never)]
+fn read_any_from(code: u8, reader: &mut BinaryReader<'_>) -> Result<ValType, Malformed>
     ensures { Answers val_type reader.old reader.new result (packed_val_from code reader.old.rest) }
 {
     match code {
@@ -62,11 +61,35 @@ pub(crate) fn read_val_type_from(
     }
 }
 
+// The same, with a fast way to types of numbers.
+#[inline(always)]
+pub(crate) fn read_val_type_from(
+    code: u8,
+    reader: &mut BinaryReader<'_>,
+) -> Result<ValType, Malformed>
+    ensures { Answers val_type reader.old reader.new result (packed_val_from code reader.old.rest) }
+{
+    match code {
+        0x7f => Ok(ValType::I32),
+        0x7e => Ok(ValType::I64),
+        0x7d => Ok(ValType::F32),
+        0x7c => Ok(ValType::F64),
+        _ => {
+            // (a copy, so that the reader needs no memory where this isn't called)
+            let mut copy = fork(reader);
+            let result = read_any_from(code, &mut copy);
+            *reader = copy;
+            result
+        }
+    }
+}
+
 /// Reads a value type. A type index that is too large to be packed reads as a place in a recursive group, which no bytes give: ask
 /// `val_is_of_module` before the type is used.
 ///
 /// # Errors
 /// Where none reads.
+#[inline(always)]
 #[tactic(auto, using(crate::proofs::CodeLaws::val_codes))]
 pub fn read_val_type(reader: &mut BinaryReader<'_>) -> Result<ValType, Malformed>
     ensures { Answers val_type reader.old reader.new result (packed_val_at reader.old.rest) }

@@ -6,6 +6,7 @@ use wasm_core_base::features::{Flags, WasmFeatures};
 use wasm_test_rows::fields::three_fields;
 use wasm_test_rows::rows::check_rows;
 use wasmparser_error::error::{Error, ErrorKind};
+use wasmparser_import_names::named_import::NamedImports;
 use wasmparser_module_state::module_state::ModuleState;
 use wasmparser_module_state_rows::judged::{JudgedState, answer, on_new_state};
 
@@ -117,6 +118,55 @@ fn items_hold(alloc: Global, row: &str) -> Option<bool> {
 #[test]
 fn items_that_were_refused_are_not_added(rt: HostRuntime) -> Result<(), Fail> {
     Ok(check_rows(rt.alloc(), ITEMS, 9, items_hold)?)
+}
+
+// A section with imports, and the names of these in order, those of the same two names together.
+const GROUPED: &str = "
+    import_entries 05 016d 0161 037f00 016d 0162 037f00 016e 0161 037f00 016d 0161 037f00 016d 0161 037f00 | m.a m.a m.a m.b n.a
+    import_entries 01 016d 11 6161616161616161616161616161616161 037f00 | m.aaaaaaaaaaaaaaaaa
+    import_entries 00 |
+";
+
+// Whether imports have these names, one after the other.
+fn have_names(mut imports: NamedImports<'_>, names: &str) -> bool {
+    for name in names.split_whitespace() {
+        let Some((origin, own)) = name.split_once('.') else {
+            return false;
+        };
+        let Some(import) = imports.next() else {
+            return false;
+        };
+        if import.module != origin || import.name != own {
+            return false;
+        }
+    }
+    imports.next().is_none()
+}
+
+// Whether the imports of a section are in this order, at the second time where memory ran out.
+fn are_in_order(alloc: Global, state: &mut JudgedState, row: &str) -> Option<bool> {
+    let (section, names) = row.split_once('|')?;
+    if !accepts(alloc, state, section)? {
+        return Some(false);
+    }
+    let imported = state.known().imported();
+    if let Ok(imports) = imported.grouped() {
+        return Some(have_names(imports, names));
+    }
+    Some(have_names(imported.grouped().ok()?, names))
+}
+
+fn groups_hold(alloc: Global, row: &str) -> Option<bool> {
+    let features = WasmFeatures::default();
+    match on_new_state(alloc, features, row, are_in_order) {
+        Some(are_in_order) => Some(are_in_order),
+        None => on_new_state(alloc, features, row, are_in_order),
+    }
+}
+
+#[test]
+fn imports_are_put_in_order_or_memory_ran_out(rt: HostRuntime) -> Result<(), Fail> {
+    Ok(check_rows(rt.alloc(), GROUPED, 3, groups_hold)?)
 }
 
 // Sections, all of which are accepted, and of whose state a copy is made.

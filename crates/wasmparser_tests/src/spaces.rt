@@ -158,7 +158,7 @@ fn is_import(
 
 // Whether the imports with their names are what the text says.
 fn has_named_imports(alloc: Global, view: TypesRef<'_>, expected: &str) -> bool {
-    let Some(mut imports) = view.core_imports() else {
+    let Ok(Some(mut imports)) = view.core_imports() else {
         return false;
     };
     for text in expected.split("; ") {

@@ -1,12 +1,13 @@
 //! The imports of a module, as they are shown.
 
-ghost use Rattle.std.specs.Prelude.{◌≡◌, IsSomeAnd};
+ghost use Rattle.std.specs.Prelude.{◌≡◌, IfOk, IsSomeAnd};
 ghost use Rattle.wasmparser_validator.specs.Shown.{spaces};
 
 use crate::types::TypesRef;
+use std::alloc::AllocError;
 use std::iter::Iterator;
 use std::marker::Model;
-use wasmparser_import_names::import_names::ImportNamesIter;
+use wasmparser_import_names::named_import::NamedImports;
 use wasmparser_module_state::entity_type::EntityType;
 
 /// The imports of a module that are still to come: the name of the module that each comes from, its own name, and what it is. Imports of the same two names
@@ -14,7 +15,7 @@ use wasmparser_module_state::entity_type::EntityType;
 #[derive(Drop)]
 pub struct CoreImports<'a> {
     types: TypesRef<'a>,
-    imports: ImportNamesIter<'a>,
+    imports: NamedImports<'a>,
 }
 
 impl<'a> Model for CoreImports<'a> {
@@ -34,15 +35,18 @@ impl<'a> Model for CoreImports<'a> {
 }
 
 impl<'a> TypesRef<'a> {
-    /// The imports. Always `Some`, since there are no components.
-    pub fn core_imports(&self) -> Option<CoreImports<'a>>
-        ensures of { IsSomeAnd result (λ imports. imports.state ≡ self.now.types.now.state) }
-        ensures all { IsSomeAnd result (λ imports. imports.left ≡ (spaces self.now).imported) }
+    /// The imports. Always `Some`, since there are no components. They are put in this order when it is called.
+    ///
+    /// # Errors
+    /// Where memory runs out.
+    pub fn core_imports(&self) -> Result<Option<CoreImports<'a>>, AllocError>
+        ensures of { IfOk result (λ shown. IsSomeAnd shown (λ imports. imports.state ≡ self.now.types.now.state)) }
+        ensures all { IfOk result (λ shown. IsSomeAnd shown (λ imports. imports.left ≡ (spaces self.now).imported)) }
     {
-        Some(CoreImports {
+        Ok(Some(CoreImports {
             types: *self,
-            imports: self.state().imported().iter(),
-        })
+            imports: self.state().imported().grouped()?,
+        }))
     }
 }
 

@@ -3,4 +3,4 @@ use Rattle.wasmparser_import_names.proofs.import_names.ImportNames.new.Goals as 
 
 pub invariant_of-result : goal.invariant_of-result
 unfolding IsDistinct
-invariant_of-result c = rw (c.new.ensures, c.with_hasher.ensures.empty) (tt, tt)
+invariant_of-result c = rw (c.new-2.ensures, c.new-3.ensures.items) (tt, tt)

@@ -1,14 +1,14 @@
 -- Expressions that refer to a function, where a reference to any is wanted.
-use Rattle.std.proofs.Common.{◌≡◌, ◌≢◌, ℕ, Bool, true, false, List, [], ◌∷◌, ◌++◌, Option, Some, None, option_map, slice_get, refl, sym, subst, ap, ◌∙◌}
+use Rattle.std.proofs.Common.{◌≡◌, ◌≢◌, ℕ, Bool, true, false, List, [], ◌∷◌, ◌++◌, Option, Some, None, slice_get, refl, ap, ◌∙◌}
 use Rattle.std.specs.Option.{option_and_then}
 use Rattle.std.specs.Prelude.{IfSome}
 use Rattle.wasm_spec.specs.Constants.{ConstantExpression, ConstantOperator, RefFunc}
 use Rattle.wasm_spec.specs.Features.{Features, ReferenceTypes, has}
-use Rattle.wasm_spec.specs.Subtyping.{HeapBelow, IsOfKind, same, step}
+use Rattle.wasm_spec.specs.Subtyping.{IsOfKind, same, step}
 use Rattle.wasm_spec.specs.Trees.{DefType, unrolled}
 use Rattle.wasm_spec.specs.TypeReferences.{val_map}
 use Rattle.wasm_spec.specs.Types as spec
-use Rattle.wasm_validity.specs.ConstantTyping.{IsConstantFor, effect, provided, puts}
+use Rattle.wasm_validity.specs.ConstantTyping.{IsConstantFor}
 use Rattle.wasm_validity.specs.Context.{Context, functions_in}
 use Rattle.wasm_validity.specs.DefinedTypes.{func_in, func_type_at, func_type_of}
 use Rattle.wasmparser_constants.proofs.AloneLaws.{alone_holds, short_alone}

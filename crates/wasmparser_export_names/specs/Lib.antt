@@ -1,2 +1,3 @@
 pub mod ExportNames
+pub mod KeptExports
 pub mod KeptName

@@ -1,5 +1,5 @@
 -- Imports in the order in which they came, and the same in groups.
-use Rattle.std.proofs.Common.{◌≡◌, ◌<◌, Bool, true, false, List, [], ◌∷◌, ◌++◌, ℕ, length, length-append, map, unwrap_or, refl, ap, ap₂, ◌∙◌, arith}
+use Rattle.std.proofs.Common.{◌≡◌, ◌<◌, Bool, true, false, List, [], ◌∷◌, ◌++◌, ℕ, length, length-append, unwrap_or, refl, ap, ap₂, ◌∙◌, arith}
 use Rattle.std.specs.List.{list_any}
 use Rattle.std.specs.Prelude.{bytes_eq, if◌then◌else◌, OnOk, Result, Ok, Err}
 use Rattle.std.specs.declared.alloc.AllocError.{AllocError}

@@ -1,16 +1,15 @@
 -- Imports of known names and of new ones.
-use Rattle.std.proofs.Common.{◌≡◌, ◌≢◌, ◌<◌, Bool, true, false, List, [], ◌∷◌, ◌++◌, ℕ, length, length-append, Option, Some, None, map, unwrap_or, refl, sym, ap, ap₂, ◌∙◌, arith}
+use Rattle.std.proofs.Common.{◌≡◌, ◌≢◌, ◌<◌, Bool, true, false, List, [], ◌∷◌, ◌++◌, ℕ, length, Option, Some, None, map, unwrap_or, refl, sym, ap, ap₂, ◌∙◌}
 use Rattle.std.proofs.lemmas.Map.{NonePasses, none_passes_from_lookup}
 use Rattle.std.proofs.lemmas.Map.Entries.{none_past_head}
 use Rattle.std.proofs.lemmas.Map.Keys.{IsDistinct-tail}
 use Rattle.std.specs.List.{list_any, IsDistinct}
 use Rattle.std.specs.Map.{lookup, set_value, keys_of}
-use Rattle.std.specs.Prelude.{bytes_eq, cond, ◌&&◌, ◌||◌, not, if◌then◌else◌, OnOk, Result, Ok, Err}
-use Rattle.std.specs.declared.alloc.AllocError.{AllocError}
+use Rattle.std.specs.Prelude.{bytes_eq, cond, ◌&&◌, ◌||◌, not, if◌then◌else◌}
 use Rattle.indexmap.specs.IndexMap.{insert_entry}
 use Rattle.wasm_validity.specs.ImportedItems.{Imported, have_same_names, with_import}
-use Rattle.wasmparser_import_names.proofs.Keys.{known_before, other_parts, same_bytes, same_key, same_keys, same_parts}
-use Rattle.wasmparser_import_names.specs.ImportNames.{Kept, NamedItems, imported, module_at, imports_of, imports_in, AreKept}
+use Rattle.wasmparser_import_names.proofs.Keys.{other_parts, same_bytes, same_key, same_keys, same_parts}
+use Rattle.wasmparser_import_names.specs.ImportNames.{NamedItems, imported, module_at, imports_of, imports_in, AreKept}
 use Rattle.wasmparser_import_names.specs.declared.import_key.ImportKey.{ImportKey}
 use Rattle.wasmparser_import_names.specs.declared.imported_items.ImportedItem.{ImportedItem}
 

@@ -1,4 +1,4 @@
-use Rattle.std.proofs.Common.{◌≡◌, true, rules, sym}
+use Rattle.std.proofs.Common.{◌≡◌, true, rules}
 use Rattle.wasm_spec.specs.Features.{ReferenceTypes, has}
 use Rattle.wasm_spec.specs.Types as spec
 use Rattle.wasmparser_const_exprs.specs.ConstExprs.{expression_of}

@@ -1,6 +1,6 @@
 -- Exports as they are kept: their names stand one after the other.
 use Rattle.std.specs.Hash as fed
-use Rattle.std.specs.Hash.FoldHasher as folding
+use Rattle.std.specs.Hash.DefaultHasher as sip
 use Rattle.std.specs.List.{AllByRecursion, list_any}
 use Rattle.std.specs.Prelude.{◌≡◌, ◌-◌, ◌≤◌, ℕ, true, List, drop, fold, length, map, nat_eq, take}
 use Rattle.std.specs.Str.{IsUtf8}
@@ -11,7 +11,7 @@ use Rattle.wasmparser_export_names.specs.declared.name_hasher.NameHasher.{NameHa
 
 -- the hash of a name
 unfoldable pub hash_of : NameHasher → List ℕ → ℕ
-hash_of hasher name = folding.finish (fold folding.write hasher.start (fed.str name))
+hash_of hasher name = sip.finish (fold sip.write hasher.start (fed.str name))
 
 module _ (names : List ℕ) where
   -- the name of an export

@@ -12,7 +12,7 @@ use indexmap::IndexSet;
 use std::alloc::{AllocError, Global};
 use std::marker::Model;
 use std::str;
-use wasm_core_base::limits::MAX_WASM_EXPORTS;
+use wasm_core_base::limits::{MAX_WASM_EXPORTS, MAX_WASM_STRING_SIZE};
 use wasmparser_items::export::{Export, ExternalKind};
 use wasmparser_readers::section_limited::SectionLimited;
 
@@ -60,12 +60,12 @@ fn has_name(names: &[u8], exports: &[KeptExport], name: &str) -> bool
 pub struct ExportNames {
     names: Vec<u8>,
     exports: Vec<KeptExport>,
+    hasher: NameHasher,
     // those of all names at least: a name whose hash isn't there is new
-    hashes: IndexSet<u64, NameHasher>,
+    hashes: IndexSet<u64>,
 }
 
 impl Model for ExportNames {
-    ghost use Rattle.indexmap.specs.IndexSet.{hasher_of};
     ghost use Rattle.std.specs.Prelude.{List};
     ghost use Rattle.wasm_spec.specs.Syntax as spec;
     ghost use Rattle.wasmparser_export_names.specs.KeptExports.{AreHashed, AreNamed, listed};
@@ -74,7 +74,7 @@ impl Model for ExportNames {
 
     ghost view = { λ it. listed it.names.items it.exports.items };
 
-    ghost invariant = { λ it. AreNamed it.names.items it.exports.items × AreHashed (hasher_of it.hashes) it.hashes.keys it.names.items it.exports.items };
+    ghost invariant = { λ it. AreNamed it.names.items it.exports.items × AreHashed it.hasher it.hashes.keys it.names.items it.exports.items };
 }
 
 impl ExportNames {
@@ -85,32 +85,29 @@ impl ExportNames {
         ExportNames {
             names: Vec::new(alloc),
             exports: Vec::new(alloc),
-            hashes: IndexSet::with_hasher(alloc, NameHasher::new()),
+            hasher: NameHasher::new(),
+            hashes: IndexSet::new(alloc),
         }
     }
 
-    /// No exports, ready for those of a section, with room for them if there is memory for it: finding them by name takes no longer where the names were chosen to
-    /// make it slow.
+    /// No exports, ready for those of a section, with room for them if there is memory for it: telling their names apart takes no longer where these were chosen
+    /// to make it slow.
     pub fn for_section<'a>(alloc: Global, section: &SectionLimited<'a, Export<'a>>) -> ExportNames
         ensures { result ≡ [] }
     {
         let bytes = section.remaining_buffer();
-        let hasher = NameHasher::after(bytes);
         let most = (MAX_WASM_EXPORTS as usize).min(bytes.len() / LEAST_LEN);
         let count = most.min(section.count() as usize);
-        let hashes = match IndexSet::with_capacity_and_hasher(alloc, count, hasher) {
-            Ok(hashes) => hashes,
-            Err(_) => IndexSet::with_hasher(alloc, hasher),
-        };
-        let (mut names, mut exports) = (Vec::new(alloc), Vec::new(alloc));
+        let longest = count.saturating_mul(MAX_WASM_STRING_SIZE as usize);
+        let mut names = ExportNames::new(alloc);
+        names.hasher = NameHasher::after(bytes);
         // (without room, exports ask for it as they come)
-        let _ = exports.reserve(count);
-        let _ = names.reserve(bytes.len() - LEAST_LEN * count);
-        ExportNames {
-            names,
-            exports,
-            hashes,
-        }
+        let _ = names.hashes.reserve(count);
+        let _ = names.exports.reserve(count);
+        let _ = names
+            .names
+            .reserve(longest.min(bytes.len() - LEAST_LEN * count));
+        names
     }
 
     /// How many exports there are.
@@ -129,7 +126,7 @@ impl ExportNames {
         ensures added { IfOk result (λ new. self.new ≡ (if new then self.old ++ export_item export.now ∷ [] else self.old)) }
         ensures refused { OnErr result (self.new ≡ self.old) }
     {
-        let hash = self.hashes.hasher().hash_of(export.name);
+        let hash = self.hasher.hash_of(export.name);
         let is_new = self.hashes.insert(hash)?;
         if !is_new && has_name(&self.names, &self.exports, export.name) {
             return Ok(false);

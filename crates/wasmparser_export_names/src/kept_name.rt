@@ -1,16 +1,9 @@
 //! Copies of names.
 
-ghost use Rattle.std.specs.Prelude.{◌≡◌, IfOk, bytes_eq, nat_eq};
-ghost use Rattle.std.specs.Cmp.{partial_equiv_from_equiv};
-ghost use Rattle.std.specs.Cmp.Lexicographic.{nat_list_eq_equiv, pointwise};
-ghost use Rattle.std.specs.Cmp.Rules.{hashing};
-ghost use Rattle.std.specs.Hash as fed;
-ghost use Rattle.std.proofs.Common.{rules};
+ghost use Rattle.std.specs.Prelude.{◌≡◌, IfOk};
 
 use arrayvec::ArrayString;
-use indexmap::Equivalent;
 use std::alloc::{AllocError, Global};
-use std::hash::{Hash, Hasher};
 use std::marker::Model;
 
 /// A copy of a name, which takes no memory of its own where it has 16 bytes at most. Contracts see it as its bytes.
@@ -58,41 +51,5 @@ impl KeptName {
             Text::InPlace(text) => text.as_str(),
             Text::Apart(text) => text.as_str(),
         }
-    }
-}
-
-impl PartialEq for KeptName {
-    ghost eq = { pointwise nat_eq };
-
-    ghost laws = { partial_equiv_from_equiv nat_list_eq_equiv };
-
-    fn eq(&self, other: &Self) -> bool {
-        self.as_str() == other.as_str()
-    }
-}
-
-impl Eq for KeptName {
-    ghost laws = { nat_list_eq_equiv };
-}
-
-impl Hash for KeptName {
-    ghost hash_input = { fed.str };
-
-    ghost respects_eq = { Prim.search (hashing, rules) };
-
-    fn hash<H: Hasher>(&self, state: &mut H) {
-        self.as_str().hash(state);
-    }
-}
-
-impl<'a> Equivalent<KeptName> for &'a str {
-    ghost equivalent = { λ name kept. bytes_eq name.now kept };
-
-    ghost respects_hash = { Prim.search (hashing, rules) };
-
-    ghost respects_eq = { Prim.search (hashing, rules) };
-
-    fn equivalent(&self, kept: &KeptName) -> bool {
-        *self == kept.as_str()
     }
 }

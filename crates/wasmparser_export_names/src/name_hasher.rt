@@ -3,13 +3,14 @@
 ghost use Rattle.std.specs.Prelude.{◌≡◌};
 ghost use Rattle.wasmparser_export_names.specs.KeptExports.{hash_of};
 
-use std::hash::{BuildHasher, DefaultHasher, FoldHasher, Hasher};
+use std::fmt;
+use std::hash::{BuildHasher, DefaultHasher, Hasher};
 
-/// Hashes names, after a number that all bytes of their section make. Who chooses names so that they collide after some number has another number
-/// then, after which they don't.
+/// Hashes names, after all bytes of their section. Who chooses names so that they collide has other bytes there then, after which they don't. (A fast hasher
+/// won't do: there are names that collide after whatever it starts with.)
 #[derive(Clone, Copy)]
 pub struct NameHasher {
-    start: FoldHasher,
+    start: DefaultHasher,
 }
 
 impl NameHasher {
@@ -20,10 +21,8 @@ impl NameHasher {
 
     /// For names that stand among these bytes.
     pub fn after(bytes: &[u8]) -> NameHasher {
-        let mut hasher = DefaultHasher::new();
-        hasher.write(bytes);
-        let mut start = FoldHasher::default();
-        start.write_u64(hasher.finish());
+        let mut start = DefaultHasher::new();
+        start.write(bytes);
         NameHasher { start }
     }
 
@@ -38,11 +37,17 @@ impl NameHasher {
 }
 
 impl BuildHasher for NameHasher {
-    type Hasher = FoldHasher;
+    type Hasher = DefaultHasher;
 
     ghost build_hasher = { λ hasher. hasher.start };
 
-    fn build_hasher(&self) -> FoldHasher {
+    fn build_hasher(&self) -> DefaultHasher {
         self.start
+    }
+}
+
+impl fmt::Debug for NameHasher {
+    fn fmt<W: fmt::Write>(&self, f: &mut fmt::Formatter<W>) -> fmt::Result {
+        f.write_str("NameHasher")
     }
 }

@@ -28,7 +28,7 @@ pub struct KeptImport {
 }
 
 /// Imports in the order in which they came. Contracts see the names of their modules, in order of their numbers, and the list of the imports, those of the same
-/// two names together where the first of them stands: so they are shown, and grouped only then.
+/// two names together where the first of them stands. They are grouped only when they are shown.
 #[derive(Debug, Drop)]
 pub struct ImportNames {
     modules: ModuleNames,
@@ -61,8 +61,8 @@ impl ImportNames {
         }
     }
 
-    /// Makes room for so many imports more, if there is memory for it, and hashes names by `hasher` from now on, unless there are names already. Where it starts
-    /// after all names that are to come, finding them takes no longer where they were chosen to make it slow.
+    /// Makes room for so many imports more, if there is memory for it. Where there are no names yet, those of modules are hashed by `hasher` from now on: where it
+    /// starts after all names that are to come, finding them takes no longer where they were chosen to make it slow.
     pub fn start_with(&mut self, hasher: NameHasher, count: usize)
         ensures { self.new ≡ self.old }
     {

@@ -2,7 +2,7 @@
 #![tactic(auto)]
 
 mod import_groups;
-pub mod import_key;
+mod import_key;
 pub mod import_names;
 pub mod imported_items;
 pub mod module_names;

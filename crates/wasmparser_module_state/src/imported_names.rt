@@ -21,7 +21,7 @@ use wasmparser_items::export::ExternalKind;
 use wasmparser_items::type_ref::TypeRef;
 use wasmparser_readers::section_limited::SectionLimited;
 
-// How many bytes an import takes at least: the lengths of two names, its kind and a byte of its type.
+// How many bytes an entry of the section takes at least: the lengths of two names, a kind and a byte of a type.
 const LEAST_LEN: usize = 4;
 
 // The kind of an imported item.

@@ -76,7 +76,7 @@ fn push_words(names: &mut ImportNames, words: &str) -> Option<()> {
 // Whether these imports are shown, and no others.
 fn shows(names: &ImportNames, words: &str) -> Option<bool> {
     let mut words = words.split_whitespace();
-    for import in names.iter() {
+    for import in names.grouped().ok()? {
         let word = words.next()?;
         if module_of(word) != Some(import.module)
             || name_of(word) != Some(import.name)
@@ -104,11 +104,11 @@ fn the_same_names_stand_together(rt: HostRuntime) -> Result<(), Fail> {
     Ok(check_rows(rt.alloc(), SHOWN, 13, holds)?)
 }
 
-// A hasher has no say in what is shown, nor has it an effect where there are imports already.
+// A hasher has no say in what is shown, nor has room, nor have they an effect on imports that are there already.
 fn starts_anew(names: &mut ImportNames) -> Option<bool> {
-    names.start_with(NameHasher::after(b"a"));
+    names.start_with(NameHasher::after(b"a"), 1);
     push_words(names, "a.b.f0 c.d.f1")?;
-    names.start_with(NameHasher::after(b"b"));
+    names.start_with(NameHasher::after(b"b"), 100);
     push_words(names, "a.b.f2 c.d.f3")?;
     shows(names, "a.b.f0 a.b.f2 c.d.f1 c.d.f3")
 }
@@ -143,10 +143,13 @@ fn push_many(
 
 // Whether they are shown: those of each name one after the other.
 fn shows_many(names: &ImportNames, count: u32, period: u32) -> bool {
+    let Ok(imports) = names.grouped() else {
+        return false;
+    };
     let mut shown: u32 = 0;
     let mut first: u32 = 0;
     let mut next: u32 = 0;
-    for import in names.iter() {
+    for import in imports {
         if next >= count {
             first = first.saturating_add(1);
             next = first;
@@ -189,16 +192,16 @@ fn push_modules(alloc: Global, names: &mut ImportNames, count: u32) -> Result<()
     Ok(())
 }
 
-fn count_of(names: &ImportNames) -> u32 {
+fn count_of(names: &ImportNames) -> Option<u32> {
     let mut count: u32 = 0;
-    for _ in names.iter() {
+    for _ in names.grouped().ok()? {
         count = count.saturating_add(1);
     }
-    count
+    Some(count)
 }
 
 fn pushes_modules(alloc: Global, names: &mut ImportNames) -> bool {
-    push_modules(alloc, names, 100_000).is_ok() && count_of(names) == 100_000
+    push_modules(alloc, names, 100_000).is_ok() && count_of(names) == Some(100_000)
 }
 
 fn takes_modules(alloc: Global) -> bool {

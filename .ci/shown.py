@@ -35,8 +35,8 @@ def is_public(head):
 
 
 def hidden_places(words):
-    """Returns which of a file's words of code are hidden: the bodies of functions and how they are proved, whole functions that are neither public nor a
-    trait's or an impl's of one, and `mod` lines that aren't public."""
+    """Returns which of a file's words of code are hidden: the bodies of functions, how they are proved and whether they are inlined, whole functions that are
+    neither public nor a trait's or an impl's of one, and `mod` lines that aren't public."""
     hidden, at, shows_until = set(), 0, 0
     while at < len(words):
         head = at
@@ -47,7 +47,7 @@ def hidden_places(words):
             if words[at] == "trait" or "for" in words[at:opens]:
                 shows_until = end_of_block(words, opens)
             at = opens
-        elif words[at : at + 3] == ["#", "[", "tactic"]:
+        elif words[at : at + 3] in (["#", "[", "tactic"], ["#", "[", "inline"]):
             closes = end_of_block(words, at + 1)
             hidden.update(range(at, closes + 1))
             at = closes

@@ -96,6 +96,7 @@ EDITS = [
     ("src/next.rt", "ghost laws = { named }", "ghost laws = { named cc }", True),
     ("src/next.rt", "    // Its half.", "    // Half of it.", False),
     ("src/next.rt", "auto, using", "auto, rules, using", False),
+    ("src/next.rt", "    #[tactic(auto, using(", "    #[inline(always)]\n    #[tactic(auto, using(", False),
     ("src/next.rt", "    fn halved(&self) -> u8\n        ensures { result ≤ self.now.value }\n", "    fn halved(&self, more: u8) -> u8\n        ensures { result ≤ 1 }\n", False),
     ("src/next.rt", "self.value + self.value", "2 * self.value", False),
     ("src/next.rt", "fn doubled(&self) -> u8", "fn twice(&self) -> u16", False),

@@ -1,8 +1,8 @@
 #!/bin/sh
-# Seconds and peak memory of `wasm_gen check` on modules of a million items of a kind: imports of globals, exports, globals, functions and expressions of element
-# segments, segments, and operands of constant expressions; then the time of files of 100,000 items in memory, beside node's WebAssembly.validate and wabt's, where these are there. A module
-# is to take 1.5 s and 100 bytes an item beyond the input at most; where one takes more, the status is 1. Last come many modules of one session whose types
-# are all kept: twice as many are to take twice as long, or little more.
+# Seconds and peak memory of `wasm_gen check` on modules of a million items of a kind: imports of globals, exports (also by names that were chosen to make it
+# slow), globals, functions and expressions of element segments, segments, and operands of constant expressions; then the time of files of 100,000 items in
+# memory, beside node's WebAssembly.validate and wabt's, where these are there. A module is to take 1.5 s and 100 bytes an item beyond the input at most; where
+# one takes more, the status is 1. Last come many modules of one session whose types are all kept: twice as many are to take twice as long, or little more.
 set -eu
 . "$(dirname "$0")/setup.sh"
 . bench/driver.sh
@@ -30,12 +30,28 @@ table = section(4, 1, b"\x70\0\1")
 structure = section(1, 1, b"\x5f" + number(1_000) + b"\x7f\0" * 1_000)
 others = lambda n: b"".join(b"\x7f\0\x23" + number(i) + b"\x0b" for i in range(n - 1))
 
+# Names that the kit's fast hasher takes for few, whatever it begins with: they make a factor of its multiplication nearly a power of two, so that a flipped bit
+# comes out where two others of the next 16 bytes do.
+factor = (0x9E3779B97F4A7C15 ^ 1 << 39 ^ 1 << 63).to_bytes(8, "little")
+flipped = [bit for bit in range(24) if 1 <= bit % 8 <= 6]
+out = lambda bit: 1 << (bit - 25 if bit >= 25 else bit + 39)
+
+def alike(n):
+    for number in range(n):
+        first = third = int.from_bytes(b"A" * 8, "little")
+        for bit in (it for at, it in enumerate(flipped) if number >> at & 1):
+            first ^= 1 << bit
+            third ^= out(bit) ^ out(bit + 24)
+        yield first.to_bytes(8, "little") + factor + third.to_bytes(8, "little") + b"a" * 8
+
 def modules(n):
     few = min(n, 100_000)
     return [
         ("imports of globals", n - 2, section(2, n - 2, b"\0\0\3\x7f\0" * (n - 2))),
         ("imports of globals by different names", n - 2, section(2, n - 2, b"".join(b"\1m\6%06d\3\x7f\0" % i for i in range(n - 2)))),
         ("exports of a memory", n - 2, section(5, 1, b"\0\1") + section(7, n - 2, b"".join(b"\6%06d\2\0" % i for i in range(n - 2)))),
+        ("exports whose names a fast hash takes for few", few, section(5, 1, b"\0\1") + section(7, few, b"".join(b"\x20" + name + b"\2\0" for name in alike(few)))),
+        ("imports from modules of such names", few, section(2, few, b"".join(b"\x20" + name + b"\0\3\x7f\0" for name in alike(few)))),
         ("globals of i32", n, section(6, n, b"\x7f\0\x41\0\x0b" * n)),
         ("globals, each of the one before", n, section(6, n, b"\x7f\0\x41\0\x0b" + others(n))),
         ("functions in an element segment", n, types + function + table + section(9, 1, b"\0\x41\0\x0b" + number(n) + bytes(n)) + body),

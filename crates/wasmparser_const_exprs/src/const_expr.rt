@@ -136,7 +136,7 @@ impl<'a> ConstExpr<'a> {
         fork(&self.reader)
     }
 
-    /// The same expression, for a call that is seldom made: one that isn't lent to it needs no memory where it isn't.
+    /// A copy to lend to a rarely made call, so that the original can stay in registers.
     #[inline(always)]
     pub fn fork(&self) -> ConstExpr<'a>
         ensures { result ≡ self.now }

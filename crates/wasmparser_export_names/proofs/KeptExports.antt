@@ -1,65 +1,79 @@
 -- Exports as they are kept, and names among them.
-use Rattle.std.proofs.Common.{◌≡◌, ◌<◌, ◌+◌, ◌-◌, ◌++◌, ◌∷◌, [], ℕ, Bool, true, false, List, length, length-append, drop, take, slice_index_or, refl, sym, ap, ap₂, subst, ◌∙◌, arith}
+use Rattle.std.proofs.Common.{◌≡◌, ◌<◌, ◌≤◌, ◌+◌, ◌-◌, ◌++◌, ◌∷◌, [], ℕ, zero, suc, Bool, true, false, List, None, Some, length, length-append, drop, take, slice_get, slice_index_or, refl, sym, ap, ap₂, subst, ◌∙◌, arith, rules}
 use Rattle.std.proofs.Math.Seq.{drop-append_seam, take-length}
 use Rattle.std.proofs.lemmas.List.{drop-append-le, drop_more, length-drop, take-append-le}
 use Rattle.std.specs.Cmp.Lexicographic.{bytes_decides}
 use Rattle.std.specs.List.{list_any}
-use Rattle.std.specs.Prelude.{bytes_eq, nat_eq, not, ◌||◌}
+use Rattle.std.specs.Prelude.{bytes_eq, if◌then◌else◌, nat_eq, not, ◌||◌}
 use Rattle.std.specs.Str.{IsUtf8}
+use Rattle.wasm_spec.specs.Syntax as spec
 use Rattle.wasmparser_items.specs.Exports.{external_kind}
+use Rattle.wasmparser_export_names.specs.ExportHasher.{hash_of}
 use Rattle.wasmparser_export_names.specs.ExportNames.{is_exported}
-use Rattle.wasmparser_export_names.specs.KeptExports.{AreHashed, AreNamed, IsNamed, hash_of, listed, name_in}
+use Rattle.wasmparser_export_names.specs.KeptExports.{AreHashed, AreNamed, IsNamed, listed, name_in, start_at}
+use Rattle.wasmparser_export_names.specs.declared.export_hasher.ExportHasher.{ExportHasher}
 use Rattle.wasmparser_export_names.specs.declared.export_names.KeptExport.{KeptExport}
-use Rattle.wasmparser_export_names.specs.declared.name_hasher.NameHasher.{NameHasher}
-
--- ---- names that come after others
-
-module _ (names more : List ℕ) where
-  same_name : (e : KeptExport) → IsNamed names e → name_in (names ++ more) e ≡ name_in names e
-  same_name e is =
-      ap (take (e.end - e.start)) (drop-append-le e.start names more (omega (arith, is.ordered, is.within)))
-      ∙ take-append-le (e.end - e.start) (drop e.start names) more (omega (arith, length-drop e.start names, is.ordered, is.within))
-
-  still_named : (e : KeptExport) → IsNamed names e → IsNamed (names ++ more) e
-  still_named e is = record { ordered = is.ordered; within = omega (arith, length-append names more, is.within); text = subst IsUtf8 (sym (same_name e is)) is.text }
-
-  pub same_listed : (exports : List KeptExport) → AreNamed names exports → listed (names ++ more) exports ≡ listed names exports
-  same_listed [] all = refl
-  same_listed (e ∷ exports) all = ap₂ (λ name l. record { name = name; kind = external_kind e.kind; index = e.index } ∷ l) (same_name e all.0) (same_listed exports all.1)
-
-  pub all_named : (exports : List KeptExport) → AreNamed names exports → AreNamed (names ++ more) exports
-  all_named [] all = tt
-  all_named (e ∷ exports) all = (still_named e all.0, all_named exports all.1)
-
-  pub all_hashed : (hasher : NameHasher) (hashes : List ℕ) (exports : List KeptExport) → AreNamed names exports → AreHashed hasher hashes names exports → AreHashed hasher hashes (names ++ more) exports
-  all_hashed hasher hashes [] all hashed = tt
-  all_hashed hasher hashes (e ∷ exports) all hashed =
-      (subst (λ name. list_any (nat_eq (hash_of hasher name)) hashes ≡ true) (sym (same_name e all.0)) hashed.0, all_hashed hasher hashes exports all.1 hashed.1)
 
 -- ---- an export more
 
-module _ (names name : List ℕ) (e : KeptExport) (starts : e.start ≡ length names) (ends : e.end ≡ length (names ++ name)) where
-  last_name : name_in (names ++ name) e ≡ name
-  last_name =
-      let size : e.end - e.start ≡ length name = omega (arith, starts, ends, length-append names name) in
+module _ (names name : List ℕ) where
+  same_name : (start : ℕ) (e : KeptExport) → IsNamed names start e → name_in (names ++ name) start e ≡ name_in names start e
+  same_name start e is =
+      ap (take (e.end - start)) (drop-append-le start names name (omega (arith, is.ordered, is.within)))
+      ∙ take-append-le (e.end - start) (drop start names) name (omega (arith, length-drop start names, is.ordered, is.within))
+
+  last_name : (start : ℕ) (e : KeptExport) → start ≡ length names → e.end ≡ length (names ++ name) → name_in (names ++ name) start e ≡ name
+  last_name start e starts ends =
+      let size : e.end - start ≡ length name = omega (arith, starts, ends, length-append names name) in
       ap₂ (λ (n m : ℕ). take n (drop m (names ++ name))) size starts ∙ ap (take (length name)) (drop-append_seam names name) ∙ take-length name
 
-  pub pushed : (exports : List KeptExport) → AreNamed names exports
-      → listed (names ++ name) (exports ++ e ∷ []) ≡ listed names exports ++ record { name = name; kind = external_kind e.kind; index = e.index } ∷ []
-  pushed [] all = ap (λ name. record { name = name; kind = external_kind e.kind; index = e.index } ∷ []) last_name
-  pushed (x ∷ exports) all =
-      ap₂ (λ name l. record { name = name; kind = external_kind x.kind; index = x.index } ∷ l) (same_name names name x all.0) (pushed exports all.1)
+  pub pushed : (start : ℕ) (exports : List KeptExport) (e : KeptExport) → e.end ≡ length (names ++ name) → AreNamed names start exports
+      → listed (names ++ name) start (exports ++ e ∷ []) ≡ listed names start exports ++ record { name = name; kind = external_kind e.kind; index = e.index } ∷ []
+  pushed start [] e ends all = ap (λ name. record { name = name; kind = external_kind e.kind; index = e.index } ∷ []) (last_name start e all ends)
+  pushed start (x ∷ exports) e ends all =
+      ap₂ (λ name l. record { name = name; kind = external_kind x.kind; index = x.index } ∷ l) (same_name start x all.0) (pushed x.end exports e ends all.1)
 
-  pub pushed_named : (exports : List KeptExport) → IsUtf8 name → AreNamed names exports → AreNamed (names ++ name) (exports ++ e ∷ [])
-  pushed_named [] text all =
-      (record { ordered = omega (arith, starts, ends, length-append names name); within = omega (arith, ends); text = subst IsUtf8 (sym last_name) text }, tt)
-  pushed_named (x ∷ exports) text all = (still_named names name x all.0, pushed_named exports text all.1)
+  pub pushed_named : (start : ℕ) (exports : List KeptExport) (e : KeptExport) → e.end ≡ length (names ++ name) → IsUtf8 name → AreNamed names start exports
+      → AreNamed (names ++ name) start (exports ++ e ∷ [])
+  pushed_named start [] e ends text all =
+      (record { ordered = omega (arith, all, ends, length-append names name); within = omega (arith, ends); text = subst IsUtf8 (sym (last_name start e all ends)) text }, ends)
+  pushed_named start (x ∷ exports) e ends text all =
+      (record { ordered = all.0.ordered; within = omega (arith, length-append names name, all.0.within); text = subst IsUtf8 (sym (same_name start x all.0)) all.0.text }, pushed_named x.end exports e ends text all.1)
 
-  pub pushed_hashed : (exports : List KeptExport) (hasher : NameHasher) (hashes : List ℕ) → AreNamed names exports → AreHashed hasher hashes names exports
-      → list_any (nat_eq (hash_of hasher name)) hashes ≡ true → AreHashed hasher hashes (names ++ name) (exports ++ e ∷ [])
-  pushed_hashed [] hasher hashes all hashed there = (subst (λ name. list_any (nat_eq (hash_of hasher name)) hashes ≡ true) (sym last_name) there, tt)
-  pushed_hashed (x ∷ exports) hasher hashes all hashed there =
-      (subst (λ name. list_any (nat_eq (hash_of hasher name)) hashes ≡ true) (sym (same_name names name x all.0)) hashed.0, pushed_hashed exports hasher hashes all.1 hashed.1 there)
+-- ---- the export at a place
+
+pub is_zero : (n : ℕ) → (1 ≤ n → ⊥) → n ≡ 0
+is_zero zero none = refl
+is_zero (suc n) none = absurd (none (omega arith))
+
+-- a name begins where that before ends
+pub end_before : (start : ℕ) (exports : List KeptExport) (place : ℕ) (d : KeptExport) → place < length exports → start_at start exports (suc place) ≡ (slice_index_or exports place d).end
+end_before start [] place d few = absurd (omega (arith, few))
+end_before start (x ∷ exports) zero d few = refl
+end_before start (x ∷ exports) (suc place) d few = end_before x.end exports place d (omega (arith, few))
+
+module _ (names : List ℕ) where
+  pub listed_len : (start : ℕ) (exports : List KeptExport) → length (listed names start exports) ≡ length exports
+  listed_len start [] = refl
+  listed_len start (x ∷ exports) = ap suc (listed_len x.end exports)
+
+  pub none_there : (start : ℕ) (exports : List KeptExport) (place : ℕ) → length exports ≤ place → None ≡ slice_get (listed names start exports) place
+  none_there start [] place past = refl
+  none_there start (x ∷ exports) zero past = absurd (omega (arith, past))
+  none_there start (x ∷ exports) (suc place) past = none_there x.end exports place (omega (arith, past))
+
+  pub named_there : (start : ℕ) (exports : List KeptExport) (place : ℕ) (d : KeptExport) → place < length exports → AreNamed names start exports
+      → IsNamed names (start_at start exports place) (slice_index_or exports place d)
+  named_there start [] place d few all = absurd (omega (arith, few))
+  named_there start (x ∷ exports) zero d few all = all.0
+  named_there start (x ∷ exports) (suc place) d few all = named_there x.end exports place d (omega (arith, few)) all.1
+
+  pub listed_there : (start : ℕ) (exports : List KeptExport) (place : ℕ) (d : KeptExport) → place < length exports
+      → slice_get (listed names start exports) place
+      ≡ Some (record { name = name_in names (start_at start exports place) (slice_index_or exports place d); kind = external_kind (slice_index_or exports place d).kind; index = (slice_index_or exports place d).index })
+  listed_there start [] place d few = absurd (omega (arith, few))
+  listed_there start (x ∷ exports) zero d few = refl
+  listed_there start (x ∷ exports) (suc place) d few = listed_there x.end exports place d (omega (arith, few))
 
 -- ---- hashes
 
@@ -67,24 +81,29 @@ either_true : (a b : Bool) → a ≡ true → (a || b) ≡ true
 either_true true b is = refl
 either_true false b is = absurd cc
 
+pub hashed_too : (hasher : ExportHasher) (hashes : List ℕ) (exports : List spec.Export) (new : spec.Export) → AreHashed hasher hashes exports → list_any (nat_eq (hash_of hasher new.name)) hashes ≡ true
+    → AreHashed hasher hashes (exports ++ new ∷ [])
+hashed_too hasher hashes [] new all there = (there, tt)
+hashed_too hasher hashes (e ∷ exports) new all there = (all.0, hashed_too hasher hashes exports new all.1 there)
+
 -- a name whose hash isn't there is new
-pub none_named : (hasher : NameHasher) (hashes names name : List ℕ) (exports : List KeptExport) → AreHashed hasher hashes names exports → list_any (nat_eq (hash_of hasher name)) hashes ≡ false
-    → is_exported name (listed names exports) ≡ false
-none_named hasher hashes names name [] all none = refl
-none_named hasher hashes names name (e ∷ exports) all none = by (none_named hasher hashes names name exports all.1 none) (bytes_eq name (name_in names e)) refl
+none_named : (hasher : ExportHasher) (hashes name : List ℕ) (exports : List spec.Export) → AreHashed hasher hashes exports → list_any (nat_eq (hash_of hasher name)) hashes ≡ false
+    → is_exported name exports ≡ false
+none_named hasher hashes name [] all none = refl
+none_named hasher hashes name (e ∷ exports) all none = by (none_named hasher hashes name exports all.1 none) (bytes_eq name e.name) refl
   where
-    by : is_exported name (listed names exports) ≡ false → (b : Bool) → bytes_eq name (name_in names e) ≡ b → (b || is_exported name (listed names exports)) ≡ false
+    by : is_exported name exports ≡ false → (b : Bool) → bytes_eq name e.name ≡ b → (b || is_exported name exports) ≡ false
     by others true same =
-        let there = subst (λ name. list_any (nat_eq (hash_of hasher name)) hashes ≡ true) (sym ((bytes_decides name (name_in names e)).0 same)) all.0 in
+        let there = subst (λ name. list_any (nat_eq (hash_of hasher name)) hashes ≡ true) (sym ((bytes_decides name e.name).0 same)) all.0 in
         let no = sym there ∙ none in absurd cc
     by others false other = others
 
-pub free_name : (hasher seen : NameHasher) (hashes names name : List ℕ) (exports : List KeptExport) (hash : ℕ) (new : Bool) → AreHashed hasher hashes names exports → seen ≡ hasher
-    → hash ≡ hash_of seen name → new ≡ not (list_any (nat_eq hash) hashes) → new ≡ true → true ≡ not (is_exported name (listed names exports))
-free_name hasher seen hashes names name exports hash new all same is tells new_one =
+pub free_name : (hasher : ExportHasher) (hashes name : List ℕ) (exports : List spec.Export) (hash : ℕ) (new : Bool) → AreHashed hasher hashes exports
+    → hash ≡ hash_of hasher name → new ≡ not (list_any (nat_eq hash) hashes) → new ≡ true → true ≡ not (is_exported name exports)
+free_name hasher hashes name exports hash new all is tells new_one =
     let none = other (list_any (nat_eq hash) hashes) (sym tells ∙ new_one) in
-    let so = ap (λ (n : ℕ). list_any (nat_eq n) hashes) (sym (is ∙ ap (λ h. hash_of h name) same)) ∙ none in
-    rw (none_named hasher hashes names name exports all so) refl
+    let so = ap (λ (n : ℕ). list_any (nat_eq n) hashes) (sym is) ∙ none in
+    rw (none_named hasher hashes name exports all so) refl
   where
     other : (b : Bool) → not b ≡ true → b ≡ false
     other true is = absurd cc
@@ -92,22 +111,84 @@ free_name hasher seen hashes names name exports hash new all same is tells new_o
 
 -- ---- a look at each name
 
-module _ (names name : List ℕ) (exports : List KeptExport) (i : ℕ) (d : KeptExport) (few : i < length exports) where
+module _ (names name : List ℕ) (exports : List KeptExport) (i start : ℕ) (d : KeptExport) (few : i < length exports) where
   abbrev this : KeptExport
   this = slice_index_or exports i d
 
-  pub this_named : AreNamed names (drop i exports) → IsNamed names this
-  this_named all = (subst (AreNamed names) (drop_more exports i d few) all).0
+  pub this_named : AreNamed names start (drop i exports) → IsNamed names start this
+  this_named all = (subst (AreNamed names start) (drop_more exports i d few) all).0
 
-  pub others_named : AreNamed names (drop i exports) → AreNamed names (drop (i + 1) exports)
-  others_named all = (subst (AreNamed names) (drop_more exports i d few) all).1
+  pub others_named : AreNamed names start (drop i exports) → AreNamed names this.end (drop (i + 1) exports)
+  others_named all = (subst (AreNamed names start) (drop_more exports i d few) all).1
 
-  left_after : is_exported name (listed names (drop i exports)) ≡ (bytes_eq name (name_in names this) || is_exported name (listed names (drop (i + 1) exports)))
-  left_after = ap (λ l. is_exported name (listed names l)) (drop_more exports i d few)
+  left_after : is_exported name (listed names start (drop i exports)) ≡ (bytes_eq name (name_in names start this) || is_exported name (listed names this.end (drop (i + 1) exports)))
+  left_after = ap (λ l. is_exported name (listed names start l)) (drop_more exports i d few)
 
-  pub this_has : is_exported name (listed names (drop i exports)) ≡ is_exported name (listed names exports) → bytes_eq name (name_in names this) ≡ true → true ≡ is_exported name (listed names exports)
-  this_has left same = sym (either_true _ (is_exported name (listed names (drop (i + 1) exports))) same) ∙ sym left_after ∙ left
+  pub this_has : is_exported name (listed names start (drop i exports)) ≡ is_exported name (listed names 0 exports) → bytes_eq name (name_in names start this) ≡ true
+      → true ≡ is_exported name (listed names 0 exports)
+  this_has left same = sym (either_true _ (is_exported name (listed names this.end (drop (i + 1) exports))) same) ∙ sym left_after ∙ left
 
-  pub others_left : is_exported name (listed names (drop i exports)) ≡ is_exported name (listed names exports) → bytes_eq name (name_in names this) ≡ false
-      → is_exported name (listed names (drop (i + 1) exports)) ≡ is_exported name (listed names exports)
-  others_left left other = sym (left_after ∙ ap (λ b. b || is_exported name (listed names (drop (i + 1) exports))) other) ∙ left
+  pub others_left : is_exported name (listed names start (drop i exports)) ≡ is_exported name (listed names 0 exports) → bytes_eq name (name_in names start this) ≡ false
+      → is_exported name (listed names this.end (drop (i + 1) exports)) ≡ is_exported name (listed names 0 exports)
+  others_left left other = sym (left_after ∙ ap (λ b. b || is_exported name (listed names this.end (drop (i + 1) exports))) other) ∙ left
+
+-- ---- hashes anew
+
+abbrev Holds : List ℕ → List ℕ → Type 0
+Holds more hashes = (hash : ℕ) → list_any (nat_eq hash) hashes ≡ true → list_any (nat_eq hash) more ≡ true
+
+-- where the hashes of the others are there too, those of all are
+abbrev pub Suffices : ExportHasher → List ℕ → List spec.Export → List spec.Export → Type 0
+Suffices hasher hashes others exports = (more : List ℕ) → Holds more hashes → AreHashed hasher more others → AreHashed hasher more exports
+
+abbrev with_hash : List ℕ → ℕ → List ℕ
+with_hash hashes hash = if list_any (nat_eq hash) hashes then hashes else hashes ++ hash ∷ []
+
+or_true : (a : Bool) {b : Bool} → b ≡ true → (a || b) ≡ true
+or_true true is = refl
+or_true false is = is
+
+still_any : (p : ℕ → Bool) (hashes : List ℕ) (hash : ℕ) → list_any p hashes ≡ true → list_any p (hashes ++ hash ∷ []) ≡ true
+still_any p [] hash is = absurd cc
+still_any p (x ∷ hashes) hash is = by (p x) (still_any p hashes hash) is
+  where
+    by : (b : Bool) → (list_any p hashes ≡ true → list_any p (hashes ++ hash ∷ []) ≡ true) → (b || list_any p hashes) ≡ true → (b || list_any p (hashes ++ hash ∷ [])) ≡ true
+    by true others is = refl
+    by false others is = others is
+
+last_any : (p : ℕ → Bool) (hashes : List ℕ) (hash : ℕ) → p hash ≡ true → list_any p (hashes ++ hash ∷ []) ≡ true
+last_any p [] hash is = either_true (p hash) _ is
+last_any p (x ∷ hashes) hash is = or_true (p x) (last_any p hashes hash is)
+
+pub holds_others : (hashes : List ℕ) (hash : ℕ) → Holds (with_hash hashes hash) hashes
+holds_others hashes hash other there = by (list_any (nat_eq hash) hashes)
+  where
+    by : (b : Bool) → list_any (nat_eq other) (if b then hashes else hashes ++ hash ∷ []) ≡ true
+    by true = there
+    by false = still_any (nat_eq other) hashes hash there
+
+pub holds_hash : (hashes : List ℕ) (hash : ℕ) → list_any (nat_eq hash) (with_hash hashes hash) ≡ true
+holds_hash hashes hash = by (list_any (nat_eq hash) hashes) refl
+  where
+    by : (b : Bool) → list_any (nat_eq hash) hashes ≡ b → list_any (nat_eq hash) (if b then hashes else hashes ++ hash ∷ []) ≡ true
+    by true there = there
+    by false other = last_any (nat_eq hash) hashes hash (search rules)
+
+-- what is hashed among some hashes is among more
+pub still_hashed : (hasher : ExportHasher) (more hashes : List ℕ) (exports : List spec.Export) → Holds more hashes → AreHashed hasher hashes exports → AreHashed hasher more exports
+still_hashed hasher more hashes [] holds all = tt
+still_hashed hasher more hashes (e ∷ exports) holds all = (holds (hash_of hasher e.name) all.0, still_hashed hasher more hashes exports holds all.1)
+
+module _ (hasher : ExportHasher) (names : List ℕ) (exports : List KeptExport) (i start : ℕ) (d : KeptExport) (few : i < length exports) where
+  abbrev there : KeptExport
+  there = slice_index_or exports i d
+
+  pub others_suffice : (old new : List ℕ) (hash : ℕ) → new ≡ with_hash old hash → hash ≡ hash_of hasher (name_in names start there) → Suffices hasher old (listed names start (drop i exports)) (listed names 0 exports)
+      → Suffices hasher new (listed names there.end (drop (i + 1) exports)) (listed names 0 exports)
+  others_suffice old new hash is hashes suffices more holds others =
+      suffices more (λ other among. holds other (subst (λ l. list_any (nat_eq other) l ≡ true) (sym is) (holds_others old hash other among)))
+      (subst (λ l. AreHashed hasher more (listed names start l)) (sym (drop_more exports i d few))
+      (subst (λ (h : ℕ). list_any (nat_eq h) more ≡ true) hashes (holds hash (subst (λ l. list_any (nat_eq hash) l ≡ true) (sym is) (holds_hash old hash))), others))
+
+pub suffice : (hasher : ExportHasher) (hashes : List ℕ) (exports : List spec.Export) → Suffices hasher hashes [] exports → AreHashed hasher hashes exports
+suffice hasher hashes exports suffices = suffices hashes (λ hash is. is) tt

@@ -1,3 +1,3 @@
+pub mod ExportHasher
 pub mod ExportNames
 pub mod KeptExports
-pub mod KeptName

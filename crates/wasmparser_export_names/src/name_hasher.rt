@@ -1,13 +1,10 @@
 //! Hashing of names that whoever wrote the module may have chosen.
 
-ghost use Rattle.std.specs.Prelude.{◌≡◌};
-ghost use Rattle.wasmparser_export_names.specs.KeptExports.{hash_of};
-
 use std::fmt;
 use std::hash::{BuildHasher, DefaultHasher, Hasher};
 
-/// Hashes names, after all bytes of their section. Who chooses names so that they collide has other bytes there then, after which they don't. (A fast hasher
-/// won't do: there are names that collide after whatever it starts with.)
+/// Hashes names, after a hash of all bytes of their section. Who chooses names so that they collide has other bytes there then, after which they don't. (A fast
+/// hasher won't do: there are names that collide after whatever it starts with.)
 #[derive(Clone, Copy)]
 pub struct NameHasher {
     start: DefaultHasher,
@@ -16,23 +13,19 @@ pub struct NameHasher {
 impl NameHasher {
     /// For names that stand in no section.
     pub fn new() -> NameHasher {
-        NameHasher::after(&[])
+        NameHasher {
+            start: DefaultHasher::new(),
+        }
     }
 
     /// For names that stand among these bytes.
     pub fn after(bytes: &[u8]) -> NameHasher {
+        let mut section = DefaultHasher::new();
+        section.write(bytes);
+        // (after a word, what follows is hashed by words as well)
         let mut start = DefaultHasher::new();
-        start.write(bytes);
+        start.write_u64(section.finish());
         NameHasher { start }
-    }
-
-    /// The hash of a name.
-    #[inline(always)]
-    #[tactic(auto, unfolding(crate::specs::KeptExports::hash_of))]
-    pub(crate) fn hash_of(&self, name: &str) -> u64
-        ensures { result ≡ hash_of self.now name.now }
-    {
-        self.hash_one(name)
     }
 }
 

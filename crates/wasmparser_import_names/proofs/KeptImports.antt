@@ -1,5 +1,5 @@
 -- Imports in the order in which they came, and the same in groups.
-use Rattle.std.proofs.Common.{◌≡◌, ◌<◌, Bool, true, false, List, [], ◌∷◌, ◌++◌, ℕ, length, length-append, unwrap_or, refl, ap, ap₂, ◌∙◌, arith}
+use Rattle.std.proofs.Common.{◌≡◌, ◌<◌, Bool, true, false, List, [], ◌∷◌, ◌++◌, ℕ, length, unwrap_or, refl, ap, ap₂, ◌∙◌}
 use Rattle.std.specs.List.{list_any}
 use Rattle.std.specs.Prelude.{bytes_eq, if◌then◌else◌, OnOk, Result, Ok, Err}
 use Rattle.std.specs.declared.alloc.AllocError.{AllocError}
@@ -29,10 +29,6 @@ module _ (modules : List (List ℕ)) where
       ap (with_imports []) (last_kept imports import) ∙ one_more [] (kept_imports modules imports) (of_kept import)
       ∙ ap (λ name. with_import (with_imports [] (kept_imports modules imports)) (imported (module_at modules import.origin) name import.item)) is
 
-  pub still_of_modules : (imports : List KeptImport) (import : KeptImport) → import.origin < length modules → AreOfModules modules imports → AreOfModules modules (imports ++ import ∷ [])
-  still_of_modules [] import known all = (known, tt)
-  still_of_modules (x ∷ imports) import known all = (all.0, still_of_modules imports import known all.1)
-
 -- ---- names of modules that come later
 
 module _ (modules more : List (List ℕ)) where
@@ -44,10 +40,6 @@ module _ (modules more : List (List ℕ)) where
   same_kept [] all = refl
   same_kept (x ∷ imports) all = ap₂ (λ origin l. imported origin x.name x.item ∷ l) (same_module x.origin all.0) (same_kept imports all.1)
 
-  still_known : (imports : List KeptImport) → AreOfModules modules imports → AreOfModules (modules ++ more) imports
-  still_known [] all = tt
-  still_known (x ∷ imports) all = (omega (arith, length-append modules more, all.0), still_known imports all.1)
-
 module _ (modules : List (List ℕ)) (name : List ℕ) (imports : List KeptImport) (all : AreOfModules modules imports) where
   named_more : kept_imports (with_name modules name) imports ≡ kept_imports modules imports
   named_more = by (list_any (bytes_eq name) modules)
@@ -55,13 +47,6 @@ module _ (modules : List (List ℕ)) (name : List ℕ) (imports : List KeptImpor
       by : (b : Bool) → kept_imports (if b then modules else modules ++ name ∷ []) imports ≡ kept_imports modules imports
       by true = refl
       by false = same_kept modules (name ∷ []) imports all
-
-  pub of_more : AreOfModules (with_name modules name) imports
-  of_more = by (list_any (bytes_eq name) modules)
-    where
-      by : (b : Bool) → AreOfModules (if b then modules else modules ++ name ∷ []) imports
-      by true = all
-      by false = still_known modules (name ∷ []) imports all
 
   pub numbered : (result : Result ℕ AllocError) (new : List (List ℕ)) → OnOk result (new ≡ with_name modules name)
       → OnOk result (◌≡◌ {A = Kept} (record { modules = new; imports = with_imports [] (kept_imports new imports) }) (record { modules = with_name modules name; imports = with_imports [] (kept_imports modules imports) }))

@@ -1,4 +1,5 @@
 pub mod ImportNames
 pub mod ImportedItems
 pub mod KeptImports
+pub mod KeptName
 pub mod ModuleNames

@@ -9,22 +9,20 @@ ghost use Rattle.wasmparser_import_names.specs.ModuleNames.{with_name};
 
 use crate::import_groups::ImportGroups;
 use crate::imported_items::ImportedItem;
+use crate::kept_name::KeptName;
 use crate::module_names::ModuleNames;
 use crate::named_import::NamedImports;
 use std::alloc::{AllocError, Global};
 use std::marker::Model;
-use wasmparser_export_names::kept_name::KeptName;
 use wasmparser_export_names::name_hasher::NameHasher;
 
-/// An import as it is kept.
+// An import as it is kept.
 #[derive(Debug, Drop)]
-pub struct KeptImport {
-    /// The number of its module's name.
-    pub origin: usize,
-    /// Its name there.
-    pub name: KeptName,
-    /// What is imported.
-    pub item: ImportedItem,
+struct KeptImport {
+    // the number of its module's name
+    origin: usize,
+    name: KeptName,
+    item: ImportedItem,
 }
 
 /// Imports in the order in which they came. Contracts see the names of their modules, in order of their numbers, and the list of the imports, those of the same

@@ -5,5 +5,6 @@ mod import_groups;
 mod import_key;
 pub mod import_names;
 pub mod imported_items;
+mod kept_name;
 pub mod module_names;
 pub mod named_import;

@@ -42,7 +42,7 @@ impl ModuleNames {
     }
 
     /// What the names are hashed by.
-    pub fn hasher(&self) -> NameHasher {
+    pub(crate) fn hasher(&self) -> NameHasher {
         *self.names.hasher()
     }
 

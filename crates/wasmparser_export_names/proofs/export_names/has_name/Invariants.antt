@@ -5,6 +5,6 @@ use Rattle.wasmparser_export_names.proofs.export_names.has_name.Given as goal
 
 abbrev pub invariant-loop-export : goal.invariant-loop-export
 invariant-loop-export l = record {
-  named : AreNamed l.names (drop l.export-index l.exports);
-  left : is_exported l.name (listed l.names (drop l.export-index l.exports)) ≡ is_exported l.name (listed l.names l.exports);
+  named : AreNamed l.names l.start (drop l.export-index l.exports);
+  left : is_exported l.name (listed l.names l.start (drop l.export-index l.exports)) ≡ is_exported l.name (listed l.names 0 l.exports);
 }

@@ -1,34 +1,18 @@
-use Rattle.std.proofs.Common.{rules, ◌≡◌}
-use Rattle.wasmparser_export_names.proofs.KeptExports.{all_hashed, all_named, pushed, pushed_hashed, pushed_named, same_listed}
-use Rattle.wasmparser_export_names.specs.KeptExports.{listed}
+use Rattle.std.proofs.Common.{rules}
+use Rattle.wasmparser_export_names.proofs.KeptExports.{hashed_too, pushed, pushed_named}
 use Rattle.wasmparser_export_names.proofs.export_names.push.Goals as goal
-
-pub returns-in_err-push-clause-refused : goal.returns-in_err-push-clause-refused
-returns-in_err-push-clause-refused c =
-    let same : listed c.extend_from_slice.new.self.items c.push.new.self.items ≡ listed c.args.names.now.items c.args.exports.now.items =
-    rw (c.in_err-push.ensures.items, c.in_ok-extend_from_slice.ensures.items) (same_listed c.args.names.now.items _ c.args.exports.now.items c.requires)
-    in
-    search (rules, same)
-
-pub returns-in_err-push-clause-named : goal.returns-in_err-push-clause-named
-returns-in_err-push-clause-named c =
-    rw (c.in_err-push.ensures.items, c.in_ok-extend_from_slice.ensures.items) (all_named c.args.names.now.items _ c.args.exports.now.items c.requires)
-
-pub returns-in_err-push-clause-hashed : goal.returns-in_err-push-clause-hashed
-returns-in_err-push-clause-hashed c hasher hashes all there =
-    rw (c.in_err-push.ensures.items, c.in_ok-extend_from_slice.ensures.items) (all_hashed c.args.names.now.items _ hasher hashes c.args.exports.now.items c.requires all)
 
 pub returns-clause-pushed : goal.returns-clause-pushed
 returns-clause-pushed c =
-    rw (c.in_ok-push.ensures.items, c.in_ok-extend_from_slice.ensures.items, c.as_bytes.ensures.value)
-    (pushed c.args.names.now.items c.args.export.now.name.now _ (search rules) (search rules) c.args.exports.now.items c.requires)
+    rw (c.in_ok-push.ensures.items, c.in_ok-extend_from_slice.ensures.items, c.reserve.ensures.items, c.as_bytes.ensures.value)
+    (pushed c.args.names.now.items c.args.export.now.name.now 0 c.args.exports.now.items _ (search rules) c.requires)
 
 pub returns-clause-named : goal.returns-clause-named
 returns-clause-named c =
-    rw (c.in_ok-push.ensures.items, c.in_ok-extend_from_slice.ensures.items, c.as_bytes.ensures.value)
-    (pushed_named c.args.names.now.items c.args.export.now.name.now _ (search rules) (search rules) c.args.exports.now.items (search rules) c.requires)
+    rw (c.in_ok-push.ensures.items, c.in_ok-extend_from_slice.ensures.items, c.reserve.ensures.items, c.as_bytes.ensures.value)
+    (pushed_named c.args.names.now.items c.args.export.now.name.now 0 c.args.exports.now.items _ (search rules) (search rules) c.requires)
 
 pub returns-clause-hashed : goal.returns-clause-hashed
 returns-clause-hashed c hasher hashes all there =
-    rw (c.in_ok-push.ensures.items, c.in_ok-extend_from_slice.ensures.items, c.as_bytes.ensures.value)
-    (pushed_hashed c.args.names.now.items c.args.export.now.name.now _ (search rules) (search rules) c.args.exports.now.items hasher hashes c.requires all there)
+    rw (c.in_ok-push.ensures.items, c.in_ok-extend_from_slice.ensures.items, c.reserve.ensures.items, c.as_bytes.ensures.value)
+    (let now = pushed c.args.names.now.items c.args.export.now.name.now 0 c.args.exports.now.items (record { end = c.len.result; kind = c.args.export.now.kind; index = c.args.export.now.index }) (search rules) c.requires in rw now (hashed_too hasher hashes _ _ all there))

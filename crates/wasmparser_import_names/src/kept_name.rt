@@ -8,7 +8,7 @@ use std::marker::Model;
 
 /// A copy of a name, which takes no memory of its own where it has 16 bytes at most. Contracts see it as its bytes.
 #[derive(Debug, Drop)]
-pub struct KeptName {
+pub(crate) struct KeptName {
     text: Text,
 }
 
@@ -20,7 +20,7 @@ enum Text {
 
 impl Model for KeptName {
     ghost use Rattle.std.specs.Prelude.{List, ℕ};
-    ghost use Rattle.wasmparser_export_names.specs.KeptName.{bytes_of};
+    ghost use Rattle.wasmparser_import_names.specs.KeptName.{bytes_of};
 
     ghost Value = { List ℕ };
 
@@ -29,7 +29,7 @@ impl Model for KeptName {
 
 impl KeptName {
     /// A copy of a name.
-    pub fn new(alloc: Global, name: &str) -> Result<KeptName, AllocError>
+    pub(crate) fn new(alloc: Global, name: &str) -> Result<KeptName, AllocError>
         ensures { IfOk result (λ kept. kept ≡ name.now) }
     {
         if let Ok(text) = ArrayString::from(name) {
@@ -44,7 +44,7 @@ impl KeptName {
     }
 
     /// The name.
-    pub fn as_str(&self) -> &str
+    pub(crate) fn as_str(&self) -> &str
         ensures { result.now ≡ self.now }
     {
         match &self.text {

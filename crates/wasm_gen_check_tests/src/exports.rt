@@ -38,10 +38,17 @@ pub const ROWS: &str = "
     default                | 05 03 01 00 01 07 09 02 01 61 02 00 01 62 02 01                      | Invalid     | the second names nothing
     default                | 05 03 01 00 01 07 a6 8d 06 01 a0 8d 06 61*100000 02 00               | yes         | 100,000 bytes
     default                | 05 03 01 00 01 07 a7 8d 06 01 a1 8d 06 61*100001 02 00               | Limit(Name) | one more
-    // Names that the kit's fast hasher takes for one.
-    default                | 05 03 01 00 01 07 47 02 20 41 49 41 41 41 41 41 41 15 7c 4a 7f 39 79 37 1e 41 45 41 41 41 41 45 41 61 61 61 61 61 61 61 61 02 00 20 43 49 41 41 41 41 41 41 15 7c 4a 7f 39 79 37 1e 40 45 41 41 41 40 45 41 61 61 61 61 61 61 61 61 02 00 | yes | two
-    default                | 05 03 01 00 01 07 6a 03 20 41 49 41 41 41 41 41 41 15 7c 4a 7f 39 79 37 1e 41 45 41 41 41 41 45 41 61 61 61 61 61 61 61 61 02 00 20 43 49 41 41 41 41 41 41 15 7c 4a 7f 39 79 37 1e 40 45 41 41 41 40 45 41 61 61 61 61 61 61 61 61 02 00 20 41 49 41 41 41 41 41 41 15 7c 4a 7f 39 79 37 1e 41 45 41 41 41 41 45 41 61 61 61 61 61 61 61 61 02 00 | Invalid | the first again
-    default                | 05 03 01 00 01 07 6a 03 20 41 49 41 41 41 41 41 41 15 7c 4a 7f 39 79 37 1e 41 45 41 41 41 41 45 41 61 61 61 61 61 61 61 61 02 00 20 43 49 41 41 41 41 41 41 15 7c 4a 7f 39 79 37 1e 40 45 41 41 41 40 45 41 61 61 61 61 61 61 61 61 02 00 20 43 49 41 41 41 41 41 41 15 7c 4a 7f 39 79 37 1e 40 45 41 41 41 40 45 41 61 61 61 61 61 61 61 61 02 00 | Invalid | the second again
+    // Names out of order.
+    default                | 05 03 01 00 01 07 09 02 01 62 02 00 01 61 02 00                      | yes         | the second before the first
+    default                | 05 03 01 00 01 07 0d 03 01 62 02 00 01 61 02 00 01 61 02 00          | Invalid     | the last twice
+    default                | 05 03 01 00 01 07 0d 03 01 62 02 00 01 61 02 00 01 62 02 00          | Invalid     | the first again
+    default                | 05 03 01 00 01 07 11 04 01 61 02 00 01 63 02 00 01 62 02 00 01 63 02 00 | Invalid     | the last of those in order again
+    default                | 05 03 01 00 01 07 11 04 01 61 02 00 01 63 02 00 01 62 02 00 01 64 02 00 | yes         | one after all
+    default                | 05 03 01 00 01 07 15 05 01 61 02 00 01 63 02 00 01 62 02 00 01 64 02 00 01 64 02 00 | Invalid     | that one twice
+    default                | 05 03 01 00 01 07 0a 02 02 61 62 02 00 01 61 02 00                   | yes         | one that begins the one before
+    default                | 05 03 01 00 01 07 0f 03 02 61 62 02 00 01 61 02 00 02 61 62 02 00    | Invalid     | that one again
+    default                | 05 03 01 00 01 07 08 02 01 61 02 00 00 02 00                         | yes         | the empty one last
+    default                | 05 03 01 00 01 07 0b 03 01 61 02 00 00 02 00 00 02 00                | Invalid     | the empty one twice
     // What stands around them.
     default                | 05 03 01 00 01 07 05 01 01 61 02 00 04 04 01 70 00 00                | Malformed   | a table after
     default                | 05 03 01 00 01 07 05 02 01 61 02 00                                  | Malformed   | fewer than stated

@@ -2,17 +2,22 @@
 use Rattle.std.proofs.Common.{◌≡◌, ◌<◌, ◌≤◌, ◌+◌, ◌-◌, ◌++◌, ◌∷◌, [], ℕ, zero, suc, Bool, true, false, List, None, Some, length, length-append, drop, take, slice_get, slice_index_or, refl, sym, ap, ap₂, subst, ◌∙◌, arith, rules}
 use Rattle.std.proofs.Math.Seq.{drop-append_seam, take-length}
 use Rattle.std.proofs.lemmas.List.{drop-append-le, drop_more, length-drop, take-append-le}
-use Rattle.std.specs.Cmp.Lexicographic.{bytes_decides}
-use Rattle.std.specs.List.{list_any}
-use Rattle.std.specs.Prelude.{bytes_eq, if◌then◌else◌, nat_eq, not, ◌||◌}
+use Rattle.std.proofs.lemmas.Map.Text.{is_eq-slice_cmp}
+use Rattle.std.specs.BTreeMap.Comparable.{le_lt_trans}
+use Rattle.std.specs.Cmp.{IsTotalOrder}
+use Rattle.std.specs.Cmp.Lexicographic.{bytes_decides, nat_list_cmp_total, slice_cmp}
+use Rattle.std.specs.Ordering.{is_eq, is_le, is_lt, nat_cmp}
+use Rattle.std.specs.declared.cmp.Ordering.{Ordering}
+use Rattle.std.specs.declared.cmp.Ordering.TheVariants.{Equal, Greater, Less}
+use Rattle.std.specs.List.{AllByRecursion, list_any}
+use Rattle.std.specs.Prelude.{bytes_eq, if◌then◌else◌, nat_eq, not, unwrap_or, IsTrue, ◌||◌}
 use Rattle.std.specs.Str.{IsUtf8}
 use Rattle.wasm_spec.specs.Syntax as spec
 use Rattle.wasmparser_items.specs.Exports.{external_kind}
-use Rattle.wasmparser_export_names.specs.ExportHasher.{hash_of}
 use Rattle.wasmparser_export_names.specs.ExportNames.{is_exported}
-use Rattle.wasmparser_export_names.specs.KeptExports.{AreHashed, AreNamed, IsNamed, listed, name_in, start_at}
-use Rattle.wasmparser_export_names.specs.declared.export_hasher.ExportHasher.{ExportHasher}
+use Rattle.wasmparser_export_names.specs.KeptExports.{AreHashed, AreNamed, EndInLast, IsAfter, IsNamed, hash_of, listed, name_in, start_at}
 use Rattle.wasmparser_export_names.specs.declared.export_names.KeptExport.{KeptExport}
+use Rattle.wasmparser_export_names.specs.declared.name_hasher.NameHasher.{NameHasher}
 
 -- ---- an export more
 
@@ -81,13 +86,8 @@ either_true : (a b : Bool) → a ≡ true → (a || b) ≡ true
 either_true true b is = refl
 either_true false b is = absurd cc
 
-pub hashed_too : (hasher : ExportHasher) (hashes : List ℕ) (exports : List spec.Export) (new : spec.Export) → AreHashed hasher hashes exports → list_any (nat_eq (hash_of hasher new.name)) hashes ≡ true
-    → AreHashed hasher hashes (exports ++ new ∷ [])
-hashed_too hasher hashes [] new all there = (there, tt)
-hashed_too hasher hashes (e ∷ exports) new all there = (all.0, hashed_too hasher hashes exports new all.1 there)
-
 -- a name whose hash isn't there is new
-none_named : (hasher : ExportHasher) (hashes name : List ℕ) (exports : List spec.Export) → AreHashed hasher hashes exports → list_any (nat_eq (hash_of hasher name)) hashes ≡ false
+none_named : (hasher : NameHasher) (hashes name : List ℕ) (exports : List spec.Export) → AreHashed hasher hashes exports → list_any (nat_eq (hash_of hasher name)) hashes ≡ false
     → is_exported name exports ≡ false
 none_named hasher hashes name [] all none = refl
 none_named hasher hashes name (e ∷ exports) all none = by (none_named hasher hashes name exports all.1 none) (bytes_eq name e.name) refl
@@ -98,7 +98,7 @@ none_named hasher hashes name (e ∷ exports) all none = by (none_named hasher h
         let no = sym there ∙ none in absurd cc
     by others false other = others
 
-pub free_name : (hasher : ExportHasher) (hashes name : List ℕ) (exports : List spec.Export) (hash : ℕ) (new : Bool) → AreHashed hasher hashes exports
+pub free_name : (hasher : NameHasher) (hashes name : List ℕ) (exports : List spec.Export) (hash : ℕ) (new : Bool) → AreHashed hasher hashes exports
     → hash ≡ hash_of hasher name → new ≡ not (list_any (nat_eq hash) hashes) → new ≡ true → true ≡ not (is_exported name exports)
 free_name hasher hashes name exports hash new all is tells new_one =
     let none = other (list_any (nat_eq hash) hashes) (sym tells ∙ new_one) in
@@ -111,7 +111,7 @@ free_name hasher hashes name exports hash new all is tells new_one =
 
 -- ---- a look at each name
 
-module _ (names name : List ℕ) (exports : List KeptExport) (i start : ℕ) (d : KeptExport) (few : i < length exports) where
+module _ (names : List ℕ) (exports : List KeptExport) (i start : ℕ) (d : KeptExport) (few : i < length exports) where
   abbrev this : KeptExport
   this = slice_index_or exports i d
 
@@ -121,16 +121,20 @@ module _ (names name : List ℕ) (exports : List KeptExport) (i start : ℕ) (d 
   pub others_named : AreNamed names start (drop i exports) → AreNamed names this.end (drop (i + 1) exports)
   others_named all = (subst (AreNamed names start) (drop_more exports i d few) all).1
 
-  left_after : is_exported name (listed names start (drop i exports)) ≡ (bytes_eq name (name_in names start this) || is_exported name (listed names this.end (drop (i + 1) exports)))
+module _ (names name : List ℕ) (exports : List KeptExport) (i start : ℕ) (d : KeptExport) (few : i < length exports) where
+  abbrev next : KeptExport
+  next = slice_index_or exports i d
+
+  left_after : is_exported name (listed names start (drop i exports)) ≡ (bytes_eq name (name_in names start next) || is_exported name (listed names next.end (drop (i + 1) exports)))
   left_after = ap (λ l. is_exported name (listed names start l)) (drop_more exports i d few)
 
-  pub this_has : is_exported name (listed names start (drop i exports)) ≡ is_exported name (listed names 0 exports) → bytes_eq name (name_in names start this) ≡ true
+  pub this_has : is_exported name (listed names start (drop i exports)) ≡ is_exported name (listed names 0 exports) → bytes_eq name (name_in names start next) ≡ true
       → true ≡ is_exported name (listed names 0 exports)
-  this_has left same = sym (either_true _ (is_exported name (listed names this.end (drop (i + 1) exports))) same) ∙ sym left_after ∙ left
+  this_has left same = sym (either_true _ (is_exported name (listed names next.end (drop (i + 1) exports))) same) ∙ sym left_after ∙ left
 
-  pub others_left : is_exported name (listed names start (drop i exports)) ≡ is_exported name (listed names 0 exports) → bytes_eq name (name_in names start this) ≡ false
-      → is_exported name (listed names this.end (drop (i + 1) exports)) ≡ is_exported name (listed names 0 exports)
-  others_left left other = sym (left_after ∙ ap (λ b. b || is_exported name (listed names this.end (drop (i + 1) exports))) other) ∙ left
+  pub others_left : is_exported name (listed names start (drop i exports)) ≡ is_exported name (listed names 0 exports) → bytes_eq name (name_in names start next) ≡ false
+      → is_exported name (listed names next.end (drop (i + 1) exports)) ≡ is_exported name (listed names 0 exports)
+  others_left left other = sym (left_after ∙ ap (λ b. b || is_exported name (listed names next.end (drop (i + 1) exports))) other) ∙ left
 
 -- ---- hashes anew
 
@@ -138,7 +142,7 @@ abbrev Holds : List ℕ → List ℕ → Type 0
 Holds more hashes = (hash : ℕ) → list_any (nat_eq hash) hashes ≡ true → list_any (nat_eq hash) more ≡ true
 
 -- where the hashes of the others are there too, those of all are
-abbrev pub Suffices : ExportHasher → List ℕ → List spec.Export → List spec.Export → Type 0
+abbrev pub Suffices : NameHasher → List ℕ → List spec.Export → List spec.Export → Type 0
 Suffices hasher hashes others exports = (more : List ℕ) → Holds more hashes → AreHashed hasher more others → AreHashed hasher more exports
 
 abbrev with_hash : List ℕ → ℕ → List ℕ
@@ -175,11 +179,11 @@ holds_hash hashes hash = by (list_any (nat_eq hash) hashes) refl
     by false other = last_any (nat_eq hash) hashes hash (search rules)
 
 -- what is hashed among some hashes is among more
-pub still_hashed : (hasher : ExportHasher) (more hashes : List ℕ) (exports : List spec.Export) → Holds more hashes → AreHashed hasher hashes exports → AreHashed hasher more exports
+pub still_hashed : (hasher : NameHasher) (more hashes : List ℕ) (exports : List spec.Export) → Holds more hashes → AreHashed hasher hashes exports → AreHashed hasher more exports
 still_hashed hasher more hashes [] holds all = tt
 still_hashed hasher more hashes (e ∷ exports) holds all = (holds (hash_of hasher e.name) all.0, still_hashed hasher more hashes exports holds all.1)
 
-module _ (hasher : ExportHasher) (names : List ℕ) (exports : List KeptExport) (i start : ℕ) (d : KeptExport) (few : i < length exports) where
+module _ (hasher : NameHasher) (names : List ℕ) (exports : List KeptExport) (i start : ℕ) (d : KeptExport) (few : i < length exports) where
   abbrev there : KeptExport
   there = slice_index_or exports i d
 
@@ -190,5 +194,59 @@ module _ (hasher : ExportHasher) (names : List ℕ) (exports : List KeptExport) 
       (subst (λ l. AreHashed hasher more (listed names start l)) (sym (drop_more exports i d few))
       (subst (λ (h : ℕ). list_any (nat_eq h) more ≡ true) hashes (holds hash (subst (λ l. list_any (nat_eq hash) l ≡ true) (sym is) (holds_hash old hash))), others))
 
-pub suffice : (hasher : ExportHasher) (hashes : List ℕ) (exports : List spec.Export) → Suffices hasher hashes [] exports → AreHashed hasher hashes exports
+pub suffice : (hasher : NameHasher) (hashes : List ℕ) (exports : List spec.Export) → Suffices hasher hashes [] exports → AreHashed hasher hashes exports
 suffice hasher hashes exports suffices = suffices hashes (λ hash is. is) tt
+
+-- ---- names in order
+
+order : IsTotalOrder (slice_cmp nat_cmp)
+order = nat_list_cmp_total
+
+not_same : (name other : List ℕ) → slice_cmp nat_cmp other name ≡ Less → bytes_eq name other ≡ false
+not_same name other less = by (bytes_eq name other) refl
+  where
+    by : (b : Bool) → bytes_eq name other ≡ b → b ≡ false
+    by true same =
+        let equal : is_eq (slice_cmp nat_cmp other name) ≡ true = is_eq-slice_cmp other name ∙ subst (λ n. bytes_eq other n ≡ true) (sym ((bytes_decides name other).0 same)) (search rules) in
+        let no : true ≡ false = sym equal ∙ ap is_eq less in
+        absurd cc
+    by false same = refl
+
+pub after_is_new : (name : List ℕ) (exports : List spec.Export) → IsAfter name exports → true ≡ not (is_exported name exports)
+after_is_new name exports after = rw (none exports after) refl
+  where
+    none : (exports : List spec.Export) → IsAfter name exports → is_exported name exports ≡ false
+    none [] after = refl
+    none (e ∷ exports) after = rw (not_same name e.name after.0) (none exports after.1)
+
+less_of : (o : Ordering) → is_lt o ≡ true → o ≡ Less
+less_of Less is = refl
+less_of Equal is = absurd cc
+less_of Greater is = absurd cc
+
+le_of : (o : Ordering) → is_eq o ≡ true → is_le o ≡ true
+le_of Less is = refl
+le_of Equal is = refl
+le_of Greater is = absurd cc
+
+-- what comes after the last comes after all
+pub after_all : (last : spec.Export) (name : List ℕ) (exports : List spec.Export) → AllByRecursion (λ e. IsTrue (is_le (slice_cmp nat_cmp e.name last.name))) exports
+    → is_lt (slice_cmp nat_cmp last.name name) ≡ true → IsAfter name exports
+after_all last name [] all is = tt
+after_all last name (e ∷ exports) all is = (le_lt_trans order e.name last.name name all.0 (less_of _ is), after_all last name exports all.1 is)
+
+module _ (new : spec.Export) where
+  ends_in_new : (exports : List spec.Export) → IsAfter new.name exports → AllByRecursion (λ e. IsTrue (is_le (slice_cmp nat_cmp e.name new.name))) (exports ++ new ∷ [])
+  ends_in_new [] after = (le_of _ (is_eq-slice_cmp new.name new.name ∙ search rules), tt)
+  ends_in_new (e ∷ exports) after = (ap is_le after.0, ends_in_new exports after.1)
+
+  last_there : (exports : List spec.Export) → slice_get (exports ++ new ∷ []) (length exports) ≡ Some new
+  last_there [] = refl
+  last_there (e ∷ exports) = last_there exports
+
+  -- what comes after all is the last then
+  pub ends_in_last : (exports : List spec.Export) → IsAfter new.name exports → EndInLast (exports ++ new ∷ [])
+  ends_in_last exports after last at =
+      let place : length (exports ++ new ∷ []) - 1 ≡ length exports = omega (arith, length-append exports (new ∷ [])) in
+      let is : new ≡ last = ap (λ o. unwrap_or o new) (sym (last_there exports) ∙ ap (slice_get (exports ++ new ∷ [])) (sym place) ∙ at) in
+      subst (λ (l : spec.Export). AllByRecursion (λ e. IsTrue (is_le (slice_cmp nat_cmp e.name l.name))) (exports ++ new ∷ [])) is (ends_in_new exports after)

@@ -1,3 +1,2 @@
-pub mod ExportHasher
 pub mod ExportNames
 pub mod KeptExports

@@ -1,14 +1,11 @@
 //! Exports by their names.
 
 ghost use Rattle.std.specs.List.{list_any};
-ghost use Rattle.std.specs.Prelude.{◌≡◌, ◌<◌, ◌++◌, ◌∷◌, [], ℕ, List, IfOk, IsTrue, OnErr, OnOk, length, nat_eq, not, slice_get, option_map, true, if◌then◌else◌};
-ghost use Rattle.wasmparser_export_names.specs.ExportHasher.{hash_of};
+ghost use Rattle.std.specs.Prelude.{◌≡◌, ◌<◌, ◌++◌, ◌∷◌, [], List, IfOk, IsTrue, OnErr, OnOk, length, nat_eq, not, slice_get, option_map, true, if◌then◌else◌};
 ghost use Rattle.wasmparser_export_names.specs.ExportNames.{is_exported};
-ghost use Rattle.wasmparser_export_names.specs.KeptExports.{AreHashed, AreNamed, IsNamed, listed, name_in, start_at};
-ghost use Rattle.wasmparser_export_names.specs.declared.export_hasher.ExportHasher.{ExportHasher};
+ghost use Rattle.wasmparser_export_names.specs.KeptExports.{AreHashed, AreKnown, AreNamed, EndInLast, IsAfter, IsNamed, hash_of, listed, name_in, start_at};
 ghost use Rattle.wasmparser_items.specs.Exports.{export_item};
 
-use crate::export_hasher::ExportHasher;
 use crate::name_hasher::NameHasher;
 use indexmap::IndexSet;
 use std::alloc::{AllocError, Global};
@@ -21,7 +18,7 @@ use wasmparser_readers::section_limited::SectionLimited;
 // How many bytes an export takes at least: the length of its name, its kind and its index.
 const LEAST_LEN: usize = 3;
 
-// So few names are told apart by looking at each, if need be.
+// So few names are soon told apart, however they are hashed.
 const FEW_NAMES: usize = 16;
 
 // An export as it is kept. Its name stands among those of all exports, after that of the one before.
@@ -74,21 +71,21 @@ fn start_of(exports: &[KeptExport], place: usize) -> usize
 pub struct ExportNames {
     names: Vec<u8>,
     exports: Vec<KeptExport>,
-    hasher: ExportHasher,
-    // those of all names at least: a name whose hash isn't there is new
-    hashes: IndexSet<u64>,
+    hasher: NameHasher,
+    // those of all names at least, once these don't come in order: a name whose hash isn't there is new
+    hashes: Option<IndexSet<u64>>,
 }
 
 impl Model for ExportNames {
-    ghost use Rattle.std.specs.Prelude.{List};
+    ghost use Rattle.std.specs.Prelude.{List, option_map};
     ghost use Rattle.wasm_spec.specs.Syntax as spec;
-    ghost use Rattle.wasmparser_export_names.specs.KeptExports.{AreHashed, AreNamed, listed};
+    ghost use Rattle.wasmparser_export_names.specs.KeptExports.{AreKnown, AreNamed, listed};
 
     ghost Value = { List spec.Export };
 
     ghost view = { λ it. listed it.names.items 0 it.exports.items };
 
-    ghost invariant = { λ it. AreNamed it.names.items 0 it.exports.items × AreHashed it.hasher it.hashes.keys (listed it.names.items 0 it.exports.items) };
+    ghost invariant = { λ it. AreNamed it.names.items 0 it.exports.items × AreKnown it.hasher (option_map (λ hashes. hashes.keys) it.hashes) (listed it.names.items 0 it.exports.items) };
 }
 
 impl ExportNames {
@@ -99,13 +96,13 @@ impl ExportNames {
         ExportNames {
             names: Vec::new(alloc),
             exports: Vec::new(alloc),
-            hasher: ExportHasher::new(NameHasher::new()),
-            hashes: IndexSet::new(alloc),
+            hasher: NameHasher::new(),
+            hashes: None,
         }
     }
 
     /// No exports, ready for those of a section, with room for them if there is memory for it: telling their names apart takes no longer where these were chosen
-    /// to make it slow.
+    /// to make it slow, and less time where they come in order.
     pub fn for_section<'a>(alloc: Global, section: &SectionLimited<'a, Export<'a>>) -> ExportNames
         ensures { result ≡ [] }
     {
@@ -115,10 +112,9 @@ impl ExportNames {
         let longest = count.saturating_mul(MAX_WASM_STRING_SIZE as usize);
         let mut names = ExportNames::new(alloc);
         if count > FEW_NAMES {
-            names.hasher = ExportHasher::new(NameHasher::after(bytes));
+            names.hasher = NameHasher::after(bytes);
         }
         // (without room, exports ask for it as they come)
-        let _ = names.hashes.reserve(count);
         let _ = names.exports.reserve(count);
         let _ = names
             .names
@@ -137,6 +133,8 @@ impl ExportNames {
     ///
     /// # Errors
     /// Where memory runs out; then nothing changes.
+    // (alone, it leaves the loop over a section's items small)
+    #[inline(never)]
     pub fn insert(&mut self, export: &Export<'_>) -> Result<bool, AllocError>
         ensures new { IfOk result (λ new. new ≡ not (is_exported export.now.name.now self.old)) }
         ensures added { IfOk result (λ new. self.new ≡ (if new then self.old ++ export_item export.now ∷ [] else self.old)) }
@@ -145,9 +143,10 @@ impl ExportNames {
         if !is_new(
             &self.names,
             &self.exports,
-            &mut self.hasher,
+            &self.hasher,
             &mut self.hashes,
-            export.name,
+            export,
+            *self.names.allocator(),
         )? {
             return Ok(false);
         }
@@ -168,61 +167,74 @@ impl ExportNames {
     }
 }
 
-// Whether no export has this name. Then its hash is kept.
+// Whether no export has this one's name. Then this one may be added.
 fn is_new(
     names: &[u8],
     exports: &[KeptExport],
-    hasher: &mut ExportHasher,
+    hasher: &NameHasher,
+    hashes: &mut Option<IndexSet<u64>>,
+    export: &Export<'_>,
+    alloc: Global,
+) -> Result<bool, AllocError>
+    requires named { AreNamed names.now 0 exports.now }
+    requires known { AreKnown hasher.now (option_map (λ hashes. hashes.keys) hashes.old) (listed names.now 0 exports.now) }
+    ensures new { IfOk result (λ new. new ≡ not (is_exported export.now.name.now (listed names.now 0 exports.now))) }
+    ensures known { AreKnown hasher.now (option_map (λ hashes. hashes.keys) hashes.new) (listed names.now 0 exports.now) }
+    ensures ready { IfOk result (λ new. IsTrue new → AreKnown hasher.now (option_map (λ hashes. hashes.keys) hashes.new) (listed names.now 0 exports.now ++ export_item export.now ∷ [])) }
+{
+    if let Some(hashes) = hashes {
+        return keep_hash(names, exports, hasher, hashes, export.name);
+    }
+    if is_after(names, exports, export.name) {
+        return Ok(true);
+    }
+    let mut all = hashes_of(names, exports, hasher, alloc)?;
+    let is_new = keep_hash(names, exports, hasher, &mut all, export.name)?;
+    *hashes = Some(all);
+    Ok(is_new)
+}
+
+// Whether a name comes after those of all exports, whose last comes after the others.
+fn is_after(names: &[u8], exports: &[KeptExport], name: &str) -> bool
+    requires named { AreNamed names.now 0 exports.now }
+    requires ordered { EndInLast (listed names.now 0 exports.now) }
+    ensures { IsTrue result → IsAfter name.now (listed names.now 0 exports.now) }
+{
+    let Some(last) = exports.len().checked_sub(1) else {
+        return true;
+    };
+    name_at(names, start_of(exports, last), &exports[last]) < name
+}
+
+// Whether no export has this name, by its hash. Then that is among the others.
+fn keep_hash(
+    names: &[u8],
+    exports: &[KeptExport],
+    hasher: &NameHasher,
     hashes: &mut IndexSet<u64>,
     name: &str,
 ) -> Result<bool, AllocError>
     requires named { AreNamed names.now 0 exports.now }
-    requires hashed { AreHashed hasher.old hashes.old.keys (listed names.now 0 exports.now) }
+    requires hashed { AreHashed hasher.now hashes.old.keys (listed names.now 0 exports.now) }
     ensures new { IfOk result (λ new. new ≡ not (is_exported name.now (listed names.now 0 exports.now))) }
-    ensures hashed { AreHashed hasher.new hashes.new.keys (listed names.now 0 exports.now) }
-    ensures kept { IfOk result (λ new. IsTrue new → list_any (nat_eq (hash_of hasher.new name.now)) hashes.new.keys ≡ true) }
+    ensures hashed { AreHashed hasher.now hashes.new.keys (listed names.now 0 exports.now) }
+    ensures kept { IfOk result (λ new. IsTrue new → list_any (nat_eq (hash_of hasher.now name.now)) hashes.new.keys ≡ true) }
 {
     if hashes.insert(hasher.hash_of(name))? {
         return Ok(true);
     }
-    if has_name(names, exports, name) {
-        return Ok(false);
-    }
-    hash_anew(names, exports, hasher, hashes, name)?;
-    Ok(true)
-}
-
-// Hashes all names, and one more, by the strong hasher, since two of them have the same hash.
-#[inline(never)]
-fn hash_anew(
-    names: &[u8],
-    exports: &[KeptExport],
-    hasher: &mut ExportHasher,
-    hashes: &mut IndexSet<u64>,
-    name: &str,
-) -> Result<(), AllocError>
-    requires named { AreNamed names.now 0 exports.now }
-    requires hashed { AreHashed hasher.old hashes.old.keys (listed names.now 0 exports.now) }
-    ensures hashed { AreHashed hasher.new hashes.new.keys (listed names.now 0 exports.now) }
-    ensures kept { OnOk result (list_any (nat_eq (hash_of hasher.new name.now)) hashes.new.keys ≡ true) }
-{
-    let strong = hasher.strong();
-    let mut others = hashes_of(names, exports, strong, *hashes.allocator())?;
-    others.insert(strong.hash_of(name))?;
-    *hasher = strong;
-    *hashes = others;
-    Ok(())
+    Ok(!has_name(names, exports, name))
 }
 
 // The hashes of all names.
 fn hashes_of(
     names: &[u8],
     exports: &[KeptExport],
-    hasher: ExportHasher,
+    hasher: &NameHasher,
     alloc: Global,
 ) -> Result<IndexSet<u64>, AllocError>
     requires { AreNamed names.now 0 exports.now }
-    ensures { IfOk result (λ hashes. AreHashed hasher hashes.keys (listed names.now 0 exports.now)) }
+    ensures { IfOk result (λ hashes. AreHashed hasher.now hashes.keys (listed names.now 0 exports.now)) }
 {
     let mut hashes = IndexSet::with_capacity(alloc, exports.len())?;
     let mut start = 0;
@@ -244,8 +256,6 @@ fn push(
     ensures pushed { OnOk result (listed names.new.items 0 exports.new.items ≡ listed names.old.items 0 exports.old.items ++ export_item export.now ∷ []) }
     ensures refused { OnErr result (listed names.new.items 0 exports.new.items ≡ listed names.old.items 0 exports.old.items) }
     ensures named { AreNamed names.new.items 0 exports.new.items }
-    ensures hashed { (hasher : ExportHasher) (hashes : List ℕ) → AreHashed hasher hashes (listed names.old.items 0 exports.old.items) → list_any (nat_eq (hash_of hasher export.now.name.now)) hashes ≡ true
-        → AreHashed hasher hashes (listed names.new.items 0 exports.new.items) }
 {
     // (so that a name is never kept alone)
     exports.reserve(1)?;

@@ -1,5 +1,8 @@
 //! Hashing of names that whoever wrote the module may have chosen.
 
+ghost use Rattle.std.specs.Prelude.{◌≡◌};
+ghost use Rattle.wasmparser_export_names.specs.KeptExports.{hash_of};
+
 use std::fmt;
 use std::hash::{BuildHasher, DefaultHasher, Hasher};
 
@@ -26,6 +29,15 @@ impl NameHasher {
         let mut start = DefaultHasher::new();
         start.write_u64(section.finish());
         NameHasher { start }
+    }
+
+    /// The hash of a name.
+    #[inline(always)]
+    #[tactic(auto, unfolding(crate::specs::KeptExports::hash_of))]
+    pub(crate) fn hash_of(&self, name: &str) -> u64
+        ensures { result ≡ hash_of self.now name.now }
+    {
+        self.hash_one(name)
     }
 }
 

@@ -1,5 +1,5 @@
 use Rattle.std.proofs.Common.{rules}
-use Rattle.wasmparser_export_names.proofs.KeptExports.{hashed_too, pushed, pushed_named}
+use Rattle.wasmparser_export_names.proofs.KeptExports.{pushed, pushed_named}
 use Rattle.wasmparser_export_names.proofs.export_names.push.Goals as goal
 
 pub returns-clause-pushed : goal.returns-clause-pushed
@@ -11,8 +11,3 @@ pub returns-clause-named : goal.returns-clause-named
 returns-clause-named c =
     rw (c.in_ok-push.ensures.items, c.in_ok-extend_from_slice.ensures.items, c.reserve.ensures.items, c.as_bytes.ensures.value)
     (pushed_named c.args.names.now.items c.args.export.now.name.now 0 c.args.exports.now.items _ (search rules) (search rules) c.requires)
-
-pub returns-clause-hashed : goal.returns-clause-hashed
-returns-clause-hashed c hasher hashes all there =
-    rw (c.in_ok-push.ensures.items, c.in_ok-extend_from_slice.ensures.items, c.reserve.ensures.items, c.as_bytes.ensures.value)
-    (let now = pushed c.args.names.now.items c.args.export.now.name.now 0 c.args.exports.now.items (record { end = c.len.result; kind = c.args.export.now.kind; index = c.args.export.now.index }) (search rules) c.requires in rw now (hashed_too hasher hashes _ _ all there))

@@ -1,8 +1,9 @@
 #!/bin/sh
-# Seconds and peak memory of `wasm_gen check` on modules of a million items of a kind: imports of globals, exports (also by names that were chosen to make it
-# slow), globals, functions and expressions of element segments, segments, and operands of constant expressions; then the time of files of 100,000 items in
-# memory, beside node's WebAssembly.validate and wabt's, where these are there. A module is to take 1.5 s and 100 bytes an item beyond the input at most; where
-# one takes more, the status is 1. Last come many modules of one session whose types are all kept: twice as many are to take twice as long, or little more.
+# Seconds and peak memory of `wasm_gen check` on modules of a million items of a kind: imports of globals, exports (also out of order, and by names that were
+# chosen to make it slow), globals, functions and expressions of element segments, segments, and operands of constant expressions; then the time of files of
+# 100,000 items in memory, beside node's WebAssembly.validate and wabt's, where these are there. A module is to take 1.5 s and 100 bytes an item beyond the input
+# at most; where one takes more, the status is 1. Last come many modules of one session whose types are all kept: twice as many are to take twice as long, or
+# little more.
 set -eu
 . "$(dirname "$0")/setup.sh"
 . bench/driver.sh
@@ -50,6 +51,7 @@ def modules(n):
         ("imports of globals", n - 2, section(2, n - 2, b"\0\0\3\x7f\0" * (n - 2))),
         ("imports of globals by different names", n - 2, section(2, n - 2, b"".join(b"\1m\6%06d\3\x7f\0" % i for i in range(n - 2)))),
         ("exports of a memory", n - 2, section(5, 1, b"\0\1") + section(7, n - 2, b"".join(b"\6%06d\2\0" % i for i in range(n - 2)))),
+        ("exports of a memory, out of order", n - 2, section(5, 1, b"\0\1") + section(7, n - 2, b"".join(b"\6%06d\2\0" % (i * 7919 % (n - 2)) for i in range(n - 2)))),
         ("exports whose names a fast hash takes for few", few, section(5, 1, b"\0\1") + section(7, few, b"".join(b"\x20" + name + b"\2\0" for name in alike(few)))),
         ("imports from modules of such names", few, section(2, few, b"".join(b"\x20" + name + b"\0\3\x7f\0" for name in alike(few)))),
         ("globals of i32", n, section(6, n, b"\x7f\0\x41\0\x0b" * n)),

@@ -74,7 +74,7 @@ fn sections_hold(alloc: Global, row: &str) -> Option<bool> {
 
 #[test]
 fn sections_are_accepted_or_memory_ran_out(rt: HostRuntime) -> Result<(), Fail> {
-    Ok(check_rows(rt.alloc(), SECTIONS, 12, sections_hold)?)
+    Ok(check_rows(rt.alloc(), SECTIONS, 13, sections_hold)?)
 }
 
 // Whether an item is accepted, at the second time where memory ran out.

@@ -9,7 +9,7 @@ set -eu
 . bench/driver.sh
 # (a process that holds the modules would lend its size to those that it starts)
 python3 - "$folder" <<'PYTHON'
-import sys
+import random, sys
 header = b"\0asm\1\0\0\0"
 
 def number(n):
@@ -45,13 +45,19 @@ def alike(n):
             third ^= out(bit) ^ out(bit + 24)
         yield first.to_bytes(8, "little") + factor + third.to_bytes(8, "little") + b"a" * 8
 
+def shuffled(n):
+    found = list(range(n))
+    random.Random(1).shuffle(found)
+    return found
+
 def modules(n):
     few = min(n, 100_000)
     return [
         ("imports of globals", n - 2, section(2, n - 2, b"\0\0\3\x7f\0" * (n - 2))),
         ("imports of globals by different names", n - 2, section(2, n - 2, b"".join(b"\1m\6%06d\3\x7f\0" % i for i in range(n - 2)))),
         ("exports of a memory", n - 2, section(5, 1, b"\0\1") + section(7, n - 2, b"".join(b"\6%06d\2\0" % i for i in range(n - 2)))),
-        ("exports of a memory, out of order", n - 2, section(5, 1, b"\0\1") + section(7, n - 2, b"".join(b"\6%06d\2\0" % (i * 7919 % (n - 2)) for i in range(n - 2)))),
+        ("exports of a memory, shuffled", n - 2, section(5, 1, b"\0\1") + section(7, n - 2, b"".join(b"\6%06d\2\0" % i for i in shuffled(n - 2)))),
+        ("exports of a memory, in runs of twelve", n - 2, section(5, 1, b"\0\1") + section(7, n - 2, b"".join(b"\6%06d\2\0" % (i * 7919 % (n - 2)) for i in range(n - 2)))),
         ("exports whose names a fast hash takes for few", few, section(5, 1, b"\0\1") + section(7, few, b"".join(b"\x20" + name + b"\2\0" for name in alike(few)))),
         ("imports from modules of such names", few, section(2, few, b"".join(b"\x20" + name + b"\0\3\x7f\0" for name in alike(few)))),
         ("globals of i32", n, section(6, n, b"\x7f\0\x41\0\x0b" * n)),

@@ -133,7 +133,7 @@ fn new_sessions_give_these_answers(rt: HostRuntime) -> Result<(), Fail> {
         (cuts::ROWS, 3),
         (data_segments::ROWS, 41),
         (elements::ROWS, 43),
-        (exports::ROWS, 48),
+        (exports::ROWS, 53),
         (function_limits::ROWS, 20),
         (functions::ROWS, 52),
         (globals::ROWS, 57),

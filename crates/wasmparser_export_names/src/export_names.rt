@@ -66,13 +66,13 @@ fn start_of(exports: &[KeptExport], place: usize) -> usize
     }
 }
 
-/// Exports in order, each of which has a name of its own. Contracts see them as their list.
+/// Exports in the order in which they were added, each of which has a name of its own. Contracts see them as their list.
 #[derive(Debug, Drop)]
 pub struct ExportNames {
     names: Vec<u8>,
     exports: Vec<KeptExport>,
     hasher: NameHasher,
-    // those of all names at least, once these don't come in order: a name whose hash isn't there is new
+    // those of all names at least, once a name didn't come after the one before it: a name whose hash isn't there is new
     hashes: Option<IndexSet<u64>>,
 }
 
@@ -101,8 +101,8 @@ impl ExportNames {
         }
     }
 
-    /// No exports, ready for those of a section, with room for them if there is memory for it: telling their names apart takes no longer where these were chosen
-    /// to make it slow, and less time where they come in order.
+    /// No exports, ready for those of a section: with room for them and their names if there is memory for it, and with a hasher for which these can hardly be
+    /// chosen. Telling them apart takes less time where each comes after the one before it, in the order of their bytes.
     pub fn for_section<'a>(alloc: Global, section: &SectionLimited<'a, Export<'a>>) -> ExportNames
         ensures { result ≡ [] }
     {
@@ -129,11 +129,11 @@ impl ExportNames {
         self.exports.len()
     }
 
-    /// Adds an export, unless there is one of its name: then it says so.
+    /// Adds an export, or answers `false` where there is one of its name.
     ///
     /// # Errors
     /// Where memory runs out; then nothing changes.
-    // (alone, it leaves the loop over a section's items small)
+    // (not inlined, so that the loop over a section's items stays small)
     #[inline(never)]
     pub fn insert(&mut self, export: &Export<'_>) -> Result<bool, AllocError>
         ensures new { IfOk result (λ new. new ≡ not (is_exported export.now.name.now self.old)) }
@@ -167,7 +167,7 @@ impl ExportNames {
     }
 }
 
-// Whether no export has this one's name. Then this one may be added.
+// Whether no export has this one's name. Then this one may be added. Hashes are kept from the first name on that doesn't come after the one before it.
 fn is_new(
     names: &[u8],
     exports: &[KeptExport],
@@ -206,7 +206,7 @@ fn is_after(names: &[u8], exports: &[KeptExport], name: &str) -> bool
     name_at(names, start_of(exports, last), &exports[last]) < name
 }
 
-// Whether no export has this name, by its hash. Then that is among the others.
+// Whether no export has this name: its hash is new, or no name is the same. The hash is kept.
 fn keep_hash(
     names: &[u8],
     exports: &[KeptExport],

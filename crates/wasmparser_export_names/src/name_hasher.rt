@@ -6,8 +6,8 @@ ghost use Rattle.wasmparser_export_names.specs.KeptExports.{hash_of};
 use std::fmt;
 use std::hash::{BuildHasher, DefaultHasher, Hasher};
 
-/// Hashes names, after a hash of all bytes of their section. Who chooses names so that they collide has other bytes there then, after which they don't. (A fast
-/// hasher won't do: there are names that collide after whatever it starts with.)
+/// Hashes names, where they stand in a section after a hash of its bytes. Who chooses names so that they collide changes these bytes, after which they hardly do.
+/// (A fast hasher won't do: whatever it starts with, names can be chosen of which many collide.)
 #[derive(Clone, Copy)]
 pub struct NameHasher {
     start: DefaultHasher,

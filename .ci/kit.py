@@ -3,7 +3,6 @@ import contextlib
 import glob
 import importlib.machinery
 import importlib.util
-import json
 import os
 import re
 import shutil
@@ -64,70 +63,92 @@ def whole_without_library(is_whole):
     return whole
 
 
-# Crates that most others stand on: loading the proofs in their libraries, each time, takes longer than proving them once more for their edits.
-OFTEN_LOADED = ("wasm_core_read", "wasmparser_interning")
+def has_edits(crate):
+    return any(glob.glob(f"{crate.folder}/{it}/*.edit") for it in ("must-fail", "wrong-bodies"))
 
 
-def keeps_proofs(crate):
-    """Returns whether the crate's library is to hold its proofs beside its statements: whether there are edits in must-fail/ to be tried over them."""
-    return crate.makes_rlib() and crate.name not in OFTEN_LOADED and bool(glob.glob(f"{crate.folder}/must-fail/*.edit"))
+def proofs_of(crate):
+    """Returns the folder that holds what the crate's proof by rt ci checked, for edits of it to be tried over."""
+    return f"{crate.folder}/out/proofs"
+
+
+def folders_at_work(crate):
+    """Yields the folders into which a build of the crate's library writes what it has checked, and which it removes as it ends."""
+    for folder in glob.glob(f"{tempfile.gettempdir()}/rattle-logic-built-locked-*"):
+        process = re.search(r"-(\d+)-\d+$", folder)
+        with contextlib.suppress(OSError):
+            with open(f"/proc/{process[1]}/cmdline", encoding="utf-8", errors="replace") as it:
+                if crate.rlib in it.read().split("\0"):
+                    yield folder
+
+
+def keep_proofs(crate, has_ended):
+    """Gives each module that a build of the crate's library checks a second name while it runs. What is missed is checked anew where it is asked for."""
+    kept, to = set(), proofs_of(crate)
+    while not has_ended.wait(2):
+        for folder in folders_at_work(crate):
+            # (a folder that is removed meanwhile has no more to give; nor has one on another disk)
+            with contextlib.suppress(OSError):
+                for name in {it for it in os.listdir(folder) if it.endswith(".oantt")} - kept:
+                    os.link(f"{folder}/{name}", f"{to}/{name}")
+                    kept.add(name)
+
+
+@contextlib.contextmanager
+def keeping_proofs(crate):
+    """Keeps what the proof of a crate checks that is made meanwhile."""
+    shutil.rmtree(proofs_of(crate), ignore_errors=True)
+    os.makedirs(proofs_of(crate))
+    has_ended = threading.Event()
+    keeper = threading.Thread(target=keep_proofs, args=(crate, has_ended))
+    keeper.start()
+    try:
+        yield
+    finally:
+        has_ended.set()
+        keeper.join()
 
 
 def with_proofs(ci):
-    """Returns the kit's way of proving a crate for rt ci as one that leaves the proofs in the library, beside the statements, where the crate has edits in
-    must-fail/: they are tried over these, and the crate isn't proved a second time for that."""
+    """Returns the kit's way of proving a crate for rt ci as one that keeps what the proof of a crate with edits checks, so that it isn't proved again for them."""
 
     def proved(crate, flags, tests):
-        if tests or not keeps_proofs(crate):
+        if tests or not crate.makes_rlib() or not has_edits(crate):
             return ci(crate, flags, tests)
-        crate.cuts_libraries = False
-        try:
+        with keeping_proofs(crate):
             return ci(crate, flags, tests)
-        finally:
-            del crate.cuts_libraries
-            # (with a stamp other commands would take it for one of theirs)
-            with contextlib.suppress(FileNotFoundError):
-                os.remove(f"{crate.folder}/out/rlib/stamp")
 
     return proved
 
 
 def unpack_proofs(crate, to):
-    """Writes what the crate's library has of its proofs into a folder, as checks keep their work, and returns whether it has any."""
-    made = f"{crate.rlib}/toolchain/checked"
-    if not os.path.isfile(f"{made}.json"):
-        return False
-    with open(f"{made}.json") as it:
-        rows = [json.loads(line) for line in it]
-    # (beside the modules there are parts of them, which hold statements alone; a check makes anew what has too long a name for a file)
-    whole = [(name, at, size) for name, at, size in rows if "/" not in name and len(name) < 240]
-    with open(f"{made}.a", "rb") as archive:
-        for name, at, size in whole:
-            archive.seek(at)
-            module = archive.read(size)
-            folder = f"{to}/{re.search(rb'--@ kernel (.*)', module)[1].decode().replace('/', '_')}"
-            os.makedirs(folder, exist_ok=True)
-            with open(f"{folder}/{name}.oantt", "wb") as it:
-                it.write(module)
-    return bool(whole)
+    """Gives a folder what rt ci kept of the crate's proof, as checks keep their work, and returns whether there is any."""
+    modules = glob.glob(f"{glob.escape(proofs_of(crate))}/*.oantt")
+    for path in modules:
+        with open(path, "rb") as it:
+            kernel = re.search(rb"--@ kernel (.*)", it.read(1000))[1].decode().replace("/", "_")
+        os.makedirs(f"{to}/{kernel}", exist_ok=True)
+        # (a check never writes into such a file, but makes another in its place)
+        rt.link_or_copy(path, f"{to}/{kernel}/{os.path.basename(path)}")
+    return bool(modules)
 
 
 def over_proofs(add_edits):
-    """Returns the kit's way of trying a crate's edits in must-fail/ as one that begins once the crate is proved, with what its library has of the proofs."""
+    """Returns the kit's way of trying a crate's edits in must-fail/ as one that begins once the crate is proved, with what was kept of its proof."""
 
     def added(tasks, crate, edits, first, waits, is_well, kept, start=None, in_ci=True):
-        if in_ci and keeps_proofs(crate):
-            first, start = waits, crate.rlib
+        if in_ci and crate.makes_rlib():
+            first, start = waits, proofs_of(crate)
         return add_edits(tasks, crate, edits, first, waits, is_well, kept, start, in_ci)
 
     return added
 
 
-def seeded_by_library(seeded):
-    """Returns the kit's way of making what a crate's edits are tried over as one that may start from the crate's library."""
+def seeded_by_proofs(seeded):
+    """Returns the kit's way of making what a crate's edits are tried over as one that may start from what was kept of the crate's proof."""
 
     def made(crate, flags, start=None):
-        if start != crate.rlib:
+        if start != proofs_of(crate):
             return seeded(crate, flags, start)
         with tempfile.TemporaryDirectory(prefix="rt-proofs-") as room:
             return seeded(crate, flags, room if unpack_proofs(crate, room) else None)
@@ -189,7 +210,7 @@ def load():
     module.Crate.ci = once_with_tests(with_proofs(module.Crate.ci))
     module.Kept.is_whole = whole_without_library(module.Kept.is_whole)
     module.add_edits = over_proofs(module.add_edits)
-    module.seeded = seeded_by_library(module.seeded)
+    module.seeded = seeded_by_proofs(module.seeded)
     module.checked = telling_names(module.checked)
     module.must_fail_whole, module.must_fail = module.must_fail, function_first(module.must_fail)
     return module
@@ -214,10 +235,29 @@ def in_order(tasks):
     return rt.in_lanes({key: (waits, lines[it], rt.need(it), call) for key, (waits, it, call) in tasks.items()})
 
 
+def build_first(library, flags):
+    """Proves a library of which nothing is kept and writes its statements alone, since what stands on it loads these in less time than its proofs. What was
+    checked is kept for the next check, as if this one had been over kept work."""
+    stamp, made = library.stamp(), os.path.dirname(library.rlib)
+    shutil.rmtree(made, ignore_errors=True)
+    os.makedirs(made)
+    try:
+        with keeping_proofs(library):
+            status = library.call(rtlib.RATTLE, "build", *library.words(flags), "--statements", "-o", library.rlib)
+    finally:
+        unpack_proofs(library, f"{library.folder}/{rtlib.KEPT[1]}")
+        shutil.rmtree(proofs_of(library))
+    if not status:
+        with open(f"{made}/stamp", "w", encoding="utf-8") as it:
+            it.write(stamp)
+    return status
+
+
 def build(library, jobs):
     """Proves and builds a library over what earlier runs kept, and returns whether it is proved. Only what isn't says why."""
+    flags = ["--jobs", str(jobs)]
     with tempfile.TemporaryFile("w+", errors="replace") as library.out:
-        is_proved = not library.build_rlib(["--jobs", str(jobs)], anew=False)
+        is_proved = not (library.build_rlib(flags, anew=False) if library.has_kept() else build_first(library, flags))
         if not is_proved:
             library.out.seek(0)
             print(library.out.read(), file=sys.stderr, end="", flush=True)

@@ -1,6 +1,6 @@
 #!/usr/bin/env python3
 """Takes the libraries that `rt ci` left in another clone, where all that they are made from is the same: take_libraries.py CLONE, at the root of a checkout.
-Where a library holds the proofs of its crate, the crate's next check begins with them.
+Where that run kept what a crate's proof checked, the crate's next check begins with it.
 
 What is proved over them is for use while you write: `rt ci` alone is the verdict. No other `rt` command may work in the checkout meanwhile."""
 import os
@@ -23,7 +23,7 @@ def take(crate, other):
         with open(f"{out}/stamp", "w", encoding="utf-8") as it:
             it.write(crate.stamp())
     if not crate.has_kept():
-        kit.unpack_proofs(crate, f"{crate.folder}/out/incremental")
+        kit.unpack_proofs(other, f"{crate.folder}/out/incremental")
     return True
 
 

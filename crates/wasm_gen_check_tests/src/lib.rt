@@ -1,4 +1,4 @@
-//! Tests of sessions on worked modules, through public calls alone.
+//! Tests of sessions on worked modules, and on modules that the encoder makes, through public calls alone.
 #![tactic(auto)]
 
 #[cfg(test)]
@@ -9,6 +9,10 @@ mod cuts;
 mod data_segments;
 #[cfg(test)]
 mod elements;
+#[cfg(test)]
+mod encoded_bytes;
+#[cfg(test)]
+mod encoded_modules;
 #[cfg(test)]
 mod exports;
 #[cfg(test)]

@@ -1,5 +1,6 @@
 //! Function bodies.
 
+use crate::new_validator::{answer_under, refusal_of};
 use std::alloc::{AllocError, Global};
 use std::test::Fail;
 use wasm_core::features::{Flags, WasmFeatures};
@@ -7,7 +8,6 @@ use wasm_test_rows::fields::four_fields;
 use wasm_test_rows::rows::check_rows;
 use wasm_test_rows::values::bytes_of;
 use wasmparser::error::{Error, ErrorKind};
-use wasmparser_validator_rows::new_validator::{answer_under, refusal_of};
 
 // How many parameters and results, numbers all of them, a function has, the features, its body, and the kind of its refusal, or `valid`. `all SIMD` are all
 // features but that one. The function's type is the only one of its module.

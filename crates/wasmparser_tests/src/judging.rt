@@ -1,5 +1,7 @@
 //! Validators that are handed modules piece by piece.
 
+use crate::answers::{Sizes, answer_to_all, answer_to_end, answer_to_payload};
+use crate::new_validator::{on_new_validator, on_new_validator_with};
 use std::alloc::Global;
 use std::iter::Iterator;
 use std::test::Fail;
@@ -14,8 +16,6 @@ use wasmparser::parser::Parser;
 use wasmparser::section_limited::SectionLimited;
 use wasmparser::validator::Validator;
 use wasmparser::validator_id::ValidatorId;
-use wasmparser_validator_rows::answers::{Sizes, answer_to_all, answer_to_end, answer_to_payload};
-use wasmparser_validator_rows::new_validator::{on_new_validator, on_new_validator_with};
 
 // Calls one after the other, each with its answer. The sections have one item each: a type of functions that take and give nothing, a function of it, a
 // memory, a data segment.

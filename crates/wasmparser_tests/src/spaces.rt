@@ -1,5 +1,6 @@
 //! What a valid module shows.
 
+use crate::new_validator::on_types;
 use std::alloc::Global;
 use std::test::Fail;
 use wasm_core::features::{Flags, WasmFeatures};
@@ -14,7 +15,6 @@ use wasmparser::index::CoreTypeId;
 use wasmparser::parser::Parser;
 use wasmparser::payload::Payload;
 use wasmparser::types::TypesRef;
-use wasmparser_validator_rows::new_validator::on_types;
 
 // What is shown of a module: the kinds of its types, the ids of its types, whether the items of its element segments may be null, what it exports and
 // imports, or its imports with their names. A function and a tag show how many parameters and results they have. In rows of own ids types aren't canonicalized.

@@ -1,7 +1,7 @@
-//! Modules of sections of many kinds, which a session validates.
+//! Modules of sections of many kinds that the encoder makes, which a session validates.
 
 use std::alloc::Global;
-use wasm_core_base::features::WasmFeatures;
+use wasm_core::features::WasmFeatures;
 use wasm_encoder::code_section::CodeSection;
 use wasm_encoder::const_expr::ConstExpr;
 use wasm_encoder::data_count_section::DataCountSection;

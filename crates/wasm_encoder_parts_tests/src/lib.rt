@@ -1,6 +1,8 @@
-//! Tests of the encoder's sections, custom ones too, but those on types, through their public calls.
+//! Tests of the encoder's instructions, constant expressions, function bodies and sections, custom ones too, but those on types, through their public calls.
 #![tactic(auto)]
 
+#[cfg(test)]
+mod const_expr;
 #[cfg(test)]
 mod custom;
 #[cfg(test)]
@@ -16,6 +18,8 @@ mod exports;
 #[cfg(test)]
 mod expressions;
 #[cfg(test)]
+mod functions;
+#[cfg(test)]
 mod globals;
 #[cfg(test)]
 mod hints;
@@ -26,6 +30,8 @@ mod indexes;
 #[cfg(test)]
 mod initialised_tables;
 #[cfg(test)]
+mod instructions;
+#[cfg(test)]
 mod large;
 #[cfg(test)]
 mod linking;
@@ -35,6 +41,10 @@ mod memories;
 mod names;
 #[cfg(test)]
 mod producers;
+#[cfg(test)]
+mod scalars;
+#[cfg(test)]
+mod sinks;
 #[cfg(test)]
 mod stacks;
 #[cfg(test)]

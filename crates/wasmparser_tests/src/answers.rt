@@ -1,12 +1,12 @@
 //! What a validator answers, without what it gives.
 
 use std::alloc::Global;
-use wasmparser_error::error::Error;
-use wasmparser_func_validator::func_to_validate::FuncValidatorAllocations;
-use wasmparser_payloads::payload::Payload;
-use wasmparser_validator::types::{Types, TypesRef};
-use wasmparser_validator::valid_payload::ValidPayload;
-use wasmparser_validator::validator::Validator;
+use wasmparser::error::Error;
+use wasmparser::func_to_validate::FuncValidatorAllocations;
+use wasmparser::payload::Payload;
+use wasmparser::types::{Types, TypesRef};
+use wasmparser::valid_payload::ValidPayload;
+use wasmparser::validator::Validator;
 
 /// How many functions and types are shown of a module.
 #[derive(Clone, Copy)]

@@ -1,5 +1,6 @@
 //! Bodies of many blocks, labels, operands and locals.
 
+use crate::new_validator::answer_under;
 use std::alloc::{AllocError, Global};
 use std::test::Fail;
 use wasm_core::features::{Flags, WasmFeatures};
@@ -8,7 +9,6 @@ use wasm_test_rows::fields::three_fields;
 use wasm_test_rows::rows::check_rows;
 use wasm_test_rows::values::bytes_of;
 use wasmparser::error::Error;
-use wasmparser_validator_rows::new_validator::answer_under;
 
 // Rows have features, the body of a function that takes and gives nothing, and the kind of its refusal, or `valid`. A word with `#` stands there for each of
 // 50,000 numbers, which stand in place of `#`.

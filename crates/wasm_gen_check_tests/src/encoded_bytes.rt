@@ -1,4 +1,4 @@
-//! Worked modules, byte for byte.
+//! Modules that the encoder makes, byte for byte.
 
 use std::alloc::Global;
 use std::borrow::{CowSlice, CowStr};

@@ -1,11 +1,11 @@
 //! Validators that are made for a row, or for a module.
 
 use std::alloc::Global;
-use wasm_core_base::features::WasmFeatures;
-use wasmparser_error::error::Error;
-use wasmparser_validator::types::TypesRef;
-use wasmparser_validator::validator::{Validator, validate};
-use wasmparser_validator::validator_id::ValidatorId;
+use wasm_core::features::WasmFeatures;
+use wasmparser::error::Error;
+use wasmparser::types::TypesRef;
+use wasmparser::validator::{Validator, validate};
+use wasmparser::validator_id::ValidatorId;
 
 /// Whether a row holds of a new validator with the default features, whose id is 5.
 pub fn on_new_validator<F: Fn(Global, &mut Validator, &str) -> Option<bool>>(

@@ -1,6 +1,6 @@
 #!/usr/bin/env python3
 """Tests rounds.py, and how `.ci/rt ci` tries the edits of must-fail/, on a crate of three functions: that what is not refused for its own meaning is told.
-And how `.ci/rt ci` proves crates of tests: once, with their tests, and none that isn't."""
+And how `.ci/rt ci` proves crates of tests: once, with their tests, and none that isn't. And that a library's first build leaves what later ones go on from."""
 import os
 import re
 import subprocess
@@ -107,6 +107,20 @@ def tests_are_proved_once(room):
     return all(it in ran.stdout for it in told) and not made
 
 
+def builds_go_on(room):
+    """Returns whether a library's first build keeps what it checked, and a build after a change goes on from that and refuses what isn't proved."""
+    source = f"{room}/crates/sums/src/lib.rt"
+    write({f"{room}/crates.txt": "sums:\n", source: SOURCE})
+    [crate] = kit.crates(room)
+    is_first = kit.build(crate, 1) and crate.is_built() and crate.has_kept()
+    write({source: SOURCE.replace("    n + 1\n", "    1 + n\n")})
+    is_again = not crate.is_built() and kit.build(crate, 1) and crate.is_built()
+    write({source: SOURCE.replace("    n + 1\n", "    n\n")})
+    is_refused = not kit.build(crate, 1) and not crate.is_built()
+    os.chdir("/")
+    return is_first and is_again and is_refused
+
+
 def main():
     with tempfile.TemporaryDirectory(prefix="rt-own-test-") as room:
         folder = f"{room}/crates/sums"
@@ -121,6 +135,9 @@ def main():
     wrong = [it ^ wanted for it in found]
     if not is_once:
         wrong.append("crates of tests")
+    with tempfile.TemporaryDirectory(prefix="rt-own-test-") as room:
+        if not builds_go_on(room):
+            wrong.append("builds")
     print(f"the script's own test: {'passed' if not any(wrong) else f'FAILED: {wrong}'}")
     return 1 if any(wrong) else 0
 

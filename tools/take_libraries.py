@@ -13,15 +13,14 @@ import kit  # noqa: E402
 
 
 def take(crate, other):
-    """Copies a library that is there and made from the same, and says that it is built."""
+    """Gives the crate a library that is there and made from the same, and says that it is built. One that is there already is replaced: statements fit
+    only the libraries that they were written over."""
     if other is None or not os.path.isdir(other.rlib) or crate.stamp() != other.stamp():
         return False
-    out = os.path.dirname(crate.rlib)
-    if not crate.is_built():
-        shutil.rmtree(out, ignore_errors=True)
-        shutil.copytree(os.path.dirname(other.rlib), out)
-        with open(f"{out}/stamp", "w", encoding="utf-8") as it:
-            it.write(crate.stamp())
+    shutil.rmtree(os.path.dirname(crate.rlib), ignore_errors=True)
+    shutil.copytree(other.rlib, crate.rlib, copy_function=kit.rt.link_or_copy)
+    with open(f"{os.path.dirname(crate.rlib)}/stamp", "w", encoding="utf-8") as it:
+        it.write(crate.stamp())
     if not crate.has_kept():
         kit.unpack_proofs(other, f"{crate.folder}/out/incremental")
     return True

@@ -121,16 +121,19 @@ def with_proofs(ci):
     return proved
 
 
+def has_proofs(crate):
+    return os.path.isdir(proofs_of(crate)) and bool(os.listdir(proofs_of(crate)))
+
+
 def unpack_proofs(crate, to):
     """Gives a folder what rt ci kept of the crate's proof, as checks keep their work, and returns whether there is any."""
-    modules = glob.glob(f"{glob.escape(proofs_of(crate))}/*.oantt")
-    for path in modules:
+    for path in glob.glob(f"{glob.escape(proofs_of(crate))}/*.oantt"):
         with open(path, "rb") as it:
             kernel = re.search(rb"--@ kernel (.*)", it.read(1000))[1].decode().replace("/", "_")
         os.makedirs(f"{to}/{kernel}", exist_ok=True)
         # (a check never writes into such a file, but makes another in its place)
         rt.link_or_copy(path, f"{to}/{kernel}/{os.path.basename(path)}")
-    return bool(modules)
+    return has_proofs(crate)
 
 
 def over_proofs(add_edits):

@@ -327,10 +327,10 @@ class Trial:
         return alone
 
 
-def main(top, name, kept, jobs, answer):
-    """Tries the wrong bodies of one crate, and leaves in a file what was refused and what was not."""
+def main(top, name, kept, jobs, answer, part, parts):
+    """Tries the wrong bodies of one crate, or a part of them, and leaves in a file what was refused and what was not."""
     crate = next(it for it in kit.crates(top) if it.name == name)
-    trial = Trial(crate, edits_of(crate), kept, int(jobs)).run()
+    trial = Trial(crate, edits_of(crate)[int(part) :: int(parts)], kept, int(jobs)).run()
     with open(answer, "w") as it:
         json.dump([trial.refused, trial.let_through], it)
 

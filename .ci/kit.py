@@ -74,10 +74,10 @@ def proofs_of(crate):
 
 def folders_at_work(crate):
     """Yields the folders into which a build of the crate's library writes what it has checked, and which it removes as it ends."""
-    for folder in glob.glob(f"{tempfile.gettempdir()}/rattle-logic-built-locked-*"):
-        process = re.search(r"-(\d+)-\d+$", folder)
+    for folder in glob.glob(f"{tempfile.gettempdir()}/rattle-logic-built-locked-*-*"):
+        process = folder.split("-")[-2]
         with contextlib.suppress(OSError):
-            with open(f"/proc/{process[1]}/cmdline", encoding="utf-8", errors="replace") as it:
+            with open(f"/proc/{process}/cmdline", encoding="utf-8", errors="replace") as it:
                 if crate.rlib in it.read().split("\0"):
                     yield folder
 

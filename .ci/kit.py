@@ -73,20 +73,26 @@ def proofs_of(crate):
 
 
 def folders_at_work(crate):
-    """Yields the folders into which a build of the crate's library writes what it has checked, and which it removes as it ends."""
+    """Yields the builds of the crate's library that are at work: the number of the process, and the folder into which it writes what it has checked, and
+    which it removes as it ends."""
     for folder in glob.glob(f"{tempfile.gettempdir()}/rattle-logic-built-locked-*-*"):
         process = folder.split("-")[-2]
         with contextlib.suppress(OSError):
             with open(f"/proc/{process}/cmdline", encoding="utf-8", errors="replace") as it:
                 if crate.rlib in it.read().split("\0"):
-                    yield folder
+                    yield process, folder
 
 
 def keep_proofs(crate, has_ended):
     """Gives each module that a build of the crate's library checks a second name while it runs. What is missed is checked anew where it is asked for."""
-    kept, to = set(), proofs_of(crate)
-    while not has_ended.wait(2):
-        for folder in folders_at_work(crate):
+    at, kept, to = None, set(), proofs_of(crate)
+    while not has_ended.wait(0.5):
+        for process, folder in folders_at_work(crate):
+            if process != at:
+                # (a build that was killed, for memory say, is begun anew, and what it was writing then may be half a file)
+                shutil.rmtree(to)
+                os.mkdir(to)
+                at, kept = process, set()
             # (a folder that is removed meanwhile has no more to give; nor has one on another disk)
             with contextlib.suppress(OSError):
                 for name in {it for it in os.listdir(folder) if it.endswith(".oantt")} - kept:
@@ -125,14 +131,15 @@ def has_proofs(crate):
     return os.path.isdir(proofs_of(crate)) and bool(os.listdir(proofs_of(crate)))
 
 
-def unpack_proofs(crate, to):
-    """Gives a folder what rt ci kept of the crate's proof, as checks keep their work, and returns whether there is any."""
+def unpack_proofs(crate, to, put=shutil.copyfile):
+    """Puts what was kept of the crate's proof into a folder, as checks keep their work, and returns whether there is any."""
     for path in glob.glob(f"{glob.escape(proofs_of(crate))}/*.oantt"):
         with open(path, "rb") as it:
-            kernel = re.search(rb"--@ kernel (.*)", it.read(1000))[1].decode().replace("/", "_")
-        os.makedirs(f"{to}/{kernel}", exist_ok=True)
-        # (a check never writes into such a file, but makes another in its place)
-        rt.link_or_copy(path, f"{to}/{kernel}/{os.path.basename(path)}")
+            kernel = re.search(rb"--@ kernel (.*)\n", it.read(1000))
+        if kernel:
+            folder = f"{to}/{kernel[1].decode().replace('/', '_')}"
+            os.makedirs(folder, exist_ok=True)
+            put(path, f"{folder}/{os.path.basename(path)}")
     return has_proofs(crate)
 
 
@@ -244,22 +251,29 @@ def build_first(library, flags):
     stamp, made = library.stamp(), os.path.dirname(library.rlib)
     shutil.rmtree(made, ignore_errors=True)
     os.makedirs(made)
-    try:
-        with keeping_proofs(library):
-            status = library.call(rtlib.RATTLE, "build", *library.words(flags), "--statements", "-o", library.rlib)
-    finally:
-        unpack_proofs(library, f"{library.folder}/{rtlib.KEPT[1]}")
-        shutil.rmtree(proofs_of(library))
-    if not status:
+    with keeping_proofs(library):
+        status = library.call(rtlib.RATTLE, "build", *library.words(flags), "--statements", "-o", library.rlib)
+    go_on_from_proofs(library)
+    if not status and stamp == library.stamp():
         with open(f"{made}/stamp", "w", encoding="utf-8") as it:
             it.write(stamp)
     return status
 
 
+def go_on_from_proofs(library):
+    """Hands what is there of the library's proof, its last or one that was cut off, to the checks to come."""
+    unpack_proofs(library, f"{library.folder}/{rtlib.KEPT[1]}", os.replace)
+    shutil.rmtree(proofs_of(library), ignore_errors=True)
+
+
 def build(library, jobs):
     """Proves and builds a library over what earlier runs kept, and returns whether it is proved. Only what isn't says why."""
+    if library.is_built():
+        return True
     flags = ["--jobs", str(jobs)]
     with tempfile.TemporaryFile("w+", errors="replace") as library.out:
+        if not library.has_kept():
+            go_on_from_proofs(library)
         is_proved = not (library.build_rlib(flags, anew=False) if library.has_kept() else build_first(library, flags))
         if not is_proved:
             library.out.seek(0)

@@ -3,6 +3,7 @@
 And how `.ci/rt ci` proves crates of tests: once, with their tests, and none that isn't. And that a library's first build leaves what later ones go on from."""
 import os
 import re
+import shutil
 import subprocess
 import sys
 import tempfile
@@ -108,11 +109,13 @@ def tests_are_proved_once(room):
 
 
 def builds_go_on(room):
-    """Returns whether a library's first build keeps what it checked, and a build after a change goes on from that and refuses what isn't proved."""
+    """Returns whether a library's first build keeps what it checked, one that is built isn't proved again, and a build after a change refuses what isn't proved."""
     source = f"{room}/crates/sums/src/lib.rt"
     write({f"{room}/crates.txt": "sums:\n", source: SOURCE})
     [crate] = kit.crates(room)
     is_first = kit.build(crate, 1) and crate.is_built() and crate.has_kept()
+    shutil.rmtree(f"{crate.folder}/out/incremental")
+    is_first = is_first and kit.build(crate, 1) and not crate.has_kept()
     write({source: SOURCE.replace("    n + 1\n", "    1 + n\n")})
     is_again = not crate.is_built() and kit.build(crate, 1) and crate.is_built()
     write({source: SOURCE.replace("    n + 1\n", "    n\n")})

@@ -3,6 +3,7 @@
 Where that run kept what a crate's proof checked, the crate's next check begins with it.
 
 What is proved over them is for use while you write: `rt ci` alone is the verdict. No other `rt` command may work in the checkout meanwhile."""
+import contextlib
 import os
 import shutil
 import sys
@@ -33,6 +34,10 @@ def main(clone):
     for crate in kit.crates(TOP):
         if all(it.name in taken for it in crate.below()) and take(crate, others.get(crate.name)):
             taken.add(crate.name)
+        elif any(it.name in taken for it in crate.below()):
+            # (it is built again, since it was written over other libraries)
+            with contextlib.suppress(FileNotFoundError):
+                os.remove(f"{os.path.dirname(crate.rlib)}/stamp")
     print(f"{len(taken)} libraries: {' '.join(sorted(taken))}")
 
 

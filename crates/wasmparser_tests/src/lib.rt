@@ -1,5 +1,5 @@
-//! Tests of `wasmparser`, through its public calls. Those of `large_bodies`, which are validated in time that grows as they do, run slowly without a proof: by
-//! `rt try --test --seconds 600`.
+//! Tests of `wasmparser`, through its public calls. The modules of `large_bodies` are validated in time that grows as they do; without a proof those tests run
+//! slowly: by `rt try --test --seconds 600`.
 #![tactic(auto)]
 
 #[cfg(test)]

@@ -102,7 +102,7 @@ def keep_proofs(crate, has_ended):
 
 @contextlib.contextmanager
 def keeping_proofs(crate):
-    """Keeps what the proof of a crate checks that is made meanwhile."""
+    """While it lasts, keeps what a proof of the crate checks."""
     shutil.rmtree(proofs_of(crate), ignore_errors=True)
     os.makedirs(proofs_of(crate))
     has_ended = threading.Event()
@@ -133,14 +133,15 @@ def has_proofs(crate):
 
 def unpack_proofs(crate, to, put=shutil.copyfile):
     """Puts what was kept of the crate's proof into a folder, as checks keep their work, and returns whether there is any."""
-    for path in glob.glob(f"{glob.escape(proofs_of(crate))}/*.oantt"):
+    modules = glob.glob(f"{glob.escape(proofs_of(crate))}/*.oantt")
+    for path in modules:
         with open(path, "rb") as it:
             kernel = re.search(rb"--@ kernel (.*)\n", it.read(1000))
         if kernel:
             folder = f"{to}/{kernel[1].decode().replace('/', '_')}"
             os.makedirs(folder, exist_ok=True)
             put(path, f"{folder}/{os.path.basename(path)}")
-    return has_proofs(crate)
+    return bool(modules)
 
 
 def over_proofs(add_edits):

@@ -109,19 +109,20 @@ def tests_are_proved_once(room):
 
 
 def builds_go_on(room):
-    """Returns whether a library's first build keeps what it checked, one that is built isn't proved again, and a build after a change refuses what isn't proved."""
+    """Returns whether a library's first build keeps what it checked, a build after a change goes on from that, one that is built isn't built again, and one
+    that isn't proved is refused, also with nothing kept."""
     source = f"{room}/crates/sums/src/lib.rt"
     write({f"{room}/crates.txt": "sums:\n", source: SOURCE})
     [crate] = kit.crates(room)
     is_first = kit.build(crate, 1) and crate.is_built() and crate.has_kept()
-    shutil.rmtree(f"{crate.folder}/out/incremental")
-    is_first = is_first and kit.build(crate, 1) and not crate.has_kept()
     write({source: SOURCE.replace("    n + 1\n", "    1 + n\n")})
-    is_again = not crate.is_built() and kit.build(crate, 1) and crate.is_built()
+    is_next = not crate.is_built() and kit.build(crate, 1) and crate.is_built()
+    shutil.rmtree(f"{crate.folder}/out/incremental")
+    is_left = kit.build(crate, 1) and not crate.has_kept()
     write({source: SOURCE.replace("    n + 1\n", "    n\n")})
     is_refused = not kit.build(crate, 1) and not crate.is_built()
     os.chdir("/")
-    return is_first and is_again and is_refused
+    return is_first and is_next and is_left and is_refused
 
 
 def main():

@@ -69,7 +69,7 @@ pub enum RunError {
     Generate(GenerateError),
 }
 
-/// Want of memory is told as such.
+/// Where generating ran out of memory, the run did.
 impl From<GenerateError> for RunError {
     ghost use Rattle.std.specs.Prelude.{◌≡◌};
     ghost use Rattle.wasm_gen.specs.RunGenerate.{run_error};

@@ -78,6 +78,9 @@ static void codes(void) {
         want(wasm_gen_kind_name(kind, NULL, 0) == length, "a name's length", kind);
     }
     want(!wasm_gen_kind_name(UINT32_MAX, NULL, 0), "the largest number", 0);
+    uint32_t others = WASM_GEN_CUSTOM_PAGE_SIZES | WASM_GEN_COMPACT_IMPORTS | WASM_GEN_WIDE_ARITHMETIC | WASM_GEN_STACK_SWITCHING;
+    want((wasm_gen_features_default() | others) == (WASM_GEN_STACK_SWITCHING << 1) - 1, "all features", 0);
+    want(!(wasm_gen_features_default() & others), "the features that aren't default ones", 0);
     want(wasm_gen_version() == WASM_GEN_VERSION, "the version", 0);
     want(wasm_gen_features_default() == 0x3ffff, "the default features", 0);
     want((wasm_gen_features_generated() | 0x3ffff) == 0x3ffff, "the features of what is generated", 0);

@@ -15,6 +15,8 @@ mod read_numbers;
 #[cfg(test)]
 mod reader;
 #[cfg(test)]
+mod readme;
+#[cfg(test)]
 mod row_fields;
 #[cfg(test)]
 mod row_tables;

@@ -42,6 +42,8 @@ mod names;
 #[cfg(test)]
 mod producers;
 #[cfg(test)]
+mod refusals;
+#[cfg(test)]
 mod scalars;
 #[cfg(test)]
 mod sinks;

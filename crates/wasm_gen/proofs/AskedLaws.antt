@@ -12,7 +12,7 @@ use Rattle.wasm_smith.specs.Parts.{Config}
 use Rattle.wasm_smith.proofs.SeedLaws.{drawn_plain, not_good, single_types, no_min_funcs, module_reach, types_on, module_on}
 use Rattle.wasm_gen_laws.specs.Written.{IsGenerated}
 use Rattle.wasm_gen_laws.proofs.Validity.{counts_kept}
-use Rattle.wasm_gen.specs.Asked.{IsReachable, MakesLists, IsWantOrLimit, RefusesRightly}
+use Rattle.wasm_gen.specs.Asked.{IsMemoryOrLimit, IsReachable, MakesLists, RefusesRightly}
 use Rattle.wasm_gen.specs.Generate.{IsGeneratedFrom, IsCause}
 use Rattle.wasm_gen.specs.declared.error.GenerateError.{GenerateError}
 use Rattle.wasm_gen.specs.declared.error.GenerateError.TheVariants.{Config as BadConfig, Shape, Minimum, EmptyChoice, TypeSize, Limit, Memory}
@@ -33,7 +33,7 @@ no_limit : (c : Config) (seed : List ℕ) (groups : List (List (SubType ℕ))) (
 no_limit c seed groups funcs m e asked =
     (subst (λ (d : Made). length d.types ≤ most Types) (sym e) asked.few_types, subst (λ (d : Made). length d.funcs ≤ most Functions) (sym e) asked.few_funcs)
 
-total : (c : Config) (seed : List ℕ) (e : GenerateError) → IsCause c seed e → IsAskable c → IsWantOrLimit c seed e
+total : (c : Config) (seed : List ℕ) (e : GenerateError) → IsCause c seed e → IsAskable c → IsMemoryOrLimit c seed e
 total c seed (BadConfig field) h asked = absurd (not_good c (smith.BadConfig field) h asked.good)
 total c seed (Shape part) h asked = absurd h
 total c seed Minimum h asked = absurd (omega (arith, h.wanted, no_min_funcs c asked))
@@ -42,7 +42,7 @@ total c seed TypeSize h asked = absurd h
 total c seed (Limit passed) h asked = inr (passed, refl, h)
 total c seed Memory h asked = inl refl
 
-spelled : (c : Config) (seed : List ℕ) (e : GenerateError) → IsWantOrLimit c seed e → (groups : List (List (SubType ℕ))) (funcs : List ℕ) → IsReachable c groups funcs
+spelled : (c : Config) (seed : List ℕ) (e : GenerateError) → IsMemoryOrLimit c seed e → (groups : List (List (SubType ℕ))) (funcs : List ℕ) → IsReachable c groups funcs
     → Spells c groups funcs seed → e ≡ Memory
 spelled c seed e (inl want) groups funcs asked h = want
 spelled c seed e (inr (passed, is, past)) groups funcs asked h =

@@ -34,12 +34,12 @@ pub record MakesLists (c : Config) (seed bytes : List ℕ) : Type 0 where
       → Spells c groups funcs front → seed ≡ front ++ byte ∷ rest → byte % 2 ≡ 0 → HasLists c groups funcs bytes
 
 -- memory ran out, or the module that is drawn passes this limit
-abbrev pub IsWantOrLimit : Config → List ℕ → GenerateError → Type 0
-IsWantOrLimit c seed e = (e ≡ Memory) ⊎ ((passed : core.Limit) × (e ≡ Limit passed) × PassesLimit c seed passed)
+abbrev pub IsMemoryOrLimit : Config → List ℕ → GenerateError → Type 0
+IsMemoryOrLimit c seed e = (e ≡ Memory) ⊎ ((passed : core.Limit) × (e ≡ Limit passed) × PassesLimit c seed passed)
 
 -- With a configuration with which lists can be asked for, only running out of memory, or a limit that the drawn module passes, keeps a module from being
 -- generated; and where the seed spells a list that passes no limit, only running out of memory
 -- does.
 pub record RefusesRightly (c : Config) (seed : List ℕ) (e : GenerateError) : Type 0 where
-  pub total : IsAskable c → IsWantOrLimit c seed e
+  pub total : IsAskable c → IsMemoryOrLimit c seed e
   pub spelled : (groups : List (List (SubType ℕ))) (funcs : List ℕ) → IsReachable c groups funcs → Spells c groups funcs seed → e ≡ Memory

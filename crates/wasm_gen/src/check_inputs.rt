@@ -1,9 +1,9 @@
 //! Validates many inputs one after the other, as the program does.
 
-ghost use Rattle.std.specs.Prelude.{◌≡◌, ◌≢◌, ◌≤◌, ◌⊎◌, ◌^◌, ℕ, List, true, false, length, Option, None, Err, IfSome, IfOk, IfErr};
+ghost use Rattle.std.specs.Prelude.{◌≡◌, ◌≢◌, ◌≤◌, ◌⊎◌, ◌^◌, ℕ, List, true, false, length, Option, None, Err, IfSome, IfOk, IfErr, OnErr, OnOk};
 ghost use Rattle.std.specs.Io.KnownBytes.{Keeps};
 ghost use Rattle.wasm_gen.specs.CheckInputs.{EndsInput, EndsRun, GoesOn, ValidatesAll, ValidatesUntil, WritesLine, beginning, ends_run, outcome, restarted};
-ghost use Rattle.wasm_gen.specs.Device.{FailsOrTires, FailsWrite, WritesOn};
+ghost use Rattle.wasm_gen.specs.Device.{FailsOrTires, FailsWrite, ReadsToEnd, ReadsWithin, WritesOn};
 ghost use Rattle.wasm_gen.specs.Transfer.{ConsumesMore};
 
 use crate::device::{Sink, Source};
@@ -54,6 +54,9 @@ fn ends_run(answer: Result<bool, RunError>) -> bool
 
 /// Validates an input and writes the line of its verdict, as [`run_check`] does. Unless the write failed, the session then validates the next input:
 /// where it failed, or memory ran out, by a new validator of the name `next`.
+///
+/// # Errors
+/// Those of [`run_check`].
 pub fn check_next<R: Source, W: Sink>(
     alloc: Global,
     session: &mut Session,
@@ -77,8 +80,15 @@ pub fn check_next<R: Source, W: Sink>(
         → ConsumesMore (R.remaining reader.old) (R.remaining reader.new) (2 ^ 28)) }
     ensures write { IfErr result (λ e. e ≡ RunError.Write → FailsWrite (W.faults writer.old) (W.faults writer.new)) }
     ensures nothing { IfErr result (λ e. e ≢ RunError.Write → Keeps (W.contents writer.old) (W.contents writer.new)) }
-    ensures unfailed_write { ends_run result ≡ false → WritesOn (W.faults writer.old) (W.faults writer.new) }
     ensures front { IfErr result (λ e. e ≡ RunError.Write → EndsRun session.old (W.contents writer.old) (W.contents writer.new)) }
+
+    // No failed read or write is passed over.
+    ensures read_to_end { OnOk result (ReadsToEnd (R.reads reader.old) (R.reads reader.new) (2 ^ 29)) }
+    ensures read_before_write { IfErr result (λ e. e ≡ RunError.Write
+        → ReadsToEnd (R.reads reader.old) (R.reads reader.new) (2 ^ 29)) }
+    ensures unfailed_read { IfErr result (λ e. (e ≡ RunError.TooLong) ⊎ (e ≡ RunError.Memory)
+        → ReadsWithin (R.reads reader.old) (R.reads reader.new) (2 ^ 29) ⊎ ReadsToEnd (R.reads reader.old) (R.reads reader.new) (2 ^ 29)) }
+    ensures unfailed_write { ends_run result ≡ false → WritesOn (W.faults writer.old) (W.faults writer.new) }
 {
     let answer = run_check(alloc, session, reader, writer);
     if session.has_failed() || matches!(answer, Err(RunError::Memory)) {
@@ -115,6 +125,7 @@ fn check_opened<R: Source + Drop, W: Sink>(
 }
 
 // Validates the inputs of these names in turn by a session.
+#[tactic(auto, using(crate::proofs::WriteLaws::none_kept, crate::proofs::WriteLaws::none_written))]
 fn check_all<I: Inputs, W: Sink>(
     alloc: Global,
     session: &mut Session,
@@ -127,13 +138,14 @@ fn check_all<I: Inputs, W: Sink>(
     ensures whole { IfOk result (λ outcomes.
         (ValidatesAll beginning (length names.now) outcomes.items (W.contents writer.old) (W.contents writer.new) × WritesOn (W.faults writer.old) (W.faults writer.new))
         ⊎ (ValidatesUntil beginning outcomes.items (W.contents writer.old) (W.contents writer.new) × FailsWrite (W.faults writer.old) (W.faults writer.new))) }
+    ensures refused { OnErr result (Keeps (W.contents writer.old) (W.contents writer.new) × WritesOn (W.faults writer.old) (W.faults writer.new)) }
 {
     let mut outcomes = Vec::with_capacity(alloc, names.len())?;
     for (place, name) in names.iter().enumerate() {
         let next = ValidatorId::new(place + 1);
         let input = inputs.open(name);
         let answer = check_opened(alloc, session, next, input, writer);
-        outcomes.push(outcome_of(answer))?;
+        outcomes.push_reserved(outcome_of(answer));
         if let Err(e) = answer {
             inputs.tell(e, name);
         }
@@ -146,6 +158,9 @@ fn check_all<I: Inputs, W: Sink>(
 
 /// Validates the inputs of these names in turn, tells each fault, and gives how each ended. A failed write ends the run; after any other fault the
 /// next input follows.
+///
+/// # Errors
+/// Where there is no memory for the outcomes: then nothing was opened, told or written.
 pub fn check_inputs<I: Inputs, W: Sink>(
     alloc: Global,
     inputs: &mut I,
@@ -156,6 +171,7 @@ pub fn check_inputs<I: Inputs, W: Sink>(
     ensures whole { IfOk result (λ outcomes.
         (ValidatesAll beginning (length names.now) outcomes.items (W.contents writer.old) (W.contents writer.new) × WritesOn (W.faults writer.old) (W.faults writer.new))
         ⊎ (ValidatesUntil beginning outcomes.items (W.contents writer.old) (W.contents writer.new) × FailsWrite (W.faults writer.old) (W.faults writer.new))) }
+    ensures refused { OnErr result (Keeps (W.contents writer.old) (W.contents writer.new) × WritesOn (W.faults writer.old) (W.faults writer.new)) }
 {
     let mut session = first_session(alloc);
     let outcomes = check_all(alloc, &mut session, inputs, names, writer);

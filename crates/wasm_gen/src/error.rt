@@ -1,4 +1,4 @@
-//! Why a run of an engine ends with no answer.
+//! Why nothing is generated, and why a command gives no answer.
 
 ghost use Rattle.std.specs.Prelude.{◌≡◌};
 ghost use Rattle.wasm_gen.specs.Generate.{told};

@@ -27,6 +27,12 @@ fn drawn_bytes(alloc: Global, config: &Config, seed: &[u8]) -> Result<Vec<u8>, G
 /// A valid module for the configuration put in order, drawn from the bytes of the seed. A list for which
 /// [`seed_for`](crate::seed::seed_for) gives a seed is made exactly, without locals, from every seed that spells it. With a
 /// configuration with which lists can be asked for, it is refused only when out of memory, or when a limit is passed.
+///
+/// Functions are drawn before limits are looked at: a minimum of billions takes as much memory.
+///
+/// # Errors
+/// `Config` and `Shape` by the configuration, `Minimum` where functions are asked for and no type is drawn, `Limit` where the drawn module passes one, `Memory` where memory
+/// runs out.
 pub fn generate(alloc: Global, config: &Config, seed: &[u8]) -> Result<Vec<u8>, GenerateError>
     ensures generated { IfOk result (λ bytes. IsGeneratedFrom (sanitized config.now) seed.now bytes.items) }
     ensures refused { IfErr result (IsCause (sanitized config.now) seed.now) }

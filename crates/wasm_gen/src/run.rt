@@ -21,6 +21,9 @@ use wasm_smith::config::Config;
 /// Reads a module, validates it and writes the line of its verdict, for which it takes the room beforehand. Answers whether the verdict is yes.
 ///
 /// After `Write` the session has validated the module. After `Memory` it is as it was, or it has failed since validating ran out of memory.
+///
+/// # Errors
+/// `Read` where a read fails, or 2^29 of them don't come to the end; `TooLong` past 2^28 bytes; `Write` where a write fails or takes no byte; `Memory` where memory runs out.
 #[tactic(auto, using(crate::proofs::ReadLaws::none_read, crate::proofs::WriteLaws::none_written))]
 pub fn run_check<R: Source, W: Sink>(
     alloc: Global,
@@ -104,6 +107,9 @@ fn check_input<R: Source>(
 }
 
 /// Reads a seed, makes a module of it and writes its bytes.
+///
+/// # Errors
+/// Those of [`run_check`], and `Generate` where no module is made.
 pub fn run_generate<R: Source, W: Sink>(
     alloc: Global,
     config: &Config,

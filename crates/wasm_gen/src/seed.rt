@@ -19,6 +19,9 @@ use wasm_smith::witness::witness;
 /// garbage collection; where a group is no final function type by itself, over types that it enables; where an index is
 /// out of range; where there are more types or functions than it allows, or than the limits. With a minimum above 0 there
 /// may be seeds all the same.
+///
+/// # Errors
+/// Where memory runs out.
 pub fn seed_for(
     alloc: Global,
     config: &Config,

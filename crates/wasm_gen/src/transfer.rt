@@ -67,6 +67,9 @@ fn read_turn<R: Source>(
 
 /// All that a source has, where that is at most `most` bytes and takes at most `turns` reads. A read
 /// that a signal cut short is tried again.
+///
+/// # Errors
+/// `Read` where a read fails, or the reads end before the source does; `TooLong` past `most` bytes; `Memory` where memory runs out.
 pub fn read_whole<R: Source>(
     alloc: Global,
     reader: &mut R,
@@ -105,7 +108,10 @@ pub fn read_whole<R: Source>(
     Err(RunError::Read)
 }
 
-/// Writes bytes whole. After a refusal a front of it is written, and nothing else.
+/// Writes bytes whole. After a refusal a front of them is written, and nothing else.
+///
+/// # Errors
+/// `Write` where a write fails or takes no byte.
 pub fn write_whole<W: Sink>(writer: &mut W, bytes: &[u8]) -> Result<(), RunError>
     ensures whole { OnOk result (Appends (W.contents writer.old) (W.contents writer.new) bytes.now) }
     ensures unfailed { OnOk result (WritesOn (W.faults writer.old) (W.faults writer.new)) }

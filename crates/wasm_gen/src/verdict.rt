@@ -13,16 +13,6 @@ use wasm_core::encoding::put_bytes;
 // More than a line's bytes: a number has at most 20 digits, and there are eight after labels.
 const ROOM: usize = 300;
 
-// How many exports a module has.
-fn export_count(types: TypesRef<'_>) -> u64
-    ensures { result ≡ length (spaces types.entry).exports }
-{
-    match types.core_exports() {
-        Some(exports) => exports.count() as u64,
-        None => 0,
-    }
-}
-
 // Appends a label and a number, for which there is room.
 fn put_count(line: &mut Vec<u8>, label: &str, count: u64)
     requires { vec_len line.old + length label.now + 20 ≤ vec_capacity line.old }
@@ -53,7 +43,7 @@ fn put_yes(line: &mut Vec<u8>, types: TypesRef<'_>)
     put_count(line, " globals=", u64::from(types.global_count()));
     put_count(line, " tags=", u64::from(types.tag_count()));
     put_count(line, " elements=", u64::from(types.element_count()));
-    put_count(line, " exports=", export_count(types));
+    put_count(line, " exports=", u64::from(types.export_count()));
     put_bytes(b"\n", line);
 }
 
@@ -69,6 +59,9 @@ fn put_no(line: &mut Vec<u8>, e: Error)
 }
 
 /// An empty line, with room for any verdict's.
+///
+/// # Errors
+/// Where memory runs out.
 pub fn empty_line(alloc: Global) -> Result<Vec<u8>, AllocError>
     ensures empty { IfOk result (λ line. line.items ≡ []) }
     ensures room { IfOk result (λ line. 300 ≤ vec_capacity line) }

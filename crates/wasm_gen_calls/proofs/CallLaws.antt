@@ -71,7 +71,7 @@ fitting_codes false code is = inr (inl is)
 answer_codes : (seed old : List ℕ) (code : ℕ) (answer : Result (List ℕ) GenerateError) → IsAnswer seed answer → code ≡ code_of answer old
     → (code ≡ yes) ⊎ (code ≡ short_buffer) ⊎ (code ≡ 3) ⊎ (code ≡ memory)
 answer_codes seed old code (Ok bytes) answered is = fitting_codes (nat_le (length bytes) (length old)) code is
-answer_codes seed old code (Err e) answered is = elim answered.want_or_limit [
+answer_codes seed old code (Err e) answered is = elim answered.memory_or_limit [
   | inl want ↦ inr (inr (inr (is ∙ ap refusal_code want)))
   | inr limit ↦ inr (inr (inl (is ∙ ap refusal_code limit.1)))
 ]

@@ -24,7 +24,7 @@ made c seed bytes lent old new len fits supported generated lists same len_is ne
     lists = lists;
     cause = tt;
     rightly = tt;
-    want_or_limit = tt;
+    memory_or_limit = tt;
   };
   told = ap (λ fits. if fits then yes else short_buffer) (fitting ∙ ap (λ (bytes : List ℕ). nat_le (length bytes) (length old)) same);
   needed = sym len_is ∙ ap length same;
@@ -44,7 +44,7 @@ refused c seed old e code supported cause rightly is = record {
     lists = tt;
     cause = cause;
     rightly = rightly;
-    want_or_limit = rightly.total (is_askable c supported);
+    memory_or_limit = rightly.total (is_askable c supported);
   };
   told = is;
   needed = refl;

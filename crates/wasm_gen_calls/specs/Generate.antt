@@ -1,6 +1,6 @@
 -- What is made of a seed, and written into a caller's buffer.
 use Rattle.std.specs.Prelude.{◌≡◌, ◌≢◌, ℕ, List, [], length, nat_le, if◌then◌else◌, Result, Ok, Err, IfOk, IfErr}
-use Rattle.wasm_gen.specs.Asked.{IsWantOrLimit, MakesLists, RefusesRightly}
+use Rattle.wasm_gen.specs.Asked.{IsMemoryOrLimit, MakesLists, RefusesRightly}
 use Rattle.wasm_gen.specs.Generate.{IsGeneratedFrom, IsCause}
 use Rattle.wasm_gen.specs.declared.error.GenerateError.{GenerateError}
 use Rattle.wasm_gen_calls.specs.Buffers.{buffer_with}
@@ -24,7 +24,7 @@ pub record IsAnswer (seed : List ℕ) (answer : Result (List ℕ) GenerateError)
   pub lists : IfOk answer (MakesLists (sanitized config) seed)
   pub cause : IfErr answer (IsCause (sanitized config) seed)
   pub rightly : IfErr answer (RefusesRightly (sanitized config) seed)
-  pub want_or_limit : IfErr answer (IsWantOrLimit (sanitized config) seed)
+  pub memory_or_limit : IfErr answer (IsMemoryOrLimit (sanitized config) seed)
 
 -- the code that tells of it, for a buffer like this
 abbrev pub code_of : Result (List ℕ) GenerateError → List ℕ → ℕ

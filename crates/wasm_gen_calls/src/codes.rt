@@ -1,6 +1,6 @@
 //! The codes that calls answer. Each has one meaning, whichever call answers it.
 
-ghost use Rattle.std.specs.Prelude.{◌≡◌, length};
+ghost use Rattle.std.specs.Prelude.{◌≡◌, ◌≤◌, length};
 ghost use Rattle.wasm_gen_calls.specs.Buffers.{buffer_with};
 ghost use Rattle.wasm_gen_calls.specs.Codes.{code_name, kind_code, refusal_code};
 
@@ -20,6 +20,12 @@ pub const SHORT_BUFFER: u32 = 11;
 /// There is a configuration's text, which isn't read yet.
 pub const CONFIG_TEXT: u32 = 12;
 
+// A limit is passed, of the bytes or of what is made.
+const LIMIT: u32 = 3;
+
+// Memory ran out.
+const MEMORY: u32 = 9;
+
 /// The code of a refusal by the validator, from 1 to 9.
 pub fn kind_code(kind: ErrorKind) -> u32
     ensures { result ≡ kind_code kind }
@@ -27,13 +33,13 @@ pub fn kind_code(kind: ErrorKind) -> u32
     match kind {
         ErrorKind::Malformed => 1,
         ErrorKind::Invalid => 2,
-        ErrorKind::Limit(_) => 3,
+        ErrorKind::Limit(_) => LIMIT,
         ErrorKind::Operator => 4,
         ErrorKind::Body => 5,
         ErrorKind::Total => 6,
         ErrorKind::Order => 7,
         ErrorKind::Failed => 8,
-        ErrorKind::Memory => 9,
+        ErrorKind::Memory => MEMORY,
     }
 }
 
@@ -42,8 +48,8 @@ pub fn refusal_code(error: &GenerateError) -> u32
     ensures { result ≡ refusal_code error.now }
 {
     match error {
-        GenerateError::Limit(_) => 3,
-        GenerateError::Memory => 9,
+        GenerateError::Limit(_) => LIMIT,
+        GenerateError::Memory => MEMORY,
         GenerateError::Config(_) => 13,
         GenerateError::Shape(_) => 14,
         GenerateError::Minimum => 15,
@@ -79,9 +85,10 @@ pub fn code_name(code: u32) -> &'static str
     }
 }
 
-/// Writes what a code is called at the buffer's front where it fits, and tells how many bytes it has: at most 11. What isn't written to stays.
+/// Writes what a code is called at the buffer's front where it fits, and tells how many bytes it has: at most 12. What isn't written to stays.
 pub fn put_name(code: u32, buffer: &mut [u8]) -> usize
     ensures length { result ≡ length (code_name code) }
+    ensures short { result ≤ 12 }
     ensures written { buffer.new ≡ buffer_with (code_name code) buffer.old }
 {
     let name = code_name(code);

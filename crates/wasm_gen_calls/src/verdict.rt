@@ -1,6 +1,6 @@
 //! What is told of a module, as a record that C can read.
 
-ghost use Rattle.std.specs.Prelude.{◌≡◌, length};
+ghost use Rattle.std.specs.Prelude.{◌≡◌};
 ghost use Rattle.wasm_gen_calls.specs.Verdicts.{refused, valid, verdict_of};
 ghost use Rattle.wasm_validity.specs.IndexSpaces.{sizes_in};
 ghost use Rattle.wasmparser_validator.specs.Shown.{spaces};
@@ -53,16 +53,6 @@ pub fn refused(kind: u32, offset: u64) -> Verdict
     }
 }
 
-// How many exports a module has.
-fn export_count(types: TypesRef<'_>) -> u64
-    ensures { result ≡ length (spaces types.entry).exports }
-{
-    match types.core_exports() {
-        Some(exports) => exports.count() as u64,
-        None => 0,
-    }
-}
-
 // A valid module that has these index spaces.
 fn valid(types: TypesRef<'_>) -> Verdict
     ensures { result ≡ valid (sizes_in (spaces types.entry)) }
@@ -77,7 +67,7 @@ fn valid(types: TypesRef<'_>) -> Verdict
         globals: u64::from(types.global_count()),
         tags: u64::from(types.tag_count()),
         elements: u64::from(types.element_count()),
-        exports: export_count(types),
+        exports: u64::from(types.export_count()),
     }
 }
 

@@ -30,6 +30,12 @@ mod lines;
 #[cfg(test)]
 mod other_sections;
 #[cfg(test)]
+mod readme;
+#[cfg(test)]
+mod readme_of_encoder;
+#[cfg(test)]
+mod refusals;
+#[cfg(test)]
 mod rows;
 #[cfg(test)]
 mod sessions;

@@ -1,1 +1,2 @@
 pub mod Allowed
+mod SameGroups

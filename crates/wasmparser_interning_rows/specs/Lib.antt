@@ -1,1 +1,2 @@
 pub mod CheckedLists
+pub mod CheckedSections

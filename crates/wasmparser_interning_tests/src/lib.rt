@@ -28,6 +28,8 @@ mod ref_type;
 #[cfg(test)]
 mod references;
 #[cfg(test)]
+mod refusals;
+#[cfg(test)]
 mod remap;
 #[cfg(test)]
 mod sizes;

@@ -8,7 +8,7 @@ use wasm_test_rows::fields::{two_fields, word_and_rest};
 use wasm_test_rows::rows::check_rows;
 use wasm_test_rows::values::number_of;
 use wasmparser_error::error::{Error, ErrorKind};
-use wasmparser_rec_group_rows::checked_section::{CheckedSection, on_new_section};
+use wasmparser_interning_rows::checked_section::{CheckedSection, on_new_section};
 use wasmparser_type_words::types::{are_ids, group_of};
 use wasmparser_types::sub_type::RecGroup;
 

@@ -6,13 +6,13 @@ use wasm_core_base::features::{Flags, WasmFeatures};
 use wasmparser_error::error::{Error, ErrorKind};
 use wasmparser_func_validator::func_to_validate::FuncValidatorAllocations;
 use wasmparser_func_validator::func_validator::FuncValidator;
-use wasmparser_func_validator_rows::failures::has_failed;
-use wasmparser_func_validator_rows::running::{run, try_first};
-use wasmparser_func_validator_rows::validators::{define_locals, validator_in};
 use wasmparser_resources::module_resources::WasmModuleResources;
-use wasmparser_resources_rows::listed_resources::ListedResources;
 use wasmparser_types::ref_type::RefType;
 use wasmparser_types::val_type::ValType;
+use wasmparser_validation_rows::failures::has_failed;
+use wasmparser_validation_rows::listed_resources::ListedResources;
+use wasmparser_validation_rows::running::{run, try_first};
+use wasmparser_validation_rows::validators::{define_locals, validator_in};
 
 /// What is told where an operator is refused.
 pub const REFUSED: &str = "refused";

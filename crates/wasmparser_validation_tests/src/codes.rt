@@ -9,7 +9,7 @@ use wasm_core_base::features::{Flags, WasmFeatures};
 use wasm_test_rows::fields::four_fields;
 use wasm_test_rows::rows::check_rows;
 use wasm_test_rows::values::bytes_of;
-use wasmparser_resources_rows::listed_resources::ListedResources;
+use wasmparser_validation_rows::listed_resources::ListedResources;
 
 // Operands, operators that take just these, what they give, and the features that each of them asks for. With those of `OTHERS` the operators have each code.
 const CODES: &str = "

@@ -7,7 +7,7 @@ use wasm_test_rows::fields::three_fields;
 use wasm_test_rows::rows::check_rows;
 use wasm_test_rows::values::number_of;
 use wasmparser_module_state::module_state::ModuleState;
-use wasmparser_module_state_rows::judged::{JudgedState, are_accepted, on_new_state};
+use wasmparser_validation_rows::judged::{JudgedState, are_accepted, on_new_state};
 
 // Sections after four functions, which are accepted; of each function whether it is declared; and the data count, if one is stated.
 const DECLARED: &str = "

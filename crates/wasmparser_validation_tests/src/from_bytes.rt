@@ -10,10 +10,10 @@ use wasm_test_rows::rows::check_rows;
 use wasm_test_rows::values::bytes_of;
 use wasmparser_error::error::{Error, ErrorKind};
 use wasmparser_func_validator::func_validator::FuncValidator;
-use wasmparser_func_validator_rows::failures::{has_failed, is_failed};
 use wasmparser_operators::operators_reader::OperatorsReader;
 use wasmparser_payloads::function_body::FunctionBody;
-use wasmparser_resources_rows::listed_resources::ListedResources;
+use wasmparser_validation_rows::failures::{has_failed, is_failed};
+use wasmparser_validation_rows::listed_resources::ListedResources;
 
 // Where bodies begin in the input.
 const START: u64 = 100;

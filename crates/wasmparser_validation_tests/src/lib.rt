@@ -23,6 +23,8 @@ mod more_features;
 #[cfg(test)]
 mod others;
 #[cfg(test)]
+mod refusals;
+#[cfg(test)]
 mod resources;
 #[cfg(test)]
 mod sections;

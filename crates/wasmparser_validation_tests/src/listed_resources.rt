@@ -10,10 +10,10 @@ use wasm_test_rows::values::bool_of;
 use wasmparser_error::error::{Error, ErrorKind};
 use wasmparser_readers::val_type::val_is_of_module;
 use wasmparser_resources::module_resources::WasmModuleResources;
-use wasmparser_resources_rows::listed_resources::ListedResources;
 use wasmparser_type_words::types::{id_of, sub_type_of, val_type_of};
 use wasmparser_types::index::CoreTypeId;
 use wasmparser_types::val_type::ValType;
+use wasmparser_validation_rows::listed_resources::ListedResources;
 
 // The place in the bytes that calls are handed.
 const OFFSET: u64 = 7;

@@ -4,9 +4,9 @@ use crate::cases::{declare, validator_of};
 use std::alloc::Global;
 use wasm_core_base::features::{Flags, WasmFeatures};
 use wasmparser_func_validator::func_validator::FuncValidator;
-use wasmparser_func_validator_rows::running::run;
 use wasmparser_resources::module_resources::WasmModuleResources;
-use wasmparser_resources_rows::listed_resources::ListedResources;
+use wasmparser_validation_rows::listed_resources::ListedResources;
+use wasmparser_validation_rows::running::run;
 
 fn accepts_in<R: WasmModuleResources>(
     validator: &mut FuncValidator<R>,

@@ -10,7 +10,7 @@ use wasm_core_base::features::{Flags, WasmFeatures};
 use wasm_test_rows::fields::four_fields;
 use wasm_test_rows::rows::check_rows;
 use wasm_test_rows::values::bytes_of;
-use wasmparser_resources_rows::listed_resources::ListedResources;
+use wasmparser_validation_rows::listed_resources::ListedResources;
 
 // Operators that come first, and each of the others after them: the operands that it leaves, or that it's refused; without some features.
 const OTHERS: &str = "

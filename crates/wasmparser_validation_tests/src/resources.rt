@@ -7,11 +7,11 @@ use wasm_test_rows::fields::{three_fields, word_and_rest};
 use wasm_test_rows::rows::check_rows;
 use wasm_test_rows::values::number_of;
 use wasmparser_module_state::module_state::ModuleState;
-use wasmparser_module_state_rows::judged::{JudgedState, are_accepted, on_new_state};
 use wasmparser_resources::module_resources::WasmModuleResources;
 use wasmparser_types::index::{CoreTypeId, PackedIndex};
 use wasmparser_types::ref_type::RefType;
 use wasmparser_types::val_type::ValType;
+use wasmparser_validation_rows::judged::{JudgedState, are_accepted, on_new_state};
 
 // Types: a function type, a structure, one below it, and the function type again, which has the same id.
 const TYPES: &str = "types 04 60 00 00 50 00 5f 00 50 01 01 5f 00 60 00 00";

@@ -6,7 +6,7 @@ use wasm_core_base::features::{Flags, WasmFeatures};
 use wasm_test_rows::fields::three_fields;
 use wasm_test_rows::rows::check_rows;
 use wasmparser_error::error::{Error, ErrorKind};
-use wasmparser_module_state_rows::judged::{JudgedState, OFFSET, answer, on_new_state};
+use wasmparser_validation_rows::judged::{JudgedState, OFFSET, answer, on_new_state};
 
 // Features that are switched beside the default ones; sections; and what the last of them is answered: `yes`, the kind of the refusal, or the name of
 // the limit that is passed. A refusal's place isn't before the section. All sections before the last are accepted.

@@ -10,14 +10,14 @@ use wasm_test_rows::values::bytes_of;
 use wasmparser_error::error::{Error, ErrorKind};
 use wasmparser_func_validator::func_to_validate::FuncValidatorAllocations;
 use wasmparser_func_validator::func_validator::FuncValidator;
-use wasmparser_func_validator_rows::failures::has_failed;
-use wasmparser_func_validator_rows::running::run;
-use wasmparser_func_validator_rows::validators::{define_locals, validator_in};
 use wasmparser_resources::module_resources::WasmModuleResources;
-use wasmparser_resources_rows::listed_resources::ListedResources;
 use wasmparser_types::composite_type::FuncType;
 use wasmparser_types::sub_type::SubType;
 use wasmparser_types::val_type::ValType;
+use wasmparser_validation_rows::failures::has_failed;
+use wasmparser_validation_rows::listed_resources::ListedResources;
+use wasmparser_validation_rows::running::run;
+use wasmparser_validation_rows::validators::{define_locals, validator_in};
 
 // Operators that are accepted: many operands, which are dropped again or never reached; many blocks, also with operands below them; jumps to many labels, and to the
 // body out of as many blocks.

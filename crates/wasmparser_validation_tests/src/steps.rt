@@ -8,10 +8,10 @@ use wasm_core_base::features::WasmFeatures;
 use wasm_test_rows::fields::two_fields;
 use wasm_test_rows::values::bytes_of;
 use wasmparser_func_validator::func_validator::FuncValidator;
-use wasmparser_func_validator_rows::running::run;
-use wasmparser_func_validator_rows::validators::FUNCTION;
 use wasmparser_resources::module_resources::WasmModuleResources;
-use wasmparser_resources_rows::listed_resources::ListedResources;
+use wasmparser_validation_rows::listed_resources::ListedResources;
+use wasmparser_validation_rows::running::run;
+use wasmparser_validation_rows::validators::FUNCTION;
 
 // Operators one after the other, and what stands after each: operands, and the open blocks with their types, heights, and a mark where the rest isn't
 // reached; and the locals.

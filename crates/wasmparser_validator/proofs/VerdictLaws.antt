@@ -279,10 +279,6 @@ pub are_named : (features : Features) (old_held : List DefType) (bytes : List �
     → AreAccepted features old_held bytes m → AreNamed (context m.state)
 are_named features old_held bytes m law w = subst AreNamed (sym w.known) (λ place index at. law features (entries_of w.sections) place index w.fine.rules at)
 
-pub are_paired : (features : Features) (old_held : List DefType) (bytes : List ℕ) (m : ValidSections) → OwnFunctions → AreAccepted features old_held bytes m → length (context m.state).own_functions ≡ length m.bodies.items
-are_paired features old_held bytes m own w =
-    own_count w.sections (context m.state) own w.known ∙ w.reads.agreeing ∙ ap length (sym w.bodies) ∙ length-map m.bodies.items (λ (b : Input). b.rest)
-
 -- ---- what the list holds afterwards
 
 lost : (features : Features) (old_held : List DefType) (bytes : List ℕ) (kind : ErrorKind) (new_held : List DefType) → NamesSections features old_held bytes kind → new_held ≡ []

@@ -251,13 +251,6 @@ JudgesPayload old piece (Err e) new = RefusesPiece (waits_for old piece) old pie
 
 -- ---- whole modules
 
--- a refusal of this kind is one of a body
-abbrev pub is_in_body : ErrorKind → Bool
-is_in_body kinds.Operator = true
-is_in_body kinds.Body = true
-is_in_body (kinds.Limit limits.Locals) = true
-is_in_body kind = false
-
 -- A module was refused in a body: its groups are in the list, and another module may come.
 pub record EndsInBody (features : Features) (old_held : List DefType) (bytes : List ℕ) (goes_on : Bool) (new_held : List DefType) : Type 0 where
   pub may : goes_on ≡ true

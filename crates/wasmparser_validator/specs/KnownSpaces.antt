@@ -2,7 +2,7 @@
 use Rattle.std.specs.Coded.{Coded, code_by, coded×, coded_ℕ}
 use Rattle.std.specs.Prelude.{◌≡◌, ◌+◌, ◌≤◌, ℕ, false, List, length, refl}
 use Rattle.std.specs.List.{AllByRecursion}
-use Rattle.wasm_spec.specs.Limits.{ElementSegments, Functions, Globals, Memories, Tables, Tags, most}
+use Rattle.wasm_spec.specs.Limits.{ElementSegments, Exports, Functions, Globals, Memories, Tables, Tags, most}
 use Rattle.wasm_spec.specs.Trees.{DefType}
 use Rattle.wasm_validity.specs.Context.{Context, after_all, at_first}
 use Rattle.wasm_validity.specs.Entries.{Entry}
@@ -22,6 +22,7 @@ pub record AreFew (cx : Context) : Type 0 where
   pub globals : length cx.imported_globals + length cx.own_globals ≤ most Globals
   pub tags : length cx.tags ≤ most Tags
   pub elements : length cx.elements ≤ most ElementSegments
+  pub exports : length cx.exports ≤ most Exports
 
 -- It is what is known after entries that keep all rules and limits, and its list holds what these enter after the types that it held before.
 pub record IsReached (state : ModuleState) : Type 0 where

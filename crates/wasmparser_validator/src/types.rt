@@ -203,6 +203,13 @@ impl<'a> TypesRef<'a> {
         self.state().element_count() as u32
     }
 
+    /// The number of exports.
+    pub fn export_count(&self) -> u32
+        ensures { result ≡ length (spaces self.now).exports }
+    {
+        self.state().exports().len() as u32
+    }
+
     /// The exports in order. Always `Some`, since there are no components.
     pub fn core_exports(&self) -> Option<CoreExports<'a>>
         ensures all { IsSomeAnd result (λ exports. exports_left exports ≡ (spaces self.now).exports) }

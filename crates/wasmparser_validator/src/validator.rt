@@ -7,7 +7,7 @@ ghost use Rattle.wasm_validity.specs.Context.{at_first};
 ghost use Rattle.wasmparser_payloads.specs.Parsing.{piece};
 ghost use Rattle.wasmparser_payloads.specs.Pieces as pieces;
 ghost use Rattle.wasmparser_validator.specs.Functions.{HasFunction};
-ghost use Rattle.wasmparser_validator.specs.Judges.{EndsModule, GivesFunction, IsOutOfOrder, JudgesAll, JudgesPayload, JudgesPiece, Opens, RefusesPiece, ShowsAll, after_piece, agrees, follows_bodies, is_body, is_in_body, is_middle, agrees_with_stated, judge, may_begin, place_of, stage_after_all, waiting, waits_for};
+ghost use Rattle.wasmparser_validator.specs.Judges.{EndsModule, GivesFunction, IsOutOfOrder, JudgesAll, JudgesPayload, JudgesPiece, Opens, RefusesPiece, ShowsAll, after_piece, agrees, follows_bodies, is_body, is_middle, agrees_with_stated, judge, may_begin, place_of, stage_after_all, waiting, waits_for};
 ghost use Rattle.wasmparser_validator.specs.KnownSpaces.{IsEndOf};
 ghost use Rattle.wasmparser_validator.specs.Modules.{goes_on};
 ghost use Rattle.wasmparser_validator.specs.Validation.{IsValidated};
@@ -127,16 +127,6 @@ pub fn validate(alloc: Global, bytes: &[u8]) -> Result<Types, Error>
     let verdict = validator.validate_all(bytes);
     drop(validator);
     verdict
-}
-
-/// Whether a refusal of this kind is one of a body, of a module that is fine otherwise.
-pub fn is_in_body(kind: ErrorKind) -> bool
-    ensures { result ≡ is_in_body kind }
-{
-    matches!(
-        kind,
-        ErrorKind::Operator | ErrorKind::Body | ErrorKind::Limit(Limit::Locals)
-    )
 }
 
 // Whether a stated number, if there is one, is that one.
@@ -382,6 +372,10 @@ impl Validator {
     }
 
     /// Judges a type section, item by item.
+    ///
+    /// # Errors
+    /// `Malformed`, `Invalid`, `Limit`, `Total` or `Memory`, from the first item that has such a cause; `Order` where no such section is waited for, `Failed` after a
+    /// refusal, as for all sections.
     #[tactic(auto, unfolding(wasmparser_payloads::specs::Parsing::piece))]
     pub fn type_section(&mut self, section: &SectionLimited<'_, RecGroup>) -> Result<(), Error>
         ensures { JudgesPiece (judge self.old) (pieces.Types section.now) result (judge self.new) }
@@ -390,6 +384,9 @@ impl Validator {
     }
 
     /// Judges an import section, item by item.
+    ///
+    /// # Errors
+    /// `Malformed`, `Invalid`, `Limit` or `Memory`, from the first item that has such a cause; `Order` and `Failed` as for all sections.
     #[tactic(auto, unfolding(wasmparser_payloads::specs::Parsing::piece))]
     pub fn import_section<'a>(
         &mut self,
@@ -401,6 +398,9 @@ impl Validator {
     }
 
     /// Judges a function section, item by item.
+    ///
+    /// # Errors
+    /// `Malformed`, `Invalid`, `Limit` or `Memory`, from the first item that has such a cause; `Order` and `Failed` as for all sections.
     #[tactic(auto, unfolding(wasmparser_payloads::specs::Parsing::piece))]
     pub fn function_section(&mut self, section: &SectionLimited<'_, u32>) -> Result<(), Error>
         ensures { JudgesPiece (judge self.old) (pieces.Functions section.now) result (judge self.new) }
@@ -409,6 +409,9 @@ impl Validator {
     }
 
     /// Judges a table section, item by item.
+    ///
+    /// # Errors
+    /// `Malformed`, `Invalid`, `Limit` or `Memory`, from the first item that has such a cause; `Order` and `Failed` as for all sections.
     #[tactic(auto, unfolding(wasmparser_payloads::specs::Parsing::piece))]
     pub fn table_section<'a>(
         &mut self,
@@ -420,6 +423,9 @@ impl Validator {
     }
 
     /// Judges a memory section, item by item.
+    ///
+    /// # Errors
+    /// `Malformed`, `Invalid`, `Limit` or `Memory`, from the first item that has such a cause; `Order` and `Failed` as for all sections.
     #[tactic(auto, unfolding(wasmparser_payloads::specs::Parsing::piece))]
     pub fn memory_section(&mut self, section: &SectionLimited<'_, MemoryType>) -> Result<(), Error>
         ensures { JudgesPiece (judge self.old) (pieces.Memories section.now) result (judge self.new) }
@@ -428,6 +434,9 @@ impl Validator {
     }
 
     /// Judges a tag section, item by item.
+    ///
+    /// # Errors
+    /// `Malformed`, `Invalid`, `Limit` or `Memory`, from the first item that has such a cause; `Order` and `Failed` as for all sections.
     #[tactic(auto, unfolding(wasmparser_payloads::specs::Parsing::piece))]
     pub fn tag_section(&mut self, section: &SectionLimited<'_, TagType>) -> Result<(), Error>
         ensures { JudgesPiece (judge self.old) (pieces.Tags section.now) result (judge self.new) }
@@ -436,6 +445,9 @@ impl Validator {
     }
 
     /// Judges a global section, item by item.
+    ///
+    /// # Errors
+    /// `Malformed`, `Invalid`, `Limit` or `Memory`, from the first item that has such a cause; `Order` and `Failed` as for all sections.
     #[tactic(auto, unfolding(wasmparser_payloads::specs::Parsing::piece))]
     pub fn global_section<'a>(
         &mut self,
@@ -447,6 +459,9 @@ impl Validator {
     }
 
     /// Judges an export section, item by item.
+    ///
+    /// # Errors
+    /// `Malformed`, `Invalid`, `Limit` or `Memory`, from the first item that has such a cause; `Order` and `Failed` as for all sections.
     #[tactic(auto, unfolding(wasmparser_payloads::specs::Parsing::piece))]
     pub fn export_section<'a>(
         &mut self,
@@ -458,6 +473,9 @@ impl Validator {
     }
 
     /// Judges an element section, item by item.
+    ///
+    /// # Errors
+    /// `Malformed`, `Invalid`, `Limit` or `Memory`, from the first item that has such a cause; `Order` and `Failed` as for all sections.
     #[tactic(auto, unfolding(wasmparser_payloads::specs::Parsing::piece))]
     pub fn element_section<'a>(
         &mut self,
@@ -469,6 +487,9 @@ impl Validator {
     }
 
     /// Judges a data section, item by item.
+    ///
+    /// # Errors
+    /// `Malformed`, `Invalid`, `Limit` or `Memory`, from the first item that has such a cause; `Order` and `Failed` as for all sections.
     #[tactic(auto, unfolding(wasmparser_payloads::specs::Parsing::piece))]
     pub fn data_section<'a>(&mut self, section: &SectionLimited<'a, Data<'a>>) -> Result<(), Error>
         ensures { JudgesPiece (judge self.old) (pieces.Segments section.now) result (judge self.new) }

@@ -1,4 +1,5 @@
-use Rattle.std.proofs.Common.{◌≡◌, false, length}
+use Rattle.std.proofs.Common.{◌≡◌, ◌≤◌, false, length}
+use Rattle.std.specs.Prelude.{vec_capacity}
 use Rattle.wasm_gen.specs.CheckInputs.{Validates, beginning}
 use Rattle.wasm_gen.specs.Device.{WritesOn}
 use Rattle.wasm_gen.proofs.check_inputs.check_all.Given as goal
@@ -8,6 +9,7 @@ abbrev pub invariant-loop-place : goal.invariant-loop-place
 invariant-loop-place g l = record {
   ready : l.session.has_failed ≡ false;
   each : length l.outcomes.items ≡ l.place;
+  room : length l.names ≤ vec_capacity l.outcomes;
   validated : Validates beginning (g.W.Sink.contents l.initial.writer) l.outcomes.items l.session (g.W.Sink.contents l.writer);
   wrote : WritesOn (g.W.Sink.faults l.initial.writer) (g.W.Sink.faults l.writer);
 }

@@ -1,0 +1,7 @@
+//! What the encoder does where memory runs out: tests that `.ci/refusals` runs with each allocation refused in turn. What refuses is as it was, and takes
+//! the same call again.
+
+mod custom;
+mod expressions;
+mod refused;
+mod sections;

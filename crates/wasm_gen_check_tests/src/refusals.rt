@@ -1,0 +1,5 @@
+//! What sessions and the generator do where memory runs out: tests that `.ci/refusals` runs with each allocation refused in turn. A session has failed, and
+//! is as good as new after `restart`; a module that wasn't made is made the next time.
+
+mod generated;
+mod sessions;

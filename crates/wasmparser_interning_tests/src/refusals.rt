@@ -1,0 +1,7 @@
+//! What lists and sections of types do where memory runs out: tests that `.ci/refusals` runs with each allocation refused in turn. What refuses is as it
+//! was, and takes the same call again.
+
+mod rec_group;
+mod snapshot_list;
+mod type_list;
+mod type_section;

@@ -1,4 +1,0 @@
-//! Rows of tests about what a validator knows of a module: sections in words, and what they are answered.
-#![tactic(auto)]
-
-pub mod judged;

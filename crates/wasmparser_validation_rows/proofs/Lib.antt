@@ -1,0 +1,2 @@
+mod FunctionTypes
+mod LookUps

@@ -1,4 +1,4 @@
-//! Constant expressions and function bodies, which are built as their bytes: a part of `wasm_encoder`.
+//! Constant expressions, which are built as their bytes: a part of `wasm_encoder`.
 #![tactic(auto)]
 
 pub mod const_expr;

@@ -100,7 +100,7 @@ impl<R: WasmModuleResources> Body<R> {
         }
     }
 
-    // The same of a label, beside another one of which it is known. Types that are alike are looked at once.
+    // Whether a label accepts the operands, beside another one of which it is known: labels that are alike are looked at once.
     fn accepts_beside(
         &self,
         stacks: &Stacks,
@@ -117,7 +117,7 @@ impl<R: WasmModuleResources> Body<R> {
         self.accepts_label(stacks, arity, label)
     }
 
-    // The same of each of several labels, beside the default one.
+    // Whether each of several labels accepts the operands, where it is known of the default one.
     fn accepts_labels(
         &self,
         stacks: &Stacks,

@@ -138,7 +138,7 @@ impl<T: WasmModuleResources> FuncValidator<T> {
         }
     }
 
-    // The same, where nothing was refused.
+    // Defines locals, as `define_locals` does, where nothing was refused.
     fn add_locals(&mut self, offset: u64, count: u32, ty: &ValType) -> Result<(), Error>
         requires { code.IsOfModule ty.now }
         ensures defined { Defines false offset count (written (feature_set self.old.body.features) (T.resources self.old.body.resources).items (code.module_type ty.now)) self.old.body.locals self.new.body.locals (is_refused result) result }

@@ -90,7 +90,7 @@ impl<R: WasmModuleResources> Body<R> {
         stacks.pop_known(&global.content_type)
     }
 
-    // A jump to a label that takes nothing.
+    // A jump to a label, where the operand on top isn't 0.
     #[inline(always)]
     fn jump_if(&self, stacks: &mut Stacks, label: u32) -> bool
         requires fit { NumbersFit (R.resources self.now.resources).items }

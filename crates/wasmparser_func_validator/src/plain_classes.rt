@@ -27,7 +27,7 @@ pub(crate) enum Class {
     F32,
     F64,
     Conversion,
-    // It is none of the most frequent ones, or told before.
+    // It is none of the most frequent ones, or is told by a test before the table is asked.
     Other,
 }
 

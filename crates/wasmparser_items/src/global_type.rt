@@ -28,7 +28,7 @@ pub struct GlobalType {
     pub mutable: bool,
 }
 
-// Reads a global's type, in which a type index that is too large to be packed is a place in a recursive group.
+/// Reads a global's type, in which a type index that is too large to be packed is a place in a recursive group.
 #[tactic(auto, unfolding(crate::specs::PackedItems::packed_global_at))]
 pub fn read_packed_global(reader: &mut BinaryReader<'_>) -> Result<GlobalType, Malformed>
     ensures { Answers global_type reader.old reader.new result (packed_global_at reader.old.rest) }

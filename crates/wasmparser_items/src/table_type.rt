@@ -46,7 +46,7 @@ fn read_table_limits(reader: &mut BinaryReader<'_>) -> Result<MemoryType, Malfor
     Ok(limits)
 }
 
-// Reads a table's type after its first byte.
+/// Reads a table's type after its first byte.
 pub fn read_table_type_from(code: u8, reader: &mut BinaryReader<'_>) -> Result<TableType, Malformed>
     ensures { Answers table_type reader.old reader.new result (packed_table_from code reader.old.rest) }
 {
@@ -60,7 +60,7 @@ pub fn read_table_type_from(code: u8, reader: &mut BinaryReader<'_>) -> Result<T
     })
 }
 
-// Reads a table's type, in which a type index that is too large to be packed is a place in a recursive group.
+/// Reads a table's type, in which a type index that is too large to be packed is a place in a recursive group.
 #[tactic(auto, using(crate::proofs::PackedSteps::table_steps))]
 pub fn read_packed_table(reader: &mut BinaryReader<'_>) -> Result<TableType, Malformed>
     ensures { Answers table_type reader.old reader.new result (packed_table_at reader.old.rest) }

@@ -31,9 +31,9 @@ pub enum BlockType {
 /// Where in a memory a load or a store goes.
 #[derive(Clone, Copy, Debug, PartialEq, Eq)]
 pub struct MemArg {
-    /// Which power of two divides the address, it is said.
+    /// The power of two that is said to divide the address.
     pub align: u8,
-    /// Which power of two the access is wide, in bytes: a greater `align` is not valid.
+    /// The power of two that is the width of the access in bytes: a greater `align` is not valid.
     pub max_align: u8,
     /// What is added to the address.
     pub offset: u64,

@@ -1,6 +1,5 @@
 -- The whole promise: from what sections and bodies are judged to what is answered.
 use Rattle.std.proofs.Common.{◌≡◌, ◌≢◌, ◌⊎◌, inl, inr, ◌↔◌, ℕ, zero, suc, ◌<◌, ◌≤◌, Bool, true, false, List, [], ◌∷◌, ◌++◌, map, length, Some, is_some, Result, Ok, Err, option_map, refl, sym, ap, subst, ◌∙◌, arith, slice_get}
-use Rattle.std.proofs.lemmas.List.{length-map}
 use Rattle.std.proofs.lemmas.Option.{slice_get-map}
 use Rattle.wasm_core_base.specs.declared.limits.Limit.TheVariants as limits
 use Rattle.wasm_core_base.specs.Limits as views
@@ -143,10 +142,6 @@ same_body : (P Q : FuncType ℕ → List ℕ → Type 0) (sections : List Sectio
 same_body P Q sections place a b =
     let index : a.index ≡ b.index = some_is a.index b.index (sym a.indexed ∙ b.indexed) in
     (some_is a.type b.type (sym a.named ∙ ap (func_type_in (types_of sections)) index ∙ b.named), some_is a.body b.body (sym a.has ∙ b.has))
-
--- as many own functions as the sections have
-own_count : (sections : List Section) (cx : Context) → OwnFunctions → cx ≡ context_of sections → length cx.own_functions ≡ length (functions_of sections)
-own_count sections cx own known = ap (λ (c : Context). length c.own_functions) known ∙ ap length (own sections)
 
 -- ---- a module of which all is fine
 

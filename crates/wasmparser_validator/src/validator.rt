@@ -24,7 +24,6 @@ use std::mem;
 use std::ops::Range;
 use thiserror::Error as ThisError;
 use wasm_core_base::features::WasmFeatures;
-use wasm_core_base::limits::Limit;
 use wasmparser_entries::data::Data;
 use wasmparser_entries::element::Element;
 use wasmparser_entries::global::Global as GlobalItem;

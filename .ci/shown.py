@@ -19,6 +19,11 @@ def tokens_of(files):
     return [[(int(a), int(b), kind, word) for a, b, kind, word in TOKEN.findall(it)] for it in rows]
 
 
+def without_comments(files):
+    """Returns of each file of code its words with their kinds, as a text: all of it but comments and layout."""
+    return ["\n".join(f"{kind} {word}" for _, _, kind, word in it) for it in tokens_of(files)]
+
+
 def end_of_block(words, opens):
     """Returns the place of the brace, or bracket, that closes the one at a place."""
     depth, left, right = 0, words[opens], {"{": "}", "[": "]"}[words[opens]]

@@ -1,5 +1,5 @@
 #!/usr/bin/env python3
-"""Tests shown.py: that an edit of what crates above can rest on is told, and that one of what is private isn't."""
+"""Tests shown.py: that an edit of what crates above can rest on is told, and that one of what is private isn't; and that any of code but its comments is told."""
 import os
 import sys
 import tempfile
@@ -95,6 +95,7 @@ EDITS = [
     ("src/next.rt", "half(self.value) }", "whole(self.value) }", False),
     ("src/next.rt", "ghost laws = { named }", "ghost laws = { named cc }", True),
     ("src/next.rt", "    // Its half.", "    // Half of it.", False),
+    ("src/next.rt", "/// A number.", "/// Some number.", False),
     ("src/next.rt", "auto, using", "auto, rules, using", False),
     ("src/next.rt", "    #[tactic(auto, using(", "    #[inline(always)]\n    #[tactic(auto, using(", False),
     ("src/next.rt", "    fn halved(&self) -> u8\n        ensures { result ≤ self.now.value }\n", "    fn halved(&self, more: u8) -> u8\n        ensures { result ≤ 1 }\n", False),
@@ -116,15 +117,21 @@ def shown_of(room):
     return shown.shown_by(crate)
 
 
+def words_of(path):
+    """Returns the words of a file of code, comments aside, or nothing of another file."""
+    return shown.without_comments([path]) if path.endswith(".rt") else []
+
+
 def is_told(room, before, file, old, new):
-    """Returns whether an edit changes what the crate shows."""
+    """Returns whether an edit changes what the crate shows, and whether it changes the file's words."""
     path = f"{room}/crates/sums/{file}"
     with open(path, encoding="utf-8") as it:
         text = it.read()
     assert text.count(old) == 1, (file, old)
+    words = words_of(path)
     with open(path, "w", encoding="utf-8") as it:
         it.write(text.replace(old, new))
-    found = shown_of(room) != before
+    found = shown_of(room) != before, words_of(path) != words
     with open(path, "w", encoding="utf-8") as it:
         it.write(text)
     return found
@@ -137,7 +144,11 @@ def main():
             with open(f"{room}/{path}", "w", encoding="utf-8") as it:
                 it.write(text)
         before = shown_of(room)
-        wrong = [(file, old) for file, old, new, is_shown in EDITS if is_told(room, before, file, old, new) != is_shown]
+        wrong = []
+        for file, old, new, is_shown in EDITS:
+            is_code = file.endswith(".rt") and not new.strip().startswith("//")
+            if is_told(room, before, file, old, new) != (is_shown, is_code):
+                wrong.append((file, old))
     print(f"the test of what crates show: {'passed' if not wrong else f'FAILED: {wrong}'}")
     return 1 if wrong else 0
 

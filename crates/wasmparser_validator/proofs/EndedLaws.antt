@@ -22,8 +22,8 @@ use Rattle.wasmparser_module_state.specs.State.{context, features_of}
 use Rattle.wasmparser_module_state.specs.StateResources.{state_resources}
 use Rattle.wasmparser_module_state.specs.declared.module_state.ModuleState.{ModuleState}
 use Rattle.wasmparser_module_types.specs.ModuleTypes.{AreKnownTypes, KnownTypes}
-use Rattle.wasmparser_sections.specs.Sections.{AreAccepted}
-use Rattle.wasmparser_sections.specs.declared.sections.ValidSections.{ValidSections}
+use Rattle.wasmparser_validator.specs.Sections.{AreAccepted}
+use Rattle.wasmparser_validator.specs.declared.sections.ValidSections.{ValidSections}
 use Rattle.wasmparser_types.specs.Index.{Index}
 use Rattle.wasmparser_validator.specs.Bodies.{ValidatedAt, ValidatesBodies}
 use Rattle.wasmparser_validator.specs.Judges.{GoesOn}

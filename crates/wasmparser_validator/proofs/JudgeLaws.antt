@@ -11,7 +11,7 @@ use Rattle.wasmparser_error.specs.declared.error.Error.{Error}
 use Rattle.wasmparser_error.specs.declared.error.ErrorKind.{ErrorKind}
 use Rattle.wasmparser_error.specs.declared.error.ErrorKind.TheVariants as kinds
 use Rattle.wasmparser_payloads.specs.Pieces.{Piece, Body, End}
-use Rattle.wasmparser_sections.specs.PieceJudging.{AddsPiece, IsPlaced, NamesPiece, Says}
+use Rattle.wasmparser_validator.specs.PieceJudging.{AddsPiece, IsPlaced, NamesPiece, Says}
 use Rattle.wasmparser_validator.specs.Judges.{AcceptsPiece, IsOutOfOrder, IsWaitedAt, Judge, NamesWaited, RefusesPiece, after_piece, agrees, follows_bodies, is_body, is_end, may_stand_between, is_version, place_of, waiting, waits_for, waits_in}
 use Rattle.wasmparser_validator.specs.declared.validator.Stage.{Stage}
 use Rattle.wasmparser_validator.specs.declared.validator.Stage.TheVariants as stages

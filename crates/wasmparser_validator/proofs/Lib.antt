@@ -1,5 +1,12 @@
 pub mod Counts
+mod CountLaws
+mod EntryLists
 mod ExportLaws
+mod PieceItems
+mod PieceLaws
+mod PiecePlaces
+mod ReadPieces
+mod SectionEntries
 pub mod FewParameters
 pub mod LocalsLimit
 pub mod VerdictLaws

@@ -15,10 +15,10 @@ use Rattle.wasmparser_module_state.specs.History.{EnterAll, held}
 use Rattle.wasmparser_module_state.specs.State.{context, features_of}
 use Rattle.wasmparser_module_state.specs.declared.module_state.ModuleState.{ModuleState}
 use Rattle.wasmparser_payloads.specs.Pieces.{Piece}
-use Rattle.wasmparser_sections.specs.PieceJudging.{Says}
-use Rattle.wasmparser_sections.specs.Sections.{AreAccepted}
-use Rattle.wasmparser_sections.specs.declared.sections.ValidSections.{ValidSections}
-use Rattle.wasmparser_sections.proofs.EntryLists.{after_both, enter_both, keep_both, within_both}
+use Rattle.wasmparser_validator.specs.PieceJudging.{Says}
+use Rattle.wasmparser_validator.specs.Sections.{AreAccepted}
+use Rattle.wasmparser_validator.specs.declared.sections.ValidSections.{ValidSections}
+use Rattle.wasmparser_validator.proofs.EntryLists.{after_both, enter_both, keep_both, within_both}
 use Rattle.wasmparser_validator.specs.Bodies.{AreNamed}
 use Rattle.wasmparser_validator.specs.KnownSpaces.{AreFew, CanBeShown, IsReached}
 use Rattle.wasmparser_validator.proofs.Counts.{are_few}

@@ -27,8 +27,8 @@ use Rattle.wasmparser_error.specs.declared.error.ErrorKind.TheVariants as kinds
 use Rattle.wasmparser_module_state.specs.History.{EnterAll, OneFindsNoRoom, held}
 use Rattle.wasmparser_module_state.specs.State.{context}
 use Rattle.wasmparser_module_types.specs.ModuleTypes.{KnownTypes}
-use Rattle.wasmparser_sections.specs.Sections.{AreAccepted, EndBy, NamesSections}
-use Rattle.wasmparser_sections.specs.declared.sections.ValidSections.{ValidSections}
+use Rattle.wasmparser_validator.specs.Sections.{AreAccepted, EndBy, NamesSections}
+use Rattle.wasmparser_validator.specs.declared.sections.ValidSections.{ValidSections}
 use Rattle.wasmparser_module_bodies.specs.BodyVerdicts.{IsBodyJudged}
 use Rattle.wasmparser_validator.specs.Bodies.{AreNamed}
 use Rattle.wasmparser_validator.specs.Judges.{GoesOn, GoesOnAfter, EndsInBody}

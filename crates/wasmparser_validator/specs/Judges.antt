@@ -15,7 +15,7 @@ use Rattle.wasmparser_module_entries.specs.PieceEntries.{entries_said, items_of}
 use Rattle.wasmparser_module_state.specs.History.{EnterAll, held}
 use Rattle.wasmparser_module_state.specs.State.{context, features_of}
 use Rattle.wasmparser_payloads.specs.Pieces.{Piece, Version, Types, Imports, Functions, Tables, Memories, Tags, Globals, Exports, Start, Elements, DataCount, CodeStart, Body, Segments, Custom, Unknown, End}
-use Rattle.wasmparser_sections.specs.PieceJudging.{IsInPiece, NamesPiece, Says, body_in}
+use Rattle.wasmparser_validator.specs.PieceJudging.{IsInPiece, NamesPiece, Says, body_in}
 use Rattle.wasmparser_validator.specs.Functions.{HasFunction}
 use Rattle.wasmparser_validator.specs.KnownSpaces.{IsEndOf, KnownModule}
 use Rattle.wasmparser_validator.specs.Validation.{IsValidated}

@@ -1,5 +1,7 @@
 pub mod Bodies
 pub mod KnownSpaces
+pub mod PieceJudging
+pub mod Sections
 pub mod Shown
 pub mod ShownImports
 pub mod Validation

@@ -17,7 +17,7 @@ use Rattle.wasmparser_error.specs.declared.error.ErrorKind.{ErrorKind}
 use Rattle.wasmparser_error.specs.declared.error.ErrorKind.TheVariants as kinds
 use Rattle.wasmparser_module_state.specs.History.{EnterAll, grows, held}
 use Rattle.wasmparser_module_state.specs.State.{features_of}
-use Rattle.wasmparser_sections.specs.Sections.{BeginsWithoutRoom}
+use Rattle.wasmparser_validator.specs.Sections.{BeginsWithoutRoom}
 use Rattle.wasmparser_validator.specs.KnownSpaces.{KnownModule, spaces_known}
 
 -- the bytes read as a module that is valid under the features

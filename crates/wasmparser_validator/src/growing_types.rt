@@ -7,10 +7,10 @@ ghost use Rattle.wasmparser_module_state.specs.History.{grows, held};
 ghost use Rattle.wasmparser_module_state.specs.State.{context, features_of};
 ghost use Rattle.wasmparser_module_state.specs.StateResources.{state_resources};
 ghost use Rattle.wasmparser_payloads.specs.Parsing.{piece};
-ghost use Rattle.wasmparser_sections.specs.PieceJudging.{AddsPiece};
 ghost use Rattle.wasmparser_validator.specs.Bodies.{AreNamed};
 ghost use Rattle.wasmparser_validator.specs.Functions.{TellsModule, resources_of};
 ghost use Rattle.wasmparser_validator.specs.KnownSpaces.{CanBeShown, IsEndOf};
+ghost use Rattle.wasmparser_validator.specs.PieceJudging.{AddsPiece};
 
 use crate::resources::ValidatorResources;
 use crate::types::Types;

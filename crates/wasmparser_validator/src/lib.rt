@@ -4,9 +4,12 @@
 pub mod core_imports;
 mod growing_types;
 mod modules;
+mod payload;
 pub mod resources;
+mod sections;
 pub mod spaces;
 pub mod types;
+mod unknown;
 pub mod valid_payload;
 mod valid_state;
 pub mod validator;

@@ -7,14 +7,15 @@ ghost use Rattle.wasmparser_module_state.specs.History.{held};
 ghost use Rattle.wasmparser_module_state.specs.State.{context, features_of};
 ghost use Rattle.wasmparser_module_state.specs.StateResources.{state_resources};
 ghost use Rattle.wasmparser_module_types.specs.ModuleTypes.{AreKnownTypes};
-ghost use Rattle.wasmparser_sections.specs.Sections.{AreAccepted};
 ghost use Rattle.wasmparser_validator.specs.Bodies.{AreNamed, ValidatesBodies, ValidatesOwn};
 ghost use Rattle.wasmparser_validator.specs.Judges.{GoesOn};
 ghost use Rattle.wasmparser_validator.specs.KnownSpaces.{IsReached};
 ghost use Rattle.wasmparser_validator.specs.Modules.{goes_on, verdict};
+ghost use Rattle.wasmparser_validator.specs.Sections.{AreAccepted};
 ghost use Rattle.wasmparser_validator.specs.Validation.{IsValidated};
 
 use crate::growing_types::GrowingTypes;
+use crate::sections::{ValidSections, validate_sections};
 use crate::types::Types;
 use crate::valid_state::ValidState;
 use crate::validator_id::ValidatorId;
@@ -27,7 +28,6 @@ use wasmparser_module_entries::laws::fronts_of_modules;
 use wasmparser_module_state::laws::first_modules_find_room;
 use wasmparser_module_state::module_state::ModuleState;
 use wasmparser_payloads::function_body::FunctionBody;
-use wasmparser_sections::sections::{ValidSections, validate_sections};
 
 // Why a module is refused, and whether in a body, where all else is fine.
 #[derive(Clone, Copy)]

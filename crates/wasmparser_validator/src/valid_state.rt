@@ -7,11 +7,12 @@ ghost use Rattle.wasmparser_module_state.specs.History.{grows, held};
 ghost use Rattle.wasmparser_module_state.specs.State.{context, features_of};
 ghost use Rattle.wasmparser_module_state.specs.StateResources.{state_resources};
 ghost use Rattle.wasmparser_payloads.specs.Parsing.{piece};
-ghost use Rattle.wasmparser_sections.specs.PieceJudging.{AddsPiece};
 ghost use Rattle.wasmparser_validator.specs.Bodies.{AreNamed};
 ghost use Rattle.wasmparser_validator.specs.Functions.{TellsModule};
 ghost use Rattle.wasmparser_validator.specs.KnownSpaces.{CanBeShown, IsReached};
+ghost use Rattle.wasmparser_validator.specs.PieceJudging.{AddsPiece};
 
+use crate::payload::add_payload;
 use std::alloc::{AllocError, Global};
 use std::marker::Model;
 use std::mem;
@@ -21,7 +22,6 @@ use wasmparser_error::error::Error;
 use wasmparser_module_state::module_state::ModuleState;
 use wasmparser_module_types::module_types::ModuleTypes;
 use wasmparser_payloads::payload::Payload;
-use wasmparser_sections::payload::add_payload;
 
 // What is known of a module after entries that keep all rules and limits.
 #[derive(Drop)]

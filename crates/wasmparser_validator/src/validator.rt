@@ -605,7 +605,7 @@ impl Validator {
     /// # Errors
     /// Those of the calls for each kind of payload. `Malformed` where a code section states another number of bodies than there are functions. `Order` where a
     /// payload isn't waited for, and `Failed` after a refusal.
-    #[tactic(auto, unfolding(wasmparser_payloads::specs::Parsing::piece, wasmparser_sections::specs::PieceJudging::body_in, crate::specs::Judges::is_end))]
+    #[tactic(auto, unfolding(wasmparser_payloads::specs::Parsing::piece, crate::specs::PieceJudging::body_in, crate::specs::Judges::is_end))]
     pub fn payload<'a>(&mut self, payload: &Payload<'a>) -> Result<ValidPayload<'a>, Error>
         ensures judged { JudgesPayload (judge self.old) (piece payload.now) result (judge self.new) }
         ensures shown { IfOk result (ShowsAll self.old.types) }

@@ -20,9 +20,9 @@ use Rattle.wasmparser_module_state.specs.Judging.{Accepts, Adds, NamesEntry, IsA
 use Rattle.wasmparser_module_types.specs.ModuleTypes.{KnownTypes}
 use Rattle.wasmparser_payloads.specs.Pieces.{Piece, Place, Version, Types, Imports, Functions, Tables, Memories, Tags, Globals, Exports, Start, Elements, DataCount, CodeStart, Body, Segments, Custom, Unknown, End, Named}
 use Rattle.wasmparser_readers.specs.Sections.{Left, Limited, left_items}
-use Rattle.wasmparser_sections.specs.PieceJudging.{Says, by_itself, with_some, PieceBegins, IsFirstOf, IsAmong, IsInPiece, IsPlaced, NamesPiece, AddsPiece, RefusesAt}
-use Rattle.wasmparser_sections.proofs.EntryLists.{after_both, enter_both, keep_both, keep_others, no_room_both, within_both, past_others}
-use Rattle.wasmparser_sections.proofs.PieceItems.{as_entries}
+use Rattle.wasmparser_validator.specs.PieceJudging.{Says, by_itself, with_some, PieceBegins, IsFirstOf, IsAmong, IsInPiece, IsPlaced, NamesPiece, AddsPiece, RefusesAt}
+use Rattle.wasmparser_validator.proofs.EntryLists.{after_both, enter_both, keep_both, keep_others, no_room_both, within_both, past_others}
+use Rattle.wasmparser_validator.proofs.PieceItems.{as_entries}
 
 -- ---- pieces that say one entry by themselves
 

@@ -13,8 +13,8 @@ use Rattle.wasmparser_payloads.specs.Parsing.{IsBetween, LieBetween}
 use Rattle.wasmparser_payloads.specs.Pieces.{Piece, Place, Version, Types, Imports, Functions, Tables, Memories, Tags, Globals, Exports, Start, Elements, DataCount, Body, Segments, Custom, Unknown, End, Named, Remains, whole_of, input_before, framed, frame_of, named_of, code_start, piece_of, next_piece}
 use Rattle.wasmparser_payloads.proofs.Progress.{frame_smaller}
 use Rattle.wasmparser_readers.specs.Sections.{Limited, limited_of}
-use Rattle.wasmparser_sections.specs.PieceJudging.{IsFirstOf, IsInPiece, body_in}
-use Rattle.wasmparser_sections.specs.Sections.{EndBy}
+use Rattle.wasmparser_validator.specs.PieceJudging.{IsFirstOf, IsInPiece, body_in}
+use Rattle.wasmparser_validator.specs.Sections.{EndBy}
 
 -- the bytes of a piece lie between two places
 pub record PieceLies (first last : ℕ) (piece : Piece) : Type 0 where

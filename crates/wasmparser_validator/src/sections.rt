@@ -7,8 +7,8 @@ ghost use Rattle.wasmparser_error.specs.declared.error.ErrorKind.TheVariants as 
 ghost use Rattle.wasmparser_module_state.specs.History.{grows, held};
 ghost use Rattle.wasmparser_module_state.specs.State.{context, features_of};
 ghost use Rattle.wasmparser_payloads.specs.Parsing.{piece};
-ghost use Rattle.wasmparser_sections.specs.PieceJudging.{body_in, count_in};
-ghost use Rattle.wasmparser_sections.specs.Sections.{AreAccepted, CountsAgree, JudgesSections, ReadsSections, RefusesSections};
+ghost use Rattle.wasmparser_validator.specs.PieceJudging.{body_in, count_in};
+ghost use Rattle.wasmparser_validator.specs.Sections.{AreAccepted, CountsAgree, JudgesSections, ReadsSections, RefusesSections};
 
 use crate::payload::add_payload;
 use std::alloc::Global;

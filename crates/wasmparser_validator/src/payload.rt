@@ -7,7 +7,7 @@ ghost use Rattle.wasmparser_module_state.specs.Judging.{AddsEntries};
 ghost use Rattle.wasmparser_module_state.specs.State.{context, features_of};
 ghost use Rattle.wasmparser_payloads.specs.Parsing.{piece};
 ghost use Rattle.wasmparser_payloads.specs.Pieces.{Tags};
-ghost use Rattle.wasmparser_sections.specs.PieceJudging.{AddsPiece};
+ghost use Rattle.wasmparser_validator.specs.PieceJudging.{AddsPiece};
 
 use crate::unknown::refuse;
 use std::alloc::Global;

@@ -11,9 +11,9 @@ use Rattle.wasmparser_module_entries.specs.EntryReading.{EntryReading}
 use Rattle.wasmparser_module_entries.specs.PieceEntries.{items_of, said_first, with_items, entries_said}
 use Rattle.wasmparser_payloads.specs.Pieces.{Piece, Version, Types, Imports, Functions, Tables, Memories, Tags, Globals, Exports, Start, Elements, DataCount, CodeStart, Body, Segments, Custom, Unknown, End}
 use Rattle.wasmparser_readers.specs.Sections.{Left, left_items}
-use Rattle.wasmparser_sections.specs.PieceJudging.{body_in, count_in}
-use Rattle.wasmparser_sections.specs.Sections.{contents_of}
-use Rattle.wasmparser_sections.proofs.SectionEntries.{body_said, bodies_said, count_said, data_counts_said, none_said}
+use Rattle.wasmparser_validator.specs.PieceJudging.{body_in, count_in}
+use Rattle.wasmparser_validator.specs.Sections.{contents_of}
+use Rattle.wasmparser_validator.proofs.SectionEntries.{body_said, bodies_said, count_said, data_counts_said, none_said}
 
 -- items of one kind as entries
 abbrev pub as_entries : {A : Type 0} → (A → Entry) → (Features → ReadingOf A) → EntryReading

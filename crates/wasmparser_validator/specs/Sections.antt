@@ -17,7 +17,7 @@ use Rattle.wasmparser_error.specs.declared.error.ErrorKind.TheVariants as kinds
 use Rattle.wasmparser_module_entries.specs.PieceEntries.{HasAllSections}
 use Rattle.wasmparser_module_state.specs.History.{EnterAll, OneFindsNoRoom, grows, held}
 use Rattle.wasmparser_module_state.specs.State.{context, features_of}
-use Rattle.wasmparser_sections.specs.declared.sections.ValidSections.{ValidSections}
+use Rattle.wasmparser_validator.specs.declared.sections.ValidSections.{ValidSections}
 
 -- the bytes of bodies
 abbrev pub contents_of : List Input → List (List ℕ)

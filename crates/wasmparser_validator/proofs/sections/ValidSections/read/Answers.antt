@@ -1,6 +1,6 @@
 use Rattle.std.proofs.Common.{rules, ◌≡◌, true, false, sym, ◌∙◌}
-use Rattle.wasmparser_sections.proofs.CountLaws.{accepted, not_counted}
-use Rattle.wasmparser_sections.proofs.sections.ValidSections.read.Goals as goal
+use Rattle.wasmparser_validator.proofs.CountLaws.{accepted, not_counted}
+use Rattle.wasmparser_validator.proofs.sections.ValidSections.read.Goals as goal
 
 pub returns-then-not-counts_agree-clause-refused : goal.returns-then-not-counts_agree-clause-refused
 returns-then-not-counts_agree-clause-refused c =

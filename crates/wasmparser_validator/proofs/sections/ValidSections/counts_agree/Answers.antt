@@ -1,6 +1,6 @@
 use Rattle.std.proofs.Common.{tests, ◌≡◌, length, arith}
-use Rattle.wasmparser_sections.proofs.CountLaws.{all_counted, each_counted}
-use Rattle.wasmparser_sections.proofs.sections.ValidSections.counts_agree.Goals as goal
+use Rattle.wasmparser_validator.proofs.CountLaws.{all_counted, each_counted}
+use Rattle.wasmparser_validator.proofs.sections.ValidSections.counts_agree.Goals as goal
 
 pub returns : goal.returns
 returns c =

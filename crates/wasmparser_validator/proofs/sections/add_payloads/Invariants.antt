@@ -1,8 +1,8 @@
 use Rattle.std.proofs.Common.{◌≡◌, true}
 use Rattle.wasmparser_module_state.specs.History.{grows, held}
 use Rattle.wasmparser_module_state.specs.State.{context, features_of}
-use Rattle.wasmparser_sections.proofs.ReadPieces.{Progress}
-use Rattle.wasmparser_sections.proofs.sections.add_payloads.Given as goal
+use Rattle.wasmparser_validator.proofs.ReadPieces.{Progress}
+use Rattle.wasmparser_validator.proofs.sections.add_payloads.Given as goal
 
 abbrev pub invariant-payloads : goal.invariant-payloads
 invariant-payloads l =

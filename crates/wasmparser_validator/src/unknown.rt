@@ -1,6 +1,6 @@
 //! Sections of no known kind.
 
-ghost use Rattle.wasmparser_sections.specs.PieceJudging.{RefusesAt};
+ghost use Rattle.wasmparser_validator.specs.PieceJudging.{RefusesAt};
 
 use wasmparser_error::error::{Error, ErrorKind};
 

@@ -4,9 +4,9 @@ use Rattle.wasm_core_read.proofs.FrontLaws.{slice_bytes}
 use Rattle.wasmparser_module_state.specs.History.{held}
 use Rattle.wasmparser_module_state.specs.State.{context}
 use Rattle.wasmparser_payloads.specs.Parsing.{piece}
-use Rattle.wasmparser_sections.specs.PieceJudging.{Says, AddsPiece}
-use Rattle.wasmparser_sections.proofs.ReadPieces.{begins, goes_on, refused, not_ended, unread, all_read}
-use Rattle.wasmparser_sections.proofs.sections.add_payloads.Goals as goal
+use Rattle.wasmparser_validator.specs.PieceJudging.{Says, AddsPiece}
+use Rattle.wasmparser_validator.proofs.ReadPieces.{begins, goes_on, refused, not_ended, unread, all_read}
+use Rattle.wasmparser_validator.proofs.sections.add_payloads.Goals as goal
 
 pub payloads-init : goal.payloads-init
 payloads-init c = rw (c.parse_all-payloads.ensures, c.set_features.ensures, c.features.ensures, c.new-parser.ensures) (begins _ _ _ _ _ _ c.requires.nothing c.requires.none c.requires.no_counts, refl, c.requires.grows)

@@ -13,9 +13,9 @@ use Rattle.wasmparser_error.specs.declared.error.ErrorKind.TheVariants as kinds
 use Rattle.wasm_spec.specs.Trees.{DefType}
 use Rattle.wasmparser_module_state.specs.History.{grows, held}
 use Rattle.wasmparser_module_state.specs.State.{context, features_of}
-use Rattle.wasmparser_sections.specs.Sections.{AreRead, CountsAgree, AreAccepted, RefusesSections}
-use Rattle.wasmparser_sections.specs.declared.sections.ValidSections.{ValidSections}
-use Rattle.wasmparser_sections.proofs.SectionEntries.{functions_of_sections, segments_of_sections}
+use Rattle.wasmparser_validator.specs.Sections.{AreRead, CountsAgree, AreAccepted, RefusesSections}
+use Rattle.wasmparser_validator.specs.declared.sections.ValidSections.{ValidSections}
+use Rattle.wasmparser_validator.proofs.SectionEntries.{functions_of_sections, segments_of_sections}
 
 -- ---- counts one by one
 

@@ -25,12 +25,12 @@ use Rattle.wasmparser_payloads.specs.Parsing.{Settings, whole_module, IsInside, 
 use Rattle.wasmparser_payloads.specs.Pieces.{Piece, Version, Types, Imports, Functions, Tables, Memories, Tags, Globals, Exports, Start, Elements, DataCount, CodeStart, Body, Segments, Custom, Unknown, End, Remains, next_piece}
 use Rattle.wasm_spec.specs.Trees.{DefType}
 use Rattle.wasmparser_module_state.specs.History.{EnterAll, OneFindsNoRoom}
-use Rattle.wasmparser_sections.specs.PieceJudging.{Says, IsFrontOf, by_itself, with_some, IsPlaced, NamesPiece, AddsPiece, body_in, count_in}
-use Rattle.wasmparser_sections.specs.Sections.{contents_of, EndBy, AreRead, NamesSections, RefusesSections}
-use Rattle.wasmparser_sections.proofs.EntryLists.{after_both, enter_both, keep_both, keep_others, no_room_both, within_both, past_others}
-use Rattle.wasmparser_sections.proofs.PieceItems.{body_of_piece, count_of_piece}
-use Rattle.wasmparser_sections.proofs.PiecePlaces.{PieceLies, piece_lies}
-use Rattle.wasmparser_sections.proofs.SectionEntries.{body_said, bodies_said, bodies_of_sections, count_said, data_counts_said, counts_of_sections}
+use Rattle.wasmparser_validator.specs.PieceJudging.{Says, IsFrontOf, by_itself, with_some, IsPlaced, NamesPiece, AddsPiece, body_in, count_in}
+use Rattle.wasmparser_validator.specs.Sections.{contents_of, EndBy, AreRead, NamesSections, RefusesSections}
+use Rattle.wasmparser_validator.proofs.EntryLists.{after_both, enter_both, keep_both, keep_others, no_room_both, within_both, past_others}
+use Rattle.wasmparser_validator.proofs.PieceItems.{body_of_piece, count_of_piece}
+use Rattle.wasmparser_validator.proofs.PiecePlaces.{PieceLies, piece_lies}
+use Rattle.wasmparser_validator.proofs.SectionEntries.{body_said, bodies_said, bodies_of_sections, count_said, data_counts_said, counts_of_sections}
 
 -- how bytes are read under these features
 abbrev pub settings_of : Features → Settings

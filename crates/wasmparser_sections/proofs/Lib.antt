@@ -1,7 +1,0 @@
-mod CountLaws
-pub mod EntryLists
-mod PieceItems
-mod PieceLaws
-mod PiecePlaces
-mod ReadPieces
-mod SectionEntries

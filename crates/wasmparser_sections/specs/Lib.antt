@@ -1,2 +1,0 @@
-pub mod PieceJudging
-pub mod Sections

@@ -106,6 +106,9 @@ impl<'a> BinaryReader<'a> {
     }
 
     /// Reads one byte.
+    ///
+    /// # Errors
+    /// Exactly where no byte is left, at the reader's place. The reader is then as it was.
     #[tactic(auto, unfolding(crate::specs::Reading::byte_at))]
     pub fn read_u8(&mut self) -> Result<u8, Malformed>
         ensures exact { Gives (λ b. b) self.old self.new result (byte_at self.old.rest) }
@@ -124,6 +127,9 @@ impl<'a> BinaryReader<'a> {
     }
 
     /// Reads an unsigned number of 32 bits in LEB128, padded or not: at most five bytes.
+    ///
+    /// # Errors
+    /// Exactly where no such number stands next, at the reader's place. The reader is then as it was.
     pub fn read_var_u32(&mut self) -> Result<u32, Malformed>
         ensures exact { Gives (λ n. n) self.old self.new result (unsigned_at 32 self.old.rest) }
         ensures reads { Reads IsU32 (λ n. n) self.old self.new result }
@@ -150,6 +156,9 @@ impl<'a> BinaryReader<'a> {
     }
 
     /// Reads an unsigned number of 64 bits in LEB128, padded or not: at most ten bytes.
+    ///
+    /// # Errors
+    /// Exactly where no such number stands next, at the reader's place. The reader is then as it was.
     pub fn read_var_u64(&mut self) -> Result<u64, Malformed>
         ensures exact { Gives (λ n. n) self.old self.new result (unsigned_at 64 self.old.rest) }
         ensures reads { Reads IsU64 (λ n. n) self.old self.new result }
@@ -176,6 +185,9 @@ impl<'a> BinaryReader<'a> {
     }
 
     /// Reads a signed number of 32 bits in LEB128, padded or not: at most five bytes.
+    ///
+    /// # Errors
+    /// Exactly where no such number stands next, at the reader's place. The reader is then as it was.
     pub fn read_var_i32(&mut self) -> Result<i32, Malformed>
         ensures exact { Gives (λ n. n) self.old self.new result (signed_at 32 self.old.rest) }
         ensures reads { Reads IsS32 (λ n. n) self.old self.new result }
@@ -202,6 +214,9 @@ impl<'a> BinaryReader<'a> {
     }
 
     /// Reads a signed number of 33 bits in LEB128, padded or not: at most five bytes.
+    ///
+    /// # Errors
+    /// Exactly where no such number stands next, at the reader's place. The reader is then as it was.
     pub fn read_var_s33(&mut self) -> Result<i64, Malformed>
         ensures exact { Gives (λ n. n) self.old self.new result (signed_at 33 self.old.rest) }
         ensures reads { Reads IsS33 (λ n. n) self.old self.new result }
@@ -212,6 +227,9 @@ impl<'a> BinaryReader<'a> {
     }
 
     /// Reads a signed number of 64 bits in LEB128, padded or not: at most ten bytes.
+    ///
+    /// # Errors
+    /// Exactly where no such number stands next, at the reader's place. The reader is then as it was.
     pub fn read_var_i64(&mut self) -> Result<i64, Malformed>
         ensures exact { Gives (λ n. n) self.old self.new result (signed_at 64 self.old.rest) }
         ensures reads { Reads IsS64 (λ n. n) self.old self.new result }
@@ -240,6 +258,9 @@ impl<'a> BinaryReader<'a> {
     }
 
     /// Reads the bits of a floating-point number of 32 bits.
+    ///
+    /// # Errors
+    /// Exactly where fewer than four bytes are left, at the reader's place. The reader is then as it was.
     pub fn read_f32_bits(&mut self) -> Result<u32, Malformed>
         ensures exact { Gives (λ n. n) self.old self.new result (float_at 4 self.old.rest) }
         ensures reads { Reads IsF32 (λ n. n) self.old self.new result }
@@ -265,6 +286,9 @@ impl<'a> BinaryReader<'a> {
     }
 
     /// Reads the bits of a floating-point number of 64 bits.
+    ///
+    /// # Errors
+    /// Exactly where fewer than eight bytes are left, at the reader's place. The reader is then as it was.
     pub fn read_f64_bits(&mut self) -> Result<u64, Malformed>
         ensures exact { Gives (λ n. n) self.old self.new result (float_at 8 self.old.rest) }
         ensures reads { Reads IsF64 (λ n. n) self.old self.new result }
@@ -290,6 +314,9 @@ impl<'a> BinaryReader<'a> {
     }
 
     /// Reads so many bytes.
+    ///
+    /// # Errors
+    /// Exactly where fewer are left, at the reader's place. The reader is then as it was.
     pub fn read_bytes(&mut self, len: usize) -> Result<&'a [u8], Malformed>
         ensures exact { Gives (λ b. b.now) self.old self.new result (bytes_at len self.old.rest) }
         ensures reads { Reads (IsBytesOf len) (λ b. b.now) self.old self.new result }
@@ -315,6 +342,10 @@ impl<'a> BinaryReader<'a> {
     }
 
     /// Reads a name: the number of its bytes, and these bytes, which are UTF-8.
+    ///
+    /// # Errors
+    /// Exactly where no number of 32 bits stands next, fewer bytes follow than it says, or those are not UTF-8, at the reader's place. The reader is
+    /// then as it was.
     pub fn read_string(&mut self) -> Result<&'a str, Malformed>
         ensures exact { Gives (λ s. s.now) self.old self.new result (name_at self.old.rest) }
         ensures reads { Reads IsName (λ s. s.now) self.old self.new result }

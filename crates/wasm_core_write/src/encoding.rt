@@ -41,6 +41,9 @@ impl Encoding for u32 {
 }
 
 /// The length of two encodings, one after the other.
+///
+/// # Errors
+/// `TooLong` alone, exactly where that is more than 4,294,967,295.
 pub fn add_sizes(first: u64, second: u64) -> Result<u64, EncodeError>
     requires first { first < 2 ^ 32 }
     requires second { second < 2 ^ 32 }
@@ -54,6 +57,9 @@ pub fn add_sizes(first: u64, second: u64) -> Result<u64, EncodeError>
 }
 
 /// The number of bytes of a list with its count.
+///
+/// # Errors
+/// `TooLong` alone, exactly where that is more than 4,294,967,295.
 #[tactic(auto, using(wasm_spec::proofs::ListEncodings::list_steps), unfolding(wasm_spec::specs::Shortest::list_encoding))]
 pub fn list_size<T: Encoding>(items: &[T]) -> Result<u64, EncodeError>
     ensures { Measures result (length (list_encoding T.encoding items.now)) (length (list_encoding T.encoding items.now)) }
@@ -89,6 +95,9 @@ pub fn item_len<T: Encoding>(items: &[T], i: u32) -> Option<u64>
 }
 
 /// The number of bytes of a content after its size.
+///
+/// # Errors
+/// `TooLong` alone, exactly where the content is past 4,294,967,295 bytes.
 #[tactic(auto, using(wasm_spec::proofs::ListEncodings::framed_steps, wasm_spec::proofs::UnsignedEncodings::at_most_five))]
 pub fn framed_len<T: Encoding>(content: &T) -> Result<u64, EncodeError>
     ensures exact { Measures result (length (framed_encoding (T.encoding content.now))) (length (T.encoding content.now)) }
@@ -99,6 +108,9 @@ pub fn framed_len<T: Encoding>(content: &T) -> Result<u64, EncodeError>
 }
 
 /// Appends a content after its size: measures, grows the sink once, and writes.
+///
+/// # Errors
+/// `TooLong` exactly where the content is past 4,294,967,295 bytes, and else `Memory` where the sink cannot grow. Its bytes are then as they were.
 #[tactic(auto, using(wasm_spec::proofs::ListEncodings::framed_steps))]
 pub fn encode_framed<T: Encoding>(content: &T, sink: &mut Vec<u8>) -> Result<(), EncodeError>
     ensures { Encodes sink.old sink.new result (framed_encoding (T.encoding content.now)) (length (T.encoding content.now)) }
@@ -111,6 +123,9 @@ pub fn encode_framed<T: Encoding>(content: &T, sink: &mut Vec<u8>) -> Result<(),
 }
 
 /// The number of these bytes.
+///
+/// # Errors
+/// `TooLong` alone, exactly where there are more than 4,294,967,295.
 pub fn bytes_size(bytes: &[u8]) -> Result<u64, EncodeError>
     ensures { Measures result (length bytes.now) (length bytes.now) }
 {

@@ -52,14 +52,20 @@ pub fn len_s64(n: i64) -> usize
     len_magnitude(negative, magnitude)
 }
 
-/// Appends a number. Where memory runs out, nothing is appended.
+/// Appends a number.
+///
+/// # Errors
+/// Where the sink has to grow and memory runs out. Nothing is appended then.
 pub fn write_u32(sink: &mut Vec<u8>, n: u32) -> Result<(), AllocError>
     ensures { Appends sink.old sink.new result (unsigned_encoding n) }
 {
     write_u64(sink, u64::from(n))
 }
 
-/// Appends a number. Where memory runs out, nothing is appended.
+/// Appends a number.
+///
+/// # Errors
+/// Where the sink has to grow and memory runs out. Nothing is appended then.
 #[tactic(auto, using(wasm_spec::proofs::UnsignedEncodings::unsigned_steps))]
 pub fn write_u64(sink: &mut Vec<u8>, n: u64) -> Result<(), AllocError>
     ensures { Appends sink.old sink.new result (unsigned_encoding n) }
@@ -72,7 +78,10 @@ pub fn write_u64(sink: &mut Vec<u8>, n: u64) -> Result<(), AllocError>
     Ok(())
 }
 
-/// Appends a number. Where memory runs out, nothing is appended.
+/// Appends a number.
+///
+/// # Errors
+/// Where the sink has to grow and memory runs out. Nothing is appended then.
 pub fn write_s32(sink: &mut Vec<u8>, n: i32) -> Result<(), AllocError>
     ensures { Appends sink.old sink.new result (signed_encoding n) }
 {
@@ -80,14 +89,20 @@ pub fn write_s32(sink: &mut Vec<u8>, n: i32) -> Result<(), AllocError>
 }
 
 /// Appends a number of 33 bits: a heap type or a block type. One that needs more bits is written all the same, as
-/// [`write_s64`] does; no reader of 33 bits then takes it. Where memory runs out, nothing is appended.
+/// [`write_s64`] does; no reader of 33 bits then takes it.
+///
+/// # Errors
+/// Where the sink has to grow and memory runs out. Nothing is appended then.
 pub fn write_s33(sink: &mut Vec<u8>, n: i64) -> Result<(), AllocError>
     ensures { Appends sink.old sink.new result (signed_encoding n) }
 {
     write_s64(sink, n)
 }
 
-/// Appends a number. Where memory runs out, nothing is appended.
+/// Appends a number.
+///
+/// # Errors
+/// Where the sink has to grow and memory runs out. Nothing is appended then.
 #[tactic(auto, using(wasm_spec::proofs::SignedEncodings::signed_steps))]
 pub fn write_s64(sink: &mut Vec<u8>, n: i64) -> Result<(), AllocError>
     ensures { Appends sink.old sink.new result (signed_encoding n) }

@@ -21,6 +21,9 @@ fn content_size<T: Encoding>(name: &str, content: &T) -> Result<u64, EncodeError
 }
 
 /// The number of bytes of a custom section after its id.
+///
+/// # Errors
+/// `TooLong` alone, exactly where the name after its length and the content are together past 4,294,967,295 bytes.
 #[tactic(auto, using(wasm_spec::proofs::ListEncodings::framed_steps, wasm_spec::proofs::UnsignedEncodings::at_most_five))]
 pub fn custom_len<T: Encoding>(name: &str, content: &T) -> Result<u64, EncodeError>
     ensures exact { Measures result (length (framed_encoding (custom_content name.now (T.encoding content.now)))) (length (custom_content name.now (T.encoding content.now))) }
@@ -31,6 +34,10 @@ pub fn custom_len<T: Encoding>(name: &str, content: &T) -> Result<u64, EncodeErr
 }
 
 /// Appends a custom section without its id: measures, grows the sink once, and writes.
+///
+/// # Errors
+/// `TooLong` exactly where the name after its length and the content are together past 4,294,967,295 bytes, and else `Memory` where the sink cannot
+/// grow. Its bytes are then as they were.
 #[tactic(auto, using(wasm_spec::proofs::ListEncodings::framed_steps, crate::proofs::Custom::custom_steps))]
 pub fn encode_custom<T: Encoding>(
     name: &str,
@@ -48,6 +55,9 @@ pub fn encode_custom<T: Encoding>(
 }
 
 /// What a value is written as, by itself.
+///
+/// # Errors
+/// `TooLong` exactly where that is more than 4,294,967,295 bytes, and else `Memory`.
 pub fn written<T: Encoding>(alloc: Global, value: &T) -> Result<Vec<u8>, EncodeError>
     ensures bytes { IfOk result (λ v. v.items ≡ T.encoding value.now) }
     ensures short { IfOk result (λ v. length v.items < 2 ^ 32) }
@@ -60,6 +70,9 @@ pub fn written<T: Encoding>(alloc: Global, value: &T) -> Result<Vec<u8>, EncodeE
 }
 
 /// What a name is written as.
+///
+/// # Errors
+/// `TooLong` exactly where the name after its length is past 4,294,967,295 bytes, and else `Memory`.
 pub fn written_name(alloc: Global, name: &str) -> Result<Vec<u8>, EncodeError>
     ensures bytes { IfOk result (λ v. v.items ≡ name_encoding name.now) }
     ensures too_long { (result ≡ Err EncodeError.TooLong) ↔ (2 ^ 32 ≤ length (name_encoding name.now)) }
@@ -71,6 +84,9 @@ pub fn written_name(alloc: Global, name: &str) -> Result<Vec<u8>, EncodeError>
 }
 
 /// The number of bytes of a value by itself.
+///
+/// # Errors
+/// `TooLong` alone, exactly where the value is written as more than 4,294,967,295 bytes.
 pub fn alone_len<T: Encoding>(value: &T) -> Result<u64, EncodeError>
     ensures exact { Measures result (length (T.encoding value.now)) (length (T.encoding value.now)) }
     ensures below { IfOk result (λ n. n < 2 ^ 33) }
@@ -79,6 +95,10 @@ pub fn alone_len<T: Encoding>(value: &T) -> Result<u64, EncodeError>
 }
 
 /// Appends a value by itself: measures, grows the sink once, and writes.
+///
+/// # Errors
+/// `TooLong` exactly where the value is written as more than 4,294,967,295 bytes, and else `Memory` where the sink cannot grow. Its bytes are then as
+/// they were.
 pub fn encode_alone<T: Encoding>(value: &T, sink: &mut Vec<u8>) -> Result<(), EncodeError>
     ensures { Encodes sink.old sink.new result (T.encoding value.now) (length (T.encoding value.now)) }
 {

@@ -62,6 +62,9 @@ fn put_items<T: Encoding>(items: &[T], sink: &mut Vec<u8>)
 }
 
 /// The number of bytes of a part that holds what a value is written as.
+///
+/// # Errors
+/// `TooLong` alone, exactly where the value is written as more than 4,294,967,295 bytes.
 #[tactic(auto, using(wasm_spec::proofs::ListEncodings::framed_steps, wasm_spec::proofs::UnsignedEncodings::at_most_five), unfolding(crate::specs::Subsections::subsection_encoding))]
 pub fn subsection_len<T: Encoding>(id: u8, content: &T) -> Result<u64, EncodeError>
     ensures exact { Measures result (length (subsection_encoding (record { id = id; content = T.encoding content.now }))) (length (T.encoding content.now)) }
@@ -72,6 +75,10 @@ pub fn subsection_len<T: Encoding>(id: u8, content: &T) -> Result<u64, EncodeErr
 }
 
 /// Appends a part that holds what a value is written as: measures, grows the sink once, and writes.
+///
+/// # Errors
+/// `TooLong` exactly where the value is written as more than 4,294,967,295 bytes, and else `Memory` where the sink cannot grow. Its bytes are then as
+/// they were.
 #[tactic(auto, using(wasm_spec::proofs::ListEncodings::framed_steps, wasm_spec::proofs::ListEncodings::parts), unfolding(crate::specs::Subsections::subsection_encoding, wasm_spec::specs::Shortest::framed_encoding))]
 pub fn encode_subsection<T: Encoding>(
     id: u8,
@@ -115,6 +122,9 @@ impl Subsections {
     }
 
     /// Adds a part that holds what a value is written as.
+    ///
+    /// # Errors
+    /// `TooLong` exactly where the value is written as more than 4,294,967,295 bytes, and else `Memory`. The parts are then as they were.
     pub fn push<T: Encoding>(
         &mut self,
         alloc: Global,
@@ -130,6 +140,9 @@ impl Subsections {
     }
 
     /// Adds a part that holds these bytes.
+    ///
+    /// # Errors
+    /// `Memory` alone. The parts are then as they were, and the bytes are gone.
     pub fn push_owned(&mut self, id: u8, content: Vec<u8>) -> Result<(), EncodeError>
         ensures added { IfOk result (λ _. self.new ≡ self.old ++ record { id = id; content = content.items } ∷ []) }
         ensures kept { IfErr result (λ _. self.new ≡ self.old) }
@@ -140,6 +153,9 @@ impl Subsections {
     }
 
     /// Adds a part that holds a copy of these bytes.
+    ///
+    /// # Errors
+    /// `TooLong` exactly where there are more than 4,294,967,295 bytes, and else `Memory`. The parts are then as they were.
     pub fn push_bytes(&mut self, alloc: Global, id: u8, content: &[u8]) -> Result<(), EncodeError>
         ensures added { IfOk result (λ _. self.new ≡ self.old ++ record { id = id; content = content.now } ∷ []) }
         ensures kept { IfErr result (λ _. self.new ≡ self.old) }

@@ -34,6 +34,9 @@ impl Model for RawBytes {
 
 impl RawBytes {
     /// A copy of these bytes.
+    ///
+    /// # Errors
+    /// `Memory` alone.
     pub fn new(alloc: Global, bytes: &[u8]) -> Result<RawBytes, EncodeError>
         ensures copied { IfOk result (λ b. b ≡ bytes.now) }
         ensures memory_alone { IfErr result (λ e. e ≡ EncodeError.Memory) }
@@ -71,6 +74,9 @@ impl Model for CountedBytes {
 
 impl CountedBytes {
     /// A copy of these bytes.
+    ///
+    /// # Errors
+    /// `Memory` alone.
     pub fn new(alloc: Global, bytes: &[u8]) -> Result<CountedBytes, EncodeError>
         ensures copied { IfOk result (λ b. b ≡ bytes.now) }
         ensures memory_alone { IfErr result (λ e. e ≡ EncodeError.Memory) }

@@ -227,6 +227,9 @@ fn copied_mode(segment: &ElementSegment<'_>) -> Result<KeptMode, EncodeError>
 }
 
 /// A copy of a segment.
+///
+/// # Errors
+/// `Memory` alone.
 pub fn copied_segment(
     alloc: Global,
     segment: &ElementSegment<'_>,

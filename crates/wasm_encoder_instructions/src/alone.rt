@@ -7,6 +7,9 @@ use wasm_core_write::encode_error::EncodeError;
 use wasm_core_write::encoding::Encoding;
 
 /// Appends the encoding of a value: measures, grows the sink once, and writes.
+///
+/// # Errors
+/// `TooLong` exactly where the encoding is past 4,294,967,295 bytes, and else `Memory` where the sink cannot grow. Its bytes are then as they were.
 pub fn encode_alone<T: Encoding>(value: &T, sink: &mut Vec<u8>) -> Result<(), EncodeError>
     ensures { Encodes sink.old sink.new result (T.encoding value.now) (length (T.encoding value.now)) }
 {

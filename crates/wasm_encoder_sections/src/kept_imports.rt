@@ -105,6 +105,9 @@ impl Encoding for KeptImports {
 }
 
 /// A copy of imports.
+///
+/// # Errors
+/// `Memory` alone.
 pub fn kept_imports(alloc: Global, imports: &Imports<'_>) -> Result<KeptImports, EncodeError>
     ensures copied { IfOk result (λ kept. entry_of kept ≡ lent_entry imports.now) }
     ensures memory_alone { IfErr result (λ e. e ≡ EncodeError.Memory) }

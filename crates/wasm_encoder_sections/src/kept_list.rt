@@ -73,7 +73,10 @@ impl<T: Encoding + Drop> KeptList<T> {
         Ok(())
     }
 
-    /// Whether another item can be added: nothing is refused but where [`KeptList::push`] would answer `TooLong`.
+    /// Whether another item can be added.
+    ///
+    /// # Errors
+    /// `TooLong` alone, exactly where [`KeptList::push`] would answer it: where there are 4,294,967,295 items.
     pub fn check_room(&self) -> Result<(), EncodeError>
         ensures room { IfOk result (λ _. length self.now + 1 < 2 ^ 32) }
         ensures too_long { IfErr result (λ e. (e ≡ EncodeError.TooLong) × (2 ^ 32 ≤ length self.now + 1)) }

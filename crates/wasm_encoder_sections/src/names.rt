@@ -11,6 +11,9 @@ use wasm_core_write::encoding::{Encoding, add_sizes, bytes_size, put_bytes};
 use wasm_core_write::leb128::{len_u64, put_u64};
 
 /// The number of bytes of a name after the number of its bytes.
+///
+/// # Errors
+/// `TooLong` alone, exactly where the name after its length is past 4,294,967,295 bytes.
 #[tactic(auto, using(wasm_spec::proofs::ListEncodings::framed_steps))]
 pub fn name_size(name: &str) -> Result<u64, EncodeError>
     ensures { Measures result (length (name_encoding name.now)) (length (name_encoding name.now)) }
@@ -38,6 +41,9 @@ pub struct Name {
 
 impl Name {
     /// A copy of a name.
+    ///
+    /// # Errors
+    /// `Memory` alone.
     pub fn new(alloc: Global, name: &str) -> Result<Name, EncodeError>
         ensures copied { IfOk result (λ n. name_of n ≡ name.now) }
         ensures memory_alone { IfErr result (λ e. e ≡ EncodeError.Memory) }
@@ -62,6 +68,9 @@ impl Encoding for Name {
 }
 
 /// Copies of names.
+///
+/// # Errors
+/// `Memory` alone.
 #[tactic(auto, using(crate::proofs::KeptLoops::kept_steps))]
 pub fn kept_names(alloc: Global, names: &[&str]) -> Result<Vec<Name>, EncodeError>
     ensures copied { IfOk result (λ kept. map name_of kept.items ≡ map (λ name. name.now) names.now) }

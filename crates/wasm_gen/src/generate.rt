@@ -28,7 +28,8 @@ fn drawn_bytes(alloc: Global, config: &Config, seed: &[u8]) -> Result<Vec<u8>, G
 /// [`seed_for`](crate::seed::seed_for) gives a seed is made exactly, without locals, from every seed that spells it. With a
 /// configuration with which lists can be asked for, it is refused only when out of memory, or when a limit is passed.
 ///
-/// Functions are drawn before limits are looked at: a minimum of billions takes as much memory.
+/// All types and functions are drawn before limits are looked at. So a configuration whose `min_types` or `min_funcs` is in the billions asks for a
+/// list of billions of entries, and may end in `Memory` before `Limit` comes.
 ///
 /// # Errors
 /// `Config` and `Shape` by the configuration, `Minimum` where functions are asked for and no type is drawn, `Limit` where the drawn module passes one, `Memory` where memory

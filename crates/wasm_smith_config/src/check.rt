@@ -18,7 +18,10 @@ struct Field {
 }
 
 impl Config {
-    /// Whether modules are made from this configuration. Where several fields are bad, any of them may be named.
+    /// Whether modules are made from this configuration.
+    ///
+    /// # Errors
+    /// `BadConfig` alone, exactly where some field has a value that is not allowed. It names one such field; where there are several, any of them.
     pub fn check(&self) -> Result<(), Error>
         ensures good { OnOk result (table.IsGood self.now) }
         ensures bad { IfErr result (table.NamesBadField self.now) }

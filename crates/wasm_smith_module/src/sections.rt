@@ -34,6 +34,9 @@ fn copy_of(alloc: Global, ty: &CompositeType) -> Result<CompositeType, AllocErro
 }
 
 /// The type section: each type is a group by itself.
+///
+/// # Errors
+/// `TooLong` only where there are more than 4,294,967,295 types, and else `Memory`.
 pub fn type_section(alloc: Global, types: &[SubType]) -> Result<TypeSection, EncodeError>
     ensures kept { IfOk result (λ section. section ≡ map Single (map sub_type types.now)) }
     ensures too_long { IfErr result (λ e. e ≡ EncodeError.TooLong → 2 ^ 32 ≤ length types.now) }
@@ -51,6 +54,9 @@ pub fn type_section(alloc: Global, types: &[SubType]) -> Result<TypeSection, Enc
 }
 
 /// The function section: the index of each function's type.
+///
+/// # Errors
+/// `TooLong` only where there are more than 4,294,967,295 functions, and else `Memory`.
 pub fn function_section(alloc: Global, funcs: &[u32]) -> Result<FunctionSection, EncodeError>
     ensures kept { IfOk result (λ section. section ≡ funcs.now) }
     ensures too_long { IfErr result (λ e. e ≡ EncodeError.TooLong → 2 ^ 32 ≤ length funcs.now) }
@@ -74,6 +80,10 @@ fn unreachable_body(alloc: Global, locals: &[ValType]) -> Result<Function, Encod
 }
 
 /// The code section: a body with the locals of each function.
+///
+/// # Errors
+/// `TooLong` only where there are more than 4,294,967,295 functions, or the locals of one of them have more runs than that or a longer run, and else
+/// `Memory`.
 pub fn code_section(alloc: Global, locals: &[Vec<ValType>]) -> Result<CodeSection, EncodeError>
     ensures kept { IfOk result (λ section. AreBodyEncodings (map (λ ls. map val_type ls.items) locals.now) section) }
     ensures too_long { IfErr result (λ e. e ≡ EncodeError.TooLong → (2 ^ 32 ≤ length locals.now) ⊎ SomeHaveLongFront (map (λ ls. map val_type ls.items) locals.now)) }

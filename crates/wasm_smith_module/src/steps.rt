@@ -34,6 +34,9 @@ fn func_type(
 }
 
 /// The types.
+///
+/// # Errors
+/// Where memory runs out. Some of the source's bytes may be taken by then.
 #[tactic(auto, using(crate::proofs::GrowLaws::grow_loop), unfolding(crate::specs::Generating::types_at))]
 pub fn types(
     alloc: Global,
@@ -58,6 +61,9 @@ pub fn types(
 }
 
 /// The functions, each of one of `type_count` types.
+///
+/// # Errors
+/// Where memory runs out. Some of the source's bytes may be taken by then.
 #[tactic(auto, using(crate::proofs::GrowLaws::grow_loop), unfolding(crate::specs::Generating::funcs_at))]
 pub fn funcs(
     alloc: Global,
@@ -84,6 +90,9 @@ pub fn funcs(
 }
 
 /// The locals of so many functions.
+///
+/// # Errors
+/// Where memory runs out. Some of the source's bytes may be taken by then.
 #[tactic(auto, using(crate::proofs::GrowLaws::times_loop), unfolding(crate::specs::Generating::code_at))]
 pub fn code(
     alloc: Global,

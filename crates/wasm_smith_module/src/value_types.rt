@@ -83,6 +83,9 @@ fn offered_heaps(alloc: Global, config: &Config) -> Result<Vec<AbstractHeapType>
 
 impl Offers {
     /// What the configuration offers.
+    ///
+    /// # Errors
+    /// Where memory runs out.
     #[tactic(auto, unfolding(crate::specs::Generating::offers))]
     pub fn new(alloc: Global, config: &Config) -> Result<Offers, AllocError>
         ensures { IfOk result (λ o. o ≡ offers config.now) }
@@ -115,6 +118,9 @@ impl Offers {
     }
 
     /// At most `max` value types.
+    ///
+    /// # Errors
+    /// Where memory runs out. Some of the source's bytes may be taken by then.
     #[tactic(auto, using(crate::proofs::GrowLaws::grow_loop), unfolding(crate::specs::Generating::values_at))]
     pub fn values(
         &self,

@@ -113,7 +113,10 @@ impl<'a> Unstructured<'a> {
         }
     }
 
-    /// One of the things. Where there are none, nothing is taken and the answer is an error.
+    /// One of the things.
+    ///
+    /// # Errors
+    /// Exactly where there are none; then nothing is taken.
     pub fn choose<'b, T>(&mut self, things: &'b [T]) -> Result<&'b T, EmptyChoose>
         ensures { IsDrawn (given (λ x. x.now)) result self.new (choose_at things.now self.old) }
     {
@@ -134,7 +137,10 @@ impl<'a> Unstructured<'a> {
         self.int_in_range(1..=denominator) <= numerator
     }
 
-    /// The next `len` bytes. Where fewer are left, nothing is taken.
+    /// The next `len` bytes.
+    ///
+    /// # Errors
+    /// Exactly where fewer are left; then nothing is taken.
     #[tactic(auto, unfolding(crate::specs::Draws::bytes_at))]
     pub fn bytes(&mut self, len: usize) -> Result<&'a [u8], NotEnoughData>
         ensures { IsDrawn (given (λ bytes. bytes.now)) result self.new (bytes_at len self.old) }

@@ -14,6 +14,9 @@ use wasm_smith_config::config::Config;
 
 /// A seed from which exactly these groups and functions are made for the configuration, without locals; `None` where
 /// they can't be asked for.
+///
+/// # Errors
+/// Where memory runs out, which is taken only where they can be asked for.
 pub fn witness(
     alloc: Global,
     config: &Config,

@@ -133,6 +133,9 @@ fn push_group(out: &mut Vec<u8>, config: &Config, group: &[SubType]) -> Result<(
 }
 
 /// Writes a spelling of the groups.
+///
+/// # Errors
+/// Where memory runs out. Some of the spelling may be written by then.
 pub fn push_groups(
     out: &mut Vec<u8>,
     config: &Config,
@@ -159,6 +162,9 @@ fn push_int(out: &mut Vec<u8>, greatest: u64, number: u64) -> Result<(), AllocEr
 }
 
 /// Writes a spelling of the functions, of types up to the last one.
+///
+/// # Errors
+/// Where memory runs out. Some of the spelling may be written by then.
 pub fn push_funcs(out: &mut Vec<u8>, last: u64, funcs: &[u32]) -> Result<(), AllocError>
     ensures { IfOk result (λ _. out.new.items ≡ out.old.items ++ each_word (int_word last) funcs.now) }
 {

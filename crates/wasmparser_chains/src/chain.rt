@@ -113,6 +113,9 @@ fn next_chain(
 }
 
 /// The chains of the types of a group that comes after these ones.
+///
+/// # Errors
+/// Where memory runs out.
 pub fn group_chains(
     alloc: Global,
     earlier: &SnapshotList<Option<Chain>>,

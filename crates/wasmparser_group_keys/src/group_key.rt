@@ -151,6 +151,9 @@ fn put_sub_type(key: &mut Vec<u32>, it: &SubType) -> Result<(), AllocError>
 }
 
 /// The numbers that stand for a group: equal exactly for equal groups.
+///
+/// # Errors
+/// Where memory runs out.
 pub fn group_key(alloc: Global, types: &[SubType]) -> Result<Vec<u32>, AllocError>
     ensures { IfOk result (λ key. key.items ≡ spec.group_key (map sub_type types.now)) }
 {

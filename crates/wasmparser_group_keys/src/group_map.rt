@@ -40,7 +40,10 @@ impl GroupMap {
         self.map.get(key).copied()
     }
 
-    /// Enters a group. Where memory runs out, nothing changes.
+    /// Enters a group.
+    ///
+    /// # Errors
+    /// Where memory runs out; then nothing changes.
     pub fn insert(&mut self, key: Vec<u32>, group: RecGroupId) -> Result<(), AllocError>
         ensures entered { IfOk result (λ _. found self.new key.items ≡ Some group) }
         ensures others { IfOk result (λ _. (other : List ℕ) → other ≢ key.items → found self.new other ≡ found self.old other) }

@@ -29,6 +29,9 @@ pub struct GlobalType {
 }
 
 /// Reads a global's type, in which a type index that is too large to be packed is a place in a recursive group.
+///
+/// # Errors
+/// Exactly where none reads, at a place of the bytes that were left or their end. The reader may have gone on by then.
 #[tactic(auto, unfolding(crate::specs::PackedItems::packed_global_at))]
 pub fn read_packed_global(reader: &mut BinaryReader<'_>) -> Result<GlobalType, Malformed>
     ensures { Answers global_type reader.old reader.new result (packed_global_at reader.old.rest) }

@@ -47,6 +47,9 @@ fn read_table_limits(reader: &mut BinaryReader<'_>) -> Result<MemoryType, Malfor
 }
 
 /// Reads a table's type after its first byte.
+///
+/// # Errors
+/// Exactly where none reads, at a place of the bytes that were left or their end. The reader may have gone on by then.
 pub fn read_table_type_from(code: u8, reader: &mut BinaryReader<'_>) -> Result<TableType, Malformed>
     ensures { Answers table_type reader.old reader.new result (packed_table_from code reader.old.rest) }
 {
@@ -61,6 +64,9 @@ pub fn read_table_type_from(code: u8, reader: &mut BinaryReader<'_>) -> Result<T
 }
 
 /// Reads a table's type, in which a type index that is too large to be packed is a place in a recursive group.
+///
+/// # Errors
+/// Exactly where none reads, at a place of the bytes that were left or their end. The reader may have gone on by then.
 #[tactic(auto, using(crate::proofs::PackedSteps::table_steps))]
 pub fn read_packed_table(reader: &mut BinaryReader<'_>) -> Result<TableType, Malformed>
     ensures { Answers table_type reader.old reader.new result (packed_table_at reader.old.rest) }

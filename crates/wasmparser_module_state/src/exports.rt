@@ -59,7 +59,8 @@ impl ModuleState {
         }
     }
 
-    // How large a type counts, of which no function type is named where none is there.
+    // How large the type of an item counts, or what is too large: for a function or a tag as its function type does, or 0 where its index names none,
+    // and for any other item 1.
     #[tactic(auto, using(crate::proofs::ExportLaws::size_steps))]
     fn size_of_item(&self, ty: &TypeRef) -> u64
         ensures { CountsAs (size_of (context self.now) (item ty.now)) result }

@@ -115,7 +115,7 @@ impl ModuleState {
         Ok(())
     }
 
-    // How large the function type of an index counts, which names one.
+    // How large the function type of an index counts, or what is too large; `None` where the index names no function type.
     #[tactic(auto, using(crate::proofs::Sizes::type_steps))]
     pub(crate) fn size_of_type(&self, index: u32) -> Option<u64>
         ensures { IsTypeSize (func_type_at (context self.now).types index) result }

@@ -153,7 +153,8 @@ impl Locals {
 
     /// The parameters, which come first.
     ///
-    /// Where this is refused, no local is left.
+    /// # Errors
+    /// `Limit` only where there are more than 50,000, and else `Memory`. No local is left then.
     pub fn define_parameters(&mut self, params: &[ValType]) -> Result<(), LocalsError>
         requires { self.old ≡ [] }
         ensures ok { OnOk result (self.new ≡ map parameter (map val_type params.now)) }
@@ -175,6 +176,9 @@ impl Locals {
     }
 
     /// A run of locals, which a body declares.
+    ///
+    /// # Errors
+    /// `Limit` exactly where there would be more than 50,000 locals, and else `Memory`. The locals are then as they were.
     pub fn define(&mut self, count: u32, value_type: ValType) -> Result<(), LocalsError>
         ensures ok { OnOk result (self.new ≡ self.old ++ replicate count (declared_local (val_type value_type))) }
         ensures within { OnOk result (limits.IsPassedBy limits.Locals (length self.old + count) → ⊥) }

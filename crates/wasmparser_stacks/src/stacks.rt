@@ -127,6 +127,9 @@ impl Stacks {
     }
 
     /// Puts an operand on top.
+    ///
+    /// # Errors
+    /// Where memory runs out. The stacks are then as they were.
     pub fn push(&mut self, x: Operand) -> Result<(), AllocError>
         ensures ok { OnOk result (self.new ≡ at_list (put (operand x) self.old.now) self.old) }
         ensures refused { OnErr result (self.new ≡ self.old) }
@@ -140,6 +143,9 @@ impl Stacks {
     }
 
     /// Puts an operand of a type on top.
+    ///
+    /// # Errors
+    /// Where memory runs out. The stacks are then as they were.
     #[inline(always)]
     pub fn push_known(&mut self, value_type: ValType) -> Result<(), AllocError>
         ensures ok { OnOk result (self.new ≡ at_list (put (Known (val_type value_type)) self.old.now) self.old) }
@@ -218,6 +224,9 @@ impl Stacks {
     }
 
     /// Takes so many operands, as `lower` does, and gives operands of these types, the last one on top.
+    ///
+    /// # Errors
+    /// Where memory runs out. The stacks are then as they were.
     pub fn replace(&mut self, count: usize, types: &[ValType]) -> Result<(), AllocError>
         ensures ok { OnOk result (self.new ≡ at_list (replaced_by count (map val_type types.now) self.old.now) self.old) }
         ensures refused { OnErr result (self.new ≡ self.old) }
@@ -228,6 +237,9 @@ impl Stacks {
     }
 
     /// As `replace`, with one operand more on top.
+    ///
+    /// # Errors
+    /// Where memory runs out. The stacks are then as they were.
     pub fn replace_with(
         &mut self,
         count: usize,
@@ -255,6 +267,9 @@ impl Stacks {
     }
 
     /// Opens a block. It takes so many operands, as `lower` does, and its list begins with operands of these types.
+    ///
+    /// # Errors
+    /// Where memory runs out. The stacks are then as they were.
     pub fn enter(
         &mut self,
         kind: FrameKind,
@@ -307,6 +322,9 @@ impl Stacks {
 
     /// Closes the innermost block, whose operands and assigned locals go, and gives operands of these types to the
     /// list around it. Where no block is open nothing changes.
+    ///
+    /// # Errors
+    /// Where memory runs out. The stacks are then as they were.
     pub fn leave(&mut self, results: &[ValType]) -> Result<(), AllocError>
         ensures ok { OnOk result (self.new ≡ left_with (map val_type results.now) self.old) }
         ensures refused { OnErr result (self.new ≡ self.old) }
@@ -337,6 +355,9 @@ impl Stacks {
 
     /// Begins the second list of the innermost block with operands of these types, and with the locals assigned that
     /// were before the block. Where no block is open nothing changes.
+    ///
+    /// # Errors
+    /// Where memory runs out. The stacks are then as they were.
     pub fn turn(&mut self, params: &[ValType]) -> Result<(), AllocError>
         ensures ok { OnOk result (self.new ≡ turned_with (map val_type params.now) self.old) }
         ensures refused { OnErr result (self.new ≡ self.old) }
@@ -459,6 +480,9 @@ impl Stacks {
     }
 
     /// A local without a value at the start has one from now on, as long as the innermost block is open.
+    ///
+    /// # Errors
+    /// Where memory runs out. The stacks are then as they were.
     pub fn assign(&mut self, local: u32) -> Result<(), AllocError>
         ensures ok { OnOk result (self.new ≡ at_list (marked local self.old.now) self.old) }
         ensures refused { OnErr result (self.new ≡ self.old) }
@@ -474,6 +498,9 @@ impl Stacks {
     }
 
     /// Takes so many operands and gives others, as `replace` does, and assigns a local, as `assign` does.
+    ///
+    /// # Errors
+    /// Where memory runs out. The stacks are then as they were.
     pub fn replace_and_assign(
         &mut self,
         count: usize,

@@ -16,7 +16,7 @@ use wasm_smith_config::config::Config;
 /// they can't be asked for.
 ///
 /// # Errors
-/// Where memory runs out, which is taken only where they can be asked for.
+/// Where memory runs out; none is taken where they can't be asked for.
 pub fn witness(
     alloc: Global,
     config: &Config,

@@ -127,7 +127,7 @@ impl RecGroup {
     /// The sub types, in order.
     ///
     /// # Errors
-    /// Where memory runs out, which is taken only for a sub type by itself.
+    /// Where memory runs out; it is taken only for a sub type by itself.
     pub fn into_types(self, alloc: Global) -> Result<Vec<SubType>, AllocError>
         ensures types { IfOk result (λ types. map sub_type types.items ≡ members (rec_group self)) }
         ensures explicit { IsTrue (is_explicit (rec_group self)) → IsOk result }

@@ -10,7 +10,7 @@ use Rattle.std.specs.Ordering.{is_eq, is_le, is_lt, nat_cmp}
 use Rattle.std.specs.declared.cmp.Ordering.{Ordering}
 use Rattle.std.specs.declared.cmp.Ordering.TheVariants.{Equal, Greater, Less}
 use Rattle.std.specs.List.{AllByRecursion, list_any}
-use Rattle.std.specs.Prelude.{bytes_eq, if◌then◌else◌, nat_eq, not, unwrap_or, IsTrue, ◌||◌}
+use Rattle.std.specs.Prelude.{bytes_eq, cond, nat_eq, not, unwrap_or, IsTrue, ◌||◌}
 use Rattle.std.specs.Str.{IsUtf8}
 use Rattle.wasm_spec.specs.Syntax as spec
 use Rattle.wasmparser_items.specs.Exports.{external_kind}
@@ -136,7 +136,7 @@ module _ (names name : List ℕ) (exports : List KeptExport) (i start : ℕ) (d 
       → is_exported name (listed names next.end (drop (i + 1) exports)) ≡ is_exported name (listed names 0 exports)
   others_left left other = sym (left_after ∙ ap (λ b. b || is_exported name (listed names next.end (drop (i + 1) exports))) other) ∙ left
 
--- ---- hashes anew
+-- ---- hashes of all names
 
 abbrev Holds : List ℕ → List ℕ → Type 0
 Holds more hashes = (hash : ℕ) → list_any (nat_eq hash) hashes ≡ true → list_any (nat_eq hash) more ≡ true
@@ -145,38 +145,16 @@ Holds more hashes = (hash : ℕ) → list_any (nat_eq hash) hashes ≡ true → 
 abbrev pub Suffices : NameHasher → List ℕ → List spec.Export → List spec.Export → Type 0
 Suffices hasher hashes others exports = (more : List ℕ) → Holds more hashes → AreHashed hasher more others → AreHashed hasher more exports
 
-abbrev with_hash : List ℕ → ℕ → List ℕ
-with_hash hashes hash = if list_any (nat_eq hash) hashes then hashes else hashes ++ hash ∷ []
+-- some hashes, and one more
+abbrev pub Adds : List ℕ → ℕ → List ℕ → Type 0
+Adds old hash new = (other : ℕ) → list_any (nat_eq other) new ≡ cond (nat_eq hash other) true (list_any (nat_eq other) old)
 
-or_true : (a : Bool) {b : Bool} → b ≡ true → (a || b) ≡ true
-or_true true is = refl
-or_true false is = is
-
-still_any : (p : ℕ → Bool) (hashes : List ℕ) (hash : ℕ) → list_any p hashes ≡ true → list_any p (hashes ++ hash ∷ []) ≡ true
-still_any p [] hash is = absurd cc
-still_any p (x ∷ hashes) hash is = by (p x) (still_any p hashes hash) is
+pub holds_others : (old : List ℕ) (hash : ℕ) (new : List ℕ) → Adds old hash new → Holds new old
+holds_others old hash new adds other there = by (nat_eq hash other) (adds other)
   where
-    by : (b : Bool) → (list_any p hashes ≡ true → list_any p (hashes ++ hash ∷ []) ≡ true) → (b || list_any p hashes) ≡ true → (b || list_any p (hashes ++ hash ∷ [])) ≡ true
-    by true others is = refl
-    by false others is = others is
-
-last_any : (p : ℕ → Bool) (hashes : List ℕ) (hash : ℕ) → p hash ≡ true → list_any p (hashes ++ hash ∷ []) ≡ true
-last_any p [] hash is = either_true (p hash) _ is
-last_any p (x ∷ hashes) hash is = or_true (p x) (last_any p hashes hash is)
-
-pub holds_others : (hashes : List ℕ) (hash : ℕ) → Holds (with_hash hashes hash) hashes
-holds_others hashes hash other there = by (list_any (nat_eq hash) hashes)
-  where
-    by : (b : Bool) → list_any (nat_eq other) (if b then hashes else hashes ++ hash ∷ []) ≡ true
-    by true = there
-    by false = still_any (nat_eq other) hashes hash there
-
-pub holds_hash : (hashes : List ℕ) (hash : ℕ) → list_any (nat_eq hash) (with_hash hashes hash) ≡ true
-holds_hash hashes hash = by (list_any (nat_eq hash) hashes) refl
-  where
-    by : (b : Bool) → list_any (nat_eq hash) hashes ≡ b → list_any (nat_eq hash) (if b then hashes else hashes ++ hash ∷ []) ≡ true
-    by true there = there
-    by false other = last_any (nat_eq hash) hashes hash (search rules)
+    by : (b : Bool) → list_any (nat_eq other) new ≡ cond b true (list_any (nat_eq other) old) → list_any (nat_eq other) new ≡ true
+    by true is = is
+    by false is = is ∙ there
 
 -- what is hashed among some hashes is among more
 pub still_hashed : (hasher : NameHasher) (more hashes : List ℕ) (exports : List spec.Export) → Holds more hashes → AreHashed hasher hashes exports → AreHashed hasher more exports
@@ -187,12 +165,12 @@ module _ (hasher : NameHasher) (names : List ℕ) (exports : List KeptExport) (i
   abbrev there : KeptExport
   there = slice_index_or exports i d
 
-  pub others_suffice : (old new : List ℕ) (hash : ℕ) → new ≡ with_hash old hash → hash ≡ hash_of hasher (name_in names start there) → Suffices hasher old (listed names start (drop i exports)) (listed names 0 exports)
-      → Suffices hasher new (listed names there.end (drop (i + 1) exports)) (listed names 0 exports)
-  others_suffice old new hash is hashes suffices more holds others =
-      suffices more (λ other among. holds other (subst (λ l. list_any (nat_eq other) l ≡ true) (sym is) (holds_others old hash other among)))
+  pub others_suffice : (old new : List ℕ) (hash : ℕ) → Adds old hash new → list_any (nat_eq hash) new ≡ true → hash ≡ hash_of hasher (name_in names start there)
+      → Suffices hasher old (listed names start (drop i exports)) (listed names 0 exports) → Suffices hasher new (listed names there.end (drop (i + 1) exports)) (listed names 0 exports)
+  others_suffice old new hash adds has hashes suffices more holds others =
+      suffices more (λ other among. holds other (holds_others old hash new adds other among))
       (subst (λ l. AreHashed hasher more (listed names start l)) (sym (drop_more exports i d few))
-      (subst (λ (h : ℕ). list_any (nat_eq h) more ≡ true) hashes (holds hash (subst (λ l. list_any (nat_eq hash) l ≡ true) (sym is) (holds_hash old hash))), others))
+      (subst (λ (h : ℕ). list_any (nat_eq h) more ≡ true) hashes (holds hash has), others))
 
 pub suffice : (hasher : NameHasher) (hashes : List ℕ) (exports : List spec.Export) → Suffices hasher hashes [] exports → AreHashed hasher hashes exports
 suffice hasher hashes exports suffices = suffices hashes (λ hash is. is) tt

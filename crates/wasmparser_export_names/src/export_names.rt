@@ -7,8 +7,8 @@ ghost use Rattle.wasmparser_export_names.specs.KeptExports.{AreHashed, AreKnown,
 ghost use Rattle.wasmparser_items.specs.Exports.{export_item};
 
 use crate::name_hasher::NameHasher;
-use indexmap::IndexSet;
 use std::alloc::{AllocError, Global};
+use std::collections::HashSet;
 use std::marker::Model;
 use std::str;
 use wasm_core_base::limits::{MAX_WASM_EXPORTS, MAX_WASM_STRING_SIZE};
@@ -73,7 +73,7 @@ pub struct ExportNames {
     exports: Vec<KeptExport>,
     hasher: NameHasher,
     // those of all names at least, once a name didn't come after the one before it: a name whose hash isn't there is new
-    hashes: Option<IndexSet<u64>>,
+    hashes: Option<HashSet<u64>>,
 }
 
 impl Model for ExportNames {
@@ -172,7 +172,7 @@ fn is_new(
     names: &[u8],
     exports: &[KeptExport],
     hasher: &NameHasher,
-    hashes: &mut Option<IndexSet<u64>>,
+    hashes: &mut Option<HashSet<u64>>,
     export: &Export<'_>,
     alloc: Global,
 ) -> Result<bool, AllocError>
@@ -211,7 +211,7 @@ fn keep_hash(
     names: &[u8],
     exports: &[KeptExport],
     hasher: &NameHasher,
-    hashes: &mut IndexSet<u64>,
+    hashes: &mut HashSet<u64>,
     name: &str,
 ) -> Result<bool, AllocError>
     requires named { AreNamed names.now 0 exports.now }
@@ -232,11 +232,11 @@ fn hashes_of(
     exports: &[KeptExport],
     hasher: &NameHasher,
     alloc: Global,
-) -> Result<IndexSet<u64>, AllocError>
+) -> Result<HashSet<u64>, AllocError>
     requires { AreNamed names.now 0 exports.now }
     ensures { IfOk result (λ hashes. AreHashed hasher.now hashes.keys (listed names.now 0 exports.now)) }
 {
-    let mut hashes = IndexSet::with_capacity(alloc, exports.len())?;
+    let mut hashes = HashSet::with_capacity(alloc, exports.len())?;
     let mut start = 0;
     for export in exports {
         let name = name_at(names, start, export);

@@ -34,7 +34,7 @@ impl NameHasher {
     /// The hash of a name.
     #[inline(always)]
     #[tactic(auto, unfolding(crate::specs::KeptExports::hash_of))]
-    pub(crate) fn hash_of(&self, name: &str) -> u64
+    pub fn hash_of(&self, name: &str) -> u64
         ensures { result ≡ hash_of self.now name.now }
     {
         self.hash_one(name)

@@ -1,69 +1,15 @@
--- Names of modules, as strings and as their bytes.
-use Rattle.std.proofs.Common.{◌≡◌, Bool, true, false, List, [], ◌∷◌, ◌++◌, ℕ, zero, suc, Option, Some, None, map, refl, sym, ap, ◌∙◌}
-use Rattle.std.proofs.lemmas.Option.{slice_get-map}
+-- Names of modules, as their bytes.
+use Rattle.std.proofs.Common.{◌≡◌, ◌≢◌, ◌<◌, ◌≤◌, Bool, true, false, List, [], ◌∷◌, ◌++◌, ℕ, zero, suc, length, map, Some, None, cond, refl, sym, ap, subst, ◌∙◌, arith}
 use Rattle.std.specs.Cmp.Lexicographic.{bytes_decides}
-use Rattle.std.specs.List.{AllByRecursion, IsDistinct, find, list_any}
-use Rattle.std.specs.Option.{option_map}
-use Rattle.std.specs.Prelude.{bytes_eq, cond, slice_get, ◌||◌, if◌then◌else◌}
-use Rattle.std.specs.String.{string_bytes, string_eq}
+use Rattle.std.specs.List.{AllByRecursion, IsDistinct, list_any}
+use Rattle.std.specs.Map.{lookup}
+use Rattle.std.specs.String.{string_bytes}
 use Rattle.std.specs.Global.{Global}
 use Rattle.std.specs.declared.string.String.{String as StringIn}
-use Rattle.indexmap.specs.IndexSet.{insert_key}
-use Rattle.wasmparser_import_names.specs.ModuleNames.{with_name}
-
-abbrev String : Type 0
-String = StringIn Global
-
-find_passes : (test : String → Bool) (keys : List String) (k : String) → find test keys ≡ Some k → test k ≡ true
-find_passes test [] k found = absurd cc
-find_passes test (x ∷ keys) k found = by (find_passes test keys k) (test x) refl found
-  where
-    by : (find test keys ≡ Some k → test k ≡ true) → (b : Bool) → test x ≡ b → cond b (Some x) (find test keys) ≡ Some k → test k ≡ true
-    by further true passes found = ap (λ (o : Option String). test (unwrap o)) (sym found) ∙ passes
-      where
-        unwrap : Option String → String
-        unwrap None = x
-        unwrap (Some y) = y
-    by further false fails found = further found
-
--- a key that a name finds has its bytes
-pub found_name : (name : List ℕ) (keys : List String) (n : ℕ) (k : String) → find (λ key. bytes_eq name (string_bytes key)) keys ≡ Some k → slice_get keys n ≡ Some k → slice_get (map string_bytes keys) n ≡ Some name
-found_name name keys n k found stored =
-    slice_get-map string_bytes keys n ∙ ap (option_map string_bytes) stored ∙ ap (λ bytes. Some bytes) (sym ((bytes_decides name (string_bytes k)).0 (find_passes (λ key. bytes_eq name (string_bytes key)) keys k found)))
-
--- what was stored of a name has its bytes
-pub stored_name : (name key : String) (keys : List String) (n : ℕ) → slice_get keys n ≡ Some key → string_eq name key ≡ true → slice_get (map string_bytes keys) n ≡ Some (string_bytes name)
-stored_name name key keys n stored same = slice_get-map string_bytes keys n ∙ ap (option_map string_bytes) stored ∙ ap (λ bytes. Some bytes) (sym ((bytes_decides (string_bytes name) (string_bytes key)).0 same))
-
-any_names : (name : List ℕ) (keys : List String) → list_any (bytes_eq name) (map string_bytes keys) ≡ list_any (λ key. bytes_eq name (string_bytes key)) keys
-any_names name [] = refl
-any_names name (key ∷ keys) = ap (λ b. bytes_eq name (string_bytes key) || b) (any_names name keys)
-
--- a name that is there already
-pub known_name : (name : List ℕ) (keys : List String) → list_any (λ key. bytes_eq name (string_bytes key)) keys ≡ true → map string_bytes keys ≡ with_name (map string_bytes keys) name
-known_name name keys known = rw (any_names name keys, known) refl
-
-map_last : (keys : List String) (key : String) → map string_bytes (keys ++ key ∷ []) ≡ map string_bytes keys ++ string_bytes key ∷ []
-map_last [] key = refl
-map_last (x ∷ keys) key = ap (λ names. string_bytes x ∷ names) (map_last keys key)
-
--- one that was inserted
-pub inserted_name : (key : String) (keys : List String) → map string_bytes (insert_key string_eq keys key) ≡ with_name (map string_bytes keys) (string_bytes key)
-inserted_name key keys = by (list_any (string_eq key) keys) (any_names (string_bytes key) keys)
-  where
-    by : (b : Bool) → list_any (bytes_eq (string_bytes key)) (map string_bytes keys) ≡ b → map string_bytes (if b then keys else keys ++ key ∷ []) ≡ with_name (map string_bytes keys) (string_bytes key)
-    by true known = rw known refl
-    by false new = rw new (map_last keys key)
-
--- distinct strings have distinct bytes
-pub distinct_names : (keys : List String) → IsDistinct string_eq keys → IsDistinct bytes_eq (map string_bytes keys)
-unfolding IsDistinct
-distinct_names [] distinct = tt
-distinct_names (key ∷ keys) distinct = (all keys distinct.0, distinct_names keys distinct.1)
-  where
-    all : (others : List String) → AllByRecursion (λ other. string_eq key other ≡ false) others → AllByRecursion (λ other. bytes_eq (string_bytes key) other ≡ false) (map string_bytes others)
-    all [] differ = tt
-    all (other ∷ others) differ = (differ.0, all others differ.1)
+use Rattle.std.specs.Prelude.{IsSome, bytes_eq, nat_eq, slice_get, ◌||◌}
+use Rattle.wasmparser_export_names.specs.KeptExports.{hash_of}
+use Rattle.wasmparser_export_names.specs.declared.name_hasher.NameHasher.{NameHasher}
+use Rattle.wasmparser_import_names.specs.ModuleNames.{AreHashed, with_name}
 
 any_or : (b : Bool) → (b || true) ≡ true
 any_or true = refl
@@ -80,3 +26,98 @@ is_there (x ∷ names) name (suc n) e = rw (is_there names name n e) (any_or (by
 -- a name that has a number is there
 pub numbered_name : (names : List (List ℕ)) (name : List ℕ) (n : ℕ) → slice_get names n ≡ Some name → names ≡ with_name names name
 numbered_name names name n e = rw (is_there names name n e) refl
+
+-- one that isn't there is kept
+pub new_name : (names : List (List ℕ)) (name : List ℕ) → list_any (bytes_eq name) names ≡ false → names ++ name ∷ [] ≡ with_name names name
+new_name names name none = rw none refl
+
+-- where no place is that of a name, it isn't there
+pub none_at : (name : List ℕ) (names : List (List ℕ)) → ((n : ℕ) → n < length names → slice_get names n ≢ Some name) → list_any (bytes_eq name) names ≡ false
+none_at name [] differ = refl
+none_at name (x ∷ names) differ = by (bytes_eq name x) refl (none_at name names (λ n few same. differ (suc n) (omega (arith, few)) same))
+  where
+    by : (b : Bool) → bytes_eq name x ≡ b → list_any (bytes_eq name) names ≡ false → (b || list_any (bytes_eq name) names) ≡ false
+    by true same others = absurd (differ zero (omega arith) (ap (λ name. Some name) (sym ((bytes_decides name x).0 same))))
+    by false other others = others
+
+-- a name whose hash has no number isn't there
+pub none_hashed : (hasher : NameHasher) (numbers : List (ℕ × ℕ)) (name : List ℕ) (names : List (List ℕ)) → AreHashed hasher numbers names → lookup (nat_eq (hash_of hasher name)) numbers ≡ None
+    → list_any (bytes_eq name) names ≡ false
+none_hashed hasher numbers name [] all none = refl
+none_hashed hasher numbers name (x ∷ names) all none = by (bytes_eq name x) refl (none_hashed hasher numbers name names all.1 none)
+  where
+    no : IsSome (lookup (nat_eq (hash_of hasher name)) numbers) → ⊥
+    no some = let e = subst IsSome none some in absurd cc
+
+    by : (b : Bool) → bytes_eq name x ≡ b → list_any (bytes_eq name) names ≡ false → (b || list_any (bytes_eq name) names) ≡ false
+    by true same others = absurd (no (subst (λ name. IsSome (lookup (nat_eq (hash_of hasher name)) numbers)) (sym ((bytes_decides name x).0 same)) all.0))
+    by false other others = others
+
+-- ---- one name more
+
+bytes_differ : (x y : List ℕ) → bytes_eq x y ≡ false → bytes_eq y x ≡ false
+bytes_differ x y other = by (bytes_eq y x) refl
+  where
+    by : (b : Bool) → bytes_eq y x ≡ b → b ≡ false
+    by true same = sym ((bytes_decides x y).1 (sym ((bytes_decides y x).0 same))) ∙ other
+    by false is = refl
+
+-- a new name is distinct from the others
+pub still_distinct : (name : List ℕ) (names : List (List ℕ)) → IsDistinct bytes_eq names → list_any (bytes_eq name) names ≡ false → IsDistinct bytes_eq (names ++ name ∷ [])
+unfolding IsDistinct
+still_distinct name [] distinct none = (tt, tt)
+still_distinct name (x ∷ names) distinct none = (all names distinct.0, still_distinct name names distinct.1 (others (bytes_eq name x) none))
+  where
+    others : (b : Bool) → (b || list_any (bytes_eq name) names) ≡ false → list_any (bytes_eq name) names ≡ false
+    others true is = absurd cc
+    others false is = is
+
+    first : (b : Bool) → (b || list_any (bytes_eq name) names) ≡ false → b ≡ false
+    first true is = absurd cc
+    first false is = refl
+
+    all : (rest : List (List ℕ)) → AllByRecursion (λ other. bytes_eq x other ≡ false) rest → AllByRecursion (λ other. bytes_eq x other ≡ false) (rest ++ name ∷ [])
+    all [] differ = (bytes_differ name x (first (bytes_eq name x) none), tt)
+    all (other ∷ rest) differ = (differ.0, all rest differ.1)
+
+-- some numbers, and one of a hash
+abbrev pub Numbers : List (ℕ × ℕ) → ℕ → ℕ → List (ℕ × ℕ) → Type 0
+Numbers old hash number new = (other : ℕ) → lookup (nat_eq other) new ≡ cond (nat_eq hash other) (Some number) (lookup (nat_eq other) old)
+
+-- hashes that have numbers still have some
+pub still_hashed : (hasher : NameHasher) (old : List (ℕ × ℕ)) (hash number : ℕ) (new : List (ℕ × ℕ)) → Numbers old hash number new → (names : List (List ℕ)) → AreHashed hasher old names → AreHashed hasher new names
+still_hashed hasher old hash number new is [] all = tt
+still_hashed hasher old hash number new is (x ∷ names) all = (by (nat_eq hash (hash_of hasher x)) (is (hash_of hasher x)), still_hashed hasher old hash number new is names all.1)
+  where
+    by : (b : Bool) → lookup (nat_eq (hash_of hasher x)) new ≡ cond b (Some number) (lookup (nat_eq (hash_of hasher x)) old) → IsSome (lookup (nat_eq (hash_of hasher x)) new)
+    by true found = subst IsSome (sym found) refl
+    by false found = subst IsSome (sym found) all.0
+
+-- and so has that of the new name
+pub last_hashed : (hasher : NameHasher) (numbers : List (ℕ × ℕ)) (name : List ℕ) (number : ℕ) → lookup (nat_eq (hash_of hasher name)) numbers ≡ Some number
+    → (names : List (List ℕ)) → AreHashed hasher numbers names → AreHashed hasher numbers (names ++ name ∷ [])
+last_hashed hasher numbers name number found [] all = (subst IsSome (sym found) refl, tt)
+last_hashed hasher numbers name number found (x ∷ names) all = (all.0, last_hashed hasher numbers name number found names all.1)
+
+-- ---- strings
+
+abbrev String : Type 0
+String = StringIn Global
+
+-- names one after the other, and the one that is kept
+pub kept_last : (names : List String) (kept : String) (name : List ℕ) → string_bytes kept ≡ name → map string_bytes (names ++ kept ∷ []) ≡ map string_bytes names ++ name ∷ []
+kept_last [] kept name is = ap (λ name. name ∷ []) is
+kept_last (x ∷ names) kept name is = ap (λ l. string_bytes x ∷ l) (kept_last names kept name is)
+
+pub last_place : (names : List String) (name : List ℕ) → slice_get (map string_bytes names ++ name ∷ []) (length names) ≡ Some name
+last_place [] name = refl
+last_place (x ∷ names) name = last_place names name
+
+-- ---- a look at each
+
+pub none_in : (names : List String) (name : List ℕ) (k : ℕ) → length names ≤ k → ((n : ℕ) → n < k → slice_get (map string_bytes names) n ≢ Some name) → list_any (bytes_eq name) (map string_bytes names) ≡ false
+none_in names name k all differ = none_at name (map string_bytes names) (λ n few. differ n (omega (arith, few, all, same_length names)))
+  where
+    same_length : (names : List String) → length (map string_bytes names) ≡ length names
+    same_length [] = refl
+    same_length (x ∷ names) = ap suc (same_length names)

@@ -3,10 +3,12 @@
 ghost use Rattle.std.specs.Prelude.{◌≡◌, [], ◌<◌, IfOk, OnErr, OnOk, bytes_eq, length, map};
 ghost use Rattle.std.specs.Vec.Iter.{into_iter_items};
 ghost use Rattle.std.specs.List.{IsDistinct};
-ghost use Rattle.wasm_validity.specs.ImportedItems.{with_import};
+ghost use Rattle.wasm_validity.specs.ImportedItems.{with_import, with_imports};
 ghost use Rattle.wasmparser_import_names.specs.ImportNames.{imported, module_at, named_import};
+ghost use Rattle.wasmparser_import_names.specs.KeptImports.{AreOfModules, kept_imports};
 
 use crate::import_key::ImportKey;
+use crate::import_names::KeptImport;
 use crate::imported_items::{ImportedItem, ImportedItems};
 use crate::module_names::ModuleNames;
 use crate::named_import::NamedImport;
@@ -102,6 +104,23 @@ impl<'a> ImportGroups<'a> {
         }
         Ok(imports.into_iter())
     }
+}
+
+// Groups imports from modules of these names.
+pub(crate) fn group<'a>(
+    alloc: Global,
+    modules: &'a ModuleNames,
+    imports: &'a [KeptImport],
+) -> Result<ImportGroups<'a>, AllocError>
+    requires distinct { IsDistinct bytes_eq modules.now }
+    requires known { AreOfModules modules.now imports.now }
+    ensures { IfOk result (λ groups. groups.imports ≡ with_imports [] (kept_imports modules.now imports.now)) }
+{
+    let mut groups = ImportGroups::new(alloc, modules);
+    for import in imports {
+        groups.push(import.origin, import.name.as_str(), import.item)?;
+    }
+    Ok(groups)
 }
 
 // The imports that are still to come, in order. Contracts see them as their list.

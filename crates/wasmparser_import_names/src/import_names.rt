@@ -7,7 +7,7 @@ ghost use Rattle.wasmparser_import_names.specs.ImportNames.{imported, module_at}
 ghost use Rattle.wasmparser_import_names.specs.KeptImports.{AreOfModules, kept_imports};
 ghost use Rattle.wasmparser_import_names.specs.ModuleNames.{with_name};
 
-use crate::import_groups::ImportGroups;
+use crate::import_groups::group;
 use crate::imported_items::ImportedItem;
 use crate::kept_name::KeptName;
 use crate::module_names::ModuleNames;
@@ -18,11 +18,11 @@ use wasmparser_export_names::name_hasher::NameHasher;
 
 // An import as it is kept.
 #[derive(Debug, Drop)]
-struct KeptImport {
+pub(crate) struct KeptImport {
     // the number of its module's name
-    origin: usize,
-    name: KeptName,
-    item: ImportedItem,
+    pub(crate) origin: usize,
+    pub(crate) name: KeptName,
+    pub(crate) item: ImportedItem,
 }
 
 /// Imports in the order in which they came. Contracts see the names of their modules, in order of their numbers, and the list of the imports, those of the same
@@ -109,21 +109,4 @@ impl ImportNames {
             left: groups.in_order()?,
         })
     }
-}
-
-// Groups imports from modules of these names.
-fn group<'a>(
-    alloc: Global,
-    modules: &'a ModuleNames,
-    imports: &'a [KeptImport],
-) -> Result<ImportGroups<'a>, AllocError>
-    requires distinct { IsDistinct bytes_eq modules.now }
-    requires known { AreOfModules modules.now imports.now }
-    ensures { IfOk result (λ groups. groups.imports ≡ with_imports [] (kept_imports modules.now imports.now)) }
-{
-    let mut groups = ImportGroups::new(alloc, modules);
-    for import in imports {
-        groups.push(import.origin, import.name.as_str(), import.item)?;
-    }
-    Ok(groups)
 }

@@ -16,7 +16,7 @@ pub loop-export-preserved : goal.loop-export-preserved
 loop-export-preserved c = record {
   named = others_named c.args.names.now c.args.exports.now c.loop-export.export-index c.loop-export.start none c.loop-export-test.true c.loop-export.invariant.named;
   suffices = others_suffice c.args.hasher.now c.args.names.now c.args.exports.now c.loop-export.export-index c.loop-export.start none c.loop-export-test.true
-      c.loop-export.hashes.keys c.insert.new.self.keys c.hash_of.result c.in_ok-insert.ensures.keys
+      c.loop-export.hashes.keys c.insert.new.self.keys c.hash_of.result c.in_ok-insert.ensures.updates.0 c.in_ok-insert.ensures.updates.1
       (c.hash_of.ensures ∙ ap (hash_of c.args.hasher.now) c.name_at-name.ensures) c.loop-export.invariant.suffices;
 }
 

@@ -9,5 +9,5 @@ returns-then-branch-clause-new c =
 
 pub returns-then-branch-clause-hashed : goal.returns-then-branch-clause-hashed
 returns-then-branch-clause-hashed c =
-    rw c.in_ok-insert.ensures.keys
-    (still_hashed c.args.hasher.now _ c.args.hashes.now.keys (listed c.args.names.now 0 c.args.exports.now) (holds_others c.args.hashes.now.keys c.hash_of.result) c.requires.hashed)
+    still_hashed c.args.hasher.now c.insert.new.self.keys c.args.hashes.now.keys (listed c.args.names.now 0 c.args.exports.now)
+    (holds_others c.args.hashes.now.keys c.hash_of.result c.insert.new.self.keys c.in_ok-insert.ensures.updates.0) c.requires.hashed

@@ -1,7 +1,7 @@
 use Rattle.std.proofs.Common.{◌≡◌, [], drop}
 use Rattle.wasm_validity.specs.ImportedItems.{with_imports}
 use Rattle.wasmparser_import_names.specs.KeptImports.{AreOfModules, kept_imports}
-use Rattle.wasmparser_import_names.proofs.import_names.group.Given as goal
+use Rattle.wasmparser_import_names.proofs.import_groups.group.Given as goal
 
 abbrev pub invariant-loop-import : goal.invariant-loop-import
 invariant-loop-import l = record {

@@ -72,22 +72,12 @@ impl ModuleNames {
         ensures distinct { IsDistinct bytes_eq self.new }
     {
         let last = self.last;
-        if self.has(last, name) {
+        if is_at(&self.names, last, name) {
             return Ok(last);
         }
         let number = self.find_or_keep(name)?;
         self.last = number;
         Ok(number)
-    }
-
-    // Whether a number is that of a name.
-    fn has(&self, number: usize, name: &str) -> bool
-        ensures { IsTrue result → slice_get self.now number ≡ Some name.now }
-    {
-        match self.get(number) {
-            Some(kept) => kept == name,
-            None => false,
-        }
     }
 
     #[tactic(auto, using(crate::proofs::ModuleNames::numbered_name, crate::proofs::ModuleNames::new_name))]
@@ -124,8 +114,7 @@ impl ModuleNames {
     pub fn get(&self, number: usize) -> Option<&str>
         ensures { option_copied result ≡ slice_get self.now number }
     {
-        let name = self.names.get(number)?;
-        Some(name.as_str())
+        name_at(&self.names, number)
     }
 }
 

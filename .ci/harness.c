@@ -166,12 +166,14 @@ static uint32_t refused_check(int i, long number, struct wasm_gen_verdict *it) {
 
 static void refusals_of(int i) {
     static uint8_t module[ROOM];
-    struct wasm_gen_verdict it;
+    struct wasm_gen_verdict it, right;
     size_t length, seed_length = inputs[i].length < 1024 ? inputs[i].length : 1024;
     long number = 1;
+    refused_check(i, 0, &right);
+    /* (an allocation that is only to save time may fail: then the verdict is the right one) */
     for (; refused_check(i, number, &it), taken >= number; number++)
-        want(is_refusal(&it, WASM_GEN_MEMORY, 0), "a verdict without memory", number);
-    want(it.kind == refused_check(i, 0, &it), "a verdict with memory", number);
+        want(is_refusal(&it, WASM_GEN_MEMORY, 0) || !memcmp(&it, &right, sizeof it), "a verdict without memory", number);
+    want(!memcmp(&it, &right, sizeof it), "a verdict with memory", number);
     for (number = 1;; number++) {
         memset(module, FILL, sizeof module);
         taken = 0, refused = number;

@@ -1,6 +1,6 @@
 """Prints the rows of bench/check.sh, and ends with 1 where one is past its bound: `check_times.py PROGRAM DRIVER COUNTER FOLDER`. The modules are those that
-bench/check_modules.py and, in FOLDER/code, bench/code_modules.sh made. DRIVER is `wasm_bench`, or made from its source (.ci/unproved.py); COUNTER counts a
-program's allocations."""
+bench/check_modules.py and, in FOLDER/code, bench/code_modules.sh made. DRIVER is `wasm_bench`, also as tools/unproved makes it; COUNTER is
+bench/count.c, compiled."""
 import os
 import shutil
 import subprocess
@@ -11,7 +11,7 @@ from in_process import peers, times_of
 
 program, driver, counter, folder = sys.argv[1:]
 ROUNDS = 5
-# What a cost that should be equal may differ by.
+# The factor that equal costs may differ by.
 NOISE = 1.25
 past = []
 
@@ -27,7 +27,7 @@ def path_of(name):
 
 
 def whole_run(name, command, size):
-    """The row of a whole process, and its peak of memory."""
+    """Prints the row of a whole process, and returns its peak of memory in MiB."""
     best = None
     for _ in range(5):
         begin = time.perf_counter()
@@ -60,12 +60,12 @@ def times_of_modules(paths):
 
 
 def is_agreed(ours, node):
-    """(an operator outside of the validator's table is refused, whatever node says)"""
+    """Returns whether the verdicts agree: an operator that the validator doesn't know is refused, even where node says yes."""
     return ours == "operator" or (ours == "yes" and node in ("yes", None))
 
 
 def compare(name, path, best, may_differ=False):
-    """The row of a module: each peer's time, and ours to it."""
+    """Shows the row of a module: each validator's time, and ours beside it."""
     verdict, taken = best[path, "ours"]
     size = os.path.getsize(path)
     row = f"{name}: {size / 1e6:.2f} MB: {verdict}, {taken / 1e6:.2f} ms, {size / taken * 1e3:.3g} MB/s, {taken / size:,.1f} ns a byte"
@@ -88,7 +88,7 @@ def number_at(data, at):
 
 
 def sizes_in(path):
-    """How many bytes of code a module has, and how many definitions: what the sections but custom ones, the start, the code and the data list."""
+    """Returns how many bytes of code a module has, and how many definitions: the items of all sections but custom ones, the start, the code and the data."""
     with open(path, "rb") as file:
         data = file.read()
     at, code, definitions = 8, 0, 0
@@ -102,13 +102,13 @@ def sizes_in(path):
 
 
 def peak_of(path):
-    """The most memory of `check` in bytes. (GNU time is small, and so lends the program none of its own size.)"""
+    """Returns the most memory of `check` in bytes. (GNU time is small, and so lends the program none of its own size.)"""
     said = [subprocess.run(["/usr/bin/time", "-f", "%M", program, "check", path], capture_output=True, text=True).stderr for _ in range(3)]
     return min(int(it.split()[-1]) for it in said) * 1024
 
 
 def show_memory(name, path):
-    """What `check` takes beyond the file's bytes and what it takes for an empty module: 100 bytes a definition, and half a MiB."""
+    """Shows the memory of `check` beyond the file's bytes and that for an empty module; it may be 100 bytes a definition, and half a MiB."""
     code, definitions = sizes_in(path)
     more = peak_of(path) - peak_of(path_of("empty")) - os.path.getsize(path)
     bound = 100 * definitions + (1 << 19)
@@ -130,8 +130,8 @@ def real_modules():
         show_memory(what, path)
 
 
-# A row, the module beside it, and how many times as much a byte may take. (Blocks nested less than some 700,000 deep take a third as much a byte in a process
-# that validates many times: what is kept of them has 32 MiB at most, which the C library keeps for the next time in place of giving it back to the system.)
+# A row, the module beside it, and how many times as long a byte may take. (Blocks nested less than some 700,000 deep take a third as long a byte in a process
+# that validates many times: their stack has 32 MiB at most, which the C library keeps for the next time in place of giving it back to the system.)
 LINEAR = [("one body", "small bodies", NOISE), ("twice the nested blocks", "nested blocks", NOISE), ("labels", "fewer labels", NOISE)]
 
 
@@ -143,7 +143,7 @@ def linear_costs():
         compare(name, path_of(name), best, may_differ=name == "labels")
     for large, small, bound in LINEAR:
         each = [best[path_of(it), "ours"][1] / os.path.getsize(path_of(it)) for it in (large, small)]
-        show(f"{large}, to {small}, of as much a byte: {each[0] / each[1]:.2f}, of {bound:.2f}", each[0] <= bound * each[1])
+        show(f"{large}, to {small}, time of a byte: {each[0] / each[1]:.2f}, of {bound:.2f}", each[0] <= bound * each[1])
 
 
 def allocations(name):

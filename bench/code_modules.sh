@@ -1,15 +1,15 @@
 #!/bin/sh
-# Makes modules of several MB of code in the folder FOLDER, by Debian's compilers, optimised and stripped, and writes their names to FOLDER/names, each after
-# what it is: bench/code_modules.sh FOLDER. They are wasi-libc linked whole, a program of 4,000 functions in C with it, std of Rust linked whole, a program
-# of many generic instances in Rust, and a program in Go that uses large packages of its library. Where a compiler is missing it says so, and leaves its modules
-# out. The first one takes a minute or two on four processors, and Go's as long where its library isn't compiled for `js` yet.
+# Makes modules of several MB of code in the folder FOLDER, by Debian's compilers, optimised and stripped, and writes a line for each to FOLDER/names, its name
+# and a description: bench/code_modules.sh FOLDER. They are wasi-libc linked whole, a program of 4,000 functions in C with it, std of Rust linked whole, a
+# program of many generic instances in Rust, and a program in Go that uses large packages of its library. Where a compiler is missing it says so, and leaves its
+# modules out. Those in C take a minute or two on four processors, and Go's as long where its library isn't compiled for `js` yet.
 set -eu
 parts=$(cd "$(dirname "$0")/code_modules" && pwd)
 mkdir -p "$1"
 cd "$1"
 : > names
 
-# has PACKAGES TOOL..: whether these tools are there.
+# has PACKAGES TOOL..: tests that these tools are installed, and names the packages where one is missing.
 has() {
     packages=$1
     shift
@@ -18,7 +18,7 @@ has() {
     done
 }
 
-# made NAME WHAT..: adds a module to the names.
+# made NAME DESCRIPTION..: adds a module to the names.
 made() {
     echo "$@" >> names
 }

@@ -1,5 +1,4 @@
-// Is loaded before a program (LD_PRELOAD), counts its allocations, and tells how many there were on standard error at the end. It names no header, so that
-// the kit's compiler needs none.
+// Counts the allocations of a program that it is loaded into (LD_PRELOAD), and prints their number on standard error at the end.
 
 long write(int file, const void *bytes, __SIZE_TYPE__ count);
 void *__libc_malloc(__SIZE_TYPE__ size);

@@ -1,41 +1,31 @@
 #!/bin/sh
-# Modules/s and MB/s of seed of `generate`, for random seeds of 1 KB and 10 KB, many in one process; beside it the same of
-# `wasm-opt -ttf` of Debian's binaryen, one process a seed, where that is installed. Of a random seed most is not drawn, since growing
-# ends at the first even byte; so the same is measured of seeds of odd bytes, which are drawn whole or make as much as there may be.
+# Modules/s and MB/s of seed of `generate`, for seeds of 1,000 and 10,000 bytes, many in one process: of odd bytes, which are drawn whole or make as much
+# as there may be, and of random bytes, of which little is drawn, since growing ends at the first even byte. Each is to take 20 MB/s of seed; the status is 1
+# where one doesn't.
 set -eu
 . "$(dirname "$0")/setup.sh"
 . bench/driver.sh
+driver=$(build wasm_bench session 0)
 python3 - "$driver" "$folder" <<'PYTHON'
-import os, random, shutil, subprocess, sys, time
+import random, subprocess, sys, time
 driver, folder = sys.argv[1:]
-random.seed(7)
 size = 64 << 20
-any_bytes = random.randbytes(size)
-files = {"random": any_bytes, "odd": bytes(byte | 1 for byte in any_bytes)}
-for kind, contents in files.items():
-    open(f"{folder}/{kind}", "wb").write(contents)
-def best(command, count):
+any_bytes = random.Random(7).randbytes(size)
+def shortest(command):
     times = []
-    for _ in range(count):
+    for _ in range(5):
         begin = time.perf_counter()
         out = subprocess.run(command, capture_output=True, text=True, check=True).stdout
         times.append(time.perf_counter() - begin)
     return min(times), out.strip()
-slow = False
-for length in (1000, 10000):
-    for kind in files:
-        taken, out = best([driver, "generate", f"{folder}/{kind}", str(length)], 5)
+is_slow = False
+for kind, seeds in [("odd", bytes(byte | 1 for byte in any_bytes)), ("random", any_bytes)]:
+    with open(f"{folder}/seeds", "wb") as file:
+        file.write(seeds)
+    for length in (1000, 10000):
+        taken, out = shortest([driver, "generate", f"{folder}/seeds", str(length)])
         modules = (size + length - 1) // length
-        print(f"generate, {kind} seeds of {length} bytes: {modules / taken:.0f} modules/s, {size / taken / 1e6:.1f} MB/s of seed, {out}")
-        slow = slow or size / taken < 20e6
-    if shutil.which("wasm-opt"):
-        runs = 50
-        begin = time.perf_counter()
-        for i in range(runs):
-            seed = f"{folder}/seed"
-            open(seed, "wb").write(random.randbytes(length))
-            subprocess.run(["wasm-opt", "-ttf", seed, "-o", f"{folder}/made.wasm"], check=True, capture_output=True)
-        taken = time.perf_counter() - begin
-        print(f"wasm-opt -ttf, seeds of {length} bytes: {runs / taken:.0f} modules/s, {runs * length / taken / 1e6:.3f} MB/s of seed")
-sys.exit(slow)
+        print(f"seeds of {length} {kind} bytes: {modules / taken:.0f} modules/s, {size / taken / 1e6:.1f} MB/s of seed, {out}")
+        is_slow |= size / taken < 20e6
+sys.exit(is_slow)
 PYTHON

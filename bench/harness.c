@@ -1,4 +1,4 @@
-/* Calls a second of the static library, in one process: harness FOLDER, in which it leaves modules and seeds for what is measured beside it. */
+/* Prints how often a second the static library's functions can be called: harness FOLDER. Writes the module of code to FOLDER/code.wasm. */
 #include <stdio.h>
 #include <stdlib.h>
 #include <string.h>
@@ -70,7 +70,7 @@ static void generate_odd(int i) { generate(&odd_seeds[i]); }
 static void both_random(int i) { check_made(generate(&random_seeds[i])); }
 static void both_odd(int i) { check_made(generate(&odd_seeds[i])); }
 
-/* Tells how many calls a second there are in the best of some turns, of at least 0.3 s each, and whether these are enough. */
+/* Prints the calls a second in the best of some turns, of at least 0.3 s each. Returns 1 where there are fewer than the least. */
 static int measure(const char *what, void (*call)(int), double least) {
     double best = 0;
     for (int turn = 0; turn < TURNS; turn++) {
@@ -116,18 +116,18 @@ static void measure_shortest(void) {
     printf("check of this module, the shortest time of a call: %.0f ns\n", shortest * 1e9);
 }
 
-static void save(const char *folder, int i, const char *ending, const struct row *row) {
+static void save_code(const char *folder) {
     char name[4096];
-    snprintf(name, sizeof name, "%s/%02d.%s", folder, i, ending);
+    snprintf(name, sizeof name, "%s/code.wasm", folder);
     FILE *file = fopen(name, "wb");
-    must(file && fwrite(row->bytes, 1, row->length, file) == row->length && !fclose(file), name);
+    must(file && fwrite(code.bytes, 1, code.length, file) == code.length && !fclose(file), name);
 }
 
 static void fill(struct row *seed, size_t length, uint8_t bits) {
     for (seed->length = 0; seed->length < length; seed->length++) seed->bytes[seed->length] = next_byte() | bits;
 }
 
-static void prepare(const char *folder) {
+static void prepare(void) {
     static struct row seed;
     for (int i = 0; i < ROWS; i++) {
         fill(&random_seeds[i], SEED, 0);
@@ -137,8 +137,6 @@ static void prepare(const char *folder) {
             modules[i].length = generate(&seed);
         } while (modules[i].length < 900 || modules[i].length > 1100);
         memcpy(modules[i].bytes, made, modules[i].length);
-        save(folder, i, "wasm", &code);
-        save(folder, i, "seed", &random_seeds[i]);
     }
 }
 
@@ -146,7 +144,8 @@ int main(int words, char **word) {
     must(words == 2, "usage: harness FOLDER");
     features = wasm_gen_features_default();
     make_code();
-    prepare(word[1]);
+    save_code(word[1]);
+    prepare();
     int is_slow = measure("check of the header alone", check_header, 1e6);
     measure("check of a module of 1,013 bytes, code", check_code, 0);
     measure_shortest();
@@ -154,6 +153,6 @@ int main(int words, char **word) {
     measure("generate, random seeds of 1,000 bytes", generate_random, 0);
     measure("generate, seeds of 1,000 odd bytes", generate_odd, 0);
     is_slow |= measure("generate and check in turn, random seeds", both_random, 5e4);
-    measure("generate and check in turn, seeds of odd bytes", both_odd, 5e4);
+    measure("generate and check in turn, seeds of odd bytes", both_odd, 0);
     return is_slow;
 }

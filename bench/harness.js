@@ -1,8 +1,7 @@
-// How often a second node validates the modules in a folder, in a loop: node harness.js FOLDER.
+// Prints how often a second node validates the header alone and a module, in a loop: node harness.js MODULE.
 const fs = require("fs");
-const folder = process.argv[2];
-const header = [Uint8Array.of(0, 97, 115, 109, 1, 0, 0, 0)];
-const modules = fs.readdirSync(folder).filter(it => it.endsWith(".wasm")).map(it => fs.readFileSync(`${folder}/${it}`));
+const header = Uint8Array.of(0, 97, 115, 109, 1, 0, 0, 0);
+const code = fs.readFileSync(process.argv[2]);
 
 // Milliseconds of the processor's time, since others share it.
 function now() {
@@ -10,14 +9,14 @@ function now() {
     return (used.user + used.system) / 1000;
 }
 
-function measure(what, rows) {
+function measure(what, bytes) {
     let best = 0;
     for (let turn = 0; turn < 5; turn++) {
         const begin = now();
         let calls = 0;
         while (now() - begin < 300) {
-            for (const bytes of rows) if (!WebAssembly.validate(bytes)) throw new Error(`${what}: a no`);
-            calls += rows.length;
+            for (let i = 0; i < 64; i++) if (!WebAssembly.validate(bytes)) throw new Error(`${what}: a no`);
+            calls += 64;
         }
         best = Math.max(best, calls / (now() - begin) * 1000);
     }
@@ -25,4 +24,4 @@ function measure(what, rows) {
 }
 
 measure("the header alone", header);
-measure("the module of code", modules);
+measure("the module of code", code);

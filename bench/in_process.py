@@ -1,10 +1,10 @@
-"""How long validating a file takes in a process that holds it, by ours and by its peers: the shortest of many times."""
+"""Times validating a file in a process that holds it, by ours and by its peers: the shortest of many times."""
 import shutil
 import subprocess
 import sys
 import time
 
-# How often a process validates a file, ours and node's.
+# The number of times that a process validates a file.
 TIMES = {"ours": 10, "node": 30}
 SCRIPT_OF_NODE = """const [name, times] = process.argv.slice(1);
 const bytes = require('fs').readFileSync(name);
@@ -18,7 +18,7 @@ console.log(answer ? 'yes' : 'no', shortest, 'ns');"""
 
 
 def told(command):
-    """A verdict and nanoseconds, which a process prints."""
+    """Returns the verdict and the nanoseconds that a process prints."""
     words = subprocess.run(command, stdout=subprocess.PIPE, text=True, check=True).stdout.split()
     return words[0], int(float(words[1]))
 
@@ -28,14 +28,14 @@ def by_node(path):
 
 
 def by_wabt(path):
-    """(the time of a process)"""
+    """Returns the verdict and the time of a process."""
     begin = time.perf_counter_ns()
     status = subprocess.run(["wasm-validate", path], stderr=subprocess.DEVNULL).returncode
     return "yes" if status == 0 else "no" if status > 0 else "crash", time.perf_counter_ns() - begin
 
 
 def peers(driver):
-    """Ours, by the driver, and those of node and wabt that are there."""
+    """Returns ours, by the driver, and those of node and wabt that are installed."""
     found = {"ours": lambda path: told([driver, "check", path, str(TIMES["ours"])])}
     if shutil.which("node"):
         found["node"] = by_node
@@ -48,8 +48,8 @@ def peers(driver):
 
 
 def times_of(asked, paths, empty, rounds):
-    """What each peer says of each file, and the shortest time. Each round asks all peers of all files, so that other work of the machine hits all alike. Of
-    wabt's time that of an empty module is taken off."""
+    """Returns the verdict of each peer on each file, and its shortest time. Each round asks all peers of all files, so that other work of the machine hits all
+    alike. From wabt's time that of an empty module is subtracted."""
     best = {}
     for _ in range(rounds):
         for path in [empty, *paths]:

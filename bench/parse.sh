@@ -1,15 +1,14 @@
 #!/bin/sh
 # MB/s and items/s of going over all payloads of a module of 64 MiB, and over all items of its sections, for a module of each kind of section. A
-# driver reads the file and goes over it once, or nine times; the eighth part of the difference counts, the best of five. Each is to reach 500 MB/s, or
+# program reads the file and goes over it once, or nine times; the eighth part of the difference counts, the best of five. Each is to reach 500 MB/s, or
 # 50,000,000 items/s where items are short, but for types, whose lists take memory; the status is 1 where one doesn't.
 set -eu
 cd "$(dirname "$0")/.."
 folder=$(mktemp -d)
 trap 'rm -rf "$folder"' EXIT
-.ci/build wasmparser_parse_bench > /dev/null
-driver=$(pwd)/crates/wasmparser_parse_bench
-(cd "$driver" && ../../.ci/rt run -- /dev/null 0 > /dev/null 2>&1) || true
-python3 - "$driver/out/wasmparser_parse_bench" "$folder" <<'PYTHON'
+. bench/driver.sh
+driver=$(build wasmparser_parse_bench /dev/null 0)
+python3 - "$driver" "$folder" <<'PYTHON'
 import subprocess, sys, time
 driver, folder = sys.argv[1:]
 size = 64 << 20

@@ -1,20 +1,15 @@
 #!/bin/sh
-# The payloads of modules that clang, rustc and Go make, beside what wasm-objdump prints of them: kinds of sections, their places, their counts, the names
-# of custom ones. The places join without a gap, those of bodies too, up to the end of the file. `wasm_gen check` accepts all of their sections: it says
-# `yes`, or `no operator` of a body. Needs Debian's clang, lld, rustc, libstd-rust-dev-wasm32, golang-go and wabt, of which it says what is missing; the
-# status is 1 where a module differs or is refused otherwise.
+# Compares the payloads of modules that clang, rustc and Go make with those that wasm-objdump prints: the kind, place and count of each section, and the
+# names of custom ones. The places must join without a gap, those of bodies too, up to the end of the file, and `wasm_gen check` must say `yes`, or
+# `no operator` of a body. Needs Debian's clang, lld, rustc, libstd-rust-dev-wasm32, golang-go and wabt, and says which is missing; the status is 1 where
+# a module differs or is refused otherwise.
 set -eu
-cd "$(dirname "$0")/.."
 for tool in clang wasm-ld /usr/bin/rustc /usr/bin/go wasm-objdump; do
     command -v "$tool" > /dev/null || { echo "$tool is missing: apt-get install clang lld rustc libstd-rust-dev-wasm32 golang-go wabt"; exit 2; }
 done
-folder=$(mktemp -d)
-trap 'rm -rf "$folder"' EXIT
-./wasm_gen --help > /dev/null
-program=$(pwd)/crates/wasm_gen_cli/out/wasm_gen_cli
-.ci/build wasmparser_parse_bench > /dev/null
-driver=$(pwd)/crates/wasmparser_parse_bench
-(cd "$driver" && ../../.ci/rt run -- /dev/null 0 > /dev/null 2>&1) || true
+. "$(dirname "$0")/setup.sh"
+. bench/driver.sh
+driver=$(build wasmparser_parse_bench /dev/null 0)
 cat > "$folder/small.c" <<'SOURCE'
 __attribute__((import_module("env"), import_name("log"))) void print(int);
 static int table[64];
@@ -57,7 +52,7 @@ SOURCE
     /usr/bin/rustc --target wasm32-unknown-unknown -O words.rs -o rustc.wasm
     HOME="$folder" GOOS=js GOARCH=wasm /usr/bin/go build -o go.wasm hello.go
 )
-python3 - "$driver/out/wasmparser_parse_bench" "$program" "$folder" small.o clang.wasm debug.o clang-debug.wasm rustc.wasm go.wasm <<'PYTHON'
+python3 - "$driver" "$program" "$folder" small.o clang.wasm debug.o clang-debug.wasm rustc.wasm go.wasm <<'PYTHON'
 import re, subprocess, sys
 
 driver, program, folder, *names = sys.argv[1:]
@@ -68,7 +63,7 @@ def lines_of(*command):
 
 
 def sections_told(path):
-    """What wasm-objdump prints of each section: its kind, its place, its count or name."""
+    """Returns the kind, the place, and the count or name of each section, as wasm-objdump prints them."""
     row = re.compile(r' *(\w+) start=(\w+) end=(\w+) \(size=\w+\) (?:count: (\d+)|start: (\d+)|"(.*)")$')
     found = [row.match(it) for it in lines_of("wasm-objdump", "-h", path)]
     return [(it[1], int(it[2], 16), int(it[3], 16), it[4] or it[5] or it[6] or "") for it in found if it]
@@ -87,7 +82,7 @@ def length_of_number(data, at):
 
 
 def has_gap(data, payloads):
-    """Whether the payloads' places leave a byte out: before each content stand an id and a size, before each body a size."""
+    """Returns whether the payloads' places leave a byte out: before each content stand an id and a size, before each body a size."""
     at = 0
     for kind, start, end, _ in payloads:
         before = 0 if kind in ("Version", "End") else length_of_number(data, at + (kind != "body")) + (kind != "body")

@@ -1,12 +1,13 @@
 #!/bin/sh
-# Seconds and peak memory of `wasm_gen check` on modules of a million items of a kind: imports of globals, exports (also out of order, and by names that were
-# chosen to make it slow), globals, functions and expressions of element segments, segments, and operands of constant expressions; then the time of files of
-# 100,000 items in memory, beside node's WebAssembly.validate and wabt's, where these are there. A module is to take 1.5 s and 100 bytes an item beyond the input
-# at most; where one takes more, the status is 1. Last come many modules of one session whose types are all kept: twice as many are to take twice as long, or
-# little more.
+# Seconds and peak memory of `wasm_gen check` on modules of a million items of a kind: imports of globals, exports (also out of order, and by names that are
+# chosen to make it slow), globals, functions and expressions of element segments, segments, and operands of constant expressions; then the time of modules of
+# 100,000 items in memory, beside node's WebAssembly.validate and wabt's wasm-validate where they are installed. A module may take 1.5 s and 100 bytes an item
+# beyond the input; where one takes more, the status is 1. Last come many modules of one session whose types are all kept: twice as many may take 2.5 times as
+# long.
 set -eu
 . "$(dirname "$0")/setup.sh"
 . bench/driver.sh
+driver=$(build wasm_bench session 0)
 # (a process that holds the modules would lend its size to those that it starts)
 python3 - "$folder" <<'PYTHON'
 import random, sys

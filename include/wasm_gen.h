@@ -1,13 +1,12 @@
-/* Judges WebAssembly modules, and makes valid ones from seeds. `./wasm_gen_c` proves and builds the library; it needs malloc, realloc and
- * free, and memmove, of the program that it is linked into, and a processor of x86-64-v2.
+/* Validates WebAssembly modules, and makes valid ones from seeds. `./wasm_gen_c` proves and builds the library. It needs malloc, realloc, free and
+ * memmove from the program that it is linked into, and a processor of x86-64-v2.
  *
- * Who owns what: each call borrows what it is handed up to its return, and keeps nothing of it. It reads the bytes, the configuration and
- * the seed, and writes to the buffer, the verdict and the length alone; these must not overlap with anything else that the call is handed.
- * It takes memory by malloc and gives all of it back. Where malloc gives none it answers WASM_GEN_MEMORY; no call aborts.
+ * A call borrows its arguments until it returns, and keeps none of them. It reads the bytes, the configuration and the seed, and writes the
+ * buffer, the verdict and the length alone; these must not overlap with any other argument. All memory that it allocates is freed. A call
+ * that can't go on without memory returns WASM_GEN_MEMORY; no call aborts.
  *
- * Lengths are in bytes. A pointer may be null where its length is 0; a verdict and a length may not. There is no state between calls, so
- * that threads may call at the same time with values of their own. Each call judges by a judge of its own: nothing goes on from module to
- * module. Do not call these from a signal handler. */
+ * Lengths are in bytes. A pointer may be null if its length is 0; a verdict or a length may not. There is no state between calls, so threads
+ * may call at the same time with values of their own. Do not call from a signal handler. */
 #ifndef WASM_GEN_H
 #define WASM_GEN_H
 
@@ -18,32 +17,32 @@
 extern "C" {
 #endif
 
-/* What wasm_gen_version answers for this header. */
+/* The value that wasm_gen_version returns for this header. */
 #define WASM_GEN_VERSION 1
 
-/* What calls answer. Where a module has several faults, any of them may be told. */
+/* Results of calls. If a module has several faults, any of them may be reported. */
 enum wasm_gen_kind {
     WASM_GEN_YES = 0,          /* the module is valid, or was written */
     WASM_GEN_MALFORMED = 1,    /* the bytes don't read as a module */
     WASM_GEN_INVALID = 2,      /* they break a rule of validity */
     WASM_GEN_LIMIT = 3,        /* a count, a size, a depth or a sum passes a limit */
-    WASM_GEN_OPERATOR = 4,     /* all is fine but a body has an operator outside the table of operators */
-    WASM_GEN_BODY = 5,         /* all is fine but the bytes of a body, or its typing */
-    WASM_GEN_TOTAL = 6,        /* never: the judge's list of types is full */
+    WASM_GEN_OPERATOR = 4,     /* valid but for a body with an operator outside the table of operators */
+    WASM_GEN_BODY = 5,         /* valid but for the bytes of a body, or its typing */
+    WASM_GEN_TOTAL = 6,        /* never: the validator's list of types is full */
     WASM_GEN_ORDER = 7,        /* never: a part of a module comes too early or late */
-    WASM_GEN_FAILED = 8,       /* never: the judge refused a module before */
-    WASM_GEN_MEMORY = 9,       /* memory ran out: no verdict */
-    WASM_GEN_FEATURES = 10,    /* a bit of the features is none: nothing was judged */
+    WASM_GEN_FAILED = 8,       /* never: the validator refused a module before */
+    WASM_GEN_MEMORY = 9,       /* out of memory: no verdict */
+    WASM_GEN_FEATURES = 10,    /* unknown feature bit */
     WASM_GEN_BUFFER = 11,      /* the buffer is too short for the module */
-    WASM_GEN_CONFIG_TEXT = 12, /* a configuration's text, which isn't read yet */
-    WASM_GEN_CONFIG = 13,      /* never: the configuration has a value that isn't allowed */
+    WASM_GEN_CONFIG_TEXT = 12, /* configuration text is not supported yet */
+    WASM_GEN_CONFIG = 13,      /* never: a value of the configuration isn't allowed */
     WASM_GEN_SHAPE = 14,       /* never: the configuration asks for what can't be made */
     WASM_GEN_MINIMUM = 15,     /* never: fewer items than the configuration's minimum can be made */
     WASM_GEN_EMPTY_CHOICE = 16, /* never: a choice of nothing */
     WASM_GEN_TYPE_SIZE = 17    /* never: the types of imports and exports are too large together */
 };
 
-/* What a module may use, each as a bit. */
+/* Features of WebAssembly, each as a bit. */
 enum wasm_gen_feature {
     WASM_GEN_MUTABLE_GLOBAL = 1 << 0,
     WASM_GEN_SATURATING_FLOAT_TO_INT = 1 << 1,
@@ -69,10 +68,10 @@ enum wasm_gen_feature {
     WASM_GEN_STACK_SWITCHING = 1 << 21
 };
 
-/* What wasm_gen_check tells of a module. The eight counts are those of the index spaces, imported items counted; 0 after a refusal. */
+/* The verdict on a module. The eight counts are the sizes of its index spaces, imports included; 0 after a refusal. */
 struct wasm_gen_verdict {
     uint32_t kind;   /* an enum wasm_gen_kind */
-    uint64_t offset; /* a place in the bytes of a refused module, or their end; else, and where memory ran out, 0 */
+    uint64_t offset; /* an offset in the bytes of a refused module, or their length; else, and if memory ran out, 0 */
     uint64_t types;
     uint64_t functions;
     uint64_t tables;
@@ -83,28 +82,31 @@ struct wasm_gen_verdict {
     uint64_t exports;
 };
 
-/* The version of the library's calls: WASM_GEN_VERSION of the header that it goes with. */
+/* Returns the library's version: WASM_GEN_VERSION of its header. */
 uint32_t wasm_gen_version(void);
 
-/* The default features, each as a bit. */
+/* Returns the default features: all but custom page sizes, compact imports, wide arithmetic and stack switching. */
 uint32_t wasm_gen_features_default(void);
 
-/* The features under which what wasm_gen_generate makes is valid, each as a bit: wasm_gen_check under them gives WASM_GEN_YES, or
- * WASM_GEN_MEMORY. All of them are default features. */
+/* Returns the features that made modules may use: wasm_gen_check under them returns WASM_GEN_YES for each, or WASM_GEN_MEMORY. All of them
+ * are default features. */
 uint32_t wasm_gen_features_generated(void);
 
-/* Writes what a kind is called, in ASCII and without a zero at its end, at the buffer's front where it fits; else the buffer stays as it
- * is. Gives the name's length, at most 12, also where it isn't written: then it is more than `length`. 0 for a number that is no kind. */
+/* Writes the name of a kind, in ASCII and without a zero at its end, to the front of the buffer if it fits; else the buffer stays as it is.
+ * Returns the name's length, at most 12, in either case; 0 for a number that is no kind. */
 size_t wasm_gen_kind_name(uint32_t kind, char *buffer, size_t length);
 
-/* Judges the bytes of a module under the features whose bits are set (enum wasm_gen_feature). Fills the verdict, and gives its kind: WASM_GEN_YES,
- * or one up to WASM_GEN_FEATURES that isn't marked "never". */
+/* Validates a module under the features whose bits are set (enum wasm_gen_feature). Fills the verdict, and returns its kind: WASM_GEN_YES exactly
+ * if the bytes are a valid module whose bodies have operators of the table, unless memory runs out; else a kind up to WASM_GEN_FEATURES that
+ * isn't marked "never". A small body can need gigabytes of operands (calls of a function with a thousand results); a system that overcommits
+ * may then end the process. */
 uint32_t wasm_gen_check(const uint8_t *bytes, size_t length, uint32_t features, struct wasm_gen_verdict *verdict);
 
-/* Makes the module of a seed, of any bytes; the same module of the same seed. Sets *module_length to the module's length, or to 0 where
- * none is made. Writes the module at the buffer's front where it fits, and gives WASM_GEN_YES; where it doesn't, gives WASM_GEN_BUFFER. All
- * other bytes of the buffer stay as they are. Gives WASM_GEN_LIMIT where the module would pass a limit. `config` is kept for a
- * configuration's text: as long as none is read, config_length has to be 0, and is WASM_GEN_CONFIG_TEXT else. */
+/* Makes a module from a seed, which may be any bytes; equal seeds make equal modules. Sets *module_length to the module's length, or to 0 if
+ * none is made. Returns WASM_GEN_YES after writing the module to the front of the buffer, or WASM_GEN_BUFFER if it doesn't fit; other bytes of
+ * the buffer stay as they are. Returns WASM_GEN_LIMIT if the module would pass a limit. A module has at most 100 types and 100 functions, of at
+ * most 100 locals each, and is shorter than 32 KiB. Configuration text is not supported yet: a config_length other than 0 is
+ * WASM_GEN_CONFIG_TEXT. */
 uint32_t wasm_gen_generate(const uint8_t *config, size_t config_length, const uint8_t *seed, size_t seed_length, uint8_t *buffer,
                            size_t buffer_length, size_t *module_length);
 

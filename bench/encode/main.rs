@@ -19,6 +19,11 @@ fn bytes(sink: &mut Vec<u8>, bytes: &[u8]) {
 // An item of each kind.
 fn item(kind: &str) -> Option<fn(&mut Vec<u8>)> {
     Some(match kind {
+        "types" => |sink| {
+            sink.push(0x60);
+            bytes(sink, black_box(&[0x7f, 0x7e, 0x7f, 0x7d]));
+            bytes(sink, black_box(&[0x7c]));
+        },
         "imports" => |sink| {
             bytes(sink, black_box(b"env"));
             bytes(sink, black_box(b"names"));

@@ -1,9 +1,10 @@
-//! For `bench/check.sh` and `bench/harness.sh`: reads a file once, validates it so many times, and prints the verdict and the shortest time.
+//! For `bench/check.sh`, `bench/sections.sh`, `bench/types.sh` and `bench/harness.sh`: reads a file once, validates it so many times, and prints
+//! the verdict and the shortest time.
 
+use crate::shortest::tell_shortest;
 use std::alloc::Global;
 use std::fs;
 use std::rt::{Clock, Files};
-use std::time::{Duration, Instant};
 use wasm_gen_calls::check::{check, default_features};
 use wasm_gen_calls::codes::code_name;
 
@@ -21,33 +22,16 @@ pub(crate) fn measure<R: Files + Print + Clock + AllocGlobal>(
 }
 
 fn tell<R: Print + Clock + AllocGlobal>(rt: &R, bytes: &[u8], times: u32) -> Option<()> {
-    let verdict = verdict_on(rt.alloc(), bytes);
+    let alloc = rt.alloc();
+    let verdict = verdict_on(alloc, bytes);
     println!(rt; "{}", verdict).ok()?;
-    if times == 0 {
-        return Some(());
-    }
-    let shortest = shortest_time(rt, bytes, verdict, times)?;
-    println!(rt; "{} ns", shortest.as_nanos()).ok()
-}
-
-// The shortest time of so many validations, each of which answers the same.
-fn shortest_time<R: Clock + AllocGlobal>(
-    rt: &R,
-    bytes: &[u8],
-    verdict: &str,
-    times: u32,
-) -> Option<Duration> {
-    let mut shortest = Duration::MAX;
-    for _ in 0..times {
-        let start = Instant::now(rt).ok()?;
-        let is_same = verdict_on(rt.alloc(), bytes) == verdict;
-        let taken = start.elapsed(rt).ok()?;
-        if !is_same {
-            return None;
+    tell_shortest(rt, times, || {
+        if verdict_on(alloc, bytes) == verdict {
+            Some(())
+        } else {
+            None
         }
-        shortest = shortest.min(taken);
-    }
-    Some(shortest)
+    })
 }
 
 // What a validator of its own says of a module: `yes`, or the kind of the refusal.

@@ -1,16 +1,15 @@
-//! The program that the scripts in `bench/` time, and of which they take what it prints: its first word says what is measured, by the file of
-//! that name. Several may be asked for, with the word `then` between them. Reading has a program of its own: here the compiler wouldn't inline
-//! what both validating and that call, and either would be slower than where it stands alone.
+//! The program that the scripts in `bench/` time. Its first word names the file here that measures; the word `then` parts one measurement
+//! from the next. Parsing has a program of its own, `wasmparser_parse_bench`: beside the validator, which calls the same readers, the compiler
+//! inlines fewer of them, and going over imports takes five times as long.
 #![tactic(auto)]
 
-mod chains;
 mod check;
 mod encode;
 mod generate;
-mod lists;
+mod numbers;
 mod sections;
 mod session;
-mod types;
+mod shortest;
 
 use std::env;
 use std::process::ExitCode;
@@ -20,8 +19,8 @@ const USAGE: &str = "\
 usage: wasm_bench generate FILE LENGTH
        wasm_bench session MODULES
        wasm_bench check FILE TIMES
-       wasm_bench types (functions|fronts|members|subtypes|commits) COUNT
        wasm_bench encode KIND COUNT TIMES
+       wasm_bench numbers (u32|s64) (short|long) COUNT TIMES
        wasm_bench ONE OF THESE then ANOTHER ..";
 
 fn main(rt: HostRuntime) -> ExitCode {
@@ -34,7 +33,7 @@ fn main(rt: HostRuntime) -> ExitCode {
     }
 }
 
-// Measures what the program's words ask for.
+// Measures as the program's words say.
 fn run<R: Env + Files + Print + Clock + AllocGlobal>(rt: &R) -> Option<()> {
     let args = env::args(rt).ok()?;
     let words = args.collect::<Vec<String>>(rt.alloc()).ok()?;
@@ -60,8 +59,8 @@ fn measure<R: Files + Print + Clock + AllocGlobal>(rt: &R, words: &[String]) -> 
         "generate" => generate::measure(rt, words),
         "session" => session::measure(rt, words),
         "check" => check::measure(rt, words),
-        "types" => types::measure(rt, words),
         "encode" => encode::measure(rt, words),
+        "numbers" => numbers::measure(rt, words),
         _ => None,
     }
 }

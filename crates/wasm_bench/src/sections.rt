@@ -19,7 +19,8 @@ use wasm_encoder::import_section::ImportSection;
 use wasm_encoder::memory_section::MemorySection;
 use wasm_encoder::table_section::TableSection;
 use wasm_encoder::tag_section::TagSection;
-use wasm_encoder::types::{AbstractHeapType, HeapType, RefType, ValType};
+use wasm_encoder::type_section::TypeSection;
+use wasm_encoder::types::{AbstractHeapType, FuncType, HeapType, RefType, ValType};
 
 /// Times a section of this kind, of so many items.
 pub(crate) fn time<R: Print + Clock + AllocGlobal>(
@@ -29,6 +30,7 @@ pub(crate) fn time<R: Print + Clock + AllocGlobal>(
     times: u32,
 ) -> Option<()> {
     match kind {
+        "types" => time_filled::<R, TypeSection>(rt, count, times),
         "imports" => time_filled::<R, ImportSection>(rt, count, times),
         "functions" => time_filled::<R, FunctionSection>(rt, count, times),
         "tables" => time_filled::<R, TableSection>(rt, count, times),
@@ -60,6 +62,21 @@ fn time_filled<R: Print + Clock + AllocGlobal, S: Filled + Drop>(
     let mut section = S::empty(rt.alloc());
     section.fill(rt.alloc(), count)?;
     tell(rt, &section, times)
+}
+
+impl Filled for TypeSection {
+    fn empty(alloc: Global) -> TypeSection {
+        TypeSection::new(alloc)
+    }
+
+    fn fill(&mut self, alloc: Global, count: u32) -> Option<()> {
+        for _ in 0..count {
+            let params = vec![in alloc; ValType::I32, ValType::I64, ValType::I32, ValType::F32];
+            let results = vec![in alloc; ValType::F64];
+            self.func(FuncType::new(params.ok()?, results.ok()?)).ok()?;
+        }
+        Some(())
+    }
 }
 
 impl Filled for ImportSection {

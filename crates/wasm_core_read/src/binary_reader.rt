@@ -108,7 +108,7 @@ impl<'a> BinaryReader<'a> {
     /// Reads one byte.
     ///
     /// # Errors
-    /// Exactly where no byte is left, at the reader's place. The reader is then as it was.
+    /// If no byte is left; the reader doesn't move.
     #[tactic(auto, unfolding(crate::specs::Reading::byte_at))]
     pub fn read_u8(&mut self) -> Result<u8, Malformed>
         ensures exact { Gives (λ b. b) self.old self.new result (byte_at self.old.rest) }
@@ -129,7 +129,7 @@ impl<'a> BinaryReader<'a> {
     /// Reads an unsigned number of 32 bits in LEB128, padded or not: at most five bytes.
     ///
     /// # Errors
-    /// Exactly where no such number stands next, at the reader's place. The reader is then as it was.
+    /// If the next bytes aren't such a number; the reader doesn't move.
     pub fn read_var_u32(&mut self) -> Result<u32, Malformed>
         ensures exact { Gives (λ n. n) self.old self.new result (unsigned_at 32 self.old.rest) }
         ensures reads { Reads IsU32 (λ n. n) self.old self.new result }
@@ -158,7 +158,7 @@ impl<'a> BinaryReader<'a> {
     /// Reads an unsigned number of 64 bits in LEB128, padded or not: at most ten bytes.
     ///
     /// # Errors
-    /// Exactly where no such number stands next, at the reader's place. The reader is then as it was.
+    /// If the next bytes aren't such a number; the reader doesn't move.
     pub fn read_var_u64(&mut self) -> Result<u64, Malformed>
         ensures exact { Gives (λ n. n) self.old self.new result (unsigned_at 64 self.old.rest) }
         ensures reads { Reads IsU64 (λ n. n) self.old self.new result }
@@ -187,7 +187,7 @@ impl<'a> BinaryReader<'a> {
     /// Reads a signed number of 32 bits in LEB128, padded or not: at most five bytes.
     ///
     /// # Errors
-    /// Exactly where no such number stands next, at the reader's place. The reader is then as it was.
+    /// If the next bytes aren't such a number; the reader doesn't move.
     pub fn read_var_i32(&mut self) -> Result<i32, Malformed>
         ensures exact { Gives (λ n. n) self.old self.new result (signed_at 32 self.old.rest) }
         ensures reads { Reads IsS32 (λ n. n) self.old self.new result }
@@ -216,7 +216,7 @@ impl<'a> BinaryReader<'a> {
     /// Reads a signed number of 33 bits in LEB128, padded or not: at most five bytes.
     ///
     /// # Errors
-    /// Exactly where no such number stands next, at the reader's place. The reader is then as it was.
+    /// If the next bytes aren't such a number; the reader doesn't move.
     pub fn read_var_s33(&mut self) -> Result<i64, Malformed>
         ensures exact { Gives (λ n. n) self.old self.new result (signed_at 33 self.old.rest) }
         ensures reads { Reads IsS33 (λ n. n) self.old self.new result }
@@ -229,7 +229,7 @@ impl<'a> BinaryReader<'a> {
     /// Reads a signed number of 64 bits in LEB128, padded or not: at most ten bytes.
     ///
     /// # Errors
-    /// Exactly where no such number stands next, at the reader's place. The reader is then as it was.
+    /// If the next bytes aren't such a number; the reader doesn't move.
     pub fn read_var_i64(&mut self) -> Result<i64, Malformed>
         ensures exact { Gives (λ n. n) self.old self.new result (signed_at 64 self.old.rest) }
         ensures reads { Reads IsS64 (λ n. n) self.old self.new result }
@@ -260,7 +260,7 @@ impl<'a> BinaryReader<'a> {
     /// Reads the bits of a floating-point number of 32 bits.
     ///
     /// # Errors
-    /// Exactly where fewer than four bytes are left, at the reader's place. The reader is then as it was.
+    /// If fewer than four bytes are left; the reader doesn't move.
     pub fn read_f32_bits(&mut self) -> Result<u32, Malformed>
         ensures exact { Gives (λ n. n) self.old self.new result (float_at 4 self.old.rest) }
         ensures reads { Reads IsF32 (λ n. n) self.old self.new result }
@@ -288,7 +288,7 @@ impl<'a> BinaryReader<'a> {
     /// Reads the bits of a floating-point number of 64 bits.
     ///
     /// # Errors
-    /// Exactly where fewer than eight bytes are left, at the reader's place. The reader is then as it was.
+    /// If fewer than eight bytes are left; the reader doesn't move.
     pub fn read_f64_bits(&mut self) -> Result<u64, Malformed>
         ensures exact { Gives (λ n. n) self.old self.new result (float_at 8 self.old.rest) }
         ensures reads { Reads IsF64 (λ n. n) self.old self.new result }
@@ -316,7 +316,7 @@ impl<'a> BinaryReader<'a> {
     /// Reads so many bytes.
     ///
     /// # Errors
-    /// Exactly where fewer are left, at the reader's place. The reader is then as it was.
+    /// If fewer are left; the reader doesn't move.
     pub fn read_bytes(&mut self, len: usize) -> Result<&'a [u8], Malformed>
         ensures exact { Gives (λ b. b.now) self.old self.new result (bytes_at len self.old.rest) }
         ensures reads { Reads (IsBytesOf len) (λ b. b.now) self.old self.new result }
@@ -344,8 +344,7 @@ impl<'a> BinaryReader<'a> {
     /// Reads a name: the number of its bytes, and these bytes, which are UTF-8.
     ///
     /// # Errors
-    /// Exactly where no number of 32 bits stands next, fewer bytes follow than it says, or those are not UTF-8, at the reader's place. The reader is
-    /// then as it was.
+    /// If the next bytes aren't a length as a u32 and as many bytes of UTF-8; the reader doesn't move.
     pub fn read_string(&mut self) -> Result<&'a str, Malformed>
         ensures exact { Gives (λ s. s.now) self.old self.new result (name_at self.old.rest) }
         ensures reads { Reads IsName (λ s. s.now) self.old self.new result }

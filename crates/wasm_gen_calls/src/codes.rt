@@ -17,7 +17,7 @@ pub const UNKNOWN_FEATURES: u32 = 10;
 /// The buffer is shorter than what is to be written.
 pub const SHORT_BUFFER: u32 = 11;
 
-/// There is a configuration's text, which isn't read yet.
+/// Configuration text is not supported yet.
 pub const CONFIG_TEXT: u32 = 12;
 
 // A limit is passed, of the bytes or of what is made.

@@ -10,6 +10,8 @@ mod data_segments;
 #[cfg(test)]
 mod elements;
 #[cfg(test)]
+mod encode_memory;
+#[cfg(test)]
 mod encoded_bytes;
 #[cfg(test)]
 mod encoded_modules;
@@ -31,8 +33,6 @@ mod lines;
 mod other_sections;
 #[cfg(test)]
 mod readme;
-#[cfg(test)]
-mod readme_of_encoder;
 #[cfg(test)]
 mod refusals;
 #[cfg(test)]

@@ -6,15 +6,13 @@ use wasm_gen::judge::{Error, ValidatorId};
 use wasm_gen::session::Session;
 use wasm_gen::smith::supported_config;
 
-pub fn functions(alloc: Global, bytes: &[u8]) -> Result<u32, Error> {
+pub fn function_count(alloc: Global, bytes: &[u8]) -> Result<u32, Error> {
     let mut session = Session::new(alloc, WasmFeatures::default(), ValidatorId::new(0));
-    // After most refusals the session has failed, until `restart`.
     let types = session.check(bytes)?;
     Ok(types.as_ref().function_count())
 }
 
 pub fn module_of(alloc: Global, seed: &[u8]) -> Result<Vec<u8>, GenerateError> {
-    // Its fields are those of wasm-smith; what isn't supported is refused by name.
     let mut config = supported_config();
     config.max_funcs = 10;
     generate(alloc, &config, seed)
@@ -24,7 +22,7 @@ pub fn module_of(alloc: Global, seed: &[u8]) -> Result<Vec<u8>, GenerateError> {
 fn functions_are_counted(rt: HostRuntime) {
     let made = module_of(rt.alloc(), &[1, 1, 0, 0, 0, 0, 1]);
     let count = match &made {
-        Ok(bytes) => functions(rt.alloc(), bytes).ok(),
+        Ok(bytes) => function_count(rt.alloc(), bytes).ok(),
         Err(_) => None,
     };
     assert!(rt; count == Some(1));

@@ -200,7 +200,7 @@ impl Config {
     ghost use Rattle.wasm_smith_config.specs.Config.{sanitized, booleans, upper_limits, AreFeaturesOf};
     ghost use Rattle.wasm_smith_config.specs.Rows.{rows_of, switches};
 
-    /// Turns off what can't be had without something that is off.
+    /// Disables options whose prerequisites are disabled.
     pub fn sanitize(&mut self)
         ensures sanitized { self.new ≡ sanitized self.old }
         ensures twice_is_once { sanitized self.new ≡ self.new }

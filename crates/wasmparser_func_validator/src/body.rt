@@ -140,7 +140,7 @@ impl<R: WasmModuleResources> Body<R> {
         Ok(())
     }
 
-    // Whether types are below others one by one, and are as many.
+    // True if both lists have equal length and each type is a subtype of its counterpart.
     pub(crate) fn are_below(&self, types: &[ValType], wanted: &[ValType]) -> bool
         ensures { result ≡ are_below (R.resources self.now.resources).items (map val_type types.now) (map val_type wanted.now) }
     {

@@ -100,7 +100,7 @@ impl<R: WasmModuleResources> Body<R> {
         }
     }
 
-    // Whether a label accepts the operands, beside another one of which it is known: labels that are alike are looked at once.
+    // Checks a `br_table` label, reusing the previous answer if both labels have the same type.
     fn accepts_beside(
         &self,
         stacks: &Stacks,

@@ -117,7 +117,7 @@ fn past_one_byte(bits: u32, code: &[u8]) -> Option<&[u8]>
     }
 }
 
-// The same of one that is two bytes long at most.
+// Skips a signed LEB128 of at most two bytes.
 #[inline(always)]
 fn past_two_bytes(bits: u32, code: &[u8]) -> Option<&[u8]>
     requires { 11 ≤ bits }

@@ -23,8 +23,8 @@ const ABSTRACT: &[(&str, AbstractHeapType)] = &[
     ("nocont", AbstractHeapType::NoCont),
 ];
 
-/// The abstract heap type of this name.
-pub fn abstract_heap_type_of(word: &str) -> Option<AbstractHeapType> {
+// The abstract heap type of this name.
+fn abstract_heap_type_of(word: &str) -> Option<AbstractHeapType> {
     named(ABSTRACT, word)
 }
 

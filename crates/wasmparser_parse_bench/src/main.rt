@@ -1,5 +1,5 @@
-//! A driver for `bench/parse.sh` and `bench/real_modules.sh`: goes over the payloads of a module, and over the items of
-//! each section.
+//! The program of `bench/parse.sh` and `bench/real_modules.sh`: goes over the payloads of a module and the items of each section, or
+//! prints the payloads.
 #![tactic(auto)]
 
 mod items;
@@ -23,7 +23,7 @@ fn main(rt: HostRuntime) -> ExitCode {
     }
 }
 
-// Does what the program's words ask for.
+// Runs as the program's words say.
 fn run<R: Env + Files + Print + AllocGlobal>(rt: &R) -> Option<()> {
     let args = env::args(rt).ok()?;
     let words = args.collect::<Vec<String>>(rt.alloc()).ok()?;

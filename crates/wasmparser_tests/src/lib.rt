@@ -15,6 +15,6 @@ mod large_bodies;
 #[cfg(test)]
 mod new_validator;
 #[cfg(test)]
-mod readme;
+mod print_sections;
 #[cfg(test)]
 mod spaces;

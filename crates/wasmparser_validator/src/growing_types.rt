@@ -26,7 +26,7 @@ use wasmparser_module_state::module_state::ModuleState;
 use wasmparser_module_types::module_types::ModuleTypes;
 use wasmparser_payloads::payload::Payload;
 
-// A copy of what is known, as what bodies may ask.
+// Snapshots the module state for function validators.
 fn share_copy(alloc: Global, copy: ModuleState) -> Result<ValidatorResources, AllocError>
     ensures { IfOk result (λ r. resources_of r ≡ state_resources copy) }
 {

@@ -173,7 +173,7 @@ impl Validator {
         self.types.id()
     }
 
-    // Waits for something, knows of no module, and holds no types.
+    // Resets all state and moves to `stage`.
     fn wait_for(&mut self, stage: Stage)
         ensures { judge self.new ≡ waiting (judge self.old) stage }
     {

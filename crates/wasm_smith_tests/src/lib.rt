@@ -8,6 +8,10 @@ mod config;
 #[cfg(test)]
 mod errors;
 #[cfg(test)]
+mod group_types;
+#[cfg(test)]
+mod group_witness;
+#[cfg(test)]
 mod module;
 #[cfg(test)]
 mod unstructured;

@@ -1,0 +1,8 @@
+pub mod MemberLaws
+pub mod WordLaws
+pub mod FrontLaws
+pub mod SpellLaws
+pub mod FunctionLaws
+pub mod AgreementLaws
+pub mod WitnessLaws
+pub mod ReachLaws

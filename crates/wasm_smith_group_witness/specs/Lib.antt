@@ -1,0 +1,6 @@
+pub mod Drawing
+pub mod Family
+pub mod Functions
+pub mod Groups
+pub mod Spelling
+pub mod Words

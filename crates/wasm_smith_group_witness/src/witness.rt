@@ -1,0 +1,121 @@
+//! A seed for a list of groups and functions, and the types that are made of it.
+
+ghost use Rattle.std.specs.Prelude.{◌≡◌, IfOk, MatchOption, map};
+ghost use Rattle.wasm_smith_config.specs.Config.{sanitized};
+ghost use Rattle.wasm_smith_types.specs.Grouped as grouped;
+ghost use Rattle.wasm_smith_types.specs.Grouped.{entry};
+ghost use Rattle.wasm_smith_group_witness.specs.Family.{IsInFamily, IsInEarlyFamily};
+ghost use Rattle.wasm_smith_group_witness.specs.Groups.{group_of};
+ghost use Rattle.wasm_smith_group_witness.specs.Spelling.{Spells};
+
+use crate::functions::FunctionTypes;
+use crate::membership::{are_early_groups, are_member_groups, is_askable};
+use crate::words::{push_functions, push_groups};
+use std::alloc::{AllocError, Global};
+use wasm_core_types::types::SubType;
+use wasm_smith_config::config::Config;
+use wasm_smith_types::types::{Types, make_types};
+use wasm_smith_types::value_types::Offers;
+use wasm_smith_unstructured::unstructured::Unstructured;
+
+// Returns the configuration as it is put in order before modules are made from it.
+fn in_order(config: &Config) -> Config
+    ensures { result ≡ sanitized config.now }
+{
+    let mut config = *config;
+    config.sanitize();
+    config
+}
+
+// Returns a seed for the list, if it is of the family of a configuration that is in order.
+fn spelling(
+    alloc: Global,
+    config: &Config,
+    groups: &[Vec<SubType>],
+    funcs: &[u32],
+) -> Result<Option<Vec<u8>>, AllocError>
+    ensures { IfOk result (λ answer. MatchOption answer
+        (¬ (IsInFamily config.now (map group_of groups.now) funcs.now))
+        (λ seed. IsInFamily config.now (map group_of groups.now) funcs.now × Spells config.now (map group_of groups.now) funcs.now seed.items)) }
+{
+    if !is_askable(config)
+        || !are_member_groups(config, groups)
+        || funcs.len() > config.max_funcs as usize
+    {
+        return Ok(None);
+    }
+    let types = FunctionTypes::new(alloc, groups)?;
+    if !types.have_all(funcs) {
+        return Ok(None);
+    }
+    let mut seed = Vec::new(alloc);
+    push_groups(&mut seed, config, groups)?;
+    push_functions(&mut seed, &types, funcs)?;
+    Ok(Some(seed))
+}
+
+/// Returns a seed from which exactly these groups and functions are made for the configuration, without locals; `None` where
+/// they can't be asked for.
+///
+/// # Errors
+/// Where memory runs out.
+pub fn witness(
+    alloc: Global,
+    config: &Config,
+    groups: &[Vec<SubType>],
+    funcs: &[u32],
+) -> Result<Option<Vec<u8>>, AllocError>
+    ensures { IfOk result (λ answer. MatchOption answer
+        (¬ (IsInFamily (sanitized config.now) (map group_of groups.now) funcs.now))
+        (λ seed. IsInFamily (sanitized config.now) (map group_of groups.now) funcs.now
+        × Spells (sanitized config.now) (map group_of groups.now) funcs.now seed.items)) }
+{
+    let config = in_order(config);
+    spelling(alloc, &config, groups, funcs)
+}
+
+/// Returns such a seed for a list of the smaller family, in which each type refers to types of smaller index alone.
+///
+/// # Errors
+/// Where memory runs out.
+pub fn early_witness(
+    alloc: Global,
+    config: &Config,
+    groups: &[Vec<SubType>],
+    funcs: &[u32],
+) -> Result<Option<Vec<u8>>, AllocError>
+    ensures { IfOk result (λ answer. MatchOption answer
+        (¬ (IsInEarlyFamily (sanitized config.now) (map group_of groups.now) funcs.now))
+        (λ seed. IsInEarlyFamily (sanitized config.now) (map group_of groups.now) funcs.now
+        × Spells (sanitized config.now) (map group_of groups.now) funcs.now seed.items)) }
+{
+    let config = in_order(config);
+    if !are_early_groups(&config, groups) {
+        return Ok(None);
+    }
+    spelling(alloc, &config, groups, funcs)
+}
+
+/// Returns the types that are made of the list's seed, exactly its groups; `None` where it can't be asked for.
+///
+/// # Errors
+/// Where memory runs out.
+pub fn make_witnessed_types(
+    alloc: Global,
+    config: &Config,
+    groups: &[Vec<SubType>],
+    funcs: &[u32],
+) -> Result<Option<Types>, AllocError>
+    ensures { IfOk result (λ answer. MatchOption answer
+        (¬ (IsInFamily (sanitized config.now) (map group_of groups.now) funcs.now))
+        (λ types. IsInFamily (sanitized config.now) (map group_of groups.now) funcs.now
+        × (grouped.groups types ≡ map entry (map group_of groups.now)))) }
+{
+    let Some(seed) = witness(alloc, config, groups, funcs)? else {
+        return Ok(None);
+    };
+    let config = in_order(config);
+    let offers = Offers::new(alloc, &config)?;
+    let types = make_types(alloc, &mut Unstructured::new(&seed), &offers, &config)?;
+    Ok(Some(types))
+}

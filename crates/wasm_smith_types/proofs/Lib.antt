@@ -1,0 +1,17 @@
+pub mod GroupLaws
+pub mod CloneLaws
+pub mod GrowLaws
+pub mod OfferLaws
+pub mod ListLaws
+pub mod PermittedLaws
+pub mod CopyLaws
+pub mod MakingLaws
+pub mod GroupedLaws
+pub mod WalkLaws
+pub mod CloneSteps
+pub mod GroupDraws
+pub mod ReachLaws
+pub mod BelowLaws
+pub mod OfferingLaws
+pub mod ShiftLaws
+pub mod FittingLaws

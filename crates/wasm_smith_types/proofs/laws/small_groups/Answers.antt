@@ -1,0 +1,5 @@
+use Rattle.wasm_smith_types.proofs.GroupLaws.{small_groups}
+use Rattle.wasm_smith_types.proofs.laws.small_groups.Goals as goal
+
+pub returns : goal.returns
+returns c = small_groups

@@ -1,0 +1,14 @@
+pub mod Below
+pub mod Bounds
+pub mod Clones
+pub mod Copies
+pub mod Drawing
+pub mod Fitting
+pub mod Grouped
+pub mod Growing
+pub mod Making
+pub mod Offered
+pub mod Offering
+pub mod Permitted
+pub mod Spelling
+pub mod ValidGroups

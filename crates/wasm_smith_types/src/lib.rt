@@ -1,0 +1,14 @@
+//! The types of a module that is made.
+#![tactic(auto)]
+
+pub mod bounds;
+mod candidates;
+pub mod composite_types;
+mod fitting;
+pub mod growing;
+pub mod laws;
+pub mod narrowing;
+pub mod shifts;
+pub mod subtyping;
+pub mod types;
+pub mod value_types;

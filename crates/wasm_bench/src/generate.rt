@@ -16,33 +16,55 @@ struct Total {
 }
 
 /// Makes a module of each seed in the file that the words name, and prints the totals.
-pub(crate) fn measure<R: Files + Print + AllocGlobal>(rt: &R, words: &[String]) -> Option<()> {
+pub(crate) fn measure<R: Files + Print + AllocGlobal>(
+    rt: &R,
+    config: &Config,
+    words: &[String],
+) -> Option<()> {
     let [name, length] = words else {
         return None;
     };
     let length = length.as_str().parse::<usize>().ok()?;
-    let total = total_of_file(rt, name.as_str(), length)?;
+    let total = total_of_file(rt, config, name.as_str(), length)?;
     println!(rt; "{} modules of {} bytes", total.modules, total.bytes).ok()
 }
 
+/// Returns the supported configuration with garbage collection, where there may be 10,000 types.
+pub(crate) fn gc_config() -> Config {
+    let mut config = supported_config();
+    config.gc_enabled = true;
+    config.max_types = 10_000;
+    config
+}
+
 // Reads the file and makes a module of each seed.
-fn total_of_file<R: Files + AllocGlobal>(rt: &R, name: &str, length: usize) -> Option<Total> {
+fn total_of_file<R: Files + AllocGlobal>(
+    rt: &R,
+    config: &Config,
+    name: &str,
+    length: usize,
+) -> Option<Total> {
     let alloc = rt.alloc();
     let mut file = fs::open(rt, name).ok()?;
     let bytes = read_whole(alloc, &mut file, MAX_INPUT, MAX_TURNS).ok()?;
-    generate_each(alloc, &bytes, length).ok()
+    generate_each(alloc, config, &bytes, length).ok()
 }
 
 // Makes a module of each seed.
-fn generate_each(alloc: Global, bytes: &[u8], length: usize) -> Result<Total, GenerateError> {
-    let config = supported_config();
+fn generate_each(
+    alloc: Global,
+    config: &Config,
+    bytes: &[u8],
+    length: usize,
+) -> Result<Total, GenerateError> {
     let mut total = Total::default();
     for seed in bytes.chunks(length.max(1)) {
-        add_module(alloc, &mut total, &config, seed)?;
+        add_module(alloc, &mut total, config, seed)?;
     }
     Ok(total)
 }
 
+// Makes a module of a seed, and adds it to the totals.
 fn add_module(
     alloc: Global,
     total: &mut Total,

@@ -14,9 +14,10 @@ mod shortest;
 use std::env;
 use std::process::ExitCode;
 use std::rt::{Clock, Env, Files};
+use wasm_gen::smith::supported_config;
 
 const USAGE: &str = "\
-usage: wasm_bench generate FILE LENGTH
+usage: wasm_bench (generate|generate-gc) FILE LENGTH
        wasm_bench session MODULES
        wasm_bench check FILE TIMES
        wasm_bench encode KIND COUNT TIMES
@@ -56,7 +57,8 @@ fn measure<R: Files + Print + Clock + AllocGlobal>(rt: &R, words: &[String]) -> 
         return None;
     };
     match what.as_str() {
-        "generate" => generate::measure(rt, words),
+        "generate" => generate::measure(rt, &supported_config(), words),
+        "generate-gc" => generate::measure(rt, &generate::gc_config(), words),
         "session" => session::measure(rt, words),
         "check" => check::measure(rt, words),
         "encode" => encode::measure(rt, words),

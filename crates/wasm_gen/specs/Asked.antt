@@ -1,9 +1,10 @@
 -- Lists of groups and functions that `generate` makes of their seeds, and what it makes of them.
-use Rattle.std.specs.Prelude.{◌≡◌, ◌⊎◌, ◌≤◌, ◌%◌, ℕ, List, ◌∷◌, ◌++◌, length}
+use Rattle.std.specs.Prelude.{◌≡◌, ◌⊎◌, ◌≤◌, ◌%◌, ℕ, List, ◌∷◌, ◌++◌, length, map}
 use Rattle.wasm_core.specs.Parts as core
 use Rattle.wasm_spec.specs.Limits.{Types, Functions, most}
 use Rattle.wasm_spec.specs.Types.{SubType}
 use Rattle.wasm_smith.specs.Family.{IsAskable, IsInFamily, bare, types_of}
+use Rattle.wasm_smith.specs.Grouped.{entry}
 use Rattle.wasm_smith.specs.Made.{Made}
 use Rattle.wasm_smith.specs.Spelling.{Spells}
 use Rattle.wasm_smith.specs.Parts.{Config}
@@ -18,11 +19,11 @@ pub record IsReachable (c : Config) (groups : List (List (SubType ℕ))) (funcs 
   pub few_types : length (types_of groups) ≤ most Types
   pub few_funcs : length funcs ≤ most Functions
 
--- The bytes are those of a module with these types and functions.
+-- The bytes are those of a module with these groups and functions.
 pub record HasLists (c : Config) (groups : List (List (SubType ℕ))) (funcs : List ℕ) (bytes : List ℕ) : Type 0 where
   pub made : Made
-  pub types : made.types ≡ types_of groups
-  pub functions : made.funcs ≡ funcs
+  pub same_groups : made.groups ≡ map entry groups
+  pub same_functions : made.funcs ≡ funcs
   pub generated : IsGenerated c made bytes
 
 -- What is generated from each spelling of a list is the module of just this list, without locals; where an even byte and any others follow, it
@@ -33,13 +34,12 @@ pub record MakesLists (c : Config) (seed bytes : List ℕ) : Type 0 where
   pub going_on : (groups : List (List (SubType ℕ))) (funcs front rest : List ℕ) (byte : ℕ) → IsReachable c groups funcs
       → Spells c groups funcs front → seed ≡ front ++ byte ∷ rest → byte % 2 ≡ 0 → HasLists c groups funcs bytes
 
--- memory ran out, or the module that is drawn passes this limit
+-- memory ran out, or the limit is passed
 abbrev pub IsMemoryOrLimit : Config → List ℕ → GenerateError → Type 0
 IsMemoryOrLimit c seed e = (e ≡ Memory) ⊎ ((passed : core.Limit) × (e ≡ Limit passed) × PassesLimit c seed passed)
 
--- With a configuration with which lists can be asked for, only running out of memory, or a limit that the drawn module passes, keeps a module from being
--- generated; and where the seed spells a list that passes no limit, only running out of memory
--- does.
+-- With a configuration with which lists can be asked for, only running out of memory, or a limit that is passed, keeps a module from being generated;
+-- and where the seed spells a list that passes no limit, only running out of memory does.
 pub record RefusesRightly (c : Config) (seed : List ℕ) (e : GenerateError) : Type 0 where
   pub total : IsAskable c → IsMemoryOrLimit c seed e
   pub spelled : (groups : List (List (SubType ℕ))) (funcs : List ℕ) → IsReachable c groups funcs → Spells c groups funcs seed → e ≡ Memory

@@ -3,6 +3,7 @@ pub mod CheckInputs
 pub mod Device
 pub mod Generate
 pub mod History
+pub mod Lists
 pub mod Run
 pub mod RunGenerate
 pub mod Session

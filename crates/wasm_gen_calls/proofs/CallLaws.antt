@@ -6,7 +6,6 @@ use Rattle.wasmparser_validator.specs.Validation.{IsAccepted, IsValidated}
 use Rattle.wasmparser_validator.specs.KnownSpaces.{KnownModule}
 use Rattle.wasmparser_error.specs.declared.error.Error.{Error}
 use Rattle.wasm_smith.specs.Config.{AreFeaturesOf, sanitized}
-use Rattle.wasm_smith.specs.Generating.{module_at}
 use Rattle.wasm_smith.specs.Parts.{Config}
 use Rattle.wasm_gen.specs.Generate.{IsGeneratedFrom}
 use Rattle.wasm_gen.specs.declared.error.GenerateError.{GenerateError}
@@ -19,7 +18,7 @@ use Rattle.wasm_gen_calls.specs.declared.verdict.Verdict.{Verdict}
 
 -- what is generated is a module that is valid under the features of the configuration
 accepted : (c : Config) (seed bytes : List ℕ) (features : Features) (g : IsGeneratedFrom c seed bytes) → AreFeaturesOf c features
-    → IsAccepted features bytes (sections_with (module_at c seed).0 g.generated.bodies)
+    → IsAccepted features bytes (sections_with g.made g.generated.bodies)
 accepted c seed bytes features g are = record {
   reads = g.generated.reads (has features CompactImports);
   valid = g.generated.valid features are;
@@ -30,7 +29,7 @@ judged_so : (c : Config) (seed bytes : List ℕ) (features : Features) (answer :
     → IsValidated features [] bytes answer → ((verdict_of answer).kind ≡ yes) ⊎ ((verdict_of answer).kind ≡ memory)
 judged_so c seed bytes features (Ok known) g are validated = inl refl
 judged_so c seed bytes features (Err e) g are validated =
-    elim (validated.complete (sections_with (module_at c seed).0 g.generated.bodies) (accepted c seed bytes features g are)) [
+    elim (validated.complete (sections_with g.made g.generated.bodies) (accepted c seed bytes features g are)) [
       | inl is ↦ inr (ap kind_code is)
       | inr total ↦ absurd (validated.first refl total)
     ]

@@ -134,7 +134,6 @@ askable = record {
   good = are_good (fields made) refl;
   nothing_owed = (refl, (refl, (refl, (refl, (refl, (refl, (refl, (refl, (refl, (refl, (refl, tt)))))))))));
   no_exports = refl;
-  no_gc = refl;
 }
 
 is_made : (c : Config) → IsSupportedConfig c → sanitized c ≡ made

@@ -11,8 +11,8 @@ use wasm_gen_rows::new_session::{on_new_session, on_types_after, on_types_of_bot
 use wasm_test_rows::fields::{is_row, two_fields};
 use wasm_test_rows::rows::check_rows;
 
-// Modules: the letters of their groups, and their sections. Those of `e`, `f` and `g` have two types, which stand alone in others. One with a `!` has a function
-// whose body is refused, after which its groups stay in the list.
+// Modules: the letters of their groups, and their sections. Those of `e`, `f` and `g` have two types, which stand alone in others; `hh` is what the generator
+// makes of an open structure and its clone. One with a `!` has a function whose body is refused, after which its groups stay in the list.
 const MODULES: &str = "
     a       | 01 04 01 600000
     b       | 01 06 01 60017f017c
@@ -22,6 +22,7 @@ const MODULES: &str = "
     f       | 01 0b 01 4e0260000060017f017c
     g       | 01 07 01 4e025f005f00
     aa      | 01 07 02 600000 600000
+    hh      | 01 0d 02 50005f017801 50005f017801
     ab      | 01 09 02 600000 60017f017c
     ba      | 01 09 02 60017f017c 600000
     ce      | 01 0a 02 5f00 4e025f005e7f00
@@ -48,7 +49,11 @@ const FUNCTIONS: &str = "
 
 // How many types a group has.
 fn size_of(letter: u8) -> u32 {
-    if letter < b'e' { 1 } else { 2 }
+    if letter >= b'e' && letter <= b'g' {
+        2
+    } else {
+        1
+    }
 }
 
 fn is_refused(module: &str) -> bool {
@@ -80,7 +85,7 @@ fn is_of_group(types: TypesRef<'_>, place: u32, id: u32, first: u32, size: u32) 
 #[derive(Drop)]
 struct Met {
     are_one: bool,
-    first: [Option<u32>; 7],
+    first: [Option<u32>; 8],
     next: u32,
 }
 
@@ -88,7 +93,7 @@ impl Met {
     fn new(are_one: bool) -> Met {
         Met {
             are_one,
-            first: [None; 7],
+            first: [None; 8],
             next: 0,
         }
     }
@@ -185,7 +190,7 @@ fn count_after(alloc: Global, session: &mut Session, table: &str, first: &str) -
 }
 
 fn are_one_in_each_order(alloc: Global, session: &mut Session, first: &str) -> Option<bool> {
-    Some(count_after(alloc, session, MODULES, first) == 400)
+    Some(count_after(alloc, session, MODULES, first) == 441)
 }
 
 fn equal_types_have_one_id(alloc: Global, first: &str) -> Option<bool> {
@@ -211,7 +216,7 @@ fn each_definition_has_an_id(alloc: Global, first: &str) -> Option<bool> {
 
 #[test]
 fn types_have_their_ids_in_each_order_of_modules(rt: HostRuntime) -> Result<(), Fail> {
-    check_rows(rt.alloc(), MODULES, 20, equal_types_have_one_id)?;
+    check_rows(rt.alloc(), MODULES, 21, equal_types_have_one_id)?;
     Ok(check_rows(rt.alloc(), FUNCTIONS, 6, each_definition_has_an_id)?)
 }
 

@@ -5,24 +5,24 @@ use Rattle.wasm_encoder_functions.specs.Locals.{locals_encoding}
 use Rattle.wasm_spec.specs.Bytes.{IsByte, AreBytes, IsBytes}
 use Rattle.wasm_spec.specs.ModuleParts.{IsBody}
 use Rattle.wasm_spec.specs.Shortest.{framed_encoding}
+use Rattle.wasm_spec.specs.SmallIndexes.{IsSmallValue}
 use Rattle.wasm_spec.specs.Types.{ValType}
 use Rattle.wasm_spec.proofs.ListEncodings.{framed_length}
 use Rattle.wasm_spec.proofs.UnsignedEncodings.{at_most_five}
 use Rattle.wasm_smith.specs.ModuleEncoding.{as_run, IsBodyEncoding, AreBodyEncodings}
-use Rattle.wasm_smith.specs.Plain.{IsPlain}
 use Rattle.wasm_gen_laws.specs.Written.{IsUnreachableBody, AreUnreachableBodies}
 use Rattle.wasm_gen_laws.proofs.Forms.{all_append, frame_is}
 use Rattle.wasm_gen_laws.proofs.RunEncodings.{are_merged, locals_are, runs_encoding_is, runs_bytes, runs_length}
 
--- the types of few locals, all plain
-abbrev pub AreFewPlain : List (ValType ℕ) → Type 0
-AreFewPlain locals = (length locals ≤ 100) × AllByRecursion IsPlain locals
+-- the types of few locals, whose references are small
+abbrev pub AreFewSmall : List (ValType ℕ) → Type 0
+AreFewSmall locals = (length locals ≤ 100) × AllByRecursion IsSmallValue locals
 
 -- bytes, and not many
 abbrev pub IsShortBody : List ℕ → Type 0
-IsShortBody body = AreBytes body × (length body ≤ 607)
+IsShortBody body = AreBytes body × (length body ≤ 1107)
 
-short : (locals : List (ValType ℕ)) (body : List ℕ) → AreFewPlain locals → IsBodyEncoding locals body → IsShortBody body
+short : (locals : List (ValType ℕ)) (body : List ℕ) → AreFewSmall locals → IsBodyEncoding locals body → IsShortBody body
 short locals body h is =
     let runs = locals_encoding (map as_run is.runs) in
     let end : List ℕ = 0x00 ∷ 0x0b ∷ [] in
@@ -31,19 +31,19 @@ short locals body h is =
       omega (arith, runs_length locals is.runs is.joined h.1 h.0, length-append runs end),
     )
 
-pub bodies_short : (locals : List (List (ValType ℕ))) (bodies : List (List ℕ)) → AllByRecursion AreFewPlain locals → AreBodyEncodings locals bodies → AllByRecursion IsShortBody bodies
+pub bodies_short : (locals : List (List (ValType ℕ))) (bodies : List (List ℕ)) → AllByRecursion AreFewSmall locals → AreBodyEncodings locals bodies → AllByRecursion IsShortBody bodies
 bodies_short [] [] h are = tt
 bodies_short [] (body ∷ bodies) h are = absurd are
 bodies_short (first ∷ others) [] h are = absurd are
 bodies_short (first ∷ others) (body ∷ bodies) h are = (short first body h.0 are.0, bodies_short others bodies h.1 are.1)
 
-pub entry_length : (body : List ℕ) → IsShortBody body → length (framed_encoding body) ≤ 612
+pub entry_length : (body : List ℕ) → IsShortBody body → length (framed_encoding body) ≤ 1112
 entry_length body h = omega (arith, h.1, framed_length body, at_most_five (length body) (omega (arith, h.1)))
 
 pub entry_is : (body : List ℕ) → IsShortBody body → IsBody (framed_encoding body) body
 entry_is body h = frame_is IsBytes body body (h.0, refl) (omega (arith, h.1))
 
-body_is : (locals : List (ValType ℕ)) (body : List ℕ) → AreFewPlain locals → IsBodyEncoding locals body → IsUnreachableBody locals body
+body_is : (locals : List (ValType ℕ)) (body : List ℕ) → AreFewSmall locals → IsBodyEncoding locals body → IsUnreachableBody locals body
 body_is locals body h is = record {
   runs = map as_run is.runs;
   encoding = locals_encoding (map as_run is.runs);
@@ -53,7 +53,7 @@ body_is locals body h is = record {
   locals_are = locals_are locals is.runs is.joined;
 }
 
-pub bodies_are : (locals : List (List (ValType ℕ))) (bodies : List (List ℕ)) → AllByRecursion AreFewPlain locals → AreBodyEncodings locals bodies → AreUnreachableBodies locals bodies
+pub bodies_are : (locals : List (List (ValType ℕ))) (bodies : List (List ℕ)) → AllByRecursion AreFewSmall locals → AreBodyEncodings locals bodies → AreUnreachableBodies locals bodies
 bodies_are [] [] h are = tt
 bodies_are [] (body ∷ bodies) h are = absurd are
 bodies_are (first ∷ others) [] h are = absurd are

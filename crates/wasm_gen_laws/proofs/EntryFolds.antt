@@ -1,8 +1,9 @@
 -- What holds of each entry of a list, in the context of those before it.
 use Rattle.std.specs.Prelude.{⊤}
-use Rattle.std.proofs.Common.{◌≡◌, ℕ, Bool, true, false, not, ◌&&◌, List, [], ◌∷◌, ◌++◌, refl, inl, inr}
+use Rattle.std.proofs.Common.{◌≡◌, ℕ, ◌≤◌, Bool, true, false, not, ◌&&◌, List, [], ◌∷◌, ◌++◌, refl, inl, inr}
+use Rattle.std.proofs.lemmas.Bool.{le-ltb}
 use Rattle.wasm_spec.specs.Features.{Features}
-use Rattle.wasm_spec.specs.Limits.{Limit}
+use Rattle.wasm_spec.specs.Limits.{Limit, most}
 use Rattle.wasm_validity.specs.Context.{Context, after, after_all}
 use Rattle.wasm_validity.specs.Entries.{Entry}
 use Rattle.wasm_validity.specs.Rules.{Keeps, KeepRules, KeepLimits, PassLimit, Passes, PassesByTypes, are_within, is_past, measures}
@@ -11,13 +12,13 @@ abbrev pub Each : (Context → Entry → Type 0) → Context → List Entry → 
 Each P cx [] = ⊤
 Each P cx (entry ∷ entries) = P cx entry × Each P (after cx entry) entries
 
-pub each_append : (P : Context → Entry → Type 0) (cx : Context) (xs ys : List Entry) → Each P cx xs → Each P (after_all cx xs) ys → Each P cx (xs ++ ys)
-each_append P cx [] ys h k = k
-each_append P cx (x ∷ xs) ys h k = (h.0, each_append P (after cx x) xs ys h.1 k)
-
 pub after_append : (cx : Context) (xs ys : List Entry) → after_all cx (xs ++ ys) ≡ after_all (after_all cx xs) ys
 after_append cx [] ys = refl
 after_append cx (x ∷ xs) ys = after_append (after cx x) xs ys
+
+pub each_append : (P : Context → Entry → Type 0) (cx : Context) (xs ys : List Entry) → Each P cx xs → Each P (after_all cx xs) ys → Each P cx (xs ++ ys)
+each_append P cx [] ys h k = k
+each_append P cx (x ∷ xs) ys h k = (h.0, each_append P (after cx x) xs ys h.1 k)
 
 -- ---- rules
 
@@ -53,9 +54,28 @@ none_passes limit [] e p = p
 none_passes limit (m ∷ ms) e (inl at) = not_both (is_past m.0 m.1) (are_within ms) e at.1
 none_passes limit (m ∷ ms) e (inr later) = none_passes limit ms (second (is_past m.0 m.1) (are_within ms) e) later
 
-pub not_passed : (limit : Limit) (cx : Context) (entries : List Entry) → Each IsCounted cx entries → Each (HasNoType limit) cx entries → PassLimit limit cx entries → ⊥
+-- ---- one limit
+
+-- its numbers don't pass the limit
+abbrev pub HasNoNumber : Limit → Context → Entry → Type 0
+HasNoNumber limit cx entry = Passes limit (measures cx entry) → ⊥
+
+pub counted : (limit : Limit) (cx : Context) (entries : List Entry) → Each IsCounted cx entries → Each (HasNoNumber limit) cx entries
+counted limit cx [] h = tt
+counted limit cx (entry ∷ entries) h = (none_passes limit (measures cx entry) h.0, counted limit (after cx entry) entries h.1)
+
+-- a number of another limit doesn't pass it, nor does one that is within
+pub other_limit : (limit other : Limit) (n : ℕ) (ms : List (Limit × ℕ)) → (other ≡ limit → ⊥) → (Passes limit ms → ⊥) → Passes limit ((other, n) ∷ ms) → ⊥
+other_limit limit other n ms differs none (inl at) = differs at.0
+other_limit limit other n ms differs none (inr later) = none later
+
+pub within_limit : (limit other : Limit) (n : ℕ) (ms : List (Limit × ℕ)) → n ≤ most other → (Passes limit ms → ⊥) → Passes limit ((other, n) ∷ ms) → ⊥
+within_limit limit other n ms few none (inl at) = let within = le-ltb (most other) n few in let past = at.1 in absurd cc
+within_limit limit other n ms few none (inr later) = none later
+
+pub not_passed : (limit : Limit) (cx : Context) (entries : List Entry) → Each (HasNoNumber limit) cx entries → Each (HasNoType limit) cx entries → PassLimit limit cx entries → ⊥
 not_passed limit cx [] h k p = p
-not_passed limit cx (entry ∷ entries) h k (inl numbers) = none_passes limit (measures cx entry) h.0 numbers
+not_passed limit cx (entry ∷ entries) h k (inl numbers) = h.0 numbers
 not_passed limit cx (entry ∷ entries) h k (inr (inl types)) = k.0 types
 not_passed limit cx (entry ∷ entries) h k (inr (inr later)) = not_passed limit (after cx entry) entries h.1 k.1 later
 

@@ -1,9 +1,7 @@
 -- Lists and frames of encodings.
-use Rattle.std.proofs.Common.{◌≡◌, ℕ, zero, suc, ◌+◌, ◌*◌, ◌^◌, ◌<◌, ◌≤◌, Bool, List, [], ◌∷◌, ◌++◌, length, map, Some, refl, sym, subst, ap, arith, length-append}
-use Rattle.std.specs.List.{AllByRecursion, flat_map, slice_get}
-use Rattle.std.specs.Option.{unwrap_or}
-use Rattle.std.proofs.lemmas.List.{length-map, map-id}
-use Rattle.wasm_spec.specs.Bytes.{IsByte, AreBytes, IsU32, IsItems, IsList, IsFramed}
+use Rattle.std.proofs.Common.{◌≡◌, ℕ, suc, ◌+◌, ◌*◌, ◌^◌, ◌<◌, ◌≤◌, Bool, List, [], ◌∷◌, ◌++◌, length, refl, arith, length-append}
+use Rattle.std.specs.List.{AllByRecursion, flat_map}
+use Rattle.wasm_spec.specs.Bytes.{IsByte, AreBytes, IsItems, IsList, IsFramed}
 use Rattle.wasm_spec.specs.Grammar.{IsContent, IsSection, section_id}
 use Rattle.wasm_spec.specs.Syntax.{Section}
 use Rattle.wasm_spec.specs.Shortest.{unsigned_encoding, list_encoding, framed_encoding, section_encoding}
@@ -24,35 +22,17 @@ pub all_append : {A : Type 0} (P : A → Type 0) (xs ys : List A) → AllByRecur
 all_append P [] ys p q = q
 all_append P (x ∷ xs) ys p q = (p.0, all_append P xs ys p.1 q)
 
-pub all_of : {A : Type 0} (P : A → Type 0) → ((x : A) → P x) → (xs : List A) → AllByRecursion P xs
-all_of P f [] = tt
-all_of P f (x ∷ xs) = (f x, all_of P f xs)
-
-pub all_at : {A : Type 0} (P : A → Type 0) (xs : List A) (i : ℕ) (x : A) → AllByRecursion P xs → slice_get xs i ≡ Some x → P x
-all_at P [] i x h e = absurd cc
-all_at P (y ∷ ys) zero x h e = subst P (ap (λ o. unwrap_or o x) e) h.0
-all_at P (y ∷ ys) (suc i) x h e = all_at P ys i x h.1 e
-
 -- ---- the grammar
 
-items_are : {A B : Type 0} (IsA : List ℕ → A → Type 0) (bytes : B → List ℕ) (view : B → A) (P : B → Type 0) → ((x : B) → P x → IsA (bytes x) (view x))
-    → (xs : List B) → AllByRecursion P xs → IsItems IsA (flat_map bytes xs) (map view xs)
-items_are IsA bytes view P law [] h = refl
-items_are IsA bytes view P law (x ∷ xs) h = (bytes x, flat_map bytes xs, refl, law x h.0, items_are IsA bytes view P law xs h.1)
+items_are : {A : Type 0} (IsA : List ℕ → A → Type 0) (bytes : A → List ℕ) (P : A → Type 0) → ((x : A) → P x → IsA (bytes x) x)
+    → (xs : List A) → AllByRecursion P xs → IsItems IsA (flat_map bytes xs) xs
+items_are IsA bytes P law [] h = refl
+items_are IsA bytes P law (x ∷ xs) h = (bytes x, flat_map bytes xs, refl, law x h.0, items_are IsA bytes P law xs h.1)
 
--- a list, whose items have a view
-pub views_are : {A B : Type 0} (IsA : List ℕ → A → Type 0) (bytes : B → List ℕ) (view : B → A) (P : B → Type 0) → ((x : B) → P x → IsA (bytes x) (view x))
-    → (xs : List B) → AllByRecursion P xs → length xs < 2 ^ 32 → IsList IsA (list_encoding bytes xs) (map view xs)
-unfolding list_encoding
-views_are IsA bytes view P law xs h few =
-    let counted = subst (λ n. IsU32 (unsigned_encoding (length xs)) n) (sym (length-map xs view)) (number_is (length xs) few) in
-    (unsigned_encoding (length xs), flat_map bytes xs, refl, counted, items_are IsA bytes view P law xs h)
-
--- a list of the items themselves
 pub list_is : {A : Type 0} (IsA : List ℕ → A → Type 0) (bytes : A → List ℕ) (P : A → Type 0) → ((x : A) → P x → IsA (bytes x) x)
     → (xs : List A) → AllByRecursion P xs → length xs < 2 ^ 32 → IsList IsA (list_encoding bytes xs) xs
-list_is IsA bytes P law xs h few =
-    subst (λ l. IsList IsA (list_encoding bytes xs) l) (map-id xs) (views_are IsA bytes (λ x. x) P law xs h few)
+unfolding list_encoding
+list_is IsA bytes P law xs h few = (unsigned_encoding (length xs), flat_map bytes xs, refl, number_is (length xs) few, items_are IsA bytes P law xs h)
 
 pub frame_is : {A : Type 0} (IsA : List ℕ → A → Type 0) (content : List ℕ) (x : A) → IsA content x → length content < 2 ^ 32 → IsFramed IsA (framed_encoding content) x
 unfolding framed_encoding

@@ -1,79 +1,108 @@
--- The entries of made modules: their types, then their functions, then the bodies of these. Contexts are any of which lengths and types are known.
-use Rattle.std.proofs.Common.{◌≡◌, ℕ, zero, suc, ◌+◌, ◌<◌, ◌≤◌, true, List, [], ◌∷◌, length, map, is_some, refl, arith, inl, inr, length-append}
+-- The entries of made modules: their groups of types, then their functions, then the bodies of these. Contexts are any of which lengths and types are known.
+use Rattle.std.proofs.Common.{◌≡◌, ℕ, suc, ◌+◌, ◌<◌, ◌≤◌, true, List, [], ◌∷◌, length, map, is_some, refl, arith, inl, inr, length-append}
 use Rattle.std.specs.List.{AllByRecursion}
 use Rattle.std.proofs.lemmas.Bool.{le-ltb, lt-ltb}
 use Rattle.std.proofs.lemmas.Bool.Decides.{leb_tells}
 use Rattle.wasm_spec.specs.Features.{Features}
-use Rattle.wasm_spec.specs.Gates.{is_allowed_sub}
-use Rattle.wasm_spec.specs.Limits.{Limit, Types, Functions}
-use Rattle.wasm_spec.specs.Trees.{DefType, types_after}
-use Rattle.wasm_spec.specs.Types.{SubType, Single}
+use Rattle.wasm_spec.specs.Groups.{AllGroups, KeepGroupRules}
+use Rattle.wasm_spec.specs.Limits.{Limit, Types, Groups, Functions, total_of_types}
+use Rattle.wasm_spec.specs.Syntax.{members}
+use Rattle.wasm_spec.specs.Trees.{DefType, AreInRange, types_after, types_from}
+use Rattle.wasm_spec.specs.TypeReferences.{group_refs}
+use Rattle.wasm_spec.specs.Types.{RecGroup}
 use Rattle.wasm_spec.proofs.GroupTrees.{length-types_after}
 use Rattle.wasm_validity.specs.Context.{Context, after, after_all}
 use Rattle.wasm_validity.specs.DefinedTypes.{func_type_at, PassesGroupLimit}
 use Rattle.wasm_validity.specs.Entries.{Entry, OfType, OfFunction, OfBody}
 use Rattle.wasm_validity.specs.Rules.{Keeps, PassLimit}
-use Rattle.wasm_smith.specs.Plain.{IsPlainFunction}
-use Rattle.wasm_gen_laws.proofs.EntryFolds.{Each, IsCounted, HasNoType}
-use Rattle.wasm_gen_laws.proofs.Forms.{all_append}
-use Rattle.wasm_gen_laws.proofs.MadeTypes.{lone, IsFunction, type_keeps, is_function}
+use Rattle.wasm_smith.specs.DrawnGroups.{AreSome}
+use Rattle.wasm_smith.specs.ValidGroups.{types_of}
+use Rattle.wasm_gen_laws.proofs.EntryFolds.{Each, IsCounted, HasNoType, HasNoNumber, other_limit, within_limit}
+use Rattle.wasm_gen_laws.proofs.Forms.{all_are}
 
--- ---- types
+-- ---- groups
 
-abbrev pub of_types : List (SubType ℕ) → List Entry
-of_types types = map (λ x. OfType x) (map Single types)
+abbrev pub of_groups : List (RecGroup ℕ) → List Entry
+of_groups groups = map (λ x. OfType x) groups
 
-one_more_type : (cx : Context) (type : SubType ℕ) → length (after cx (OfType (Single type))).types ≡ length cx.types + 1
-one_more_type cx type = length-types_after cx.types (Single type)
-
-pub types_counted : (cx : Context) (types : List (SubType ℕ)) → length (after_all cx (of_types types)).types ≡ length cx.types + length types
-types_counted cx [] = omega arith
-types_counted cx (type ∷ types) = omega (arith, types_counted (after cx (OfType (Single type))) types, one_more_type cx type)
-
-pub types_are_functions : (cx : Context) (types : List (SubType ℕ)) → AllByRecursion IsPlainFunction types
-    → AllByRecursion IsFunction cx.types → AllByRecursion IsFunction (after_all cx (of_types types)).types
-types_are_functions cx [] plain h = h
-types_are_functions cx (type ∷ types) plain h =
-    types_are_functions (after cx (OfType (Single type))) types plain.1
-    (all_append IsFunction cx.types (lone cx.types type ∷ []) h (is_function cx.types type plain.0, tt))
+pub types_known : (cx : Context) (groups : List (RecGroup ℕ)) → (after_all cx (of_groups groups)).types ≡ types_from cx.types groups
+types_known cx [] = refl
+types_known cx (group ∷ groups) = types_known (after cx (OfType group)) groups
 
 -- functions are counted as before
-pub functions_as_before : (cx : Context) (types : List (SubType ℕ))
-    → (length (after_all cx (of_types types)).imported_functions ≡ length cx.imported_functions) × (length (after_all cx (of_types types)).own_functions ≡ length cx.own_functions)
+pub functions_as_before : (cx : Context) (groups : List (RecGroup ℕ))
+    → (length (after_all cx (of_groups groups)).imported_functions ≡ length cx.imported_functions) × (length (after_all cx (of_groups groups)).own_functions ≡ length cx.own_functions)
 functions_as_before cx [] = (refl, refl)
-functions_as_before cx (type ∷ types) = functions_as_before (after cx (OfType (Single type))) types
+functions_as_before cx (group ∷ groups) = functions_as_before (after cx (OfType group)) groups
 
-pub types_keep : (features : Features) (cx : Context) (types : List (SubType ℕ)) → AllByRecursion IsPlainFunction types
-    → AllByRecursion (λ type. is_allowed_sub features type ≡ true) types → Each (Keeps features) cx (of_types types)
-types_keep features cx [] plain allowed = tt
-types_keep features cx (type ∷ types) plain allowed =
-    (type_keeps features cx type plain.0 allowed.0, types_keep features (after cx (OfType (Single type))) types plain.1 allowed.1)
+-- the types of a group stand before those of the others
+shifted : (cx : Context) (group : RecGroup ℕ) (groups : List (RecGroup ℕ))
+    → length (after cx (OfType group)).types + length (types_of groups) ≡ length cx.types + length (types_of (group ∷ groups))
+shifted cx group groups = omega (arith, length-types_after cx.types group, length-append (members group) (types_of groups))
 
-type_within : (cx : Context) (type : SubType ℕ) → suc cx.groups ≤ 1000000 → length cx.types + 1 ≤ 1000000 → IsCounted cx (OfType (Single type))
-type_within cx type groups types =
-    rw (le-ltb 1000000 (suc cx.groups) groups, le-ltb 1000000 (length (types_after cx.types (Single type))) (omega (arith, types, one_more_type cx type))) refl
+pub groups_keep : (features : Features) (cx : Context) (groups : List (RecGroup ℕ)) → KeepGroupRules features cx.types groups → AreInRange (length cx.types) groups
+    → length cx.types + length (types_of groups) ≤ total_of_types → Each (Keeps features) cx (of_groups groups)
+groups_keep features cx [] rules range few = tt
+groups_keep features cx (group ∷ groups) rules range few =
+    let parts = length-append (members group) (types_of groups) in (
+      record {
+        rules = rules.0;
+        small = all_are (λ index. index < length cx.types + length (members group)) (λ index. index < total_of_types) (λ index below. omega (arith, below, few, parts)) (group_refs group) range.0;
+      },
+      groups_keep features (after cx (OfType group)) groups rules.1 (rw (length-types_after cx.types group) range.1) (omega (arith, few, shifted cx group groups)),
+    )
 
-pub types_within : (cx : Context) (types : List (SubType ℕ)) → cx.groups + length types ≤ 1000000 → length cx.types + length types ≤ 1000000
-    → Each IsCounted cx (of_types types)
-types_within cx [] groups few = tt
-types_within cx (type ∷ types) groups few = (
-  type_within cx type (omega (arith, groups)) (omega (arith, few)),
-  types_within (after cx (OfType (Single type))) types (omega (arith, groups)) (omega (arith, few, one_more_type cx type)),
-)
+group_within : (cx : Context) (group : RecGroup ℕ) → suc cx.groups ≤ 1000000 → length (types_after cx.types group) ≤ 1000000 → IsCounted cx (OfType group)
+group_within cx group groups types =
+    rw (le-ltb 1000000 (suc cx.groups) groups, le-ltb 1000000 (length (types_after cx.types group)) types) refl
 
--- a limit that none of these types passes by what it has
-pub types_have_none : (limit : Limit) (P : SubType ℕ → Type 0) → ((before : List DefType) (type : SubType ℕ) → P type → PassesGroupLimit before (Single type) limit → ⊥)
-    → (cx : Context) (types : List (SubType ℕ)) → AllByRecursion P types → Each (HasNoType limit) cx (of_types types)
-types_have_none limit P none cx [] h = tt
-types_have_none limit P none cx (type ∷ types) h = (none cx.types type h.0, types_have_none limit P none (after cx (OfType (Single type))) types h.1)
+-- no group is empty, so there are no more groups than types
+pub groups_within : (cx : Context) (groups : List (RecGroup ℕ)) → AreSome groups → cx.groups ≤ length cx.types → length cx.types + length (types_of groups) ≤ 1000000
+    → Each IsCounted cx (of_groups groups)
+groups_within cx [] some as_many few = tt
+groups_within cx (group ∷ groups) some as_many few =
+    let more = length-types_after cx.types group in
+    let first = some.0 in
+    let parts = length-append (members group) (types_of groups) in (
+      group_within cx group (omega (arith, first, as_many, few, parts)) (omega (arith, more, few, parts)),
+      groups_within (after cx (OfType group)) groups some.1 (omega (arith, first, as_many, more)) (omega (arith, few, shifted cx group groups)),
+    )
 
--- too many of them pass their limit
-pub types_past : (cx : Context) (types : List (SubType ℕ)) → length cx.types ≤ 1000000 → 1000000 < length cx.types + length types
-    → PassLimit Types cx (of_types types)
+-- a limit that no group passes by what its types have
+pub groups_have_none : (limit : Limit) (P : List DefType → RecGroup ℕ → Type 0) → ((before : List DefType) (group : RecGroup ℕ) → P before group → PassesGroupLimit before group limit → ⊥)
+    → (cx : Context) (groups : List (RecGroup ℕ)) → AllGroups P cx.types groups → Each (HasNoType limit) cx (of_groups groups)
+groups_have_none limit P none cx [] h = tt
+groups_have_none limit P none cx (group ∷ groups) h = (none cx.types group h.0, groups_have_none limit P none (after cx (OfType group)) groups h.1)
+
+pub each_has_none : (limit : Limit) → ((before : List DefType) (group : RecGroup ℕ) → PassesGroupLimit before group limit → ⊥)
+    → (cx : Context) (groups : List (RecGroup ℕ)) → Each (HasNoType limit) cx (of_groups groups)
+each_has_none limit none cx [] = tt
+each_has_none limit none cx (group ∷ groups) = (none cx.types group, each_has_none limit none (after cx (OfType group)) groups)
+
+-- few types don't pass their limit, however many groups there are
+pub types_not_past : (cx : Context) (groups : List (RecGroup ℕ)) → length cx.types + length (types_of groups) ≤ 1000000 → Each (HasNoNumber Types) cx (of_groups groups)
+types_not_past cx [] few = tt
+types_not_past cx (group ∷ groups) few =
+    let count = length (types_after cx.types group) in
+    let within = within_limit Types Types count [] (omega (arith, few, shifted cx group groups)) (λ none. none) in (
+      other_limit Types Groups (suc cx.groups) ((Types, count) ∷ []) (λ same. absurd cc) within,
+      types_not_past (after cx (OfType group)) groups (omega (arith, few, shifted cx group groups)),
+    )
+
+pub groups_no_functions : (cx : Context) (groups : List (RecGroup ℕ)) → Each (HasNoNumber Functions) cx (of_groups groups)
+groups_no_functions cx [] = tt
+groups_no_functions cx (group ∷ groups) =
+    let count = length (types_after cx.types group) in
+    let others = other_limit Functions Types count [] (λ same. absurd cc) (λ none. none) in
+    (other_limit Functions Groups (suc cx.groups) ((Types, count) ∷ []) (λ same. absurd cc) others, groups_no_functions (after cx (OfType group)) groups)
+
+-- too many types pass their limit
+pub types_past : (cx : Context) (groups : List (RecGroup ℕ)) → length cx.types ≤ 1000000 → 1000000 < length cx.types + length (types_of groups)
+    → PassLimit Types cx (of_groups groups)
 types_past cx [] few many = absurd (omega (arith, few, many))
-types_past cx (type ∷ types) few many = elim (leb_tells (length cx.types + 1) 1000000) [
-  | inl still ↦ inr (inr (types_past (after cx (OfType (Single type))) types (omega (arith, still.1, one_more_type cx type)) (omega (arith, many, one_more_type cx type))))
-  | inr past ↦ inl (inr (inl (refl, lt-ltb 1000000 (length (types_after cx.types (Single type))) (omega (arith, past.1, one_more_type cx type)))))
+types_past cx (group ∷ groups) few many = elim (leb_tells (length (types_after cx.types group)) 1000000) [
+  | inl still ↦ inr (inr (types_past (after cx (OfType group)) groups (omega (arith, still.1)) (omega (arith, many, shifted cx group groups))))
+  | inr past ↦ inl (inr (inl (refl, lt-ltb 1000000 (length (types_after cx.types group)) (omega (arith, past.1)))))
 ]
 
 -- ---- functions
@@ -81,17 +110,10 @@ types_past cx (type ∷ types) few many = elim (leb_tells (length cx.types + 1) 
 abbrev pub of_functions : List ℕ → List Entry
 of_functions functions = map (λ x. OfFunction x) functions
 
--- an index below the number of types names a function type
-function_named : (types : List DefType) (index : ℕ) → AllByRecursion IsFunction types → index < length types → is_some (func_type_at types index) ≡ true
-function_named [] index h within = absurd (omega (arith, within))
-function_named (type ∷ types) zero h within = h.0
-function_named (type ∷ types) (suc index) h within = function_named types index h.1 (omega (arith, within))
-
-pub functions_keep : (features : Features) (cx : Context) (functions : List ℕ) → AllByRecursion IsFunction cx.types
-    → AllByRecursion (λ index. index < length cx.types) functions → Each (Keeps features) cx (of_functions functions)
-functions_keep features cx [] types h = tt
-functions_keep features cx (index ∷ functions) types h =
-    (function_named cx.types index types h.0, functions_keep features (after cx (OfFunction index)) functions types h.1)
+pub functions_keep : (features : Features) (cx : Context) (functions : List ℕ) → AllByRecursion (λ index. is_some (func_type_at cx.types index) ≡ true) functions
+    → Each (Keeps features) cx (of_functions functions)
+functions_keep features cx [] h = tt
+functions_keep features cx (index ∷ functions) h = (h.0, functions_keep features (after cx (OfFunction index)) functions h.1)
 
 -- one function more
 one_more_function : (cx : Context) (index : ℕ) → length (after cx (OfFunction index)).own_functions ≡ length cx.own_functions + 1
@@ -108,6 +130,13 @@ functions_within cx (index ∷ functions) few = (
 pub functions_have_none : (limit : Limit) (cx : Context) (functions : List ℕ) → Each (HasNoType limit) cx (of_functions functions)
 functions_have_none limit cx [] = tt
 functions_have_none limit cx (index ∷ functions) = (λ p. p, functions_have_none limit (after cx (OfFunction index)) functions)
+
+pub functions_no_types : (cx : Context) (functions : List ℕ) → Each (HasNoNumber Types) cx (of_functions functions)
+functions_no_types cx [] = tt
+functions_no_types cx (index ∷ functions) = (
+  other_limit Types Functions (suc (length cx.imported_functions + length cx.own_functions)) [] (λ same. absurd cc) (λ none. none),
+  functions_no_types (after cx (OfFunction index)) functions,
+)
 
 pub functions_past : (cx : Context) (functions : List ℕ) → length cx.imported_functions + length cx.own_functions ≤ 1000000
     → 1000000 < length cx.imported_functions + length cx.own_functions + length functions → PassLimit Functions cx (of_functions functions)

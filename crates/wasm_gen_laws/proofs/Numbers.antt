@@ -1,6 +1,7 @@
 -- Encodings of numbers.
 use Rattle.std.proofs.Common.{ℕ, zero, suc, ◌+◌, ◌-◌, ◌*◌, ◌^◌, ◌<◌, ◌≤◌, List, [], ◌∷◌, length, arith}
-use Rattle.wasm_spec.specs.Bytes.{AreBytes, IsUnsigned, IsU32}
+use Rattle.std.specs.Prelude.{ℤ}
+use Rattle.wasm_spec.specs.Bytes.{AreBytes, IsUnsigned, IsU32, IsSigned, IsS33}
 use Rattle.wasm_spec.specs.Shortest.{unsigned_encoding}
 use Rattle.wasm_spec.proofs.NumberLaws.{unsigned_spelled}
 
@@ -16,6 +17,16 @@ padded (suc more) bits (b ∷ c ∷ bs) n few h = omega (arith, padded more (bit
 -- no encoding has more, and padding is no excuse
 pub padded_length : (bytes : List ℕ) (n : ℕ) → IsU32 bytes n → length bytes ≤ 5
 padded_length bytes n h = padded 4 32 bytes n (omega arith) h
+
+signed_padded : (more bits : ℕ) (bytes : List ℕ) (z : ℤ) → bits ≤ 7 * more + 7 → IsSigned bits bytes z → length bytes ≤ more + 1
+signed_padded more bits [] z few h = omega arith
+signed_padded more bits (b ∷ []) z few h = omega arith
+signed_padded zero bits (b ∷ c ∷ bs) z few h = absurd (omega (arith, few, h.2))
+signed_padded (suc more) bits (b ∷ c ∷ bs) z few h = omega (arith, signed_padded more (bits - 7) (c ∷ bs) h.3 (omega (arith, few)) h.5)
+
+-- nor has a signed one of 33 bits
+pub signed_length : (bytes : List ℕ) (z : ℤ) → IsS33 bytes z → length bytes ≤ 5
+signed_length bytes z h = signed_padded 4 33 bytes z (omega arith) h
 
 bytes_of : (bits : ℕ) (bytes : List ℕ) (n : ℕ) → IsUnsigned bits bytes n → AreBytes bytes
 bytes_of bits [] n h = tt

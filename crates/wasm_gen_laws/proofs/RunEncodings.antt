@@ -8,14 +8,14 @@ use Rattle.wasm_encoder_functions.specs.Locals.{run_encoding, locals_encoding, e
 use Rattle.wasm_spec.specs.Bytes.{IsByte, AreBytes, IsList}
 use Rattle.wasm_spec.specs.Types.{ValType}
 use Rattle.wasm_spec.specs.Shortest.{unsigned_encoding}
+use Rattle.wasm_spec.specs.SmallIndexes.{IsSmallValue}
 use Rattle.wasm_spec.specs.TypeEncodings.{val_encoding}
 use Rattle.wasm_spec.proofs.UnsignedEncodings.{at_most_five}
 use Rattle.wasm_smith.specs.ModuleEncoding.{as_run}
-use Rattle.wasm_smith.specs.Plain.{IsPlain}
 use Rattle.wasm_gen_laws.specs.Written.{AreMerged}
 use Rattle.wasm_gen_laws.proofs.Forms.{all_append, both, list_is, list_bytes, list_length}
 use Rattle.wasm_gen_laws.proofs.Numbers.{number_is, number_bytes}
-use Rattle.wasm_gen_laws.proofs.Values.{value_is, value_bytes, plain_length}
+use Rattle.wasm_gen_laws.proofs.Values.{value_is, value_bytes, encoding_length}
 
 -- ---- what runs stand for
 
@@ -105,45 +105,45 @@ few_fit locals few h =
 
 -- ---- their encodings
 
-abbrev IsPlainRun : Run → Type 0
-IsPlainRun run = (run.count ≤ 100) × IsPlain run.type
+abbrev IsSmallRun : Run → Type 0
+IsSmallRun run = (run.count ≤ 100) × IsSmallValue run.type
 
--- the runs of few locals, all plain
-plain_runs : (locals : List (ValType ℕ)) (runs : List (ℕ × ValType ℕ)) → AreRunsOf locals runs → AllByRecursion IsPlain locals → length locals ≤ 100
-    → AllByRecursion IsPlainRun (map as_run runs)
-plain_runs locals runs h plain few =
+-- the runs of few locals whose references are small
+small_runs : (locals : List (ValType ℕ)) (runs : List (ℕ × ValType ℕ)) → AreRunsOf locals runs → AllByRecursion IsSmallValue locals → length locals ≤ 100
+    → AllByRecursion IsSmallRun (map as_run runs)
+small_runs locals runs h small few =
     let are = locals_are locals runs h in
-    both (λ (run : Run). run.count ≤ 100) (λ (run : Run). IsPlain run.type) (map as_run runs)
+    both (λ (run : Run). run.count ≤ 100) (λ (run : Run). IsSmallValue run.type) (map as_run runs)
     (short_runs 100 (map as_run runs) (omega (arith, few, ap length are)))
-    (runs_hold IsPlain (map as_run runs) (none_empty runs h.some) (subst (λ l. AllByRecursion IsPlain l) (sym are) plain))
+    (runs_hold IsSmallValue (map as_run runs) (none_empty runs h.some) (subst (λ l. AllByRecursion IsSmallValue l) (sym are) small))
 
 few_of_few : (locals : List (ValType ℕ)) (runs : List (ℕ × ValType ℕ)) → AreRunsOf locals runs → length locals ≤ 100 → length (map as_run runs) ≤ 100
 few_of_few locals runs h few = omega (arith, few, few_runs (map as_run runs) (none_empty runs h.some), ap length (locals_are locals runs h))
 
-run_is : (run : Run) → IsPlainRun run → IsRun (run_encoding run) run
+run_is : (run : Run) → IsSmallRun run → IsRun (run_encoding run) run
 unfolding run_encoding
 run_is run h = (unsigned_encoding run.count, val_encoding run.type, refl, number_is run.count (omega (arith, h.0)), value_is run.type h.1)
 
-pub runs_encoding_is : (locals : List (ValType ℕ)) (runs : List (ℕ × ValType ℕ)) → AreRunsOf locals runs → AllByRecursion IsPlain locals → length locals ≤ 100
+pub runs_encoding_is : (locals : List (ValType ℕ)) (runs : List (ℕ × ValType ℕ)) → AreRunsOf locals runs → AllByRecursion IsSmallValue locals → length locals ≤ 100
     → IsList IsRun (locals_encoding (map as_run runs)) (map as_run runs)
-runs_encoding_is locals runs h plain few =
-    list_is IsRun run_encoding IsPlainRun run_is (map as_run runs) (plain_runs locals runs h plain few) (omega (arith, few_of_few locals runs h few))
+runs_encoding_is locals runs h small few =
+    list_is IsRun run_encoding IsSmallRun run_is (map as_run runs) (small_runs locals runs h small few) (omega (arith, few_of_few locals runs h few))
 
-run_bytes : (run : Run) → IsPlainRun run → AreBytes (run_encoding run)
+run_bytes : (run : Run) → IsSmallRun run → AreBytes (run_encoding run)
 unfolding run_encoding
 run_bytes run h = all_append IsByte (unsigned_encoding run.count) (val_encoding run.type) (number_bytes run.count (omega (arith, h.0))) (value_bytes run.type h.1)
 
-pub runs_bytes : (locals : List (ValType ℕ)) (runs : List (ℕ × ValType ℕ)) → AreRunsOf locals runs → AllByRecursion IsPlain locals → length locals ≤ 100
+pub runs_bytes : (locals : List (ValType ℕ)) (runs : List (ℕ × ValType ℕ)) → AreRunsOf locals runs → AllByRecursion IsSmallValue locals → length locals ≤ 100
     → AreBytes (locals_encoding (map as_run runs))
-runs_bytes locals runs h plain few =
-    list_bytes run_encoding IsPlainRun run_bytes (map as_run runs) (plain_runs locals runs h plain few) (omega (arith, few_of_few locals runs h few))
+runs_bytes locals runs h small few =
+    list_bytes run_encoding IsSmallRun run_bytes (map as_run runs) (small_runs locals runs h small few) (omega (arith, few_of_few locals runs h few))
 
-run_length : (run : Run) → IsPlainRun run → length (run_encoding run) ≤ 6
+run_length : (run : Run) → IsSmallRun run → length (run_encoding run) ≤ 11
 unfolding run_encoding
-run_length run h = omega (arith, length-append (unsigned_encoding run.count) (val_encoding run.type), at_most_five run.count (omega (arith, h.0)), plain_length run.type h.1)
+run_length run h = omega (arith, length-append (unsigned_encoding run.count) (val_encoding run.type), at_most_five run.count (omega (arith, h.0)), encoding_length run.type h.1)
 
-pub runs_length : (locals : List (ValType ℕ)) (runs : List (ℕ × ValType ℕ)) → AreRunsOf locals runs → AllByRecursion IsPlain locals → length locals ≤ 100
-    → length (locals_encoding (map as_run runs)) ≤ 605
-runs_length locals runs h plain few =
+pub runs_length : (locals : List (ValType ℕ)) (runs : List (ℕ × ValType ℕ)) → AreRunsOf locals runs → AllByRecursion IsSmallValue locals → length locals ≤ 100
+    → length (locals_encoding (map as_run runs)) ≤ 1105
+runs_length locals runs h small few =
     let many = few_of_few locals runs h few in
-    omega (arith, many, list_length run_encoding IsPlainRun 6 run_length (map as_run runs) (plain_runs locals runs h plain few) (omega (arith, many)))
+    omega (arith, many, list_length run_encoding IsSmallRun 11 run_length (map as_run runs) (small_runs locals runs h small few) (omega (arith, many)))

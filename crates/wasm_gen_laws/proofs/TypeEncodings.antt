@@ -1,78 +1,198 @@
--- The encodings of types.
-use Rattle.std.proofs.Common.{◌≡◌, ℕ, ◌+◌, ◌*◌, ◌≤◌, Bool, true, List, [], ◌++◌, length, refl, arith, length-append, inr}
-use Rattle.std.specs.List.{AllByRecursion}
-use Rattle.wasm_spec.specs.TypeGrammar.{IsValType, IsFuncType, IsRecGroup}
-use Rattle.wasm_spec.specs.Types.{ValType, FuncType, CompositeType, FuncComposite, StructComposite, ArrayComposite, ContComposite, SubType, Single}
-use Rattle.wasm_smith.specs.Bounds.{IsSmall}
-use Rattle.wasm_smith.specs.Plain.{IsPlain, IsPlainFunction}
-use Rattle.wasm_spec.specs.Shortest.{list_encoding}
-use Rattle.wasm_spec.specs.TypeEncodings.{val_encoding, func_encoding, composite_encoding, sub_encoding_of, sub_encoding}
-use Rattle.wasm_gen_laws.proofs.Forms.{list_is, list_length}
-use Rattle.wasm_gen_laws.proofs.Values.{value_is, plain_length}
+-- The encodings of groups of types.
+use Rattle.std.proofs.Common.{ℕ, pos, ◌+◌, ◌*◌, ◌<◌, ◌≤◌, ◌^◌, Bool, true, false, List, [], ◌∷◌, length, if◌then◌else◌, arith, length-append}
+use Rattle.std.specs.List.{AllByRecursion, flat_map}
+use Rattle.wasm_spec.specs.Features.{Features}
+use Rattle.wasm_spec.specs.Grammar.{IsSection}
+use Rattle.wasm_spec.specs.Limits.{Types, most}
+use Rattle.wasm_spec.specs.Shortest.{unsigned_encoding, signed_encoding, list_encoding, section_encoding}
+use Rattle.wasm_spec.specs.SmallIndexes.{IsSmallIndex, IsSmallValue, IsSmallStorage, IsSmallField, IsSmallComposite, IsSmallSub, IsSmallGroup}
+use Rattle.wasm_spec.specs.Syntax.{TypeSection, members}
+use Rattle.wasm_spec.specs.Trees.{AreInRange}
+use Rattle.wasm_spec.specs.TypeEncodings.{val_encoding, storage_encoding, field_encoding, func_encoding, composite_encoding, sub_encoding_of, sub_encoding, group_encoding, rec_group_encoding, rec_groups_encoding}
+use Rattle.wasm_spec.specs.TypeReferences.{val_refs, storage_refs, field_refs, composite_refs, sub_refs, group_refs}
+use Rattle.wasm_spec.specs.Types.{ValType, StorageType, I8, I16, Val, FieldType, CompositeType, FuncComposite, StructComposite, ArrayComposite, ContComposite, SubType, RecGroup, Single, Group}
+use Rattle.wasm_spec.proofs.MappedBack.{all_left, all_right}
+use Rattle.wasm_spec.proofs.NumberLaws.{positive_spelled}
+use Rattle.wasm_spec.proofs.Places.{all_by_place}
+use Rattle.wasm_spec.proofs.ShortestTypes.{section}
+use Rattle.wasm_spec.proofs.UnsignedEncodings.{at_most_five}
+use Rattle.wasm_smith_types.specs.Bounds.{IsSmallComposite as HasFewItems, IsSmall, AreSmall}
+use Rattle.wasm_smith_types.specs.DrawnGroups.{AreSome}
+use Rattle.wasm_smith_types.specs.ValidGroups.{AreValidGroups, types_of}
+use Rattle.wasm_smith_types.proofs.GroupLaws.{all_rules, valid_in_range}
+use Rattle.wasm_gen_laws.proofs.Forms.{all_are, all_append, list_length, section_is}
+use Rattle.wasm_gen_laws.proofs.Numbers.{signed_length}
+use Rattle.wasm_gen_laws.proofs.Values.{value_small, encoding_length}
 
-abbrev pub IsSmallPlain : SubType ℕ → Type 0
-IsSmallPlain type = IsSmall type × IsPlainFunction type
+-- ---- references below 2 ^ 32
 
-func_is : (type : FuncType ℕ) → AllByRecursion IsPlain type.params → AllByRecursion IsPlain type.results → length type.params ≤ 20 → length type.results ≤ 20
-    → IsFuncType (func_encoding type) type
-unfolding func_encoding
-func_is type params results few_params few_results = (
-  list_encoding val_encoding type.params ++ list_encoding val_encoding type.results,
-  refl,
-  (
-    list_encoding val_encoding type.params,
-    list_encoding val_encoding type.results,
-    refl,
-    list_is IsValType val_encoding IsPlain value_is type.params params (omega (arith, few_params)),
-    list_is IsValType val_encoding IsPlain value_is type.results results (omega (arith, few_results)),
-  ),
+each_small : {A : Type 0} (refs : A → List ℕ) (P : A → Type 0) → ((x : A) → AllByRecursion IsSmallIndex (refs x) → P x)
+    → (xs : List A) → AllByRecursion IsSmallIndex (flat_map refs xs) → AllByRecursion P xs
+each_small refs P law [] h = tt
+each_small refs P law (x ∷ xs) h = (
+  law x (all_left IsSmallIndex (refs x) (flat_map refs xs) h),
+  each_small refs P law xs (all_right IsSmallIndex (refs x) (flat_map refs xs) h),
 )
 
-values_length : (types : List (ValType ℕ)) → AllByRecursion IsPlain types → length types ≤ 20 → length (list_encoding val_encoding types) ≤ 5 + 1 * length types
-values_length types h few = list_length val_encoding IsPlain 1 (λ type p. omega (arith, plain_length type p)) types h (omega (arith, few))
+storage_small : (type : StorageType ℕ) → AllByRecursion IsSmallIndex (storage_refs type) → IsSmallStorage type
+storage_small I8 h = tt
+storage_small I16 h = tt
+storage_small (Val type) h = value_small type h
 
-func_length : (type : FuncType ℕ) → AllByRecursion IsPlain type.params → AllByRecursion IsPlain type.results → length type.params ≤ 20 → length type.results ≤ 20
-    → length (func_encoding type) ≤ 51
-unfolding func_encoding
-func_length type params results few_params few_results = omega (
+field_small : (field : FieldType ℕ) → AllByRecursion IsSmallIndex (field_refs field) → IsSmallField field
+field_small field h = storage_small field.element_type h
+
+composite_small : (type : CompositeType ℕ) → AllByRecursion IsSmallIndex (composite_refs type) → IsSmallComposite type
+composite_small (FuncComposite type) h = (
+  each_small val_refs IsSmallValue value_small type.params (all_left IsSmallIndex (flat_map val_refs type.params) (flat_map val_refs type.results) h),
+  each_small val_refs IsSmallValue value_small type.results (all_right IsSmallIndex (flat_map val_refs type.params) (flat_map val_refs type.results) h),
+)
+composite_small (StructComposite fields) h = each_small field_refs IsSmallField field_small fields h
+composite_small (ArrayComposite field) h = field_small field h
+composite_small (ContComposite function) h = h.0
+
+sub_small : (type : SubType ℕ) → AllByRecursion IsSmallIndex (sub_refs type) → IsSmallSub type
+sub_small type h = (
+  all_left IsSmallIndex type.supertypes (composite_refs type.composite_type) h,
+  composite_small type.composite_type (all_right IsSmallIndex type.supertypes (composite_refs type.composite_type) h),
+)
+
+group_small : (group : RecGroup ℕ) → AllByRecursion IsSmallIndex (group_refs group) → IsSmallGroup group
+group_small (Single type) h = sub_small type h
+group_small (Group types) h = each_small sub_refs IsSmallSub sub_small types h
+
+groups_small : (before : ℕ) (groups : List (RecGroup ℕ)) → AreInRange before groups → before + length (types_of groups) ≤ most Types
+    → AllByRecursion IsSmallGroup groups
+groups_small before [] range few = tt
+groups_small before (group ∷ groups) range few =
+    let parts = length-append (members group) (types_of groups) in (
+      group_small group
+          (all_are (λ index. index < before + length (members group)) IsSmallIndex (λ index below. omega (arith, below, few, parts)) (group_refs group) range.0),
+      groups_small (before + length (members group)) groups range.1 (omega (arith, few, parts)),
+    )
+
+-- so is each type of a group, or of groups
+members_small : (group : RecGroup ℕ) → IsSmallGroup group → AllByRecursion IsSmallSub (members group)
+members_small (Single type) h = (h, tt)
+members_small (Group types) h = h
+
+types_small : (groups : List (RecGroup ℕ)) → AllByRecursion IsSmallGroup groups → AllByRecursion IsSmallSub (types_of groups)
+types_small [] h = tt
+types_small (group ∷ groups) h = all_append IsSmallSub (members group) (types_of groups) (members_small group h.0) (types_small groups h.1)
+
+-- ---- lengths of types
+
+values_length : (types : List (ValType ℕ)) → AllByRecursion IsSmallValue types → length types ≤ 20 → length (list_encoding val_encoding types) ≤ 125
+values_length types h few = omega (arith, few, list_length val_encoding IsSmallValue 6 encoding_length types h (omega (arith, few)))
+
+storage_length : (type : StorageType ℕ) → IsSmallStorage type → length (storage_encoding type) ≤ 6
+unfolding storage_encoding
+storage_length I8 h = omega arith
+storage_length I16 h = omega arith
+storage_length (Val type) h = encoding_length type h
+
+field_length : (field : FieldType ℕ) → IsSmallField field → length (field_encoding field) ≤ 7
+unfolding field_encoding
+field_length field h = omega (
   arith,
-  few_params,
-  few_results,
-  values_length type.params params few_params,
-  values_length type.results results few_results,
+  storage_length field.element_type h,
+  length-append (storage_encoding field.element_type) ((if field.mutable then 0x01 else 0x00) ∷ []),
+)
+
+composite_length : (type : CompositeType ℕ) → IsSmallComposite type → HasFewItems type → length (composite_encoding type) ≤ 251
+unfolding composite_encoding func_encoding
+composite_length (FuncComposite type) small few = omega (
+  arith,
+  values_length type.params small.0 few.0,
+  values_length type.results small.1 few.1,
   length-append (list_encoding val_encoding type.params) (list_encoding val_encoding type.results),
 )
+composite_length (StructComposite fields) small few = omega (arith, few, list_length field_encoding IsSmallField 7 field_length fields small (omega (arith, few)))
+composite_length (ArrayComposite field) small few = omega (arith, field_length field small)
+composite_length (ContComposite function) small few = omega (arith, signed_length (signed_encoding (pos function)) (pos function) (positive_spelled 33 function small))
 
--- the encoding of a type in parts
-abbrev encoding_of : Bool → List ℕ → CompositeType ℕ → List ℕ
-encoding_of is_final supertypes composite = sub_encoding (record { is_final = is_final; supertypes = supertypes; composite_type = composite })
+indexes_length : (indexes : List ℕ) → AllByRecursion IsSmallIndex indexes → length indexes ≤ 1 → length (list_encoding unsigned_encoding indexes) ≤ 10
+indexes_length indexes h few = omega (arith, few, list_length unsigned_encoding IsSmallIndex 5 at_most_five indexes h (omega (arith, few)))
 
--- a final type without supertypes
-alone : (is_final : Bool) (supertypes : List ℕ) (composite : CompositeType ℕ) → is_final ≡ true → supertypes ≡ [] → encoding_of is_final supertypes composite ≡ composite_encoding composite
+parts_length : (is_final : Bool) (supertypes : List ℕ) (type : CompositeType ℕ) → AllByRecursion IsSmallIndex supertypes → length supertypes ≤ 1
+    → length (composite_encoding type) ≤ 251 → length (sub_encoding_of is_final supertypes type) ≤ 262
 unfolding sub_encoding_of
-alone is_final supertypes composite final none = rw (final, none) refl
+parts_length true [] type small one few = omega (arith, few)
+parts_length true (index ∷ indexes) type small one few = omega (
+  arith,
+  few,
+  indexes_length (index ∷ indexes) small one,
+  length-append (list_encoding unsigned_encoding (index ∷ indexes)) (composite_encoding type),
+)
+parts_length false supertypes type small one few = omega (
+  arith,
+  few,
+  indexes_length supertypes small one,
+  length-append (list_encoding unsigned_encoding supertypes) (composite_encoding type),
+)
 
-parts_are : (is_final : Bool) (supertypes : List ℕ) (composite : CompositeType ℕ)
-    → IsSmallPlain (record { is_final = is_final; supertypes = supertypes; composite_type = composite })
-    → IsRecGroup (encoding_of is_final supertypes composite) (Single (record { is_final = is_final; supertypes = supertypes; composite_type = composite }))
-unfolding composite_encoding
-parts_are is_final supertypes (FuncComposite type) h =
-    inr (h.1.0, h.1.1, rw (alone is_final supertypes (FuncComposite type) h.1.0 h.1.1) (func_is type h.1.2.0 h.1.2.1 h.0.0 h.0.1))
-parts_are is_final supertypes (StructComposite fields) h = absurd h.1.2
-parts_are is_final supertypes (ArrayComposite field) h = absurd h.1.2
-parts_are is_final supertypes (ContComposite function) h = absurd h.1.2
+-- a type with few items and at most one supertype, whose references are small
+pub record IsShort (type : SubType ℕ) : Type 0 where
+  pub small : IsSmallSub type
+  pub few : IsSmall type
+  pub one : length type.supertypes ≤ 1
 
-pub type_is : (type : SubType ℕ) → IsSmallPlain type → IsRecGroup (sub_encoding type) (Single type)
-type_is type h = parts_are type.is_final type.supertypes type.composite_type h
+sub_length : (type : SubType ℕ) → IsShort type → length (sub_encoding type) ≤ 262
+sub_length type h =
+    parts_length type.is_final type.supertypes type.composite_type h.small.0 h.one (composite_length type.composite_type h.small.1 h.few)
 
-parts_length : (is_final : Bool) (supertypes : List ℕ) (composite : CompositeType ℕ)
-    → IsSmallPlain (record { is_final = is_final; supertypes = supertypes; composite_type = composite }) → length (encoding_of is_final supertypes composite) ≤ 51
-unfolding composite_encoding
-parts_length is_final supertypes (FuncComposite type) h =
-    rw (alone is_final supertypes (FuncComposite type) h.1.0 h.1.1) (func_length type h.1.2.0 h.1.2.1 h.0.0 h.0.1)
-parts_length is_final supertypes (StructComposite fields) h = absurd h.1.2
-parts_length is_final supertypes (ArrayComposite field) h = absurd h.1.2
-parts_length is_final supertypes (ContComposite function) h = absurd h.1.2
+-- ---- lengths of groups
 
-pub type_length : (type : SubType ℕ) → IsSmallPlain type → length (sub_encoding type) ≤ 51
-type_length type h = parts_length type.is_final type.supertypes type.composite_type h
+group_length : (group : RecGroup ℕ) → 0 < length (members group) → length (members group) ≤ most Types → AllByRecursion IsShort (members group)
+    → length (rec_group_encoding group) ≤ 300 * length (members group)
+unfolding rec_group_encoding group_encoding
+group_length (Single type) some few h = omega (arith, sub_length type h.0)
+group_length (Group types) some few h = omega (arith, some, list_length sub_encoding IsShort 262 sub_length types h (omega (arith, few)))
+
+encodings_length : (groups : List (RecGroup ℕ)) → AreSome groups → length (types_of groups) ≤ most Types → AllByRecursion IsShort (types_of groups)
+    → length (flat_map rec_group_encoding groups) ≤ 300 * length (types_of groups)
+encodings_length [] some few h = omega arith
+encodings_length (group ∷ groups) some few h =
+    let parts = length-append (members group) (types_of groups) in
+    let first = group_length group some.0 (omega (arith, few, parts)) (all_left IsShort (members group) (types_of groups) h) in
+    let others = encodings_length groups some.1 (omega (arith, few, parts)) (all_right IsShort (members group) (types_of groups) h) in
+    omega (arith, first, others, parts, length-append (rec_group_encoding group) (flat_map rec_group_encoding groups))
+
+-- there are no more groups than types
+pub few_groups : (groups : List (RecGroup ℕ)) → AreSome groups → length groups ≤ length (types_of groups)
+few_groups [] some = omega arith
+few_groups (group ∷ groups) some = omega (arith, some.0, few_groups groups some.1, length-append (members group) (types_of groups))
+
+-- ---- what is written
+
+-- Groups that can be written: there are not too many types, no group is empty, types are short, and references small.
+pub record AreShort (groups : List (RecGroup ℕ)) : Type 0 where
+  pub few : length (types_of groups) ≤ most Types
+  pub some : AreSome groups
+  pub small : AllByRecursion IsSmallGroup groups
+  pub types : AllByRecursion IsShort (types_of groups)
+
+short_types : (types : List (SubType ℕ)) → AllByRecursion IsSmallSub types → AreSmall types → AllByRecursion (λ type. length type.supertypes ≤ 1) types
+    → AllByRecursion IsShort types
+short_types [] small few one = tt
+short_types (type ∷ types) small few one = (record { small = small.0; few = few.0; one = one.0 }, short_types types small.1 few.1 one.1)
+
+pub groups_short : (features : Features) (groups : List (RecGroup ℕ)) → AreValidGroups features groups → AreSmall (types_of groups) → AreSome groups
+    → length (types_of groups) ≤ most Types → AreShort groups
+groups_short features groups valid few_items some few =
+    let small = groups_small 0 groups (valid_in_range features groups valid) (omega (arith, few)) in
+    let rules = all_rules features groups valid in
+    let one = all_by_place (λ (type : SubType ℕ). length type.supertypes ≤ 1) (types_of groups) (λ index type at. (rules index type at).extends.at_most_one) in
+    record { few = few; some = some; small = small; types = short_types (types_of groups) (types_small groups small) few_items one }
+
+pub groups_length : (groups : List (RecGroup ℕ)) → AreShort groups → length (rec_groups_encoding groups) < 2 ^ 32
+unfolding list_encoding
+groups_length groups h =
+    let count = few_groups groups h.some in
+    let short = at_most_five (length groups) (omega (arith, count, h.few)) in
+    omega (arith, h.few, short, encodings_length groups h.some h.few h.types, length-append (unsigned_encoding (length groups)) (flat_map rec_group_encoding groups))
+
+pub groups_are : (compact : Bool) (groups : List (RecGroup ℕ)) → AreShort groups → IsSection compact (section_encoding 1 (rec_groups_encoding groups)) (TypeSection groups)
+groups_are compact groups h =
+    let short = groups_length groups h in
+    section_is compact (rec_groups_encoding groups) (TypeSection groups) (section compact groups h.small short).encodes short

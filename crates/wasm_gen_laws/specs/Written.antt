@@ -1,12 +1,12 @@
 -- The sections of a made module, and what it means that they are written.
-use Rattle.std.specs.Prelude.{◌≡◌, ◌≢◌, ⊤, ℕ, Bool, ◌<◌, List, [], ◌∷◌, ◌++◌, map, replicate}
+use Rattle.std.specs.Prelude.{◌≡◌, ◌≢◌, ⊤, ℕ, Bool, ◌<◌, List, [], ◌∷◌, ◌++◌, replicate}
 use Rattle.std.specs.List.{AllZip, flat_map}
 use Rattle.wasm_bodies.specs.Bodies.{Run, IsRun}
 use Rattle.wasm_spec.specs.Bytes.{IsList}
 use Rattle.wasm_spec.specs.Features.{Features}
 use Rattle.wasm_spec.specs.Grammar.{IsModule}
 use Rattle.wasm_spec.specs.Syntax.{Section, TypeSection, FunctionSection, CodeSection}
-use Rattle.wasm_spec.specs.Types.{ValType, Single}
+use Rattle.wasm_spec.specs.Types.{ValType}
 use Rattle.wasm_valid_modules.specs.Validity.{IsValid}
 use Rattle.wasm_smith.specs.Bounds.{IsWithinBounds}
 use Rattle.wasm_smith.specs.Config.{AreFeaturesOf}
@@ -41,7 +41,7 @@ unless_empty (item ∷ items) section = section ∷ []
 -- the sections of a made module, whose functions have these bodies
 abbrev pub sections_with : Made → List (List ℕ) → List Section
 sections_with m bodies =
-    unless_empty m.types (TypeSection (map Single m.types))
+    unless_empty m.groups (TypeSection m.groups)
     ++ unless_empty m.funcs (FunctionSection m.funcs)
     ++ unless_empty m.funcs (CodeSection bodies)
 

@@ -1,10 +1,9 @@
 //! Laws of made modules. The functions do nothing: their contracts are theorems, on which what `generate` promises rests.
 
-ghost use Rattle.std.specs.Prelude.{◌≡◌, ◌≤◌, ◌<◌, ◌^◌, ℕ, Bool, List, [], length};
-ghost use Rattle.std.specs.List.{AllByRecursion};
+ghost use Rattle.std.specs.Prelude.{◌≡◌, ◌≤◌, ℕ, Bool, List, [], length};
 ghost use Rattle.wasm_gen_laws.specs.Written.{AreUnreachableBodies, sections_with};
-ghost use Rattle.wasm_smith.specs.Bounds.{IsSmall, IsWithinBounds};
-ghost use Rattle.wasm_smith.specs.Plain.{IsPlainFunction, IsPlainModule};
+ghost use Rattle.wasm_smith.specs.Bounds.{IsWithinBounds};
+ghost use Rattle.wasm_smith.specs.ValidGroups.{types_of};
 ghost use Rattle.wasm_smith.specs.Made.{Made};
 ghost use Rattle.wasm_smith.specs.ModuleEncoding.{AreBodyEncodings, PassesLength, encoding_with};
 ghost use Rattle.wasm_smith.specs.Parts.{Config};
@@ -17,37 +16,34 @@ ghost use Rattle.wasm_validity.specs.Entries.{entries_of};
 ghost use Rattle.wasm_validity.specs.Rules.{PassLimit};
 ghost use Rattle.wasm_valid_modules.specs.Validity.{IsValid};
 
-/// A made module of plain types that is valid by index is valid, whatever the encodings of its bodies, unless it has too
-/// many types or functions.
+/// A made module that is valid by index is valid, whatever the encodings of its bodies, unless it has too many types or functions.
 pub fn valid_by_index()
-    ensures { (c : Config) (m : Made) (features : Features) (bodies : List (List ℕ)) → IsWithinBounds c m → IsPlainModule m
-        → length m.types ≤ most Types → length m.funcs ≤ most Functions
+    ensures { (c : Config) (m : Made) (features : Features) (bodies : List (List ℕ)) → IsWithinBounds c m
+        → length (types_of m.groups) ≤ most Types → length m.funcs ≤ most Functions
         → IsValidByIndex features m → AreUnreachableBodies m.locals bodies → IsValid features (sections_with m bodies) }
 {}
 
-/// Of what stands outside of bodies a made module of plain types passes no limit, unless it has too many types or
+/// Of what stands outside of bodies a made module that is valid by index passes no limit, unless it has too many types or
 /// functions.
 pub fn few_counts()
-    ensures { (m : Made) (limit : Limit) → AllByRecursion IsSmall m.types → AllByRecursion IsPlainFunction m.types
-        → length m.types ≤ most Types → length m.funcs ≤ most Functions
+    ensures { (c : Config) (m : Made) (features : Features) (limit : Limit) → IsWithinBounds c m → IsValidByIndex features m
+        → length (types_of m.groups) ≤ most Types → length m.funcs ≤ most Functions
         → ¬ (PassLimit limit at_first (entries_of (sections_with m []))) }
 {}
 
-/// The encoding of a made module of plain types, each of whose functions has its locals, reads as its sections, with bodies of
-/// these locals, whether compact imports are on or not, unless it has too many types or functions.
+/// The encoding of a made module that is valid by index reads as its sections, with bodies of its locals, whether compact imports
+/// are on or not, unless it has too many types or functions.
 pub fn encodings_read()
-    ensures bodies { (c : Config) (m : Made) (bodies : List (List ℕ)) → IsWithinBounds c m → IsPlainModule m → AreBodyEncodings m.locals bodies
-        → AreUnreachableBodies m.locals bodies }
-    ensures reads { (c : Config) (m : Made) (bodies : List (List ℕ)) → IsWithinBounds c m → IsPlainModule m → AreBodyEncodings m.locals bodies
-        → length m.locals ≡ length m.funcs → AllByRecursion (λ index. index < 2 ^ 32) m.funcs
-        → length m.types ≤ most Types → length m.funcs ≤ most Functions
+    ensures bodies { (c : Config) (m : Made) (features : Features) (bodies : List (List ℕ)) → IsWithinBounds c m → IsValidByIndex features m
+        → length (types_of m.groups) ≤ most Types → AreBodyEncodings m.locals bodies → AreUnreachableBodies m.locals bodies }
+    ensures reads { (c : Config) (m : Made) (features : Features) (bodies : List (List ℕ)) → IsWithinBounds c m → IsValidByIndex features m
+        → AreBodyEncodings m.locals bodies → length (types_of m.groups) ≤ most Types → length m.funcs ≤ most Functions
         → (compact : Bool) → IsModule compact (encoding_with m bodies) (sections_with m bodies) }
 {}
 
-/// A made module of plain types, each of whose functions has its locals, can be written: no count, run or length is past 32
-/// bits, unless it has too many types or functions.
+/// A made module that is valid by index can be written: no count, run or length is past 32 bits, unless it has too many types or
+/// functions.
 pub fn short_modules()
-    ensures { (c : Config) (m : Made) → IsWithinBounds c m → IsPlainModule m
-        → length m.locals ≡ length m.funcs → AllByRecursion (λ index. index < 2 ^ 32) m.funcs
-        → length m.types ≤ most Types → length m.funcs ≤ most Functions → ¬ (PassesLength m) }
+    ensures { (c : Config) (m : Made) (features : Features) → IsWithinBounds c m → IsValidByIndex features m
+        → length (types_of m.groups) ≤ most Types → length m.funcs ≤ most Functions → ¬ (PassesLength m) }
 {}

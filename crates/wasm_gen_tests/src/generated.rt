@@ -29,21 +29,32 @@ const ROWS: &str = "
     max_types=0 min_funcs=1             | | refused: minimum
     max_types=0 min_types=1             | | refused: config min_types
     min_types=1000001 max_types=1000001 | | refused: limit Types
-    gc_enabled=yes                      | | refused: config gc_enabled
+    // With garbage collection: an open structure and its clone, two structures that refer to each other, an array of itself and its clone, whose
+    // reference is shifted, and an open array and a type below it whose elements are never null.
+    gc_enabled=yes | 01 00 01 01 01 01 01 00 01 01                            | 01 0d 02 50 00 5f 01 78 01 50 00 5f 01 78 01
+    gc_enabled=yes | 01 01 00 01 01 00 05 00 01 01 00 00 00 01 01 00 05 00 01 | 01 0d 01 4e 02 5f 01 63 01 00 5f 01 63 00 00
+    gc_enabled=yes | 01 00 00 02 00 05 00 01 00 01 01 00                      | 01 09 02 5e 63 00 00 5e 63 01 00
+    gc_enabled=yes | 01 00 01 02 00 05 00 00 00 00 01 00 00 01 00 01          | 01 0d 02 50 00 5e 70 00 4f 01 00 5e 64 70 00
+    // A reference to continuations.
+    stack_switching_enabled=yes | 01 01 05 03 00 00 00 01 | 01 05 01 60 01 68 00 functions code
+    // A structure alone, of which there is no function, and more types than the limit: those of one group, which is never made, and those of a minimum.
+    gc_enabled=yes min_funcs=1                         | 01 00 00 01 00 00 | refused: minimum
+    gc_enabled=yes max_types=2147483648                | 01 7f ff ff ff    | refused: limit Types
+    gc_enabled=yes min_types=1000001 max_types=1000001 |                   | refused: limit Types
 ";
 
-// The features of what is made for the configuration.
+// Returns the features of what is made for the configuration.
 fn features_of(mut config: Config) -> WasmFeatures {
     config.sanitize();
     config.features()
 }
 
-// Whether a new session with the features of the configuration accepts a module.
+// Checks that a new session with the features of the configuration accepts a module.
 fn is_valid(alloc: Global, config: &Config, module: &[u8]) -> bool {
     answers_under(alloc, features_of(*config), module, "yes")
 }
 
-// Whether these are the bytes of the header and the sections of a field.
+// Checks that these are the bytes of the header and the sections of a field.
 fn is_module_of(alloc: Global, bytes: &[u8], field: &str) -> bool {
     match module_of(alloc, field) {
         Some(module) => module.as_slice() == bytes,
@@ -51,7 +62,7 @@ fn is_module_of(alloc: Global, bytes: &[u8], field: &str) -> bool {
     }
 }
 
-// Whether a field says that nothing is made, and why.
+// Checks that a field says that nothing is made, and why.
 fn is_refusal(alloc: Global, error: GenerateError, field: &str) -> bool {
     match (field.strip_prefix("refused: "), error.to_string(alloc)) {
         (Some(expected), Ok(found)) => found.as_str() == expected,
@@ -59,7 +70,7 @@ fn is_refusal(alloc: Global, error: GenerateError, field: &str) -> bool {
     }
 }
 
-/// Whether exactly these sections are made of the seed, or it is refused so.
+/// Checks that exactly these sections are made of the seed, or that it is refused so.
 pub fn makes(alloc: Global, config: &Config, seed: &[u8], expected: &str) -> bool {
     match generate(alloc, config, seed) {
         Ok(made) => is_module_of(alloc, &made, expected) && is_valid(alloc, config, &made),
@@ -67,15 +78,15 @@ pub fn makes(alloc: Global, config: &Config, seed: &[u8], expected: &str) -> boo
     }
 }
 
-// Whether a module is made of the seed, and a new session with its features accepts it.
-fn is_accepted(alloc: Global, config: &Config, seed: &[u8]) -> bool {
+/// Checks that a module is made of the seed, and that a new session with its features accepts it.
+pub fn is_accepted(alloc: Global, config: &Config, seed: &[u8]) -> bool {
     match generate(alloc, config, seed) {
         Ok(made) => is_valid(alloc, config, &made),
         Err(_) => false,
     }
 }
 
-// Whether a module is accepted that is made of any shorter front of the seed.
+// Checks that a module is made of each shorter front of the seed, and accepted.
 fn are_fronts_accepted(alloc: Global, config: &Config, seed: &[u8]) -> bool {
     for len in 0..seed.len() {
         if !is_accepted(alloc, config, &seed[..len]) {
@@ -85,17 +96,23 @@ fn are_fronts_accepted(alloc: Global, config: &Config, seed: &[u8]) -> bool {
     true
 }
 
-// Whether a row holds.
+// Checks that a module is made of each shorter front, too, where one is made of the whole.
+fn are_fronts_made(alloc: Global, config: &Config, seed: &[u8], expected: &str) -> bool {
+    expected.starts_with("refused") || are_fronts_accepted(alloc, config, seed)
+}
+
+// Checks that a row holds.
 fn holds(alloc: Global, row: &str) -> Option<bool> {
     let (settings, seed, expected) = three_fields(row)?;
     let config = config_of(settings)?;
     let seed = parts_of(alloc, seed)?;
-    Some(makes(alloc, &config, &seed, expected) && are_fronts_accepted(alloc, &config, &seed))
+    let is_made = makes(alloc, &config, &seed, expected);
+    Some(is_made && are_fronts_made(alloc, &config, &seed, expected))
 }
 
 #[test]
 fn seeds_make_these_modules(rt: HostRuntime) -> Result<(), Fail> {
-    Ok(check_rows(rt.alloc(), ROWS, 13, holds)?)
+    Ok(check_rows(rt.alloc(), ROWS, 20, holds)?)
 }
 
 #[test]
@@ -110,7 +127,7 @@ fn module_of_a_long_seed_is_accepted(rt: HostRuntime) {
     assert!(rt; is_accepted(rt.alloc(), &supported_config(), &[0xff; 4096]));
 }
 
-// Seeds of one pattern each, so that types, functions and locals come of them.
+// Returns seeds of one pattern each, so that types, functions and locals come of them.
 fn patterned(alloc: Global, step: u8) -> Vec<u8> {
     let mut seed = Vec::new(alloc);
     let mut byte = step;
@@ -121,7 +138,7 @@ fn patterned(alloc: Global, step: u8) -> Vec<u8> {
     seed
 }
 
-// A configuration in which the bits of a number turn features off.
+// Returns a configuration in which the bits of a number turn features off.
 fn turned(bits: u8) -> Config {
     let mut config = supported_config();
     config.allow_floats = bits & 1 == 0;
@@ -134,7 +151,7 @@ fn turned(bits: u8) -> Config {
     config
 }
 
-// Whether a module of this configuration and this seed is accepted.
+// Checks that a module of this configuration and this seed is accepted.
 fn is_turned_accepted(alloc: Global, bits: u8, step: u8) -> bool {
     is_accepted(alloc, &turned(bits), &patterned(alloc, step))
 }

@@ -7,6 +7,10 @@ mod answers;
 #[cfg(test)]
 mod configs;
 #[cfg(test)]
+mod drawn_groups;
+#[cfg(test)]
+mod drawn_types;
+#[cfg(test)]
 mod errors;
 #[cfg(test)]
 mod fakes;
@@ -15,9 +19,19 @@ mod generated;
 #[cfg(test)]
 mod lists;
 #[cfg(test)]
+mod marks;
+#[cfg(test)]
+mod narrowings;
+#[cfg(test)]
+mod numbers;
+#[cfg(test)]
+mod references;
+#[cfg(test)]
 mod run_check;
 #[cfg(test)]
 mod run_generate;
+#[cfg(test)]
+mod same_types;
 #[cfg(test)]
 mod seeds;
 #[cfg(test)]

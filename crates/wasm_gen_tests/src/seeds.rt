@@ -12,9 +12,10 @@ use wasm_gen::smith::{Config, supported_config};
 use wasm_gen_rows::modules::parts_of;
 use wasm_test_rows::fields::four_fields;
 use wasm_test_rows::rows::check_rows;
-use wasm_test_rows::values::number_of;
+use wasm_test_rows::values::{number_of, numbers_of};
+use wasm_test_types::types;
 
-// Whether exactly the module is made of the seed.
+// Checks that exactly the module is made of the seed.
 fn makes_exactly(alloc: Global, seed: &[u8], module: &[u8]) -> bool {
     match generate(alloc, &supported_config(), seed) {
         Ok(made) => made.as_slice() == module,
@@ -22,7 +23,7 @@ fn makes_exactly(alloc: Global, seed: &[u8], module: &[u8]) -> bool {
     }
 }
 
-// Whether a module with the same front is made of the seed.
+// Checks that a module with the same front is made of the seed.
 fn makes_front(alloc: Global, seed: &[u8], module: &[u8], front_len: usize) -> bool {
     match generate(alloc, &supported_config(), seed) {
         Ok(made) => made.get(..front_len) == module.get(..front_len),
@@ -30,7 +31,7 @@ fn makes_front(alloc: Global, seed: &[u8], module: &[u8], front_len: usize) -> b
     }
 }
 
-// Whether exactly the module is made of the seed for these groups and functions.
+// Checks that exactly the module is made of the seed for these groups and functions.
 fn is_found(alloc: Global, groups: &[Vec<SubType>], functions: &[u32], module: &[u8]) -> bool {
     match seed_for(alloc, &supported_config(), groups, functions) {
         Ok(Some(seed)) => makes_exactly(alloc, &seed, module),
@@ -38,7 +39,7 @@ fn is_found(alloc: Global, groups: &[Vec<SubType>], functions: &[u32], module: &
     }
 }
 
-// Whether these groups, and the functions that are drawn for them, are made from the seed that is found for both, from one that spells them, and from that with
+// Checks that these groups, and the functions that are drawn for them, are made from the seed that is found for both, from one that spells them, and from that with
 // a tail. With the tail the types and functions are the same, since their sections, at the module's front, have the same bytes.
 fn are_drawn(alloc: Global, drawing: &mut Drawing, groups: &[Vec<SubType>]) -> bool {
     let functions = drawing.functions(alloc, groups.len());
@@ -50,7 +51,7 @@ fn are_drawn(alloc: Global, drawing: &mut Drawing, groups: &[Vec<SubType>]) -> b
     are_made && makes_front(alloc, &drawing.seed, &drawing.module, drawing.front_len)
 }
 
-// Whether the lists of this number are made.
+// Checks that the lists of this number are made.
 fn are_made(alloc: Global, number: u32, turn: u8) -> bool {
     let mut drawing = Drawing::new(alloc, number, turn);
     let groups = drawing.groups(alloc);
@@ -71,7 +72,7 @@ fn drawn_lists_are_made_from_seeds(rt: HostRuntime) {
 }
 
 // Settings; how many groups there are, of how many types each, with how many parameters; the index of each function's type, a byte each; and the
-// sections that are made of the seed for them, if there is one.
+// sections that are made of the seed for them, or `none` where there is no seed.
 const ROWS: &str = "
     // One function of one type.
     | 1 1 0 | 00 | types functions code
@@ -100,7 +101,7 @@ const ROWS: &str = "
     max_funcs=65536 | 1 1 0     | 00*65536 | types 03 83 80 04 80 80 04 00*65536 0a 83 80 10 80 80 04 0300000b*65536
 ";
 
-// A group of so many function types with so many parameters.
+// Returns a group of so many function types with so many parameters.
 fn group_of(alloc: Global, types: u64, params: u64) -> Vec<SubType> {
     let mut group = Vec::new(alloc);
     for _ in 0..types {
@@ -113,7 +114,7 @@ fn group_of(alloc: Global, types: u64, params: u64) -> Vec<SubType> {
     group
 }
 
-// So many such groups.
+// Returns so many such groups.
 fn groups_of(alloc: Global, count: u64, types: u64, params: u64) -> Vec<Vec<SubType>> {
     let mut groups = Vec::new(alloc);
     for _ in 0..count {
@@ -122,7 +123,7 @@ fn groups_of(alloc: Global, count: u64, types: u64, params: u64) -> Vec<Vec<SubT
     groups
 }
 
-// The groups of a field.
+// Returns the groups of a field.
 fn groups_in(alloc: Global, field: &str) -> Option<Vec<Vec<SubType>>> {
     let (count, group) = field.split_once(' ')?;
     let (types, params) = group.split_once(' ')?;
@@ -130,7 +131,7 @@ fn groups_in(alloc: Global, field: &str) -> Option<Vec<Vec<SubType>>> {
     Some(groups_of(alloc, number_of(count)?, types, params))
 }
 
-// The functions of a field.
+// Returns the functions of a field.
 fn functions_in(alloc: Global, field: &str) -> Option<Vec<u32>> {
     let bytes = parts_of(alloc, field)?;
     let mut functions = Vec::new(alloc);
@@ -140,7 +141,7 @@ fn functions_in(alloc: Global, field: &str) -> Option<Vec<u32>> {
     Some(functions)
 }
 
-// The seed for the groups and functions of two fields, or none.
+// Returns the seed for the groups and functions of two fields, if there is one.
 fn seed_of(
     alloc: Global,
     config: &Config,
@@ -154,7 +155,7 @@ fn seed_of(
     seed.ok()
 }
 
-// Whether a seed makes these sections, or none was expected.
+// Checks that a seed makes these sections, or that there is to be none.
 fn is_expected(alloc: Global, config: &Config, seed: Option<&[u8]>, expected: &str) -> bool {
     match seed {
         Some(seed) => makes(alloc, config, seed, expected),
@@ -162,7 +163,7 @@ fn is_expected(alloc: Global, config: &Config, seed: Option<&[u8]>, expected: &s
     }
 }
 
-// Whether a row holds.
+// Checks that a row holds.
 fn holds(alloc: Global, row: &str) -> Option<bool> {
     let (settings, groups, functions, expected) = four_fields(row)?;
     let config = config_of(settings)?;
@@ -173,4 +174,53 @@ fn holds(alloc: Global, row: &str) -> Option<bool> {
 #[test]
 fn seeds_are_found_within_the_bounds(rt: HostRuntime) -> Result<(), Fail> {
     Ok(check_rows(rt.alloc(), ROWS, 17, holds)?)
+}
+
+// Settings, groups of types in words, the index of each function's type, and the sections that are made of the seed for them, or `none`.
+const IN_WORDS: &str = "
+    // A reference to a type of an earlier group, two types that refer to each other, and one that refers to itself.
+    gc_enabled=yes | func -> ; struct 0?    | 0 | 01 09 02 60 00 00 5f 01 63 00 00 functions code
+    gc_enabled=yes | struct 1?, struct 0?   |   | 01 0d 01 4e 02 5f 01 63 01 00 5f 01 63 00 00
+    gc_enabled=yes | array 0?               |   | 01 05 01 5e 63 00 00
+    // A reference to a type of a later group, and one that is never null.
+    gc_enabled=yes | array 1? ; func ->     |   | none
+    gc_enabled=yes | array 0                |   | none
+    // A supertype, and an empty group.
+    gc_enabled=yes | open func -> ; sub 0 func -> | | none
+    gc_enabled=yes | func -> ; ; func ->    |   | none
+    // A function of a type that is a structure, and of one past the types.
+    gc_enabled=yes | struct i8              | 0 | none
+    gc_enabled=yes | func -> ; struct i8    | 2 | none
+    // A reference to continuations.
+    stack_switching_enabled=yes | func cont? -> | 0 | 01 05 01 60 01 68 00 functions code
+    | func cont? -> | 0 | none
+";
+
+// Checks that the seed for these groups and functions makes these sections, or that there is to be none.
+fn is_answer(
+    alloc: Global,
+    config: &Config,
+    (groups, functions): (&[Vec<SubType>], &[u32]),
+    expected: &str,
+) -> bool {
+    match seed_for(alloc, config, groups, functions) {
+        Ok(seed) => is_expected(alloc, config, seed.as_deref(), expected),
+        Err(_) => false,
+    }
+}
+
+// Checks that a row with its types in words holds.
+fn holds_in_words(alloc: Global, row: &str) -> Option<bool> {
+    let (settings, groups, functions, expected) = four_fields(row)?;
+    let config = config_of(settings)?;
+    let functions = numbers_of(alloc, functions)?;
+    let groups = types::groups_of(alloc, groups)?;
+    let holds = is_answer(alloc, &config, (&groups, &functions), expected);
+    drop(groups);
+    Some(holds)
+}
+
+#[test]
+fn seeds_are_found_for_types_in_words(rt: HostRuntime) -> Result<(), Fail> {
+    Ok(check_rows(rt.alloc(), IN_WORDS, 11, holds_in_words)?)
 }

@@ -1,4 +1,12 @@
--- Laws of seeds for lists, and of what is drawn, under the name of this crate.
-pub use Rattle.wasm_smith_module.proofs.MadeLaws.{drawn_plain}
-pub use Rattle.wasm_smith_witness.proofs.MemberLaws.{not_good, single_types}
-pub use Rattle.wasm_smith_witness.proofs.ReachLaws.{no_min_funcs, module_reach, types_on, module_on}
+-- Laws of seeds for lists, under the name of this crate.
+pub use Rattle.wasm_smith_witness.proofs.MemberLaws.{not_good, no_min_funcs, flat_entries}
+pub use Rattle.wasm_smith_witness.proofs.ReachLaws.{whole_reach, module_on}
+use Rattle.wasm_spec.specs.Features.{Features}
+use Rattle.wasm_smith_config.specs.Config.{AreFeaturesOf}
+use Rattle.wasm_smith_config.specs.Rows.{switches}
+use Rattle.wasm_smith_config.specs.declared.config.Config.{Config}
+use Rattle.wasm_smith_config.proofs.UnionLaws.{grown_by, flags}
+
+-- each configuration has features
+pub features_for : (c : Config) → (features : Features) × AreFeaturesOf c features
+features_for c = (grown_by 0 (switches c), flags c)

@@ -4,13 +4,15 @@ pub use Rattle.wasm_smith_unstructured.specs.Draws
 pub use Rattle.wasm_smith_config.specs.Config
 pub use Rattle.wasm_smith_config.specs.Defaults
 pub use Rattle.wasm_smith_config.specs.SupportedConfig
+pub use Rattle.wasm_smith_types.specs.DrawnGroups
+pub use Rattle.wasm_smith_types.specs.ValidGroups
+pub use Rattle.wasm_smith_types.specs.Grouped
 pub use Rattle.wasm_smith_module.specs.Made
 pub use Rattle.wasm_smith_module.specs.ModuleEncoding
 pub use Rattle.wasm_smith_module.specs.Validity
 pub use Rattle.wasm_smith_module.specs.Bounds
 pub use Rattle.wasm_smith_module.specs.Generating
-pub use Rattle.wasm_smith_module.specs.Growing
-pub use Rattle.wasm_smith_module.specs.Plain
+pub use Rattle.wasm_smith_module.specs.FunctionTypes
 pub use Rattle.wasm_smith_module.specs.Promise
 pub use Rattle.wasm_smith_witness.specs.Family
 pub use Rattle.wasm_smith_witness.specs.Groups

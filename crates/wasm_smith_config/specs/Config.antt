@@ -121,7 +121,6 @@ not_made_yet c =
     at_most (codes "max_data_segments") 0 c.max_data_segments ∷
     at_most (codes "max_tables") 0 c.max_tables ∷
     at_most (codes "max_memories") 0 c.max_memories ∷
-    is_off (codes "gc_enabled") c.gc_enabled ∷
     is_off (codes "allow_start_export") c.allow_start_export ∷
     is_off (codes "export_everything") c.export_everything ∷
     is_off (codes "allow_invalid_funcs") c.allow_invalid_funcs ∷

@@ -92,7 +92,7 @@ impl Config {
     }
 
     // What asks for something that isn't supported.
-    fn not_made_yet(&self) -> [Field; 13]
+    fn not_made_yet(&self) -> [Field; 12]
         ensures { map field_of result ≡ table.not_made_yet self.now }
     {
         [
@@ -104,7 +104,6 @@ impl Config {
             at_most("max_data_segments", 0, self.max_data_segments),
             at_most("max_tables", 0, self.max_tables),
             at_most("max_memories", 0, self.max_memories),
-            is_off("gc_enabled", self.gc_enabled),
             is_off("allow_start_export", self.allow_start_export),
             is_off("export_everything", self.export_everything),
             is_off("allow_invalid_funcs", self.allow_invalid_funcs),

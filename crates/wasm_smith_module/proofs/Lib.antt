@@ -1,11 +1,10 @@
 mod CodeTypes
+mod FunctionLaws
 pub mod GoodLaws
-pub mod GrowLaws
-pub mod ListLaws
 mod LocalTypes
 pub mod MadeLaws
-pub mod OfferLaws
 mod OneEncoding
+mod RestLaws
+mod SectionLaws
 mod SeenRuns
-pub mod ValidLaws
 mod WrittenSections

@@ -1,112 +1,118 @@
 -- What holds of the module that is made, and why none is made.
-use Rattle.std.proofs.Common.{◌≡◌, ℕ, ◌≤◌, ◌<◌, ◌^◌, List, length, map, Result, Ok, Err, refl, ap, subst, inl, inr, arith}
-use Rattle.std.specs.Prelude.{IfOk, IfErr, ◌⊎◌, false}
-use Rattle.std.proofs.lemmas.List.{length-map}
-use Rattle.std.proofs.lemmas.Bool.Decides.{eqb_tells}
-use Rattle.wasm_core_types.specs.declared.types.SubType.{SubType}
+use Rattle.std.proofs.Common.{◌≡◌, ℕ, ◌≤◌, List, [], length, map, Option, Some, None, Result, Ok, Err, refl, sym, ap, ◌∙◌, subst, arith}
+use Rattle.std.specs.Prelude.{IfOk, IfErr, IfSome, IfNone, MatchOption, option_map}
+use Rattle.wasm_spec.specs.Features.{Features}
 use Rattle.wasm_core_types.specs.SubTypes.{sub_type}
-use Rattle.wasm_spec.specs.Types as spec
-use Rattle.wasm_smith_unstructured.specs.Draws.{bool_at}
-use Rattle.wasm_smith_config.specs.Config.{IsGood, NamesBad, fields}
+use Rattle.wasm_core_types.specs.declared.types.SubType.{SubType}
+use Rattle.wasm_spec.specs.Types.{RecGroup, ValType}
+use Rattle.wasm_smith_config.specs.Config.{AreFeaturesOf, IsGood, NamesBad, fields}
 use Rattle.wasm_smith_config.specs.declared.config.Config.{Config}
 use Rattle.wasm_smith_config.specs.declared.error.Error.{Error}
 use Rattle.wasm_smith_config.specs.declared.error.Error.TheVariants.{IncorrectFormat, EmptyChoose, NotEnoughData, BadConfig, BadShape, TypeSize, Memory, TooLong}
-use Rattle.wasm_smith_module.specs.Building.{IsBuilt, IsEnd}
-use Rattle.wasm_smith_module.specs.Generating.{offers, max_results, type_at, types_at, funcs_at, module_at}
-use Rattle.wasm_smith_module.specs.Made.{Made, ModuleValue}
+use Rattle.wasm_smith_types.specs.DrawnGroups.{AskForMore, drawn_groups_at}
+use Rattle.wasm_smith_types.specs.Offering.{offers}
+use Rattle.wasm_smith_types.specs.Drawing.{Offers}
+use Rattle.wasm_smith_types.specs.Grouped.{groups, AreWhole}
+use Rattle.wasm_smith_types.specs.Making.{made}
+use Rattle.wasm_smith_types.specs.ValidGroups.{types_of}
+use Rattle.wasm_smith_types.specs.declared.types.Types.{Types}
+use Rattle.wasm_smith_types.proofs.GroupedLaws.{types_of_grouped}
 use Rattle.wasm_smith_module.specs.Bounds.{IsWithinBounds}
-use Rattle.wasm_smith_module.specs.Plain.{IsPlainModule}
-use Rattle.wasm_smith_module.specs.Promise.{IsMadeFor, IsReason, IsBadConfig, HasNoType}
+use Rattle.wasm_smith_module.specs.Building.{AreGroups, IsBuilt, IsEnd, LacksFunctions}
+use Rattle.wasm_smith_module.specs.FunctionTypes.{function_indexes}
+use Rattle.wasm_smith_module.specs.Generating.{code_at, funcs_at, module_at, rest_at}
+use Rattle.wasm_smith_module.specs.Made.{Made, ModuleValue}
+use Rattle.wasm_smith_module.specs.Promise.{IsMadeFor, IsReason, IsBadConfig, HasNoFunctionType, PassesTypes}
 use Rattle.wasm_smith_module.specs.Validity.{IsValidByIndex}
-use Rattle.wasm_spec.specs.Features.{Features}
-use Rattle.wasm_smith_config.specs.Config.{AreFeaturesOf}
-use Rattle.wasm_smith_module.proofs.GoodLaws.{types_fine, funcs_fine, types_small}
-use Rattle.wasm_smith_module.proofs.ListLaws.{grow_none}
-use Rattle.wasm_smith_module.proofs.ValidLaws as valid
+use Rattle.wasm_smith_module.proofs.GoodLaws.{types_fine, funcs_fine}
+use Rattle.wasm_smith_module.proofs.RestLaws.{code_few, code_many, code_valid, few_without_types, funcs_few, funcs_named}
 
--- as many types as a number of 32 bits can count
-pub types_fit : (c : Config) (s left : List ℕ) (types : List SubType) → IsGood c → types_at c s ≡ (map sub_type types, left) → length types < 2 ^ 32
-types_fit c s left types good e =
-    let few : length (types_at c s).0 ≤ c.max_types = valid.types_few c s in
-    let same : (types_at c s).0 ≡ map sub_type types = ap (λ (d : List (spec.SubType ℕ) × List ℕ). d.0) e in
-    let small : c.max_types ≤ 2 ^ 31 = types_small c good in
-    omega (arith, small, rw same at few, length-map types sub_type)
+-- ---- a module
 
-drawn_valid : (c : Config) (s : List ℕ) (features : Features) → AreFeaturesOf c features → IsValidByIndex features (module_at c s).0
-unfolding module_at
-drawn_valid c s features are =
-    let types = types_at c s in
-    let funcs = funcs_at c (length types.0) types.1 in
+rest_valid : (c : Config) (groups : List (RecGroup ℕ)) (old new s : List ℕ) (features : Features) → AreFeaturesOf c features → AreGroups c old new groups
+    → IsValidByIndex features (rest_at c groups s).0
+unfolding rest_at
+rest_valid c groups old new s features are g =
+    let funcs = funcs_at c (function_indexes 0 (types_of groups)) s in
     record {
-      types = valid.types_allowed c features are s;
-      funcs = valid.funcs_named c s types.1;
-      bodies = valid.code_many c (length funcs.0) funcs.1;
-      locals = valid.code_allowed c features are (length funcs.0) funcs.1;
+      groups = g.valid features are;
+      funcs = funcs_named c (types_of groups) s;
+      bodies = code_many (offers c) (length (types_of groups)) (length funcs.0) funcs.1;
+      locals = code_valid c features are (length (types_of groups)) (length funcs.0) funcs.1;
     }
 
-drawn_bounds : (c : Config) (s : List ℕ) → IsGood c → c.min_funcs ≤ length (module_at c s).0.funcs → IsWithinBounds c (module_at c s).0
-unfolding module_at
-drawn_bounds c s good enough =
-    let types = types_at c s in
-    let funcs = funcs_at c (length types.0) types.1 in
+rest_bounds : (c : Config) (groups : List (RecGroup ℕ)) (old new s : List ℕ) → IsGood c → AreGroups c old new groups
+    → c.min_funcs ≤ length (rest_at c groups s).0.funcs → IsWithinBounds c (rest_at c groups s).0
+unfolding rest_at
+rest_bounds c groups old new s good g enough =
+    let funcs = funcs_at c (function_indexes 0 (types_of groups)) s in
     record {
-      enough_types = valid.types_enough c s (types_fine c good);
-      few_types = valid.types_few c s;
+      enough_types = g.enough (types_fine c good);
+      few_types = g.few;
       enough_funcs = enough;
-      few_funcs = valid.funcs_few c (length types.0) types.1;
-      small_types = valid.types_small c s;
-      few_locals = valid.code_few c (length funcs.0) funcs.1;
+      few_funcs = funcs_few c (function_indexes 0 (types_of groups)) s;
+      small_types = g.small;
+      some_types = g.some;
+      few_locals = code_few (offers c) (length (types_of groups)) (length funcs.0) funcs.1;
     }
-
-pub drawn_plain : (c : Config) (s : List ℕ) → IsPlainModule (module_at c s).0
-unfolding module_at
-drawn_plain c s =
-    let types = types_at c s in
-    let funcs = funcs_at c (length types.0) types.1 in
-    record { types = valid.types_plain c s; locals = valid.code_plain c (length funcs.0) funcs.1 }
-
-drawn_paired : (c : Config) (s : List ℕ) → length (module_at c s).0.locals ≡ length (module_at c s).0.funcs
-unfolding module_at
-drawn_paired c s =
-    let types = types_at c s in
-    let funcs = funcs_at c (length types.0) types.1 in
-    valid.code_many c (length funcs.0) funcs.1
 
 made_for : (c : Config) (old new : List ℕ) (m : ModuleValue) → IsGood c → IsBuilt c old new m → IsMadeFor c m
 made_for c old new m good built =
-    let same : (module_at c old).0 ≡ m.made = ap (λ (d : Made × List ℕ). d.0) built.drawn in
+    let same : (rest_at c m.made.groups built.after).0 ≡ m.made = ap (λ (d : Made × List ℕ). d.0) built.finished.drawn in
     record {
       good = good;
-      config = built.config;
-      valid = λ features are. subst (λ made. IsValidByIndex features made) same (drawn_valid c old features are);
-      bounds = subst (λ made. IsWithinBounds c made) same (drawn_bounds c old good (rw same built.enough));
-      plain = subst (λ made. IsPlainModule made) same (drawn_plain c old);
-      paired = subst (λ (made : Made). length made.locals ≡ length made.funcs) same (drawn_paired c old);
+      config = built.finished.config;
+      valid = λ features are.
+          subst (λ made. IsValidByIndex features made) same (rest_valid c m.made.groups old built.after built.after features are built.groups);
+      bounds =
+          subst (λ made. IsWithinBounds c made) same
+          (rest_bounds c m.made.groups old built.after built.after good built.groups (rw same built.finished.enough));
     }
+
+-- what is drawn is what is made
+drawn_for : (c : Config) (old new : List ℕ) (m : ModuleValue) → IsBuilt c old new m
+    → IfSome (module_at c old) (λ drawn. ◌≡◌ {A = Made × List ℕ} drawn (m.made, new))
+unfolding module_at
+drawn_for c old new m built = go (drawn_groups_at c old) built.groups.drawn
+  where
+    go : (d : Option (List (RecGroup ℕ) × List ℕ)) → IfSome d (λ drawn. ◌≡◌ {A = List (RecGroup ℕ) × List ℕ} drawn (m.made.groups, built.after))
+        → IfSome (option_map (λ (drawn : List (RecGroup ℕ) × List ℕ). rest_at c drawn.0 drawn.1) d) (λ drawn. ◌≡◌ {A = Made × List ℕ} drawn (m.made, new))
+    go None h = tt
+    go (Some drawn) h = ap (λ (d : List (RecGroup ℕ) × List ℕ). rest_at c d.0 d.1) h ∙ built.finished.drawn
+
+-- ---- in the words of the steps
+
+-- functions are drawn of the function types among the types of the groups
+pub funcs_are : (c : Config) (types : Types) (shown : List SubType) (indexes funcs s t : List ℕ) → AreWhole types → map sub_type shown ≡ made types
+    → indexes ≡ function_indexes 0 (map sub_type shown) → funcs_at c indexes s ≡ (funcs, t)
+    → funcs_at c (function_indexes 0 (types_of (groups types))) s ≡ (funcs, t)
+funcs_are c types shown indexes funcs s t whole seen are drawn =
+    let all : types_of (groups types) ≡ map sub_type shown = types_of_grouped types.sizes.items (made types) whole ∙ sym seen in
+    ap (λ ts. funcs_at c (function_indexes 0 ts) s) all ∙ ap (λ is. funcs_at c is s) (sym are) ∙ drawn
+
+pub rest_is : (c : Config) (o : Offers) (types : Types) (bound count : ℕ) (funcs s t u : List ℕ) (locals : List (List (ValType ℕ))) → o ≡ offers c → AreWhole types
+    → bound ≡ length (made types) → count ≡ length funcs → funcs_at c (function_indexes 0 (types_of (groups types))) s ≡ (funcs, t) → code_at o bound count t ≡ (locals, u)
+    → rest_at c (groups types) s ≡ (record { groups = groups types; funcs = funcs; locals = locals }, u)
+unfolding rest_at
+rest_is c o types bound count funcs s t u locals offered whole many counted drawn coded =
+    let bound_is : bound ≡ length (types_of (groups types)) = many ∙ ap length (sym (types_of_grouped types.sizes.items (made types) whole)) in
+    let coded' : code_at (offers c) (length (types_of (groups types))) (length funcs) t ≡ (locals, u) = rw (offered, bound_is, counted) at coded in
+    rw (drawn, coded') refl
 
 -- ---- no module
 
-no_type_drawn : (c : Config) (s : List ℕ) → c.min_types ≡ 0 → length (types_at c s).0 ≡ 0 → (c.max_types ≡ 0) ⊎ ((bool_at s).0 ≡ false)
-unfolding types_at
-no_type_drawn c s owed none = grow_none (type_at (offers c) (max_results c)) c.min_types c.max_types s owed none
-
-funcs_of : (c : Config) (s : List ℕ) → (module_at c s).0.funcs ≡ (funcs_at c (length (types_at c s).0) (types_at c s).1).0
-unfolding module_at
-funcs_of c s = refl
-
-no_type : (c : Config) (s : List ℕ) → IsGood c → length (module_at c s).0.funcs < c.min_funcs → HasNoType c s
-no_type c s good few =
-    let types = types_at c s in
-    let few' : length (funcs_at c (length types.0) types.1).0 < c.min_funcs = rw (funcs_of c s) at few in
-    elim (eqb_tells (length types.0) 0) [
-      | inr (t, some) ↦ absurd (omega (arith, few', valid.funcs_enough c (length types.0) types.1 (funcs_fine c good) some))
-      | inl (t, none) ↦
-          let owed : c.min_types ≡ 0 = omega (arith, none, valid.types_enough c s (types_fine c good)) in
-          record { good = good; wanted = omega (arith, few'); none_needed = owed; none_drawn = no_type_drawn c s owed none }
-    ]
+no_function_type : (c : Config) (s : List ℕ) → IsGood c → LacksFunctions c s → HasNoFunctionType c s
+no_function_type c s good lacks =
+    let none = few_without_types c (function_indexes 0 (types_of lacks.groups)) lacks.after (funcs_fine c good) lacks.few in
+    record { good = good; owed = omega (arith, lacks.few); none_drawn = go (drawn_groups_at c s) lacks.are.drawn none }
+  where
+    go : (d : Option (List (RecGroup ℕ) × List ℕ)) → IfSome d (λ drawn. ◌≡◌ {A = List (RecGroup ℕ) × List ℕ} drawn (lacks.groups, lacks.after))
+        → function_indexes 0 (types_of lacks.groups) ≡ [] → IfSome d (λ drawn. function_indexes 0 (types_of drawn.0) ≡ [])
+    go None h none = tt
+    go (Some drawn) h none = ap (λ (d : List (RecGroup ℕ) × List ℕ). function_indexes 0 (types_of d.0)) h ∙ none
 
 ended_for : (c : Config) (s : List ℕ) (e : Error) → IsGood c → IsEnd c s e → IsReason c s e
-ended_for c s IncorrectFormat good h = no_type c s good h
+ended_for c s IncorrectFormat good h = no_function_type c s good h
 ended_for c s EmptyChoose good h = h
 ended_for c s NotEnoughData good h = h
 ended_for c s (BadConfig field) good h = absurd h
@@ -127,9 +133,27 @@ bad_for c s TooLong h = h
 
 -- ---- in the words of the calls
 
-pub made_from : (c d : Config) (old new : List ℕ) (r : Result ModuleValue Error) → d ≡ c → IsGood d → IfOk r (IsBuilt d old new) → IfOk r (IsMadeFor c)
-made_from c d old new (Ok m) same good h = subst (λ x. IsMadeFor x m) same (made_for d old new m good h)
-made_from c d old new (Err e) same good h = tt
+abbrev Built : Config → List ℕ → List ℕ → ℕ → Result (Option ModuleValue) Error → Type 0
+Built c old new most r = IfOk r (λ built. MatchOption built (AskForMore c old most) (IsBuilt c old new))
+
+pub made_from : (c d : Config) (old new : List ℕ) (most : ℕ) (r : Result (Option ModuleValue) Error) → d ≡ c → IsGood d → Built d old new most r
+    → IfOk r (λ made. IfSome made (IsMadeFor c))
+made_from c d old new most (Ok (Some m)) same good h = subst (λ x. IsMadeFor x m) same (made_for d old new m good h)
+made_from c d old new most (Ok None) same good h = tt
+made_from c d old new most (Err e) same good h = tt
+
+pub drawn_from : (c d : Config) (old new : List ℕ) (most : ℕ) (r : Result (Option ModuleValue) Error) → d ≡ c → Built d old new most r
+    → IfOk r (λ made. IfSome made (λ m. IfSome (module_at c old) (λ drawn. ◌≡◌ {A = Made × List ℕ} drawn (m.made, new))))
+drawn_from c d old new most (Ok (Some m)) same h =
+    subst (λ x. IfSome (module_at x old) (λ drawn. ◌≡◌ {A = Made × List ℕ} drawn (m.made, new))) same (drawn_for d old new m h)
+drawn_from c d old new most (Ok None) same h = tt
+drawn_from c d old new most (Err e) same h = tt
+
+pub passed_from : (c d : Config) (old new : List ℕ) (most : ℕ) (r : Result (Option ModuleValue) Error) → d ≡ c → IsGood d → Built d old new most r
+    → IfOk r (λ made. IfNone made (PassesTypes c old most))
+passed_from c d old new most (Ok (Some m)) same good h = tt
+passed_from c d old new most (Ok None) same good h = subst (λ x. PassesTypes x old most) same (record { good = good; more = h })
+passed_from c d old new most (Err e) same good h = tt
 
 pub ended_from : {X : Type 0} (c d : Config) (s : List ℕ) (r : Result X Error) → d ≡ c → IsGood d → IfErr r (IsEnd d s) → IfErr r (IsReason c s)
 ended_from c d s (Ok m) same good h = tt

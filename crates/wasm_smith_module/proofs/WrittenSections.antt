@@ -1,14 +1,13 @@
 -- The sections of a made module, as they are written.
-use Rattle.std.proofs.Common.{◌≡◌, ◌↔◌, ℕ, ◌+◌, ◌≤◌, ◌<◌, ◌^◌, Bool, true, false, List, [], ◌∷◌, ◌++◌, length, map, refl, sym, ap, ◌∙◌, subst, inl, inr, append_assoc, arith, length-append, Result, Ok, Err, IfOk}
+use Rattle.std.proofs.Common.{◌≡◌, ◌↔◌, ℕ, ◌+◌, ◌≤◌, ◌<◌, ◌^◌, Bool, true, false, List, [], ◌∷◌, ◌++◌, length, refl, sym, ◌∙◌, subst, inl, inr, append_assoc, arith, length-append, Result, Ok, Err, IfOk}
 use Rattle.std.specs.Bool.{IsTrue}
 use Rattle.std.proofs.lemmas.List.{append-nil}
-use Rattle.wasm_core_write.proofs.TypeLists.{list_mapped}
 use Rattle.wasm_spec.proofs.UnsignedEncodings.{at_most_five}
 use Rattle.wasm_spec.specs.Shortest.{unsigned_encoding, list_encoding, framed_encoding, section_encoding}
-use Rattle.wasm_spec.specs.TypeEncodings.{sub_encoding, rec_group_encoding, rec_groups_encoding}
-use Rattle.wasm_spec.specs.Types.{SubType, RecGroup, Single}
+use Rattle.wasm_spec.specs.TypeEncodings.{rec_groups_encoding}
+use Rattle.wasm_spec.specs.Types.{RecGroup}
 use Rattle.wasm_smith_module.specs.Made.{Made}
-use Rattle.wasm_smith_module.specs.ModuleEncoding.{AreBodyEncodings, IsModuleEncoding, PassesLength, encoding_unless_empty, encoding_with}
+use Rattle.wasm_smith_module.specs.ModuleEncoding.{AreBodyEncodings, IsModuleEncoding, PassesLength, encoding_unless_empty}
 use Rattle.wasm_smith_module.specs.SectionBytes.{encoding_of, AreShort, AreTooLong}
 
 -- ---- with items, and without
@@ -62,34 +61,22 @@ total groups functions bodies =
     let x = encoding_unless_empty functions (section_encoding 10 (list_encoding framed_encoding bodies)) in
     omega (arith, length-append a (b ++ x), length-append b x)
 
--- ---- each type is a group by itself
+-- ---- a module
 
-singles : (types : List (SubType ℕ)) → rec_groups_encoding (map Single types) ≡ list_encoding sub_encoding types
-unfolding rec_group_encoding
-singles types = sym (list_mapped rec_group_encoding Single types)
-
-unless_none : (types : List (SubType ℕ)) (bytes : List ℕ) → encoding_unless_empty (map Single types) bytes ≡ encoding_unless_empty types bytes
-unless_none [] bytes = refl
-unless_none (type ∷ types) bytes = refl
-
-same_encoding : (m : Made) (bodies : List (List ℕ)) → encoding_of (map Single m.types) m.funcs bodies ≡ encoding_with m bodies
-same_encoding m bodies = rw (singles m.types, unless_none m.types (section_encoding 1 (list_encoding sub_encoding m.types))) refl
-
-pub module_of : (groups : List (RecGroup ℕ)) (functions : List ℕ) (bodies : List (List ℕ)) (m : Made) (bytes : List ℕ) → groups ≡ map Single m.types → functions ≡ m.funcs
+pub module_of : (groups : List (RecGroup ℕ)) (functions : List ℕ) (bodies : List (List ℕ)) (m : Made) (bytes : List ℕ) → groups ≡ m.groups → functions ≡ m.funcs
     → AreBodyEncodings m.locals bodies → bytes ≡ encoding_of groups functions bodies → AreShort groups functions bodies → IsModuleEncoding m bytes
 module_of groups functions bodies m bytes types funcs are is short = record {
   bodies = bodies;
   are = are;
-  short_types = subst (λ (l : List ℕ). length l < 2 ^ 32) (ap rec_groups_encoding types ∙ singles m.types) short.short_types;
+  short_types = subst (λ gs. length (rec_groups_encoding gs) < 2 ^ 32) types short.short_types;
   short_functions = subst (λ l. length (list_encoding unsigned_encoding l) < 2 ^ 32) funcs short.short_functions;
   short_code = λ some. short.short_code (λ none. some (sym funcs ∙ none));
-  is = is ∙ rw (types, funcs) (same_encoding m bodies);
+  is = is ∙ rw (types, funcs) refl;
 }
 
-pub too_long_of : (groups : List (RecGroup ℕ)) (functions : List ℕ) (bodies : List (List ℕ)) (m : Made) → groups ≡ map Single m.types → functions ≡ m.funcs
+pub too_long_of : (groups : List (RecGroup ℕ)) (functions : List ℕ) (bodies : List (List ℕ)) (m : Made) → groups ≡ m.groups → functions ≡ m.funcs
     → AreBodyEncodings m.locals bodies → AreTooLong groups functions bodies → PassesLength m
-too_long_of groups functions bodies m types funcs are (inl long) =
-    inl (inr (subst (λ (l : List ℕ). 2 ^ 32 ≤ length l) (ap rec_groups_encoding types ∙ singles m.types) long))
+too_long_of groups functions bodies m types funcs are (inl long) = inl (inr (subst (λ gs. 2 ^ 32 ≤ length (rec_groups_encoding gs)) types long))
 too_long_of groups functions bodies m types funcs are (inr (inl long)) =
     inr (inl (inr (subst (λ l. 2 ^ 32 ≤ length (list_encoding unsigned_encoding l)) funcs long)))
 too_long_of groups functions bodies m types funcs are (inr (inr long)) = inr (inr (inr (inr (bodies, are, long))))

@@ -1,11 +1,9 @@
 pub mod Bounds
 pub mod Building
+pub mod FunctionTypes
 pub mod Generating
-pub mod Growing
 pub mod Made
 pub mod ModuleEncoding
-pub mod Offered
-pub mod Plain
 pub mod Promise
 pub mod SectionBytes
 pub mod Validity

@@ -6,7 +6,7 @@ use Rattle.wasm_bodies.specs.Bodies.{Run}
 use Rattle.wasm_encoder_functions.specs.Locals.{locals_encoding, AreRunsOf, AreWritable, PassLength}
 use Rattle.wasm_spec.specs.Grammar.{header}
 use Rattle.wasm_spec.specs.Shortest.{unsigned_encoding, list_encoding, framed_encoding, section_encoding}
-use Rattle.wasm_spec.specs.TypeEncodings.{sub_encoding}
+use Rattle.wasm_spec.specs.TypeEncodings.{rec_group_encoding, rec_groups_encoding}
 use Rattle.wasm_spec.specs.Types.{ValType}
 use Rattle.wasm_smith_config.specs.declared.error.Error.{Error}
 use Rattle.wasm_smith_config.specs.declared.error.Error.TheVariants.{IncorrectFormat, EmptyChoose, NotEnoughData, BadConfig, BadShape, TypeSize, Memory, TooLong}
@@ -32,10 +32,10 @@ abbrev pub encoding_unless_empty : {A : Type 0} → List A → List ℕ → List
 encoding_unless_empty [] encoding = []
 encoding_unless_empty (item ∷ items) encoding = encoding
 
--- the encoding of a module with these bodies: each of its types is a group by itself
+-- the encoding of a module with these bodies
 abbrev pub encoding_with : Made → List (List ℕ) → List ℕ
 encoding_with m bodies = header
-    ++ (encoding_unless_empty m.types (section_encoding 1 (list_encoding sub_encoding m.types))
+    ++ (encoding_unless_empty m.groups (section_encoding 1 (rec_groups_encoding m.groups))
     ++ (encoding_unless_empty m.funcs (section_encoding 3 (list_encoding unsigned_encoding m.funcs))
     ++ encoding_unless_empty m.funcs (section_encoding 10 (list_encoding framed_encoding bodies))))
 
@@ -43,7 +43,7 @@ encoding_with m bodies = header
 pub record IsModuleEncoding (m : Made) (encoding : List ℕ) : Type 0 where
   pub bodies : List (List ℕ)
   pub are : AreBodyEncodings m.locals bodies
-  pub short_types : length (list_encoding sub_encoding m.types) < 2 ^ 32
+  pub short_types : length (rec_groups_encoding m.groups) < 2 ^ 32
   pub short_functions : length (list_encoding unsigned_encoding m.funcs) < 2 ^ 32
   pub short_code : m.funcs ≢ [] → length (list_encoding framed_encoding bodies) < 2 ^ 32
   pub is : encoding ≡ encoding_with m bodies
@@ -69,7 +69,7 @@ HasLongList encoding items = (2 ^ 32 ≤ length items) ⊎ (2 ^ 32 ≤ length (l
 
 -- a count, a run or a length is past 32 bits
 abbrev pub PassesLength : Made → Type 0
-PassesLength m = HasLongList sub_encoding m.types ⊎ HasLongList unsigned_encoding m.funcs ⊎ HasLongCode m.locals
+PassesLength m = HasLongList rec_group_encoding m.groups ⊎ HasLongList unsigned_encoding m.funcs ⊎ HasLongCode m.locals
 
 -- why a made module isn't written
 abbrev pub IsUnwritten : Made → Error → Type 0

@@ -3,8 +3,10 @@
 ghost use Rattle.std.specs.Prelude.{◌≡◌, ◌⊎◌, ◌≤◌, ◌^◌, length, map, IfOk, IfErr};
 ghost use Rattle.wasm_core_types.specs.CoreTypes.{val_type};
 ghost use Rattle.wasm_core_types.specs.SubTypes.{composite_type, sub_type};
+ghost use Rattle.wasm_core_write.specs.CoreRecGroups.{rec_group};
+ghost use Rattle.wasm_smith_types.specs.Drawing.{total};
+ghost use Rattle.wasm_smith_types.specs.Grouped.{entry, grouped};
 ghost use Rattle.wasm_smith_module.specs.ModuleEncoding.{AreBodyEncodings, HasLongFront, IsBodyEncoding, SomeHaveLongFront};
-ghost use Rattle.wasm_spec.specs.Types.{Single};
 
 use std::alloc::{AllocError, Global};
 use wasm_core_types::types::{CompositeType, FuncType, StructType, SubType, ValType};
@@ -16,8 +18,8 @@ use wasm_encoder_functions::function::Function;
 use wasm_encoder_instructions::instruction::Instruction;
 use wasm_encoder_sections::function_section::FunctionSection;
 
-// A copy of what a sub type is made of.
-fn copy_of(alloc: Global, ty: &CompositeType) -> Result<CompositeType, AllocError>
+// Returns a copy of a composite type.
+fn copied_composite(alloc: Global, ty: &CompositeType) -> Result<CompositeType, AllocError>
     ensures { IfOk result (λ copy. composite_type copy ≡ composite_type ty.now) }
 {
     Ok(match ty {
@@ -33,22 +35,58 @@ fn copy_of(alloc: Global, ty: &CompositeType) -> Result<CompositeType, AllocErro
     })
 }
 
-/// The type section: each type is a group by itself.
+// Returns a copy of a type.
+fn copied(alloc: Global, ty: &SubType) -> Result<SubType, AllocError>
+    ensures { IfOk result (λ copy. sub_type copy ≡ sub_type ty.now) }
+{
+    let composite_type = copied_composite(alloc, &ty.composite_type)?;
+    Ok(SubType {
+        is_final: ty.is_final,
+        supertype_idx: ty.supertype_idx,
+        composite_type,
+    })
+}
+
+// Returns copies of these types.
+fn copied_types(alloc: Global, types: &[SubType]) -> Result<Vec<SubType>, AllocError>
+    ensures { IfOk result (λ copies. map sub_type copies.items ≡ map sub_type types.now) }
+{
+    let mut copies = Vec::new(alloc);
+    for ty in types {
+        copies.push(copied(alloc, ty)?)?;
+    }
+    Ok(copies)
+}
+
+// Returns a group of copies of these types: one type stands by itself.
+fn group_of(alloc: Global, types: &[SubType]) -> Result<RecGroup, AllocError>
+    ensures { IfOk result (λ group. rec_group group ≡ entry (map sub_type types.now)) }
+{
+    if types.len() == 1 {
+        return Ok(RecGroup::Single(copied(alloc, &types[0])?));
+    }
+    Ok(RecGroup::Group(copied_types(alloc, types)?))
+}
+
+/// The type section: groups of these sizes.
 ///
 /// # Errors
-/// `TooLong` only where there are more than 4,294,967,295 types, and else `Memory`.
-pub fn type_section(alloc: Global, types: &[SubType]) -> Result<TypeSection, EncodeError>
-    ensures kept { IfOk result (λ section. section ≡ map Single (map sub_type types.now)) }
-    ensures too_long { IfErr result (λ e. e ≡ EncodeError.TooLong → 2 ^ 32 ≤ length types.now) }
+/// `TooLong` only where there are more than 4,294,967,295 groups, and else `Memory`.
+pub fn type_section(
+    alloc: Global,
+    types: &[SubType],
+    sizes: &[u32],
+) -> Result<TypeSection, EncodeError>
+    requires whole { total sizes.now ≡ length types.now }
+    ensures kept { IfOk result (λ section. section ≡ grouped sizes.now (map sub_type types.now)) }
+    ensures too_long { IfErr result (λ e. e ≡ EncodeError.TooLong → 2 ^ 32 ≤ length sizes.now) }
 {
     let mut section = TypeSection::new(alloc);
-    for ty in types {
-        let composite_type = copy_of(alloc, &ty.composite_type)?;
-        section.push(RecGroup::Single(SubType {
-            is_final: ty.is_final,
-            supertype_idx: ty.supertype_idx,
-            composite_type,
-        }))?;
+    let mut start = 0;
+    for size in sizes {
+        let end = start + *size as usize;
+        section.push(group_of(alloc, &types[start..end])?)?;
+        start = end;
     }
     Ok(section)
 }

@@ -3,6 +3,8 @@
 ghost use Rattle.std.specs.Prelude.{◌≡◌, ◌+◌, ◌≤◌, ◌<◌, ◌^◌, ◌∷◌, ◌++◌, length, map, IfOk, IfErr};
 ghost use Rattle.wasm_core_types.specs.CoreTypes.{val_type};
 ghost use Rattle.wasm_core_types.specs.SubTypes.{sub_type};
+ghost use Rattle.wasm_smith_types.specs.Drawing.{total};
+ghost use Rattle.wasm_smith_types.specs.Grouped.{grouped};
 ghost use Rattle.wasm_smith_module.specs.ModuleEncoding.{IsModuleEncoding, PassesLength};
 ghost use Rattle.wasm_smith_module.specs.SectionBytes.{encoding_of, AreShort, AreTooLong};
 
@@ -17,20 +19,23 @@ use wasm_encoder_sections::function_section::FunctionSection;
 
 const HEADER: [u8; 8] = [0x00, 0x61, 0x73, 0x6d, 0x01, 0x00, 0x00, 0x00];
 
-/// The bytes of a module of these types, functions and locals, where each body is `unreachable`. The bytes grow once.
+/// The bytes of a module of these types, in groups of these sizes, functions and locals, where each body is `unreachable`. The bytes
+/// grow once.
 ///
 /// # Errors
 /// `TooLong` where a count, a run or a length is past 4,294,967,295, and else `Memory`.
 pub fn write_module(
     alloc: Global,
     types: &[SubType],
+    sizes: &[u32],
     funcs: &[u32],
     locals: &[Vec<ValType>],
 ) -> Result<Vec<u8>, EncodeError>
-    ensures written { IfOk result (λ bytes. IsModuleEncoding (record { types = map sub_type types.now; funcs = funcs.now; locals = map (λ ls. map val_type ls.items) locals.now }) bytes.items) }
-    ensures too_long { IfErr result (λ e. e ≡ EncodeError.TooLong → PassesLength (record { types = map sub_type types.now; funcs = funcs.now; locals = map (λ ls. map val_type ls.items) locals.now })) }
+    requires whole { total sizes.now ≡ length types.now }
+    ensures written { IfOk result (λ bytes. IsModuleEncoding (record { groups = grouped sizes.now (map sub_type types.now); funcs = funcs.now; locals = map (λ ls. map val_type ls.items) locals.now }) bytes.items) }
+    ensures too_long { IfErr result (λ e. e ≡ EncodeError.TooLong → PassesLength (record { groups = grouped sizes.now (map sub_type types.now); funcs = funcs.now; locals = map (λ ls. map val_type ls.items) locals.now })) }
 {
-    let types = type_section(alloc, types)?;
+    let types = type_section(alloc, types, sizes)?;
     let functions = function_section(alloc, funcs)?;
     let code = code_section(alloc, locals)?;
     write_sections(alloc, &types, &functions, &code)

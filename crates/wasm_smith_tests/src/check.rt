@@ -51,7 +51,6 @@ const CHECKED: &str = "
     max_data_segments=1 | max_data_segments
     max_tables=1 | max_tables
     max_memories=1 | max_memories
-    gc_enabled=yes | gc_enabled
     allow_start_export=yes | allow_start_export
     export_everything=yes | export_everything
     allow_invalid_funcs=yes | allow_invalid_funcs
@@ -71,5 +70,5 @@ fn names_a_field_of_the_default(rt: HostRuntime) {
 
 #[test]
 fn bad_fields_are_named(rt: HostRuntime) -> Result<(), Fail> {
-    Ok(check_rows(rt.alloc(), CHECKED, 33, holds)?)
+    Ok(check_rows(rt.alloc(), CHECKED, 32, holds)?)
 }

@@ -10,7 +10,8 @@ use wasm_smith_types::value_types::Offers;
 fn shown(alloc: Global, bytes: &[u8]) -> Option<String> {
     let config = Config::default();
     let offers = Offers::new(alloc, &config).ok()?;
-    let types = make_types(alloc, &mut Unstructured::new(bytes), &offers, &config).ok()?;
+    let source = &mut Unstructured::new(bytes);
+    let types = make_types(alloc, source, &offers, &config, u32::MAX).ok()?;
     format!(in alloc; "{types:?}").ok()
 }
 

@@ -10,8 +10,6 @@ mod errors;
 #[cfg(test)]
 mod group_types;
 #[cfg(test)]
-mod group_witness;
-#[cfg(test)]
 mod module;
 #[cfg(test)]
 mod unstructured;

@@ -22,6 +22,13 @@ const MADE: &str = "
     | 01 00 00 00 01 00 01 04 | func -> | ([0], [[V128]])
     | 01 00 01 05 02 | func -> exn? | ([], [])
     min_types=2 | | func ->, func -> | ([], [])
+    // With garbage collection: an open structure and its clone, two structures that refer to each other, and an array of itself and its clone.
+    gc_enabled=yes | 01 00 01 01 01 01 01 00 01 01 | open struct mut:i8, open struct mut:i8 | ([], [])
+    gc_enabled=yes | 01 01 00 01 01 00 05 00 01 01 00 00 00 01 01 00 05 00 01 | struct 1?, struct 0? | ([], [])
+    gc_enabled=yes | 01 00 00 02 00 05 00 01 00 01 01 00 | array 0?, array 1? | ([], [])
+    // A function is of a function type, and its locals refer to types.
+    gc_enabled=yes | 01 00 00 01 00 01 00 00 00 00 00 00 00 01 00 01 05 01 01 01 | struct, func -> | ([1], [[Ref(RefType { nullable: false, heap_type: Concrete(1) })]])
+    gc_enabled=yes min_funcs=1 | 01 00 00 01 00 00 | refused | incorrect format
     max_types=0 min_funcs=1 | | refused | incorrect format
     min_types=1 max_types=0 | | refused | bad configuration: min_types
 ";
@@ -60,5 +67,5 @@ fn holds(alloc: Global, row: &str) -> Option<bool> {
 
 #[test]
 fn modules_are_made_of_bytes(rt: HostRuntime) -> Result<(), Fail> {
-    Ok(check_rows(rt.alloc(), MADE, 8, holds)?)
+    Ok(check_rows(rt.alloc(), MADE, 13, holds)?)
 }

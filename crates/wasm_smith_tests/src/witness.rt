@@ -41,7 +41,6 @@ const SEEDS: &str = "
     min_funcs=1 | func -> ; | 0 | none
     min_elements=1 | func -> ; | 0 | none
     export_everything=yes | func -> ; | 0 | none
-    gc_enabled=yes | func -> ; | 0 | none
     max_types=2147483649 | func -> ; | 0 | none
     // Without references there is no garbage collection either.
     gc_enabled=yes reference_types_enabled=no | func -> ; | 0 | some
@@ -66,19 +65,49 @@ const SEEDS: &str = "
     max_types=10000 | func i32 -> f64 * 10000; | | some
     max_funcs=65536 | func i32 -> f64 ; | 0*65536 | some
     max_types=1000 | func -> i64 * 1000; | 999*2 | some
+    // With garbage collection: types of a group that refer to each other.
+    gc_enabled=yes | func -> ; | 0 | 01 00 00 00 00 00 00 01
+    gc_enabled=yes | func ->, open func -> ; | 1 | some
+    gc_enabled=yes | struct 1?, struct 0? ; | | 01 01 00 01 01 00 05 00 01 01 00 00 00 01 01 00 05 00 01 00 00 00 00
+    | struct 1?, struct 0? ; | | none
+    // An open structure, and a group of three types after it: each bool is asked. The function names a function type, or a type that is none.
+    gc_enabled=yes | open struct i8 ; array 3?, func v128 nofunc? -> f64, array 0? ; | 2 | 01 00 01 01 01 01 00 00 01 00 02 00 00 02 00 05 00 01 03 00 00 00 00 01 04 01 05 00 00 08 00 01 03 00 00 00 02 00 05 00 01 00 00 00 01
+    gc_enabled=yes | open struct i8 ; array 3?, func v128 nofunc? -> f64, array 0? ; | 1 | none
+    // A reference that may not be null, one to a type past the end of the group, and a supertype.
+    gc_enabled=yes | array 0 ; | | none
+    gc_enabled=yes | array 1? ; | | none
+    gc_enabled=yes | sub 0 array 0? ; | | none
+    gc_enabled=yes stack_switching_enabled=yes | array nocont? ; | | 01 00 00 02 00 05 00 00 0d 00 00
 ";
 
-// Whether the types are those of the groups, each of one type.
+// Checks that the types are those of the groups, one group after the other.
 fn are_types(alloc: Global, types: &[SubType], groups: &[Vec<SubType>]) -> bool {
-    for (ty, group) in types.iter().zip(groups) {
-        if !debugs_same(alloc, &[ty], group) {
+    let mut rest = types;
+    for group in groups {
+        for expected in group {
+            let Some((type_, others)) = rest.split_first() else {
+                return false;
+            };
+            if !debugs_same(alloc, type_, expected) {
+                return false;
+            }
+            rest = others;
+        }
+    }
+    rest.is_empty()
+}
+
+// Checks that these are the sizes of the groups.
+fn are_sizes(sizes: &[u32], groups: &[Vec<SubType>]) -> bool {
+    for (size, group) in sizes.iter().zip(groups) {
+        if *size as usize != group.len() {
             return false;
         }
     }
-    types.len() == groups.len()
+    sizes.len() == groups.len()
 }
 
-// Whether a module has just these types and functions, without locals.
+// Checks that a module has just these groups and functions, without locals.
 fn has_lists(alloc: Global, module: &Module, groups: &[Vec<SubType>], funcs: &[u32]) -> bool {
     for locals in module.locals() {
         if !locals.is_empty() {
@@ -87,10 +116,11 @@ fn has_lists(alloc: Global, module: &Module, groups: &[Vec<SubType>], funcs: &[u
     }
     module.funcs() == funcs
         && module.locals().len() == funcs.len()
+        && are_sizes(module.group_sizes(), groups)
         && are_types(alloc, module.types(), groups)
 }
 
-// Whether these are made of the seed.
+// Checks that these are made of the seed.
 fn makes(
     alloc: Global,
     config: Config,
@@ -108,7 +138,7 @@ fn makes(
     holds
 }
 
-// Whether the lists have the seed that is expected, or have none.
+// Checks that the lists have the seed that is expected, or have none.
 fn has_seed(
     alloc: Global,
     config: Config,
@@ -137,5 +167,5 @@ fn holds(alloc: Global, row: &str) -> Option<bool> {
 
 #[test]
 fn lists_have_their_seeds(rt: HostRuntime) -> Result<(), Fail> {
-    Ok(check_rows(rt.alloc(), SEEDS, 39, holds)?)
+    Ok(check_rows(rt.alloc(), SEEDS, 48, holds)?)
 }

@@ -17,7 +17,7 @@ use Rattle.wasm_smith_types.specs.Copies.{shifted_index}
 use Rattle.wasm_smith_types.specs.Drawing.{total}
 use Rattle.wasm_smith_types.specs.Bounds.{IsSmallComposite}
 use Rattle.wasm_smith_types.specs.Fitting.{IsSpan}
-use Rattle.wasm_smith_types.specs.Grouped.{entry, grouped, shifted_types}
+use Rattle.wasm_smith_types.specs.Grouped.{cloned, entry, grouped, shifted_types}
 use Rattle.wasm_smith_types.specs.Making.{IsMember, AreMembers}
 use Rattle.wasm_smith_types.specs.ValidGroups.{IsValidGroup, AreValidGroups, types_of}
 use Rattle.wasm_smith_types.specs.declared.fitting.Span.{Span}
@@ -254,15 +254,19 @@ pub own_length : (start by size : ℕ) (ts : List (SubType ℕ)) → start + siz
 own_length start by size ts h =
     length-map (take size (drop start ts)) (sub_map (shifted_index start by)) ∙ length_take size (drop start ts) (omega (arith, h, length-drop start ts))
 
+pub copied_all : (span : Span) (n i : ℕ) (ts now : List (SubType ℕ)) → n ≡ length ts → i ≡ span.size
+    → now ≡ ts ++ shifted_types span.start (n - span.start) (take i (drop span.start ts)) → now ≡ ts ++ cloned span ts
+copied_all span n i ts now count all copied =
+    copied ∙ ap (λ m. ts ++ shifted_types span.start (m - span.start) (take i (drop span.start ts))) count
+    ∙ ap (λ k. ts ++ shifted_types span.start (length ts - span.start) (take k (drop span.start ts))) all
+
 pub clone_done : (features : Features) (sizes : List ℕ) (ts : List (SubType ℕ)) (span : Span) (n i : ℕ) (now : List (SubType ℕ)) (sizes' : List ℕ)
     → n ≡ length ts → i ≡ span.size → total sizes ≡ length ts → length ts ≤ 2 ^ 31 → IsSpan sizes span
     → now ≡ ts ++ shifted_types span.start (n - span.start) (take i (drop span.start ts)) → sizes' ≡ sizes ++ span.size ∷ [] → has features Gc ≡ true
     → AreValidGroups features (grouped sizes ts) → AreMembers features (length ts) ts
     → AreValidGroups features (grouped sizes' now) × AreMembers features (length now) now
 clone_done features sizes ts span n i now sizes' count all whole few at copied pushed on valid members =
-    let e : now ≡ ts ++ shifted_types span.start (length ts - span.start) (take span.size (drop span.start ts)) =
-    copied ∙ ap (λ m. ts ++ shifted_types span.start (m - span.start) (take i (drop span.start ts))) count
-    ∙ ap (λ k. ts ++ shifted_types span.start (length ts - span.start) (take k (drop span.start ts))) all in
+    let e : now ≡ ts ++ cloned span ts = copied_all span n i ts now count all copied in
     rw (e, pushed) (clone_groups features sizes ts span on whole few at valid members, clone_members features sizes ts span on whole few at valid members)
 
 pub clone_whole : (sizes : List ℕ) (ts : List (SubType ℕ)) (start by size i : ℕ) (now : List (SubType ℕ)) (sizes' : List ℕ) → i ≡ size

@@ -70,7 +70,7 @@ first_of {A} (Some first) next rest t e = go (next first) refl e
         let end : others.1 ≡ t = ap (λ (p : List A × List ℕ). p.1) one in
         record { first = first; is = refl; others = others.0; are = are ∙ ap (λ u. Some (others.0, u)) end; all = sym all }
 
-grows_free : (max count : ℕ) (s : List ℕ) → grows_at 0 max count s ≡ bool_if (nat_lt count max) s
+pub grows_free : (max count : ℕ) (s : List ℕ) → grows_at 0 max count s ≡ bool_if (nat_lt count max) s
 unfolding grows_at grows_from bool_if
 grows_free max count s =
     let z : 0 - count ≡ 0 = omega arith in
@@ -97,7 +97,7 @@ groups_begin o max t s sizes candidates = go (groups_at o max (max + 1) no_group
       parts = ap (λ ns. grouped ns (made t) ++ map entry drawn.0) sizes;
     }
 
-more_groups : (o : Offers) (max fuel : ℕ) (front : Front) (s t : List ℕ) → bool_if (nat_lt (total front.sizes) max) s ≡ (true, t)
+pub more_groups : (o : Offers) (max fuel : ℕ) (front : Front) (s t : List ℕ) → bool_if (nat_lt (total front.sizes) max) s ≡ (true, t)
     → groups_at o max (suc fuel) front s ≡ with_first (group_at o (max - total front.sizes) front t) (λ first. groups_at o max fuel (front_then front first.0) first.1)
 unfolding groups_at
 more_groups o max fuel front s t e = rw e refl

@@ -10,6 +10,7 @@ pub mod GroupedLaws
 pub mod WalkLaws
 pub mod CloneSteps
 pub mod GroupDraws
+pub mod PastLaws
 pub mod ReachLaws
 pub mod BelowLaws
 pub mod OfferingLaws

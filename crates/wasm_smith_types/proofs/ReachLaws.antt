@@ -20,11 +20,11 @@ bool_true : (s rest : List ℕ) → SpellsBool true s → bool_at (s ++ rest) �
 unfolding bool_at
 bool_true s rest h = rw (h.1, h.2) refl
 
-bool_false : (s rest : List ℕ) → SpellsBool false s → bool_at (s ++ rest) ≡ (false, rest)
+pub bool_false : (s rest : List ℕ) → SpellsBool false s → bool_at (s ++ rest) ≡ (false, rest)
 unfolding bool_at
 bool_false s rest h = rw (h.1, h.2) refl
 
-more_room : (room : ℕ) (s : List ℕ) → grows_from 0 (suc room) s ≡ bool_at s
+pub more_room : (room : ℕ) (s : List ℕ) → grows_from 0 (suc room) s ≡ bool_at s
 unfolding grows_from
 more_room room s = let t : ltb 0 (suc room) ≡ true = lt-ltb 0 (suc room) (omega arith) in rw t refl
 
@@ -32,7 +32,7 @@ int_reach : (a b n : ℕ) (s rest : List ℕ) → SpellsInt a b n s → int_at a
 unfolding int_at
 int_reach a b n s rest h = rw (take_at s rest (width (b - a)) (h.0), drop_at s rest (width (b - a)) (h.0), h.1) refl
 
-choice_reach : {A : Type 0} (xs : List A) (x : A) (s rest : List ℕ) → SpellsChoice xs x s → choose_at xs (s ++ rest) ≡ (Some x, rest)
+pub choice_reach : {A : Type 0} (xs : List A) (x : A) (s rest : List ℕ) → SpellsChoice xs x s → choose_at xs (s ++ rest) ≡ (Some x, rest)
 unfolding choose_at
 choice_reach xs x s rest h =
     let lt : h.0 < length xs = slice_get_within xs h.0 x h.1 in
@@ -44,7 +44,7 @@ choice_reach xs x s rest h =
 -- ---- one after the other
 
 -- from each spelling of a thing the step draws it
-abbrev Reaches : {A : Type 0} → (A → List ℕ → Type 0) → (List ℕ → A × List ℕ) → Type 0
+abbrev pub Reaches : {A : Type 0} → (A → List ℕ → Type 0) → (List ℕ → A × List ℕ) → Type 0
 Reaches {A} SpellsA step = (x : A) (s rest : List ℕ) → SpellsA x s → step (s ++ rest) ≡ (x, rest)
 
 grow_more : {A : Type 0} (step : List ℕ → A × List ℕ) (room : ℕ) (s t after : List ℕ) (x : A) → grows_from 0 (suc room) s ≡ (true, t) → step t ≡ (x, after)
@@ -52,7 +52,7 @@ grow_more : {A : Type 0} (step : List ℕ → A × List ℕ) (room : ℕ) (s t a
 unfolding grow_from with_front
 grow_more step room s t after x more first = rw (more, first) refl
 
-grow_stop : {A : Type 0} (step : List ℕ → A × List ℕ) (room : ℕ) (s t : List ℕ) → grows_from 0 (suc room) s ≡ (false, t)
+pub grow_stop : {A : Type 0} (step : List ℕ → A × List ℕ) (room : ℕ) (s t : List ℕ) → grows_from 0 (suc room) s ≡ (false, t)
     → grow_from step 0 (suc room) s ≡ ([], t)
 unfolding grow_from
 grow_stop step room s t stop = rw stop refl
@@ -65,11 +65,11 @@ front_none : {A : Type 0} (d : List A × List ℕ) → d ≡ with_front [] d
 unfolding with_front
 front_none d = refl
 
-front_last : {A : Type 0} (xs : List A) (rest : List ℕ) → with_front xs ([], rest) ≡ (xs, rest)
+pub front_last : {A : Type 0} (xs : List A) (rest : List ℕ) → with_front xs ([], rest) ≡ (xs, rest)
 unfolding with_front
 front_last xs rest = ap (λ ys. (ys, rest)) (append-nil xs)
 
-each_reach : {A : Type 0} (SpellsA : A → List ℕ → Type 0) (step : List ℕ → A × List ℕ) → Reaches SpellsA step → (xs : List A) (room : ℕ) (s rest : List ℕ)
+pub each_reach : {A : Type 0} (SpellsA : A → List ℕ → Type 0) (step : List ℕ → A × List ℕ) → Reaches SpellsA step → (xs : List A) (room : ℕ) (s rest : List ℕ)
     → length xs ≤ room → SpellsEach SpellsA xs s
     → grow_from step 0 room (s ++ rest) ≡ with_front xs (grow_from step 0 (room - length xs) rest)
 each_reach SpellsA step law [] room s rest le h =
@@ -90,12 +90,12 @@ unfolding grow_from
 end_reach step zero s rest h = rw h refl
 end_reach step (suc room) s rest h = grow_stop step room (s ++ rest) rest (more_room room (s ++ rest) ∙ bool_false s rest h)
 
-from_start : {A : Type 0} (step : List ℕ → A × List ℕ) (max : ℕ) (s : List ℕ) → grow_at step 0 max 0 s ≡ grow_from step 0 max s
+pub from_start : {A : Type 0} (step : List ℕ → A × List ℕ) (max : ℕ) (s : List ℕ) → grow_at step 0 max 0 s ≡ grow_from step 0 max s
 unfolding grow_at
 from_start step max s = let k : max - 0 ≡ max = omega arith in rw k refl
 
 -- a whole list, and false where room is left
-list_reach : {A : Type 0} (SpellsA : A → List ℕ → Type 0) (step : List ℕ → A × List ℕ) → Reaches SpellsA step → (max : ℕ)
+pub list_reach : {A : Type 0} (SpellsA : A → List ℕ → Type 0) (step : List ℕ → A × List ℕ) → Reaches SpellsA step → (max : ℕ)
     → Reaches (SpellsList SpellsA max) (grow_from step 0 max)
 list_reach SpellsA step law max xs s rest h =
     let split : s ++ rest ≡ h.0 ++ (h.1 ++ rest) = rw h.2 (append_assoc h.0 h.1 rest) in
@@ -133,7 +133,7 @@ value_reach o bound F32 s rest h = rw (choice_reach o.kinds (NumberOrVector F32)
 value_reach o bound F64 s rest h = rw (choice_reach o.kinds (NumberOrVector F64) s rest h) refl
 value_reach o bound V128 s rest h = rw (choice_reach o.kinds (NumberOrVector V128) s rest h) refl
 
-values_reach : (o : Offers) (bound max : ℕ) → Reaches (SpellsList (SpellsValue o bound) max) (values_at o bound max)
+pub values_reach : (o : Offers) (bound max : ℕ) → Reaches (SpellsList (SpellsValue o bound) max) (values_at o bound max)
 unfolding values_at
 values_reach o bound max types s rest h =
     from_start (value_at o bound) max (s ++ rest) ∙ list_reach (SpellsValue o bound) (value_at o bound) (value_reach o bound) max types s rest h

@@ -1,8 +1,9 @@
 -- The types of a module in the making, as groups.
-use Rattle.std.specs.Prelude.{◌≡◌, ◌<◌, ◌+◌, ℕ, List, [], ◌∷◌, ◌++◌, length, map, take, drop, Some}
+use Rattle.std.specs.Prelude.{◌≡◌, ◌<◌, ◌+◌, ◌-◌, ℕ, List, [], ◌∷◌, ◌++◌, length, map, take, drop, Some}
 use Rattle.wasm_spec.specs.Features.{Features}
 use Rattle.wasm_spec.specs.TypeReferences.{sub_map}
 use Rattle.wasm_spec.specs.Types.{SubType, RecGroup, Single, Group}
+use Rattle.wasm_smith_types.specs.declared.fitting.Span.{Span}
 use Rattle.wasm_smith_types.specs.declared.types.Types.{Types}
 use Rattle.wasm_smith_types.specs.Copies.{shifted_index}
 use Rattle.wasm_smith_types.specs.Drawing.{Offers, Front, front_then, groups_at, total}
@@ -42,6 +43,10 @@ pub record AddsGroup (May : Features → Type 0) (old new : Types) : Type 0 wher
 -- the types of a group, shifted
 abbrev pub shifted_types : ℕ → ℕ → List (SubType ℕ) → List (SubType ℕ)
 shifted_types start by types = map (sub_map (shifted_index start by)) types
+
+-- The clone of the group there, put after all types: what refers into the group refers into the clone, and so do supertypes.
+abbrev pub cloned : Span → List (SubType ℕ) → List (SubType ℕ)
+cloned span types = shifted_types span.start (length types - span.start) (take span.size (drop span.start types))
 
 -- what decides on the draws of the next group
 abbrev pub front_of : Types → Front

@@ -3,6 +3,7 @@ pub mod Bounds
 pub mod Clones
 pub mod Copies
 pub mod Drawing
+pub mod DrawnGroups
 pub mod Fitting
 pub mod Grouped
 pub mod Growing

@@ -1,6 +1,7 @@
 -- Which recursive groups are valid by index (Core Specification 3.0, Validation, Types, "Recursive Types", "Composite Types", and appendix
 -- "Implementation Limitations"). A type is its index, and subtyping knows what is declared by index alone. The rules are the generic ones of
--- `wasm_spec`, taken at `slice_get types`. This, with `Bounds` and `Spelling`, is what a reader has to believe of this crate.
+-- `wasm_spec`, taken at `slice_get types`. This, with `Bounds` and how groups are drawn (`DrawnGroups` and what it names, `Spelling`), is what a reader
+-- has to believe of this crate.
 use Rattle.std.specs.Prelude.{◌≡◌, ◌+◌, ◌<◌, ◌≤◌, ⊤, ℕ, true, List, [], ◌∷◌, ◌++◌, length, Some, slice_get}
 use Rattle.std.specs.List.{AllByRecursion, flat_map}
 use Rattle.wasm_spec.specs.Features.{Features}

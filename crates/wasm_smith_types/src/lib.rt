@@ -4,6 +4,7 @@
 pub mod bounds;
 mod candidates;
 pub mod composite_types;
+pub mod error;
 mod fitting;
 pub mod growing;
 pub mod laws;

@@ -1,6 +1,7 @@
 //! The types of a module, one group after the other.
 
-ghost use Rattle.std.specs.Prelude.{◌≡◌, ◌<◌, ◌≤◌, ◌+◌, ◌++◌, ◌∷◌, [], ℕ, ◌^◌, IfOk, IfSome, length, map, slice_get, List, Some, true, false};
+ghost use Rattle.std.specs.Prelude.{◌≡◌, ◌<◌, ◌≤◌, ◌+◌, ◌++◌, ◌∷◌, [], ℕ, ◌^◌, IfErr, IfOk, IfSome, length, map, slice_get, List, Some, true, false};
+ghost use Rattle.std.specs.List.{AllByRecursion};
 ghost use Rattle.wasm_core_types.specs.SubTypes.{sub_type};
 ghost use Rattle.wasm_spec.specs.Features.{Features, Gc, has};
 ghost use Rattle.wasm_spec.specs.TypeReferences.{sub_map};
@@ -9,17 +10,18 @@ ghost use Rattle.wasm_smith_config.specs.Config.{AreFeaturesOf};
 ghost use Rattle.wasm_smith_types.specs.Bounds.{AreSmall};
 ghost use Rattle.wasm_smith_types.specs.Copies.{shifted_index};
 ghost use Rattle.wasm_smith_types.specs.Drawing.{asks_then, plain_type_at, type_at, members_at, group_at, groups_at, no_groups, total, function_type_at};
+ghost use Rattle.wasm_smith_types.specs.DrawnGroups.{AreSome, AskForMore, drawn_groups_at};
 ghost use Rattle.wasm_smith_types.specs.Fitting.{AreFitting, AreChoices, IsSpan};
-ghost use Rattle.wasm_smith_types.specs.Grouped.{entry, front_of, groups, AddsGroupDrawn, AreWhole, AreDone, AddsGroup};
+ghost use Rattle.wasm_smith_types.specs.Grouped.{cloned, entry, front_of, groups, AddsGroupDrawn, AreWhole, AreDone, AddsGroup};
 ghost use Rattle.wasm_smith_types.specs.Growing.{grow_at};
 ghost use Rattle.wasm_smith_types.specs.Making.{made, has_candidates, AreCandidates, IsCandidate, Adds, AddsDrawn, AddsAll, AddsAllDrawn};
-ghost use Rattle.wasm_smith_types.specs.Offering.{offers, function_types_at, gc_groups_at, IsFunctions};
+ghost use Rattle.wasm_smith_types.specs.Offering.{offers};
 ghost use Rattle.wasm_smith_types.specs.Permitted.{Suits, SuitsValues};
-ghost use Rattle.wasm_smith_types.specs.Spelling.{SpellsGroups};
 ghost use Rattle.wasm_smith_types.specs.ValidGroups.{HasHeight, AreValidGroups, types_of};
 
 use crate::bounds::MAX_HEIGHT;
 use crate::candidates::{Candidate, candidate_at};
+use crate::error::TypesError;
 use crate::fitting::{Fitting, Span};
 use crate::growing::{bool_if, grows};
 use crate::shifts::Shift;
@@ -217,6 +219,7 @@ impl Types {
         requires span { IsSpan self.old.sizes.items span }
         requires candidates { AreCandidates (made self.old) self.old.candidates.items }
         ensures whole { IfOk result (λ _. AreWhole self.new) }
+        ensures added { IfOk result (λ _. made self.new ≡ made self.old ++ cloned span (made self.old)) }
         ensures count { IfOk result (λ _. length (made self.new) ≡ length (made self.old) + span.size) }
         ensures sizes { IfOk result (λ _. self.new.sizes.items ≡ self.old.sizes.items ++ (span.size ∷ [])) }
         ensures candidates { IfOk result (λ _. AreCandidates (made self.new) self.new.candidates.items) }
@@ -259,7 +262,7 @@ impl Types {
         Ok(())
     }
 
-    // Adds a clone of one of these groups, or a group of at most so many types.
+    // Adds a clone of one of these groups, or a group of at most `left` types, if it has at most `room`.
     fn push_any(
         &mut self,
         alloc: Global,
@@ -267,7 +270,8 @@ impl Types {
         offers: &Offers,
         choices: &[Span],
         left: u32,
-    ) -> Result<(), AllocError>
+        room: u32,
+    ) -> Result<(), TypesError>
         requires some { 0 < left }
         requires few { length (made self.old) + left ≤ 2 ^ 31 }
         requires whole { AreWhole self.old }
@@ -276,21 +280,30 @@ impl Types {
         ensures group { IfOk result (λ _. AddsGroup (λ features. Suits features offers.now) self.old self.new) }
         ensures more { IfOk result (λ _. length (made self.old) < length (made self.new)) }
         ensures few { IfOk result (λ _. length (made self.new) ≤ length (made self.old) + left) }
+        ensures within { IfOk result (λ _. length (made self.new) ≤ length (made self.old) + room) }
         ensures drawn { IfOk result (λ _. IfSome (group_at offers.now left (front_of self.old) unstructured.old)
             (λ drawn. AddsGroupDrawn drawn self.old self.new unstructured.new)) }
+        ensures too_many { IfErr result (λ e. e ≡ TypesError.TooMany → (room < left)
+            × IfSome (group_at offers.now left (front_of self.old) unstructured.old) (λ drawn. room < length drawn.0)) }
     {
         let asked = !choices.is_empty();
         if bool_if(unstructured, asked) {
             let span = *unstructured.choose(choices).unwrap();
+            if span.size > room {
+                return Err(TypesError::TooMany);
+            }
             self.push_clone(alloc, span)?;
             return Ok(());
         }
         let size = unstructured.int_in_range(1..=u64::from(left)) as u32;
+        if size > room {
+            return Err(TypesError::TooMany);
+        }
         self.push_group(alloc, unstructured, offers, size)?;
         Ok(())
     }
 
-    // Adds a group of at most so many types, and notes it among those that may be cloned.
+    // Adds a group of at most `left` types, if it has at most `room`, and notes it among those that may be cloned.
     fn push_next(
         &mut self,
         alloc: Global,
@@ -298,7 +311,8 @@ impl Types {
         offers: &Offers,
         fitting: &mut Fitting,
         left: u32,
-    ) -> Result<(), AllocError>
+        room: u32,
+    ) -> Result<(), TypesError>
         requires some { 0 < left }
         requires few { length (made self.old) + left ≤ 2 ^ 31 }
         requires whole { AreWhole self.old }
@@ -307,13 +321,16 @@ impl Types {
         ensures group { IfOk result (λ _. AddsGroup (λ features. Suits features offers.now) self.old self.new) }
         ensures more { IfOk result (λ _. length (made self.old) < length (made self.new)) }
         ensures few { IfOk result (λ _. length (made self.new) ≤ length (made self.old) + left) }
+        ensures within { IfOk result (λ _. length (made self.new) ≤ length (made self.old) + room) }
         ensures drawn { IfOk result (λ _. IfSome (group_at offers.now left (front_of self.old) unstructured.old)
             (λ drawn. AddsGroupDrawn drawn self.old self.new unstructured.new)) }
+        ensures too_many { IfErr result (λ e. e ≡ TypesError.TooMany → (room < left)
+            × IfSome (group_at offers.now left (front_of self.old) unstructured.old) (λ drawn. room < length drawn.0)) }
         ensures fitting { IfOk result (λ _. AreFitting self.new.sizes.items left fitting.new) }
     {
         fitting.keep(left);
         let start = self.types.len() as u32;
-        self.push_any(alloc, unstructured, offers, fitting.spans(), left)?;
+        self.push_any(alloc, unstructured, offers, fitting.spans(), left, room)?;
         let size = self.types.len() as u32 - start;
         fitting.push(Span { start, size })?;
         Ok(())
@@ -334,21 +351,27 @@ impl Types {
     }
 }
 
-// Makes groups, with garbage collection.
+// Makes groups, with garbage collection, of at most `most` types in all.
 fn make_groups(
     alloc: Global,
     unstructured: &mut Unstructured<'_>,
     offers: &Offers,
     min: u32,
     max: u32,
-) -> Result<Types, AllocError>
+    most: u32,
+) -> Result<Types, TypesError>
     requires few { max ≤ 2 ^ 31 }
     ensures whole { IfOk result AreWhole }
     ensures done { IfOk result (λ t. (features : Features) → Suits features offers.now → AreDone features t) }
     ensures most { IfOk result (λ t. length (made t) ≤ max) }
+    ensures within { IfOk result (λ t. length (made t) ≤ most) }
     ensures least { IfOk result (λ t. min ≤ max → min ≤ length (made t)) }
+    ensures some { IfOk result (λ t. AllByRecursion (λ size. 0 < size) t.sizes.items) }
     ensures drawn { IfOk result (λ t. min ≡ 0
         → IfSome (groups_at offers.now max (max + 1) no_groups unstructured.old) (λ drawn. (groups t ≡ map entry drawn.0) × (unstructured.new ≡ drawn.1))) }
+    ensures too_many { IfErr result (λ e. e ≡ TypesError.TooMany → most < max) }
+    ensures too_many_drawn { IfErr result (λ e. e ≡ TypesError.TooMany → min ≡ 0
+        → IfSome (groups_at offers.now max (max + 1) no_groups unstructured.old) (λ drawn. most < length (types_of (map entry drawn.0)))) }
 {
     let mut made = Types {
         types: Vec::new(alloc),
@@ -357,13 +380,20 @@ fn make_groups(
     };
     let mut fitting = Fitting::new(alloc);
     'grow: while grows(unstructured, made.types.len(), min as usize, max as usize) {
-        let left = max - made.types.len() as u32;
-        made.push_next(alloc, unstructured, offers, &mut fitting, left)?;
+        let count = made.types.len() as u32;
+        made.push_next(
+            alloc,
+            unstructured,
+            offers,
+            &mut fitting,
+            max - count,
+            most - count,
+        )?;
     }
     Ok(made)
 }
 
-// Makes function types, each a group by itself, without garbage collection.
+// Makes function types, each a group by itself, without garbage collection, at most `most` of them.
 #[tactic(auto, using(crate::proofs::GrowLaws::grow_loop))]
 fn make_function_types(
     alloc: Global,
@@ -371,14 +401,19 @@ fn make_function_types(
     offers: &Offers,
     min: u32,
     max: u32,
-) -> Result<Types, AllocError>
+    most: u32,
+) -> Result<Types, TypesError>
     requires few { max ≤ 2 ^ 31 }
     ensures whole { IfOk result AreWhole }
     ensures done { IfOk result (λ t. (features : Features) → SuitsValues features offers.now → AreDone features t) }
     ensures most { IfOk result (λ t. length (made t) ≤ max) }
+    ensures within { IfOk result (λ t. length (made t) ≤ most) }
     ensures least { IfOk result (λ t. min ≤ max → min ≤ length (made t)) }
+    ensures some { IfOk result (λ t. AllByRecursion (λ size. 0 < size) t.sizes.items) }
     ensures drawn { IfOk result (λ t. grow_at (function_type_at offers.now) min max 0 unstructured.old ≡ (made t, unstructured.new)) }
     ensures singles { IfOk result (λ t. groups t ≡ map spec.Single (made t)) }
+    ensures too_many { IfErr result (λ e. e ≡ TypesError.TooMany → most < max) }
+    ensures too_many_drawn { IfErr result (λ e. e ≡ TypesError.TooMany → most < length (grow_at (function_type_at offers.now) min max 0 unstructured.old).0) }
 {
     let mut made = Types {
         types: Vec::new(alloc),
@@ -386,41 +421,44 @@ fn make_function_types(
         candidates: Vec::new(alloc),
     };
     'grow: while grows(unstructured, made.types.len(), min as usize, max as usize) {
+        if made.types.len() >= most as usize {
+            return Err(TypesError::TooMany);
+        }
         made.push_function(alloc, unstructured, offers)?;
     }
     Ok(made)
 }
 
-/// Makes the types of a module. With garbage collection there are groups of several types, clones of earlier groups, supertypes,
-/// and references to types; without it, each type is a final function type in a group by itself.
+/// Makes the types of a module, at most `most` of them. With garbage collection there are groups of several types, clones of
+/// earlier groups, supertypes, and references to types; without it, each type is a final function type in a group by itself.
 ///
 /// # Errors
-/// Where memory runs out. Some of the source's bytes may be taken by then.
+/// `TooMany` as soon as more than `most` types are made and asked for, else `Memory`. Some of the source's bytes may be taken by
+/// then.
 pub fn make_types(
     alloc: Global,
     unstructured: &mut Unstructured<'_>,
     offered: &Offers,
     config: &Config,
-) -> Result<Types, AllocError>
+    most: u32,
+) -> Result<Types, TypesError>
     requires offered { offered.now ≡ offers config.now }
     requires few { config.now.max_types ≤ 2 ^ 31 }
     ensures valid { IfOk result (λ t. (features : Features) → AreFeaturesOf config.now features → AreValidGroups features (groups t)) }
     ensures most { IfOk result (λ t. length (types_of (groups t)) ≤ config.now.max_types) }
+    ensures within { IfOk result (λ t. length (types_of (groups t)) ≤ most) }
     ensures least { IfOk result (λ t. config.now.min_types ≤ config.now.max_types → config.now.min_types ≤ length (types_of (groups t))) }
     ensures small { IfOk result (λ t. AreSmall (types_of (groups t))) }
-    ensures whole { IfOk result (λ t. types_of (groups t) ≡ made t) }
-    ensures functions { IfOk result (λ t. config.now.gc_enabled ≡ false
-        → IsFunctions (function_types_at config.now unstructured.old) (groups t) unstructured.new) }
-    ensures drawn { IfOk result (λ t. config.now.gc_enabled ≡ true → config.now.min_types ≡ 0
-        → IfSome (gc_groups_at config.now unstructured.old) (λ drawn. (groups t ≡ map entry drawn.0) × (unstructured.new ≡ drawn.1))) }
-    ensures reach { IfOk result (λ t. (wanted : List (List (spec.SubType ℕ))) (s rest : List ℕ) → config.now.gc_enabled ≡ true → config.now.min_types ≡ 0
-        → SpellsGroups offered.now config.now.max_types no_groups wanted s → unstructured.old ≡ s ++ rest → (groups t ≡ map entry wanted) × (unstructured.new ≡ rest)) }
+    ensures some { IfOk result (λ t. AreSome (groups t)) }
+    ensures whole { IfOk result AreWhole }
+    ensures drawn { IfOk result (λ t. IfSome (drawn_groups_at config.now unstructured.old) (λ drawn. drawn ≡ (groups t, unstructured.new))) }
+    ensures too_many { IfErr result (λ e. e ≡ TypesError.TooMany → AskForMore config.now unstructured.old most) }
 {
     let (min, max) = (config.min_types, config.max_types);
     if config.gc_enabled {
-        let made = make_groups(alloc, unstructured, offered, min, max)?;
+        let made = make_groups(alloc, unstructured, offered, min, max, most)?;
         return Ok(made);
     }
-    let made = make_function_types(alloc, unstructured, offered, min, max)?;
+    let made = make_function_types(alloc, unstructured, offered, min, max, most)?;
     Ok(made)
 }

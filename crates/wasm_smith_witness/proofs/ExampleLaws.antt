@@ -1,67 +1,207 @@
 -- Spellings of worked examples.
-use Rattle.std.proofs.Common.{◌≡◌, ℕ, zero, suc, ◌-◌, ◌<◌, ◌%◌, Bool, true, false, cond, [], ◌∷◌, refl, arith}
-use Rattle.wasm_smith_unstructured.specs.Draws.{width, least_from}
+use Rattle.std.proofs.Common.{◌≡◌, ℕ, zero, suc, ◌+◌, ◌-◌, ◌<◌, ◌≤◌, ◌%◌, Bool, true, false, cond, List, [], ◌∷◌, refl, sym, ap, arith}
+use Rattle.std.specs.Prelude.{nat_lt}
+use Rattle.std.proofs.Math.Nat.{mod-eq_of_lt}
+use Rattle.std.proofs.lemmas.Bool.{lt-ltb}
+use Rattle.wasm_spec.specs.Types.{SubType, Ref, Concrete}
+use Rattle.wasm_smith_unstructured.specs.Draws.{width, least_from, big_number}
 use Rattle.wasm_smith_config.specs.declared.config.Config.{Config}
-use Rattle.wasm_smith_module.specs.Generating.{offers, max_results}
-use Rattle.wasm_smith_witness.specs.Examples.{no_values, one_function, two_functions}
-use Rattle.wasm_smith_witness.specs.Spelling.{SpellsEnd, SpellsInt, SpellsList, SpellsGroup, SpellsValue, Spells}
+use Rattle.wasm_smith_types.specs.Drawing.{Offers, Reference, no_groups}
+use Rattle.wasm_smith_types.specs.Offering.{offers}
+use Rattle.wasm_smith_types.specs.Spelling.{SpellsNo, SpellsEnd, SpellsInt, SpellsChoice, SpellsList, SpellsValue, SpellsType, SpellsMembers, SpellsGroups}
+use Rattle.wasm_smith_witness.specs.Examples.{no_values, one_function, two_functions, pointer, two_structures}
+use Rattle.wasm_smith_witness.specs.Spelling.{SpellsLoneFunction, SpellsTypes, Spells}
+use Rattle.wasm_smith_witness.proofs.SpellLaws.{width_one, kind_spells, form_spells}
 
 end_spelled : (room byte : ℕ) → 0 < room → byte % 2 ≡ 0 → SpellsEnd room (byte ∷ [])
 end_spelled zero byte some even = absurd (omega (arith, some))
 end_spelled (suc room) byte some even = (byte, refl, even)
 
-some_of : (multi : Bool) → 0 < cond multi 20 1 - 0
-some_of true = omega arith
-some_of false = omega arith
+-- ---- without garbage collection
 
-first_of_one : SpellsInt 0 0 0 []
-unfolding width least_from
-first_of_one = (refl, refl)
+lone_types : (gc : Bool) (o : Offers) (max : ℕ) (groups : List (List (SubType ℕ))) (s : List ℕ) → gc ≡ false → SpellsList (SpellsLoneFunction o) max groups s → SpellsTypes gc o max groups s
+lone_types true o max groups s off h = absurd cc
+lone_types false o max groups s off h = h
 
-pub small_spelled : (c : Config) (a b d e f : ℕ) → 1 < c.max_types → 0 < c.max_funcs → a % 2 ≡ 1 → b % 2 ≡ 0 → d % 2 ≡ 0 → e % 2 ≡ 0 → f % 2 ≡ 1
-    → Spells c one_function (0 ∷ []) (a ∷ b ∷ d ∷ e ∷ f ∷ [])
-small_spelled c a b d e f types funcs pa pb pd pe pf =
-    let params : SpellsList (SpellsValue (offers c)) 20 [] (b ∷ []) = ([], b ∷ [], refl, refl, (b, refl, pb), omega arith) in
-    let results : SpellsList (SpellsValue (offers c)) (max_results c) [] (d ∷ []) = ([], d ∷ [], refl, refl, end_spelled (max_results c - 0) d (some_of c.multi_value_enabled) pd, omega arith) in
-    record {
-      front = a ∷ b ∷ d ∷ e ∷ [];
-      back = f ∷ [];
-      parts = refl;
-      spells_groups = (
-        a ∷ b ∷ d ∷ [],
-        e ∷ [],
-        refl,
-        (a ∷ [], b ∷ d ∷ [], [], refl, (a, refl, pa), (refl, refl, (b ∷ [], d ∷ [], refl, params, results)), refl),
-        end_spelled (c.max_types - 1) e (omega (arith, types)) pe,
-        omega (arith, types),
-      );
-      spells_funcs = ((f ∷ [], [], [], refl, (f, refl, pf), first_of_one, refl), omega (arith, funcs));
-    }
+some_of : (c : Config) → 0 < (offers c).most_results - 0
+unfolding offers
+some_of c = by_multi c.multi_value_enabled
+  where
+    by_multi : (multi : Bool) → 0 < cond multi 20 1 - 0
+    by_multi true = omega arith
+    by_multi false = omega arith
 
 -- a type without parameters and results
-type_spelled : (c : Config) → SpellsGroup (offers c) (max_results c) no_values (0 ∷ 0 ∷ [])
-type_spelled c =
-    let params : SpellsList (SpellsValue (offers c)) 20 [] (0 ∷ []) = ([], 0 ∷ [], refl, refl, (0, refl, refl), omega arith) in
-    let results : SpellsList (SpellsValue (offers c)) (max_results c) [] (0 ∷ []) = ([], 0 ∷ [], refl, refl, end_spelled (max_results c - 0) 0 (some_of c.multi_value_enabled) refl, omega arith) in
-    (refl, refl, (0 ∷ [], 0 ∷ [], refl, params, results))
+type_spelled : (c : Config) (b d : ℕ) → b % 2 ≡ 0 → d % 2 ≡ 0 → SpellsLoneFunction (offers c) no_values (b ∷ d ∷ [])
+type_spelled c b d pb pd =
+    let params : SpellsList (SpellsValue (offers c) 0) 20 [] (b ∷ []) = ([], b ∷ [], refl, refl, (b, refl, pb), omega arith) in
+    let results : SpellsList (SpellsValue (offers c) 0) (offers c).most_results [] (d ∷ []) = ([], d ∷ [], refl, refl, end_spelled ((offers c).most_results - 0) d (some_of c) pd, omega arith) in
+    (refl, refl, (b ∷ [], d ∷ [], refl, params, results))
+
+first_of_one : SpellsChoice {A = ℕ} (0 ∷ []) 0 []
+unfolding width least_from
+first_of_one = (0, refl, (refl, refl))
+
+pub small_spelled : (c : Config) (a b d e f : ℕ) → c.gc_enabled ≡ false → 1 < c.max_types → 0 < c.max_funcs → a % 2 ≡ 1 → b % 2 ≡ 0 → d % 2 ≡ 0 → e % 2 ≡ 0 → f % 2 ≡ 1
+    → Spells c one_function (0 ∷ []) (a ∷ b ∷ d ∷ e ∷ f ∷ [])
+small_spelled c a b d e f off types funcs pa pb pd pe pf = record {
+  front = a ∷ b ∷ d ∷ e ∷ [];
+  back = f ∷ [];
+  parts = refl;
+  spells_groups = lone_types c.gc_enabled (offers c) c.max_types one_function (a ∷ b ∷ d ∷ e ∷ []) off (
+    a ∷ b ∷ d ∷ [],
+    e ∷ [],
+    refl,
+    (a ∷ [], b ∷ d ∷ [], [], refl, (a, refl, pa), type_spelled c b d pb pd, refl),
+    end_spelled (c.max_types - 1) e (omega (arith, types)) pe,
+    omega (arith, types),
+  );
+  spells_funcs = ((f ∷ [], [], [], refl, (f, refl, pf), first_of_one, refl), omega (arith, funcs));
+}
 
 second_of_two : (byte : ℕ) → byte < 256 → byte % 2 ≡ 1 → SpellsInt 0 1 1 (byte ∷ [])
 unfolding width least_from
 second_of_two byte small odd = (refl, omega (arith, odd))
 
-pub second_spelled : (c : Config) (byte : ℕ) → 2 < c.max_types → 0 < c.max_funcs → byte < 256 → byte % 2 ≡ 1
+pub second_spelled : (c : Config) (byte : ℕ) → c.gc_enabled ≡ false → 2 < c.max_types → 0 < c.max_funcs → byte < 256 → byte % 2 ≡ 1
     → Spells c two_functions (1 ∷ []) (1 ∷ 0 ∷ 0 ∷ 1 ∷ 0 ∷ 0 ∷ 0 ∷ 1 ∷ byte ∷ [])
-second_spelled c byte types funcs small odd = record {
-  front = 1 ∷ 0 ∷ 0 ∷ 1 ∷ 0 ∷ 0 ∷ 0 ∷ [];
-  back = 1 ∷ byte ∷ [];
-  parts = refl;
-  spells_groups = (
-    1 ∷ 0 ∷ 0 ∷ 1 ∷ 0 ∷ 0 ∷ [],
-    0 ∷ [],
+second_spelled c byte off types funcs small odd =
+    let one = type_spelled c 0 0 refl refl in
+    record {
+      front = 1 ∷ 0 ∷ 0 ∷ 1 ∷ 0 ∷ 0 ∷ 0 ∷ [];
+      back = 1 ∷ byte ∷ [];
+      parts = refl;
+      spells_groups = lone_types c.gc_enabled (offers c) c.max_types two_functions (1 ∷ 0 ∷ 0 ∷ 1 ∷ 0 ∷ 0 ∷ 0 ∷ []) off (
+        1 ∷ 0 ∷ 0 ∷ 1 ∷ 0 ∷ 0 ∷ [],
+        0 ∷ [],
+        refl,
+        (1 ∷ [], 0 ∷ 0 ∷ [], 1 ∷ 0 ∷ 0 ∷ [], refl, (1, refl, refl), one, (1 ∷ [], 0 ∷ 0 ∷ [], [], refl, (1, refl, refl), one, refl)),
+        end_spelled (c.max_types - 2) 0 (omega (arith, types)) refl,
+        omega (arith, types),
+      );
+      spells_funcs = ((1 ∷ [], byte ∷ [], [], refl, (1, refl, refl), (1, refl, second_of_two byte small odd), refl), omega (arith, funcs));
+    }
+
+-- ---- with garbage collection
+
+grouped_types : (gc : Bool) (o : Offers) (max : ℕ) (groups : List (List (SubType ℕ))) (s : List ℕ) → gc ≡ true → SpellsGroups o max no_groups groups s → SpellsTypes gc o max groups s
+grouped_types true o max groups s on h = h
+grouped_types false o max groups s on h = absurd cc
+
+-- false where it is asked
+asked_spelled : (asked : Bool) → asked ≡ true → SpellsNo asked (0 ∷ [])
+asked_spelled true on = (0, refl, refl)
+asked_spelled false on = absurd cc
+
+-- a number up to 1
+bit_spelled : (n : ℕ) → n < 2 → SpellsInt 0 1 n (n ∷ [])
+unfolding width least_from
+bit_spelled n lt = (refl, omega (arith, lt))
+
+-- a group of two types, of up to 256
+pair_spelled : (max : ℕ) → 2 < max → max ≤ 256 → SpellsInt 1 (max - 0) 2 (1 ∷ [])
+pair_spelled max some few =
+    let k : max - 0 - 1 + 1 ≡ max = omega (arith, some) in
+    let one : big_number (1 ∷ []) ≡ 1 = omega arith in
+    let lt : 1 < max = omega (arith, some) in
+    (sym (width_one (max - 0 - 1) (omega (arith, some)) (omega (arith, some, few))), rw (k, one) (ap (λ n. 1 + n) (mod-eq_of_lt lt)))
+
+-- what is on for it
+record AreOn (c : Config) : Type 0 where
+  gc : c.gc_enabled ≡ true
+  references : c.reference_types_enabled ≡ true
+  floats : c.allow_floats ≡ true
+  vectors : c.simd_enabled ≡ true
+
+reference_spelled : (c : Config) (index : ℕ) → AreOn c → index < 2 → SpellsValue (offers c) 2 (Ref true (Concrete index)) (5 ∷ 0 ∷ 1 ∷ index ∷ [])
+unfolding offers
+reference_spelled c index on lt = (
+  5 ∷ [],
+  0 ∷ [],
+  1 ∷ index ∷ [],
+  refl,
+  refl,
+  kind_spells c Reference 5 (rw (on.floats, on.vectors, on.references) refl),
+  asked_spelled c.gc_enabled on.gc,
+  (1 ∷ [], index ∷ [], refl, on.gc, lt, (1, refl, refl), bit_spelled index lt),
+)
+
+pointer_spelled : (c : Config) (index : ℕ) → AreOn c → index < 2 → SpellsType (offers c) 2 false (pointer index) (0 ∷ 1 ∷ 1 ∷ 0 ∷ 5 ∷ 0 ∷ 1 ∷ index ∷ 0 ∷ 0 ∷ [])
+pointer_spelled c index on lt = (
+  [],
+  0 ∷ [],
+  1 ∷ 1 ∷ 0 ∷ 5 ∷ 0 ∷ 1 ∷ index ∷ 0 ∷ 0 ∷ [],
+  refl,
+  refl,
+  refl,
+  (0, refl, refl),
+  (
+    1 ∷ [],
+    1 ∷ 0 ∷ 5 ∷ 0 ∷ 1 ∷ index ∷ 0 ∷ 0 ∷ [],
     refl,
-    (1 ∷ [], 0 ∷ 0 ∷ [], 1 ∷ 0 ∷ 0 ∷ [], refl, (1, refl, refl), type_spelled c, (1 ∷ [], 0 ∷ 0 ∷ [], [], refl, (1, refl, refl), type_spelled c, refl)),
-    end_spelled (c.max_types - 2) 0 (omega (arith, types)) refl,
-    omega (arith, types),
-  );
-  spells_funcs = ((1 ∷ [], byte ∷ [], [], refl, (1, refl, refl), second_of_two byte small odd, refl), omega (arith, funcs));
+    form_spells 1 (omega arith),
+    (
+      1 ∷ 0 ∷ 5 ∷ 0 ∷ 1 ∷ index ∷ 0 ∷ [],
+      0 ∷ [],
+      refl,
+      (
+        1 ∷ [],
+        0 ∷ 5 ∷ 0 ∷ 1 ∷ index ∷ 0 ∷ [],
+        [],
+        refl,
+        (1, refl, refl),
+        (
+          0 ∷ 5 ∷ 0 ∷ 1 ∷ index ∷ [],
+          0 ∷ [],
+          refl,
+          (0 ∷ [], 5 ∷ 0 ∷ 1 ∷ index ∷ [], refl, form_spells 0 (omega arith), reference_spelled c index on lt),
+          (0, refl, refl),
+        ),
+        refl,
+      ),
+      end_spelled 19 0 (omega arith) refl,
+      omega arith,
+    ),
+  ),
+)
+
+pointers_spelled : (c : Config) → AreOn c → SpellsMembers (offers c) 2 false (pointer 1 ∷ pointer 0 ∷ []) (0 ∷ 1 ∷ 1 ∷ 0 ∷ 5 ∷ 0 ∷ 1 ∷ 1 ∷ 0 ∷ 0 ∷ 0 ∷ 1 ∷ 1 ∷ 0 ∷ 5 ∷ 0 ∷ 1 ∷ 0 ∷ 0 ∷ 0 ∷ [])
+pointers_spelled c on = (
+  0 ∷ 1 ∷ 1 ∷ 0 ∷ 5 ∷ 0 ∷ 1 ∷ 1 ∷ 0 ∷ 0 ∷ [],
+  0 ∷ 1 ∷ 1 ∷ 0 ∷ 5 ∷ 0 ∷ 1 ∷ 0 ∷ 0 ∷ 0 ∷ [],
+  refl,
+  pointer_spelled c 1 on (omega arith),
+  (0 ∷ 1 ∷ 1 ∷ 0 ∷ 5 ∷ 0 ∷ 1 ∷ 0 ∷ 0 ∷ 0 ∷ [], [], refl, pointer_spelled c 0 on (omega arith), refl),
+)
+
+groups_spelled : (c : Config) → AreOn c → 2 < c.max_types → c.max_types ≤ 256
+    → SpellsGroups (offers c) c.max_types no_groups two_structures (1 ∷ 1 ∷ 0 ∷ 1 ∷ 1 ∷ 0 ∷ 5 ∷ 0 ∷ 1 ∷ 1 ∷ 0 ∷ 0 ∷ 0 ∷ 1 ∷ 1 ∷ 0 ∷ 5 ∷ 0 ∷ 1 ∷ 0 ∷ 0 ∷ 0 ∷ 0 ∷ [])
+groups_spelled c on some few = (
+  1 ∷ [],
+  1 ∷ 0 ∷ 1 ∷ 1 ∷ 0 ∷ 5 ∷ 0 ∷ 1 ∷ 1 ∷ 0 ∷ 0 ∷ 0 ∷ 1 ∷ 1 ∷ 0 ∷ 5 ∷ 0 ∷ 1 ∷ 0 ∷ 0 ∷ 0 ∷ [],
+  0 ∷ [],
+  refl,
+  omega (arith, some),
+  (1, refl, refl),
+  (
+    [],
+    1 ∷ [],
+    0 ∷ 1 ∷ 1 ∷ 0 ∷ 5 ∷ 0 ∷ 1 ∷ 1 ∷ 0 ∷ 0 ∷ 0 ∷ 1 ∷ 1 ∷ 0 ∷ 5 ∷ 0 ∷ 1 ∷ 0 ∷ 0 ∷ 0 ∷ [],
+    refl,
+    refl,
+    pair_spelled c.max_types some few,
+    pointers_spelled c on,
+  ),
+  asked_spelled (nat_lt 2 c.max_types) (lt-ltb 2 c.max_types some),
+)
+
+pub structures_spelled : (c : Config) → c.gc_enabled ≡ true → c.reference_types_enabled ≡ true → c.allow_floats ≡ true → c.simd_enabled ≡ true
+    → 2 < c.max_types → c.max_types ≤ 256
+    → Spells c two_structures [] (1 ∷ 1 ∷ 0 ∷ 1 ∷ 1 ∷ 0 ∷ 5 ∷ 0 ∷ 1 ∷ 1 ∷ 0 ∷ 0 ∷ 0 ∷ 1 ∷ 1 ∷ 0 ∷ 5 ∷ 0 ∷ 1 ∷ 0 ∷ 0 ∷ 0 ∷ 0 ∷ [])
+structures_spelled c gc references floats vectors some few = record {
+  front = 1 ∷ 1 ∷ 0 ∷ 1 ∷ 1 ∷ 0 ∷ 5 ∷ 0 ∷ 1 ∷ 1 ∷ 0 ∷ 0 ∷ 0 ∷ 1 ∷ 1 ∷ 0 ∷ 5 ∷ 0 ∷ 1 ∷ 0 ∷ 0 ∷ 0 ∷ 0 ∷ [];
+  back = [];
+  parts = refl;
+  spells_groups = grouped_types c.gc_enabled (offers c) c.max_types two_structures _ gc (groups_spelled c (record { gc = gc; references = references; floats = floats; vectors = vectors }) some few);
+  spells_funcs = (refl, refl);
 }

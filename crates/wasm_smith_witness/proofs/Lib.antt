@@ -1,7 +1,11 @@
 mod ExampleLaws
+pub mod MemberLaws
+pub mod LoneLaws
+pub mod WordLaws
+pub mod FrontLaws
+pub mod SpellLaws
+pub mod FunctionLaws
+pub mod AgreementLaws
+pub mod WitnessLaws
 pub mod ReachLaws
 pub mod RefusalLaws
-pub mod MemberLaws
-pub mod WordLaws
-pub mod SpellLaws
-pub mod AgreementLaws

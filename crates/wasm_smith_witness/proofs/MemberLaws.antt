@@ -1,20 +1,22 @@
--- What the tests of membership tell.
-use Rattle.std.proofs.Common.{◌≡◌, ℕ, suc, Bool, true, false, List, [], ◌∷◌, length, map, refl, sym, ap, subst, ◌∙◌}
+-- Lemmas on the tests of membership.
+use Rattle.std.proofs.Common.{◌≡◌, ℕ, ◌+◌, ◌≤◌, ◌<◌, ◌^◌, true, false, List, [], ◌∷◌, ◌++◌, length, map, drop, get_or, Global, refl, sym, ap, subst, ◌∙◌, arith}
 use Rattle.std.specs.Prelude.{◌&&◌}
-use Rattle.std.specs.List.{list_all}
-use Rattle.std.proofs.lemmas.Bool.{and_parts}
+use Rattle.std.proofs.lemmas.Bool.{and_parts, ltb-false}
+use Rattle.std.proofs.lemmas.List.{length-append, drop_more}
+use Rattle.std.proofs.lemmas.List.{length-map}
+use Rattle.std.specs.declared.vec.Vec.{Vec}
+use Rattle.wasm_core_types.specs.SubTypes.{sub_type}
+use Rattle.wasm_core_types.specs.declared.types.SubType as code
 use Rattle.wasm_spec.specs.Types.{SubType}
-use Rattle.wasm_smith_config.specs.Config.{IsGood, NamesBad, AreGood, HasBad, Field, fields}
+use Rattle.wasm_smith_witness.specs.Groups.{group_of}
+use Rattle.wasm_smith_config.specs.Config.{IsGood, NamesBad, AreGood, HasBad, Field, at_least, fields}
 use Rattle.wasm_smith_config.specs.declared.config.Config.{Config}
 use Rattle.wasm_smith_config.specs.declared.error.Error.{Error}
 use Rattle.wasm_smith_config.specs.declared.error.Error.TheVariants.{IncorrectFormat, EmptyChoose, NotEnoughData, BadConfig, BadShape, TypeSize, Memory, TooLong}
-use Rattle.wasm_smith_witness.specs.Family.{is_member_group, types_of}
-
--- ---- lists
-
-pub all_mapped : {A B : Type 0} (test : B → Bool) (f : A → B) (xs : List A) → list_all (λ x. test (f x)) xs ≡ list_all test (map f xs)
-all_mapped test f [] = refl
-all_mapped test f (x ∷ xs) = ap (λ b. test (f x) && b) (all_mapped test f xs)
+use Rattle.wasm_smith_types.specs.Grouped.{entry}
+use Rattle.wasm_smith_types.specs.ValidGroups as flat
+use Rattle.wasm_smith_types.proofs.GroupedLaws.{entry_members}
+use Rattle.wasm_smith_witness.specs.Family.{AreMemberGroups, IsAskable, is_member_group, are_member_groups, types_of}
 
 -- ---- configurations
 
@@ -34,11 +36,42 @@ not_good c TypeSize h good = h
 not_good c Memory h good = h
 not_good c TooLong h good = h
 
+pub types_small : (c : Config) → IsAskable c → c.max_types ≤ 2 ^ 31
+types_small c asked = ltb-false (2 ^ 31) c.max_types (asked.good 11 (at_least [] 0 0) (omega arith))
+
+pub no_min_types : (c : Config) → IsAskable c → c.min_types ≡ 0
+no_min_types c asked = asked.nothing_owed.0
+
+pub no_min_funcs : (c : Config) → IsAskable c → c.min_funcs ≡ 0
+no_min_funcs c asked = asked.nothing_owed.1.1.1.0
+
 -- ---- groups
 
--- small groups are as many as their types
-pub single_types : (c : Config) (groups : List (List (SubType ℕ))) → list_all (is_member_group c) groups ≡ true → length (types_of groups) ≡ length groups
-single_types c [] h = refl
-single_types c ([] ∷ groups) h = absurd cc
-single_types c ((type ∷ []) ∷ groups) h = ap suc (single_types c groups (and_parts (is_member_group c (type ∷ [])) (list_all (is_member_group c) groups) h).1)
-single_types c ((type ∷ next ∷ types) ∷ groups) h = absurd cc
+-- groups have the same types with their forms as without
+pub flat_entries : (groups : List (List (SubType ℕ))) → flat.types_of (map entry groups) ≡ types_of groups
+flat_entries [] = refl
+flat_entries (group ∷ groups) = rw (entry_members group, flat_entries groups) refl
+
+-- these groups are left, after so many types
+pub record AreLeft (c : Config) (groups rest : List (List (SubType ℕ))) (before : ℕ) : Type 0 where
+  pub room : before ≤ c.max_types
+  pub same : are_member_groups c before rest ≡ are_member_groups c 0 groups
+  pub types : before + length (types_of rest) ≡ length (types_of groups)
+
+pub split : (groups : List (Vec code.SubType Global)) (i : ℕ) (group : Vec code.SubType Global) → i < length groups → group ≡ get_or groups i group → map group_of (drop i groups) ≡ map sub_type group.items ∷ map group_of (drop (i + 1) groups)
+split groups i group lt is = ap (map group_of) (drop_more groups i group lt ∙ ap (λ g. g ∷ drop (i + 1) groups) (sym is))
+
+-- a group that isn't a member, or doesn't fit, tells of all groups
+pub member_out : (c : Config) (groups : List (Vec code.SubType Global)) (i : ℕ) (group : Vec code.SubType Global) (before : ℕ) → i < length groups → group ≡ get_or groups i group
+    → (is_member_group c (before + length group.items) (map sub_type group.items) ≡ true → c.max_types < before + length group.items)
+    → AreLeft c (map group_of groups) (map group_of (drop i groups)) before → AreMemberGroups c (map group_of groups) → ⊥
+member_out c groups i group before lt is out left whole =
+    let types = map sub_type group.items in
+    let rest = map group_of (drop (i + 1) groups) in
+    let now : AreLeft c (map group_of groups) (types ∷ rest) before = rw (split groups i group lt is) at left in
+    let n : length types ≡ length group.items = length-map group.items sub_type in
+    let all : is_member_group c (before + length types) types && are_member_groups c (before + length types) rest ≡ true = now.same ∙ whole.each in
+    let both = and_parts (is_member_group c (before + length types) types) (are_member_groups c (before + length types) rest) all in
+    let past : c.max_types < before + length group.items = out (ap (λ k. is_member_group c (before + k) types) (sym n) ∙ both.0) in
+    let sum : length (types ++ types_of rest) ≡ length types + length (types_of rest) = length-append types (types_of rest) in
+    absurd (omega (arith, sum, now.types, n, past, whole.few))

@@ -1,5 +1,6 @@
 pub mod Examples
 pub mod Family
+pub mod Functions
 pub mod Groups
 pub mod Spelling
 pub mod Words

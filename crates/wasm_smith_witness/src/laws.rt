@@ -1,31 +1,35 @@
-//! Laws of spellings.
+//! Laws of spellings. The functions do nothing: their contracts are theorems.
 
-ghost use Rattle.std.specs.Prelude.{◌≡◌, ◌<◌, ◌%◌, ◌++◌, [], ◌∷◌, ℕ, List};
+ghost use Rattle.std.specs.Prelude.{◌≡◌, ◌<◌, ◌≤◌, ◌%◌, ◌++◌, [], ◌∷◌, ℕ, true, false, map, List, Some};
 ghost use Rattle.wasm_spec.specs.Types.{SubType};
-ghost use Rattle.wasm_smith_module.specs.Generating.{module_at};
-ghost use Rattle.wasm_smith_module.specs.Promise.{IsReason};
 ghost use Rattle.wasm_smith_config.specs.declared.config.Config.{Config};
 ghost use Rattle.wasm_smith_config.specs.declared.error.Error.{Error};
 ghost use Rattle.wasm_smith_config.specs.declared.error.Error.TheVariants.{Memory};
-ghost use Rattle.wasm_smith_witness.specs.Family.{IsAskable, IsMember, bare, types_of};
-ghost use Rattle.wasm_smith_witness.specs.Examples.{one_function, two_functions};
+ghost use Rattle.wasm_smith_types.specs.Grouped.{entry};
+ghost use Rattle.wasm_smith_module.specs.Generating.{module_at};
+ghost use Rattle.wasm_smith_module.specs.Made.{Made};
+ghost use Rattle.wasm_smith_module.specs.Promise.{IsReason};
+ghost use Rattle.wasm_smith_witness.specs.Examples.{one_function, two_functions, two_structures};
+ghost use Rattle.wasm_smith_witness.specs.Family.{IsAskable, IsMember, bare};
 ghost use Rattle.wasm_smith_witness.specs.Spelling.{Spells};
 
 /// From each spelling of a list exactly that list is made, with no locals, and nothing of the spelling is left. `c` is a
 /// configuration after `sanitize`.
 pub fn reach()
     ensures exact { (c : Config) (groups : List (List (SubType ℕ))) (funcs s : List ℕ) → IsAskable c
-        → Spells c groups funcs s → module_at c s ≡ (bare groups funcs, []) }
+        → Spells c groups funcs s → module_at c s ≡ Some (bare groups funcs, []) }
 
-    // The types stay whatever follows. The functions stay where an even byte and any others follow: where a function could
+    // The groups stay whatever follows. The functions stay where an even byte and any others follow: where a function could
     // follow, that byte says that none does.
-    ensures types_go_on { (c : Config) (groups : List (List (SubType ℕ))) (funcs s rest : List ℕ) → IsAskable c
-        → Spells c groups funcs s → (module_at c (s ++ rest)).0.types ≡ types_of groups }
+    ensures groups_go_on { (c : Config) (groups : List (List (SubType ℕ))) (funcs s rest : List ℕ) → IsAskable c
+        → Spells c groups funcs s → (m : Made) × (left : List ℕ) × (module_at c (s ++ rest) ≡ Some (m, left)) × (m.groups ≡ map entry groups) }
     ensures funcs_go_on { (c : Config) (groups : List (List (SubType ℕ))) (funcs s : List ℕ) (byte : ℕ) (rest : List ℕ) → IsAskable c
-        → Spells c groups funcs s → byte % 2 ≡ 0 → (module_at c (s ++ byte ∷ rest)).0.funcs ≡ funcs }
+        → Spells c groups funcs s → byte % 2 ≡ 0
+        → (m : Made) × (left : List ℕ) × (module_at c (s ++ byte ∷ rest) ≡ Some (m, left)) × (m.groups ≡ map entry groups) × (m.funcs ≡ funcs) }
 {}
 
-/// With a configuration with which lists can be asked for, the lists of the family are those that have a spelling.
+/// With a configuration with which lists can be asked for, the lists of the family are those that have a spelling. `c` is a
+/// configuration after `sanitize`.
 pub fn agreement()
     ensures member { (c : Config) (groups : List (List (SubType ℕ))) (funcs s : List ℕ) → Spells c groups funcs s → IsMember c groups funcs }
     ensures spelled { (c : Config) (groups : List (List (SubType ℕ))) (funcs : List ℕ) → IsAskable c
@@ -37,11 +41,16 @@ pub fn total()
     ensures { (c : Config) (s : List ℕ) (e : Error) → IsAskable c → IsReason c s e → e ≡ Memory }
 {}
 
-/// A function of one type without parameters and results is spelled by any five bytes of these parities, where there may be
-/// more than one type; and the second of two such types, where there may be more than two, by any odd byte.
+/// Without garbage collection a function of one type without parameters and results is spelled by any five bytes of these
+/// parities, where there may be more than one type; and the second of two such types, where there may be more than two, by any
+/// odd byte. With garbage collection, floats, vectors and references these bytes spell two structures that refer to each other,
+/// where there may be more types, up to 256.
 pub fn small_spellings()
-    ensures one_type { (c : Config) (a b d e f : ℕ) → 1 < c.max_types → 0 < c.max_funcs → a % 2 ≡ 1 → b % 2 ≡ 0 → d % 2 ≡ 0 → e % 2 ≡ 0
-        → f % 2 ≡ 1 → Spells c one_function (0 ∷ []) (a ∷ b ∷ d ∷ e ∷ f ∷ []) }
-    ensures second_of_two { (c : Config) (byte : ℕ) → 2 < c.max_types → 0 < c.max_funcs → byte < 256 → byte % 2 ≡ 1
+    ensures one_type { (c : Config) (a b d e f : ℕ) → c.gc_enabled ≡ false → 1 < c.max_types → 0 < c.max_funcs → a % 2 ≡ 1 → b % 2 ≡ 0
+        → d % 2 ≡ 0 → e % 2 ≡ 0 → f % 2 ≡ 1 → Spells c one_function (0 ∷ []) (a ∷ b ∷ d ∷ e ∷ f ∷ []) }
+    ensures second_of_two { (c : Config) (byte : ℕ) → c.gc_enabled ≡ false → 2 < c.max_types → 0 < c.max_funcs → byte < 256 → byte % 2 ≡ 1
         → Spells c two_functions (1 ∷ []) (1 ∷ 0 ∷ 0 ∷ 1 ∷ 0 ∷ 0 ∷ 0 ∷ 1 ∷ byte ∷ []) }
+    ensures two_structures { (c : Config) → c.gc_enabled ≡ true → c.reference_types_enabled ≡ true → c.allow_floats ≡ true → c.simd_enabled ≡ true
+        → 2 < c.max_types → c.max_types ≤ 256 → Spells c two_structures []
+        (1 ∷ 1 ∷ 0 ∷ 1 ∷ 1 ∷ 0 ∷ 5 ∷ 0 ∷ 1 ∷ 1 ∷ 0 ∷ 0 ∷ 0 ∷ 1 ∷ 1 ∷ 0 ∷ 5 ∷ 0 ∷ 1 ∷ 0 ∷ 0 ∷ 0 ∷ 0 ∷ []) }
 {}

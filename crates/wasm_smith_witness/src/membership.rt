@@ -1,110 +1,184 @@
 //! Which lists can be asked for.
 
-ghost use Rattle.std.specs.Prelude.{◌≡◌, ◌↔◌, ◌==◌, IsTrue, length, map, nat_lt};
+ghost use Rattle.std.specs.Prelude.{◌≡◌, ◌↔◌, ◌==◌, ◌+◌, ◌<◌, ◌≤◌, IsTrue, MatchOption, length, map};
 ghost use Rattle.std.specs.List.{list_all};
-ghost use Rattle.wasm_core_types.specs.CoreTypes.{abstract_heap_type, val_type, heap_type};
+ghost use Rattle.wasm_core_types.specs.CoreTypes.{abstract_heap_type, val_type, heap_type, storage_type, field_type};
 ghost use Rattle.wasm_core_types.specs.SubTypes.{composite_type, sub_type};
-ghost use Rattle.wasm_spec.specs.Types as spec;
 ghost use Rattle.wasm_smith_config.specs.Defaults.{least_counts};
-ghost use Rattle.wasm_smith_witness.specs.Family.{IsAskable, IsMember, is_enabled_heap, is_enabled, is_member_function, is_member_composite, is_member_type, is_member_group, types_of};
+ghost use Rattle.wasm_smith_witness.specs.Family.{AreMemberGroups, IsAskable, is_offered_heap, is_target, is_enabled, is_member_storage, is_member_field, is_member_function, is_member_composite, is_member_type, is_lone_function, is_member_group};
 ghost use Rattle.wasm_smith_witness.specs.Groups.{group_of};
+ghost use Rattle.wasm_spec.specs.Types as spec;
 
+use crate::functions::is_function;
 use wasm_core_types::types::{
-    AbstractHeapType, CompositeType, FuncType, HeapType, RefType, SubType, ValType,
+    AbstractHeapType, CompositeType, FieldType, FuncType, HeapType, StorageType, StructType,
+    SubType, ValType,
 };
 use wasm_smith_config::config::Config;
-use wasm_smith_module::bounds::{MAX_PARAMS, max_results};
+use wasm_smith_types::bounds::{MAX_FIELDS, MAX_PARAMS, max_results};
 
-fn is_enabled_heap(config: &Config, heap: AbstractHeapType) -> bool
-    ensures { result ≡ is_enabled_heap config.now (abstract_heap_type heap) }
+// Checks that references to it are offered.
+fn is_offered_heap(config: &Config, heap: AbstractHeapType) -> bool
+    ensures { result ≡ is_offered_heap config.now (abstract_heap_type heap) }
 {
     match heap {
         AbstractHeapType::Func | AbstractHeapType::Extern => true,
         AbstractHeapType::Exn => config.exceptions_enabled,
+        AbstractHeapType::NoExn => config.gc_enabled && config.exceptions_enabled,
         AbstractHeapType::Cont | AbstractHeapType::NoCont => config.stack_switching_enabled,
-        _ => false,
+        _ => config.gc_enabled,
     }
 }
 
-fn is_enabled_reference(config: &Config, reference: RefType) -> bool
-    ensures { result ≡ is_enabled config.now (spec.Ref reference.nullable (heap_type reference.heap_type)) }
+// Checks that references may go there, where there are `bound` types to refer to.
+fn is_target(config: &Config, bound: usize, heap: HeapType) -> bool
+    ensures { result ≡ is_target config.now bound (heap_type heap) }
 {
-    match reference.heap_type {
-        HeapType::Abstract(heap) => {
-            reference.nullable && config.reference_types_enabled && is_enabled_heap(config, heap)
-        }
-        HeapType::Concrete(_) => false,
+    match heap {
+        HeapType::Abstract(heap) => is_offered_heap(config, heap),
+        HeapType::Concrete(index) => config.gc_enabled && (index as usize) < bound,
     }
 }
 
-fn is_enabled(config: &Config, type_: ValType) -> bool
-    ensures { result ≡ is_enabled config.now (val_type type_) }
+fn is_enabled(config: &Config, bound: usize, type_: ValType) -> bool
+    ensures { result ≡ is_enabled config.now bound (val_type type_) }
 {
     match type_ {
         ValType::I32 | ValType::I64 => true,
         ValType::F32 | ValType::F64 => config.allow_floats,
         ValType::V128 => config.simd_enabled,
-        ValType::Ref(reference) => is_enabled_reference(config, reference),
+        ValType::Ref(reference) => {
+            reference.nullable
+                && config.reference_types_enabled
+                && is_target(config, bound, reference.heap_type)
+        }
     }
 }
 
-fn are_enabled(config: &Config, types: &[ValType]) -> bool
-    ensures { result ≡ list_all (is_enabled config.now) (map val_type types.now) }
+fn are_enabled(config: &Config, bound: usize, types: &[ValType]) -> bool
+    ensures { result ≡ list_all (is_enabled config.now bound) (map val_type types.now) }
 {
-    types.iter().all(|type_| is_enabled(config, *type_))
+    types.iter().all(|type_| is_enabled(config, bound, *type_))
 }
 
-// Whether the parameters and results are few, and of enabled types.
-fn is_member_function(config: &Config, type_: &FuncType) -> bool
-    ensures { result ≡ is_member_function config.now type_.now }
+fn is_member_storage(config: &Config, bound: usize, storage: StorageType) -> bool
+    ensures { result ≡ is_member_storage config.now bound (storage_type storage) }
+{
+    match storage {
+        StorageType::I8 | StorageType::I16 => true,
+        StorageType::Val(type_) => is_enabled(config, bound, type_),
+    }
+}
+
+fn is_member_field(config: &Config, bound: usize, field: FieldType) -> bool
+    ensures { result ≡ is_member_field config.now bound (field_type field) }
+{
+    is_member_storage(config, bound, field.element_type)
+}
+
+fn are_member_fields(config: &Config, bound: usize, fields: &[FieldType]) -> bool
+    ensures { result ≡ list_all (is_member_field config.now bound) (map field_type fields.now) }
+{
+    fields
+        .iter()
+        .all(|field| is_member_field(config, bound, *field))
+}
+
+// Checks that the parameters and results are few, and of enabled types.
+fn is_member_function(config: &Config, bound: usize, type_: &FuncType) -> bool
+    ensures { result ≡ is_member_function config.now bound type_.now }
 {
     type_.params().len() <= MAX_PARAMS
         && type_.results().len() <= max_results(config)
-        && are_enabled(config, type_.params())
-        && are_enabled(config, type_.results())
+        && are_enabled(config, bound, type_.params())
+        && are_enabled(config, bound, type_.results())
 }
 
-fn is_member_composite(config: &Config, type_: &CompositeType) -> bool
-    ensures { result ≡ is_member_composite config.now (composite_type type_.now) }
+// Checks that the fields are few, and packed or of enabled types.
+fn is_member_structure(config: &Config, bound: usize, type_: &StructType) -> bool
+    ensures { result ≡ is_member_composite config.now bound (spec.StructComposite type_.now) }
+{
+    type_.fields().len() <= MAX_FIELDS && are_member_fields(config, bound, type_.fields())
+}
+
+fn is_member_composite(config: &Config, bound: usize, type_: &CompositeType) -> bool
+    ensures { result ≡ is_member_composite config.now bound (composite_type type_.now) }
 {
     match type_ {
-        CompositeType::Func(type_) => is_member_function(config, type_),
-        CompositeType::Array(_) | CompositeType::Struct(_) | CompositeType::Cont(_) => false,
+        CompositeType::Func(type_) => is_member_function(config, bound, type_),
+        CompositeType::Struct(type_) => is_member_structure(config, bound, type_),
+        CompositeType::Array(type_) => is_member_field(config, bound, type_.0),
+        CompositeType::Cont(_) => false,
     }
 }
 
-fn is_member_type(config: &Config, type_: &SubType) -> bool
-    ensures { result ≡ is_member_type config.now (sub_type type_.now) }
+fn is_member_type(config: &Config, bound: usize, type_: &SubType) -> bool
+    ensures { result ≡ is_member_type config.now bound (sub_type type_.now) }
 {
-    type_.is_final
-        && type_.supertype_idx.is_none()
-        && is_member_composite(config, &type_.composite_type)
+    type_.supertype_idx.is_none() && is_member_composite(config, bound, &type_.composite_type)
 }
 
-// Whether the group is one small type.
-fn is_member_group(config: &Config, group: &[SubType]) -> bool
-    ensures { result ≡ is_member_group config.now (map sub_type group.now) }
+fn are_member_types(config: &Config, bound: usize, types: &[SubType]) -> bool
+    ensures { result ≡ list_all (is_member_type config.now bound) (map sub_type types.now) }
+{
+    types
+        .iter()
+        .all(|type_| is_member_type(config, bound, type_))
+}
+
+// Checks that these are one final function type.
+fn is_lone_function(group: &[SubType]) -> bool
+    ensures { result ≡ is_lone_function (map sub_type group.now) }
 {
     match group {
-        [type_] => is_member_type(config, type_),
+        [type_] => type_.is_final && is_function(&type_.composite_type),
         _ => false,
     }
 }
 
-fn are_member_groups(config: &Config, groups: &[Vec<SubType>]) -> bool
-    ensures small { result ≡ list_all (is_member_group config.now) (map group_of groups.now) }
-    ensures single { IsTrue result → length (types_of (map group_of groups.now)) ≡ length groups.now }
+// Checks that these are some types, which refer to types before `end`, and without garbage collection one final function type.
+fn is_member_group(config: &Config, end: usize, group: &[SubType]) -> bool
+    ensures { result ≡ is_member_group config.now end (map sub_type group.now) }
 {
-    groups.iter().all(|group| is_member_group(config, group))
+    !group.is_empty()
+        && are_member_types(config, end, group)
+        && (config.gc_enabled || is_lone_function(group))
 }
 
-fn are_below(count: usize, indexes: &[u32]) -> bool
-    ensures { result ≡ list_all (λ index. nat_lt index count) indexes.now }
+// Returns the number of types with the next group, if that fits.
+fn next_count(config: &Config, count: usize, group: &[SubType]) -> Option<usize>
+    requires { count ≤ config.now.max_types }
+    ensures { MatchOption result
+        (IsTrue (is_member_group config.now (count + length group.now) (map sub_type group.now)) → config.now.max_types < count + length group.now)
+        (λ next. (next ≡ count + length group.now) × (next ≤ config.now.max_types)
+        × IsTrue (is_member_group config.now next (map sub_type group.now))) }
 {
-    indexes.iter().all(|index| (*index as usize) < count)
+    if group.len() > config.max_types as usize - count {
+        return None;
+    }
+    let end = count + group.len();
+    if is_member_group(config, end, group) {
+        Some(end)
+    } else {
+        None
+    }
 }
 
-// Whether no minimum is above 0.
+/// Checks that these groups can be asked for.
+pub fn are_member_groups(config: &Config, groups: &[Vec<SubType>]) -> bool
+    ensures { IsTrue result ↔ AreMemberGroups config.now (map group_of groups.now) }
+{
+    let mut count = 0;
+    for group in groups {
+        match next_count(config, count, group) {
+            Some(next) => count = next,
+            None => return false,
+        }
+    }
+    true
+}
+
+// Checks that no minimum is above 0.
 fn owes_nothing(config: &Config) -> bool
     ensures { result ≡ list_all (λ minimum. minimum == 0) (least_counts config.now) }
 {
@@ -124,24 +198,12 @@ fn owes_nothing(config: &Config) -> bool
     minimums.iter().all(|minimum| *minimum == 0)
 }
 
-/// Whether lists can be asked for with this configuration.
+/// Checks that lists can be asked for with this configuration.
 pub fn is_askable(config: &Config) -> bool
     ensures { IsTrue result ↔ IsAskable config.now }
 {
     match config.check() {
-        Ok(()) => !config.export_everything && !config.gc_enabled && owes_nothing(config),
+        Ok(()) => !config.export_everything && owes_nothing(config),
         Err(_) => false,
     }
-}
-
-/// Whether these groups and functions can be asked for.
-pub fn is_member(config: &Config, groups: &[Vec<SubType>], funcs: &[u32]) -> bool
-    ensures { IsTrue result ↔ IsMember config.now (map group_of groups.now) funcs.now }
-{
-    if !are_member_groups(config, groups) {
-        return false;
-    }
-    groups.len() <= config.max_types as usize
-        && funcs.len() <= config.max_funcs as usize
-        && are_below(groups.len(), funcs)
 }

@@ -1,5 +1,5 @@
 use Rattle.wasm_smith_witness.proofs.ReachLaws.{whole_reach}
-use Rattle.wasm_smith_witness.proofs.SpellLaws.{member_spelled}
+use Rattle.wasm_smith_witness.proofs.WitnessLaws.{member_spelled}
 use Rattle.wasm_smith.proofs.reach.each_list_is_made.Goals as goal
 
 pub returns : goal.returns

@@ -1,4 +1,5 @@
-use Rattle.std.proofs.Common.{◌≡◌, ◌≤◌, ◌-◌, length, map, vec_len}
+use Rattle.std.proofs.Common.{◌≡◌, ◌<◌, ◌≤◌, ◌-◌, length, map, vec_len}
+use Rattle.std.specs.List.{AllByRecursion}
 use Rattle.wasm_spec.specs.Features.{Features}
 use Rattle.wasm_spec.specs.Types as spec
 use Rattle.wasm_smith_types.specs.Drawing.{function_type_at}
@@ -11,6 +12,8 @@ use Rattle.wasm_smith_types.proofs.types.make_function_types.Given as goal
 abbrev pub invariant-grow : goal.invariant-grow
 invariant-grow l = record {
   few : length (made l.made) ≤ l.max;
+  within : length (made l.made) ≤ l.most;
+  some : AllByRecursion (λ size. 0 < size) l.made.sizes.items;
   whole : AreWhole l.made;
   candidates : AreCandidates (made l.made) l.made.candidates.items;
   done : (features : Features) → SuitsValues features l.offers → AreDone features l.made;

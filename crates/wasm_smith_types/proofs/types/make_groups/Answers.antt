@@ -1,9 +1,13 @@
-use Rattle.std.proofs.Common.{◌≡◌, ◌≤◌, length, arith, vec_len, refl, sym, ◌∙◌, ℕ, [], Some}
+use Rattle.std.proofs.Common.{◌≡◌, ◌≤◌, length, arith, vec_len, refl, sym, ap, ◌∙◌, ℕ, [], Some}
+use Rattle.std.proofs.lemmas.Result.{err_from_is_err_and}
 use Rattle.std.proofs.lemmas.List.{length-map}
 use Rattle.std.specs.Prelude.{slice_get}
 use Rattle.wasm_spec.specs.Types.{SubType}
 use Rattle.wasm_smith_types.proofs.FittingLaws.{fits_less}
 use Rattle.wasm_smith_types.proofs.GroupDraws.{groups_begin, groups_go_on, groups_end}
+use Rattle.wasm_smith_types.proofs.GroupedLaws.{sum_more}
+use Rattle.wasm_smith_types.proofs.PastLaws.{groups_past, some_more}
+use Rattle.wasm_smith_types.specs.Drawing.{total}
 use Rattle.wasm_core_types.specs.SubTypes.{sub_type}
 use Rattle.wasm_smith_types.specs.Making.{made}
 use Rattle.wasm_smith_types.proofs.types.make_groups.Goals as goal
@@ -17,6 +21,8 @@ returns-clause-least c = λ le.
 pub grow-init : goal.grow-init
 grow-init c = record {
   few = rw c.new.ensures.items (omega arith);
+  within = rw c.new.ensures.items (omega arith);
+  some = rw c.new-2.ensures.items tt;
   whole = rw (c.new-2.ensures.items, c.new.ensures.items) refl;
   candidates = rw c.new-3.ensures.items tt;
   done =
@@ -33,9 +39,12 @@ grow-preserved c =
     let all = c.in_ok-push_next.ensures in
     let count : vec_len c.grow.made.types ≡ length c.grow.made.types.items = c.grow.made.types.ok.0 in
     let n : c.len.result ≡ length (made c.grow.made) = c.len.ensures ∙ count ∙ sym (length-map c.grow.made.types.items sub_type) in
-    let same : c.len-in-grow.result ≡ c.len.result = c.len-in-grow.ensures ∙ sym c.len.ensures in
+    let same : c.len-count.result ≡ c.len.result = c.len-count.ensures ∙ sym c.len.ensures in
     record {
       few = omega (arith, all.few, n, same, c.grow-test.ensures.room refl);
+      within = omega (arith, all.within, n, same, c.grow.invariant.within);
+      some = some_more c.grow.made.sizes.items c.push_next.new.self.sizes.items all.group.size all.group.sizes
+          (omega (arith, all.more, c.grow.invariant.whole, all.group.whole, ap total all.group.sizes, sum_more c.grow.made.sizes.items all.group.size)) c.grow.invariant.some;
       whole = all.group.whole;
       candidates = all.group.candidates;
       done = λ features suits. all.group.done features suits (c.grow.invariant.done features suits);
@@ -52,3 +61,19 @@ returns-clause-drawn c = λ zero_owed.
     let n : c.len.result ≡ length (made c.grow.made) = c.len.ensures ∙ count ∙ sym (length-map c.grow.made.types.items sub_type) in
     groups_end c.args.offers.now c.args.max c.len.result _ c.grow.made _ c.grows.new.unstructured n c.grow.invariant.whole
     (omega (arith, n, c.grow.invariant.few)) (rw zero_owed at c.grow-test.ensures.exact) (c.grow.invariant.drawn zero_owed)
+
+pub overflow_sub-most : goal.overflow_sub-most
+overflow_sub-most c =
+    let count : vec_len c.grow.made.types ≡ length c.grow.made.types.items = c.grow.made.types.ok.0 in
+    omega (arith, c.len-count.ensures, count, length-map c.grow.made.types.items sub_type, c.grow.invariant.within)
+
+pub returns-in_err-push_next-clause-too_many_drawn : goal.returns-in_err-push_next-clause-too_many_drawn
+returns-in_err-push_next-clause-too_many_drawn c =
+    let p = err_from_is_err_and c.from_residual.result c.from_residual.ensures.1 in
+    let count : vec_len c.grow.made.types ≡ length c.grow.made.types.items = c.grow.made.types.ok.0 in
+    let n : c.len-count.result ≡ length (made c.grow.made) = c.len-count.ensures ∙ count ∙ sym (length-map c.grow.made.types.items sub_type) in
+    let same : c.len-count.result ≡ c.len.result = c.len-count.ensures ∙ sym c.len.ensures in
+    rw (p.1, p.2) (λ is zero_owed.
+    groups_past c.args.offers.now c.args.max c.len-count.result _ c.args.most _ c.grow.made _ c.grows.new.unstructured n (omega (arith, n, c.grow.invariant.within)) c.grow.invariant.whole
+    (omega (arith, same, c.grow-test.ensures.room refl)) (rw (zero_owed, sym same) at c.grow-test.ensures.exact) (c.in_err-push_next.ensures.too_many is).1
+    (c.grow.invariant.drawn zero_owed))

@@ -1,4 +1,5 @@
-use Rattle.std.proofs.Common.{◌≡◌, ◌≤◌, ◌-◌, ◌+◌, IfSome, length, vec_len}
+use Rattle.std.proofs.Common.{◌≡◌, ◌<◌, ◌≤◌, ◌-◌, ◌+◌, IfSome, length, vec_len}
+use Rattle.std.specs.List.{AllByRecursion}
 use Rattle.wasm_spec.specs.Features.{Features}
 use Rattle.wasm_smith_types.specs.Drawing.{groups_at, no_groups}
 use Rattle.wasm_smith_types.specs.Fitting.{AreFitting}
@@ -10,6 +11,8 @@ use Rattle.wasm_smith_types.proofs.types.make_groups.Given as goal
 abbrev pub invariant-grow : goal.invariant-grow
 invariant-grow l = record {
   few : length (made l.made) ≤ l.max;
+  within : length (made l.made) ≤ l.most;
+  some : AllByRecursion (λ size. 0 < size) l.made.sizes.items;
   whole : AreWhole l.made;
   candidates : AreCandidates (made l.made) l.made.candidates.items;
   done : (features : Features) → Suits features l.offers → AreDone features l.made;

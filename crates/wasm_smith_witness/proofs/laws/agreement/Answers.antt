@@ -1,5 +1,5 @@
 use Rattle.wasm_smith_witness.proofs.AgreementLaws.{spelled_member}
-use Rattle.wasm_smith_witness.proofs.SpellLaws.{member_spelled}
+use Rattle.wasm_smith_witness.proofs.WitnessLaws.{member_spelled}
 use Rattle.wasm_smith_witness.proofs.laws.agreement.Goals as goal
 
 pub returns : goal.returns

@@ -1,7 +1,9 @@
-use Rattle.std.proofs.Common.{◌≡◌, ◌++◌, drop}
+use Rattle.std.proofs.Common.{◌++◌, map, drop}
+use Rattle.wasm_smith_types.specs.Drawing.{no_groups}
 use Rattle.wasm_smith_witness.specs.Groups.{group_of}
-use Rattle.wasm_smith_witness.specs.Words.{each_word, group_word}
+use Rattle.wasm_smith_witness.specs.Words.{groups_word}
+use Rattle.wasm_smith_witness.proofs.FrontLaws.{AreWritten}
 use Rattle.wasm_smith_witness.proofs.words.push_groups.Given as goal
 
 abbrev pub invariant-loop-group : goal.invariant-loop-group
-invariant-loop-group l = l.out.items ++ each_word (λ group. group_word l.config (group_of group)) (drop l.group-index l.groups) ≡ l.fn.out.items ++ each_word (λ group. group_word l.config (group_of group)) l.groups
+invariant-loop-group l = AreWritten l.config l.out.items (l.fn.out.items ++ groups_word l.config l.config.max_types no_groups (map group_of l.groups)) (map group_of (drop l.group-index l.groups)) l.front

@@ -2,7 +2,7 @@ use Rattle.std.proofs.Common.{◌≡◌, ◌∷◌, [], ◌++◌, length, sym, a
 use Rattle.std.proofs.lemmas.List.{length-map}
 use Rattle.wasm_core_types.specs.SubTypes.{sub_type}
 use Rattle.wasm_smith_types.specs.Making.{made}
-use Rattle.wasm_smith_types.proofs.CloneSteps.{span_fits, copied_more, many_copied, clone_whole, clone_done, copied_count}
+use Rattle.wasm_smith_types.proofs.CloneSteps.{span_fits, copied_more, many_copied, clone_whole, clone_done, copied_all, copied_count}
 use Rattle.wasm_smith_types.proofs.types.Types.push_clone.Goals as goal
 
 pub overflow_sub-shift : goal.overflow_sub-shift
@@ -52,3 +52,10 @@ returns-clause-count c =
     let all : c.loop-place.place ≡ c.args.span.size = omega arith in
     copied_count c.args.span.start _ c.args.span.size c.loop-place.place (made c.args.self.now) (made c.loop-place.self) all
     (span_fits c.args.self.now.sizes.items (length (made c.args.self.now)) c.args.span c.requires.whole c.requires.span) c.loop-place.invariant.copied
+
+pub returns-clause-added : goal.returns-clause-added
+returns-clause-added c =
+    let all : c.loop-place.place ≡ c.args.span.size = omega arith in
+    let count : vec_len c.args.self.now.types ≡ length c.args.self.now.types.items = c.args.self.now.types.ok.0 in
+    let n : c.len.result ≡ length (made c.args.self.now) = c.len.ensures ∙ count ∙ sym (length-map c.args.self.now.types.items sub_type) in
+    copied_all c.args.span c.len.result c.loop-place.place (made c.args.self.now) (made c.loop-place.self) n all c.loop-place.invariant.copied

@@ -1,8 +1,0 @@
-pub mod MemberLaws
-pub mod WordLaws
-pub mod FrontLaws
-pub mod SpellLaws
-pub mod FunctionLaws
-pub mod AgreementLaws
-pub mod WitnessLaws
-pub mod ReachLaws

@@ -1,6 +1,0 @@
-pub mod Drawing
-pub mod Family
-pub mod Functions
-pub mod Groups
-pub mod Spelling
-pub mod Words

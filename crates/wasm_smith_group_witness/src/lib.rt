@@ -1,8 +1,0 @@
-//! Which lists of groups and functions the generator can be asked for with garbage collection, and seeds that make it give them.
-#![tactic(auto)]
-
-mod functions;
-pub mod laws;
-mod membership;
-pub mod witness;
-mod words;

@@ -1,0 +1,5 @@
+use Rattle.wasm_smith_module.proofs.GoodLaws.{types_small}
+use Rattle.wasm_smith_module.proofs.module.build_types.Goals as goal
+
+pub make_types-requires-clause-few : goal.make_types-requires-clause-few
+make_types-requires-clause-few c = types_small c.args.config.now c.requires.good

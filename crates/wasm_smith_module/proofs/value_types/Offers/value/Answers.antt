@@ -1,8 +1,0 @@
-use Rattle.wasm_smith_module.proofs.OfferLaws.{is_chosen, value_plain}
-use Rattle.wasm_smith_module.proofs.value_types.Offers.value.Goals as goal
-
-pub unwrap-requires : goal.unwrap-requires
-unwrap-requires c = is_chosen _ c.self.inside.kinds.items _ _ c.choose.result (rw c.deref.ensures.value at c.choose.ensures) c.self.invariant.some_kind
-
-pub returns-in-NumberOrVector : goal.returns-in-NumberOrVector
-returns-in-NumberOrVector c = value_plain c.self.inside.kinds.items c.self.inside.heaps.items _ _ _ _ c.self.view_is (rw (c.deref.ensures.value, c.unwrap.ensures, c.in-NumberOrVector.is) at c.choose.ensures)

@@ -1,9 +1,0 @@
--- What is offered, as the code has it, as it is in the specification.
-use Rattle.wasm_core_types.specs.CoreTypes.{val_type}
-use Rattle.wasm_smith_module.specs.Generating as spec
-use Rattle.wasm_smith_module.specs.declared.value_types.Kind.{Kind}
-use Rattle.wasm_smith_module.specs.declared.value_types.Kind.TheVariants.{NumberOrVector, Reference}
-
-abbrev pub kind : Kind → spec.Kind
-kind (NumberOrVector type) = spec.NumberOrVector (val_type type)
-kind Reference = spec.Reference

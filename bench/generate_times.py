@@ -60,7 +60,7 @@ for name, seeds in [("odd", bytes(byte | 1 for byte in any_bytes)), ("random", a
         taken, out = shortest("generate", seeds, length)
         modules = (SIZE + length - 1) // length
         print(f"seeds of {length} {name} bytes: {modules / taken:.0f} modules/s, {SIZE / taken / 1e6:.1f} MB/s of seed, {out}")
-        is_slow |= SIZE / taken < 20e6
+        is_slow |= (name, length) == ("random", 1000) and modules / taken < 50_000
 each = []
 for size in (1, 100, TYPES):
     seed = groups_seed(size)

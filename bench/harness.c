@@ -5,8 +5,8 @@
 #include <time.h>
 #include <wasm_gen.h>
 
-/* (a seed of so many odd bytes gives a module of some 1,000) */
-enum { ROWS = 64, SEED = 1000, MODULE_SEED = 2200, ROOM = 1 << 20, TURNS = 5 };
+/* (a seed of so many odd bytes often gives a module of some 1,000) */
+enum { ROWS = 64, SEED = 1000, MODULE_SEED = 400, ROOM = 1 << 20, TURNS = 5 };
 
 static struct row {
     uint8_t bytes[ROOM];

@@ -1,6 +1,6 @@
 #!/bin/sh
 # Makes modules of 10,000 random seeds of 0 to 5,000 bytes by `wasm_gen generate`, and judges them by `wasm_gen check`: each must be a yes. Then makes
-# modules of 400 random seeds of 1,000 bytes, and counts those that are empty, those that have types alone, and those that have functions.
+# modules of 400 random seeds of 1,000 bytes, and counts those that are empty, those that have functions, and the others.
 set -eu
 . "$(dirname "$0")/setup.sh"
 cd "$folder"
@@ -37,6 +37,6 @@ for name, verdict in zip(*made(drawn.randbytes(1000) for _ in range(400)), stric
     with open(name, "rb") as file:
         empty += len(file.read()) == 8
     with_functions += counts(verdict)["functions"] > 0
-print(f"400 seeds of 1,000 bytes: {empty} make the empty module, {400 - empty - with_functions} types alone, {with_functions} functions")
+print(f"400 seeds of 1,000 bytes: {empty} make the empty module, {with_functions} have functions, {400 - empty - with_functions} others")
 sys.exit(yes != count)
 PYTHON

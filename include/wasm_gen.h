@@ -103,10 +103,10 @@ size_t wasm_gen_kind_name(uint32_t kind, char *buffer, size_t length);
 uint32_t wasm_gen_check(const uint8_t *bytes, size_t length, uint32_t features, struct wasm_gen_verdict *verdict);
 
 /* Makes a module from a seed, which may be any bytes; equal seeds make equal modules. Sets *module_length to the module's length, or to 0 if
- * none is made. Returns WASM_GEN_YES after writing the module to the front of the buffer, or WASM_GEN_BUFFER if it doesn't fit; other bytes of
- * the buffer stay as they are. Returns WASM_GEN_LIMIT if the module would pass a limit. A module has at most 100 types and 100 functions, of at
- * most 100 locals each, and is shorter than 32 KiB. Configuration text is not supported yet: a config_length other than 0 is
- * WASM_GEN_CONFIG_TEXT. */
+ * none is made. Returns WASM_GEN_YES after writing the module to the front of the buffer, or WASM_GEN_BUFFER if it doesn't fit: call again with
+ * a buffer of *module_length bytes. Other bytes of the buffer stay as they are. Returns WASM_GEN_LIMIT if the module would pass a limit. A module
+ * has at most 100 types, imports, functions, globals, tags, exports, element segments of at most 100 items, and data segments, and at most one
+ * table and one memory. Configuration text is not supported yet: a config_length other than 0 is WASM_GEN_CONFIG_TEXT. */
 uint32_t wasm_gen_generate(const uint8_t *config, size_t config_length, const uint8_t *seed, size_t seed_length, uint8_t *buffer,
                            size_t buffer_length, size_t *module_length);
 

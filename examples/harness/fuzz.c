@@ -23,11 +23,22 @@ static void judge(const uint8_t *bytes, size_t length, uint32_t features, int is
     if (is_generated) abort();
 }
 
-int LLVMFuzzerTestOneInput(const uint8_t *data, size_t size) {
-    static uint8_t module[1 << 20];
+/* Makes a module of the bytes, and hands it on. Where it doesn't fit into the buffer, asks again with one of the length that was told. */
+static void generate(const uint8_t *seed, size_t size) {
+    static uint8_t *module;
+    static size_t room;
     size_t length;
+    uint32_t kind = wasm_gen_generate(NULL, 0, seed, size, module, room, &length);
+    if (kind == WASM_GEN_BUFFER) {
+        module = realloc(module, room = length);
+        if (!module) abort();
+        kind = wasm_gen_generate(NULL, 0, seed, size, module, room, &length);
+    }
+    if (kind == WASM_GEN_YES) judge(module, length, wasm_gen_features_generated(), 1);
+}
+
+int LLVMFuzzerTestOneInput(const uint8_t *data, size_t size) {
     judge(data, size, wasm_gen_features_default(), 0);
-    if (wasm_gen_generate(NULL, 0, data, size, module, sizeof module, &length) == WASM_GEN_YES)
-        judge(module, length, wasm_gen_features_generated(), 1);
+    generate(data, size);
     return 0;
 }

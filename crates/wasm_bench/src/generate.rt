@@ -5,7 +5,7 @@ use std::fs;
 use std::rt::Files;
 use wasm_gen::error::GenerateError;
 use wasm_gen::generate::generate;
-use wasm_gen::smith::{Config, supported_config};
+use wasm_gen::smith::Config;
 use wasm_gen::transfer::{MAX_INPUT, MAX_TURNS, read_whole};
 
 // How many modules were made, and of how many bytes.
@@ -29,10 +29,9 @@ pub(crate) fn measure<R: Files + Print + AllocGlobal>(
     println!(rt; "{} modules of {} bytes", total.modules, total.bytes).ok()
 }
 
-/// Returns the supported configuration with garbage collection, where there may be 10,000 types.
+/// Returns the default configuration where there may be 10,000 types.
 pub(crate) fn gc_config() -> Config {
-    let mut config = supported_config();
-    config.gc_enabled = true;
+    let mut config = Config::default();
     config.max_types = 10_000;
     config
 }

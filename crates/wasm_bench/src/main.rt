@@ -14,7 +14,7 @@ mod shortest;
 use std::env;
 use std::process::ExitCode;
 use std::rt::{Clock, Env, Files};
-use wasm_gen::smith::supported_config;
+use wasm_gen::smith::Config;
 
 const USAGE: &str = "\
 usage: wasm_bench (generate|generate-gc) FILE LENGTH
@@ -57,7 +57,7 @@ fn measure<R: Files + Print + Clock + AllocGlobal>(rt: &R, words: &[String]) -> 
         return None;
     };
     match what.as_str() {
-        "generate" => generate::measure(rt, &supported_config(), words),
+        "generate" => generate::measure(rt, &Config::default(), words),
         "generate-gc" => generate::measure(rt, &generate::gc_config(), words),
         "session" => session::measure(rt, words),
         "check" => check::measure(rt, words),

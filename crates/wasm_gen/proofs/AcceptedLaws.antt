@@ -1,6 +1,6 @@
 -- What is generated is accepted.
 use Rattle.std.proofs.Common.{◌≡◌, ◌⊎◌, ℕ, false, List, [], Err, inl, inr, refl}
-use Rattle.wasm_spec.specs.Features.{Features, CompactImports, has}
+use Rattle.wasm_spec.specs.Features.{Features}
 use Rattle.wasmparser_validator.specs.Validation.{IsAccepted, IsValidated}
 use Rattle.wasmparser_error.specs.declared.error.Error.{Error}
 use Rattle.wasmparser_error.specs.declared.error.ErrorKind.TheVariants.{Memory, Total}
@@ -9,13 +9,13 @@ use Rattle.wasm_smith.specs.Parts.{Config}
 use Rattle.wasm_gen.specs.Generate.{IsGeneratedFrom}
 use Rattle.wasm_gen.specs.History.{History}
 use Rattle.wasm_gen.specs.Session.{Checks}
-use Rattle.wasm_gen_laws.specs.Written.{sections_with}
+use Rattle.wasm_smith_validity.specs.Sections.{sections_with}
 
 -- what is generated is a module that is valid under the features of the configuration
 accepted : (c : Config) (seed bytes : List ℕ) (features : Features) (g : IsGeneratedFrom c seed bytes) → AreFeaturesOf c features
-    → IsAccepted features bytes (sections_with g.made g.generated.bodies)
+    → IsAccepted features bytes (sections_with c.bulk_memory_enabled g.generated.bodies g.made)
 accepted c seed bytes features g are = record {
-  reads = g.generated.reads (has features CompactImports);
+  reads = g.generated.reads features are;
   valid = g.generated.valid features are;
 }
 
@@ -24,7 +24,7 @@ pub resources_alone : (c : Config) (seed bytes : List ℕ) (old new : History) (
     → Checks old bytes (Err e) new → (e.kind ≡ Memory) ⊎ (e.kind ≡ Total)
 resources_alone c seed bytes old new e made are going checks =
     let validated : IsValidated old.features old.held bytes (Err e) = checks.validated going in
-    validated.complete (sections_with made.made made.generated.bodies) (accepted c seed bytes old.features made are)
+    validated.complete (sections_with c.bulk_memory_enabled made.generated.bodies made.made) (accepted c seed bytes old.features made are)
 
 -- a new session only when it is out of memory
 pub memory_alone : (c : Config) (seed bytes : List ℕ) (features : Features) (id : ℕ) (new : History) (e : Error) → IsGeneratedFrom c seed bytes

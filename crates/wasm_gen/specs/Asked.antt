@@ -3,11 +3,12 @@ use Rattle.std.specs.Prelude.{◌≡◌, ◌⊎◌, ◌≤◌, ◌%◌, ℕ, Lis
 use Rattle.wasm_core.specs.Parts as core
 use Rattle.wasm_spec.specs.Limits.{Types, Functions, most}
 use Rattle.wasm_spec.specs.Types.{SubType}
-use Rattle.wasm_smith.specs.Family.{IsAskable, IsInFamily, bare, types_of}
+use Rattle.wasm_smith.specs.Family.{IsAskable, IsInFamily, types_of}
 use Rattle.wasm_smith.specs.Grouped.{entry}
-use Rattle.wasm_smith.specs.Made.{Made}
 use Rattle.wasm_smith.specs.Spelling.{Spells}
 use Rattle.wasm_smith.specs.Parts.{Config}
+use Rattle.wasm_smith_module.specs.Generating.{bare_module}
+use Rattle.wasm_smith_validity.specs.Made.{Made}
 use Rattle.wasm_gen.specs.Generate.{PassesLimit}
 use Rattle.wasm_gen.specs.declared.error.GenerateError.{GenerateError}
 use Rattle.wasm_gen.specs.declared.error.GenerateError.TheVariants.{Limit, Memory}
@@ -30,7 +31,7 @@ pub record HasLists (c : Config) (groups : List (List (SubType ℕ))) (funcs : L
 -- is a module of this list.
 pub record MakesLists (c : Config) (seed bytes : List ℕ) : Type 0 where
   pub exactly : (groups : List (List (SubType ℕ))) (funcs : List ℕ) → IsReachable c groups funcs → Spells c groups funcs seed
-      → IsGenerated c (bare groups funcs) bytes
+      → IsGenerated c (bare_module (map entry groups) funcs) bytes
   pub going_on : (groups : List (List (SubType ℕ))) (funcs front rest : List ℕ) (byte : ℕ) → IsReachable c groups funcs
       → Spells c groups funcs front → seed ≡ front ++ byte ∷ rest → byte % 2 ≡ 0 → HasLists c groups funcs bytes
 

@@ -1,6 +1,5 @@
 -- Lists of groups and functions whose modules are validated in one session.
 use Rattle.std.specs.Prelude.{◌≡◌, ◌⊎◌, ⊤, ℕ, List, [], ◌∷◌, map, Result, Ok, Err}
-use Rattle.std.specs.List.{AllByRecursion}
 use Rattle.wasm_spec.specs.Features.{Features}
 use Rattle.wasm_spec.specs.Trees.{section_types}
 use Rattle.wasm_spec.specs.Types.{SubType}
@@ -9,9 +8,9 @@ use Rattle.wasmparser_error.specs.declared.error.Error.{Error}
 use Rattle.wasmparser_error.specs.declared.error.ErrorKind.TheVariants.{Memory, Total}
 use Rattle.wasmparser_validator.specs.KnownSpaces.{KnownModule, spaces_known}
 use Rattle.wasm_smith.specs.Config.{AreFeaturesOf}
-use Rattle.wasm_smith.specs.Family.{bare}
 use Rattle.wasm_smith.specs.Grouped.{entry}
 use Rattle.wasm_smith.specs.Parts.{Config}
+use Rattle.wasm_smith_module.specs.Generating.{bare_module}
 use Rattle.wasm_gen.specs.History.{History}
 use Rattle.wasm_gen.specs.Session.{Checks}
 use Rattle.wasm_gen_laws.specs.Written.{IsGenerated}
@@ -26,7 +25,7 @@ pub record MadeList : Type 0 where
 pub record IsMadeUnder (features : Features) (made : MadeList) : Type 0 where
   pub config : Config
   pub features_are : AreFeaturesOf config features
-  pub generated : IsGenerated config (bare made.groups made.funcs) made.bytes
+  pub generated : IsGenerated config (bare_module (map entry made.groups) made.funcs) made.bytes
 
 -- the index spaces of a module with just this list
 abbrev pub spaces_of_list : MadeList → Spaces

@@ -3,6 +3,7 @@
 ghost use Rattle.std.specs.Prelude.{◌≡◌};
 ghost use Rattle.wasm_gen.specs.Generate.{told};
 
+use std::alloc::AllocError;
 use thiserror::Error;
 use wasm_core::limits::Limit;
 use wasm_smith::error::Error as SmithError;
@@ -31,6 +32,17 @@ pub enum GenerateError {
     /// Memory ran out.
     #[error("out of memory")]
     Memory,
+}
+
+impl From<AllocError> for GenerateError {
+    ghost use Rattle.std.specs.Prelude.{◌≡◌};
+    ghost use Rattle.wasm_gen.specs.declared.error.GenerateError.TheVariants.{Memory};
+
+    ghost from_gives = { λ _ e. e ≡ Memory };
+
+    fn from(_e: AllocError) -> GenerateError {
+        GenerateError::Memory
+    }
 }
 
 impl From<SmithError> for GenerateError {

@@ -13,6 +13,8 @@ ghost use Rattle.wasmparser_error.specs.declared.error.Error.{Error};
 ghost use Rattle.wasmparser_error.specs.declared.error.ErrorKind.TheVariants.{Memory, Total};
 ghost use Rattle.wasmparser_validator.specs.KnownSpaces.{KnownModule};
 
+use wasm_gen_laws::laws::bare_modules;
+
 /// A session with the features of the configuration, which hasn't failed, refuses a generated module only when it is out of memory or its list of types is full,
 /// and a new session only when it is out of memory. `c` is a configuration after `sanitize`.
 pub fn generated_is_accepted()
@@ -29,4 +31,6 @@ pub fn generated_is_accepted()
 pub fn lists_are_shown()
     ensures { (session : History) (lists : List MadeList) (verdicts : List (Result KnownModule Error)) → session.has_failed ≡ false
         → AllByRecursion (IsMadeUnder session.features) lists → ChecksAll session (map (λ made. made.bytes) lists) verdicts → AreShown lists verdicts }
-{}
+{
+    bare_modules();
+}

@@ -1,7 +1,7 @@
 -- What is written of a seed, and what is told of it.
 use Rattle.std.proofs.Common.{◌≡◌, ◌⊎◌, ℕ, Bool, true, false, List, [], ◌++◌, length, take, drop, nat_le, Result, Ok, Err, refl, sym, subst, ap, ◌∙◌, inl, inr, arith, rules, if◌then◌else◌}
 use Rattle.std.proofs.Math.Seq.{take-append_seam}
-use Rattle.wasm_spec.specs.Features.{Features, CompactImports, has}
+use Rattle.wasm_spec.specs.Features.{Features}
 use Rattle.wasmparser_validator.specs.Validation.{IsAccepted, IsValidated}
 use Rattle.wasmparser_validator.specs.KnownSpaces.{KnownModule}
 use Rattle.wasmparser_error.specs.declared.error.Error.{Error}
@@ -10,7 +10,7 @@ use Rattle.wasm_smith.specs.Parts.{Config}
 use Rattle.wasm_gen.specs.Generate.{IsGeneratedFrom}
 use Rattle.wasm_gen.specs.declared.error.GenerateError.{GenerateError}
 use Rattle.wasm_gen.specs.declared.error.GenerateError.TheVariants as generator
-use Rattle.wasm_gen_laws.specs.Written.{sections_with}
+use Rattle.wasm_smith_validity.specs.Sections.{sections_with}
 use Rattle.wasm_gen_calls.specs.Codes.{kind_code, memory, refusal_code, short_buffer, yes}
 use Rattle.wasm_gen_calls.specs.Generate.{IsAnswer, IsWritten, buffer_after, code_of, generated_features, length_of}
 use Rattle.wasm_gen_calls.specs.Verdicts.{IsChecked, IsJudged, verdict_of}
@@ -18,9 +18,9 @@ use Rattle.wasm_gen_calls.specs.declared.verdict.Verdict.{Verdict}
 
 -- what is generated is a module that is valid under the features of the configuration
 accepted : (c : Config) (seed bytes : List ℕ) (features : Features) (g : IsGeneratedFrom c seed bytes) → AreFeaturesOf c features
-    → IsAccepted features bytes (sections_with g.made g.generated.bodies)
+    → IsAccepted features bytes (sections_with c.bulk_memory_enabled g.generated.bodies g.made)
 accepted c seed bytes features g are = record {
-  reads = g.generated.reads (has features CompactImports);
+  reads = g.generated.reads features are;
   valid = g.generated.valid features are;
 }
 
@@ -29,7 +29,7 @@ judged_so : (c : Config) (seed bytes : List ℕ) (features : Features) (answer :
     → IsValidated features [] bytes answer → ((verdict_of answer).kind ≡ yes) ⊎ ((verdict_of answer).kind ≡ memory)
 judged_so c seed bytes features (Ok known) g are validated = inl refl
 judged_so c seed bytes features (Err e) g are validated =
-    elim (validated.complete (sections_with g.made g.generated.bodies) (accepted c seed bytes features g are)) [
+    elim (validated.complete (sections_with c.bulk_memory_enabled g.generated.bodies g.made) (accepted c seed bytes features g are)) [
       | inl is ↦ inr (ap kind_code is)
       | inr total ↦ absurd (validated.first refl total)
     ]

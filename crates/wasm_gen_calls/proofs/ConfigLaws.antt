@@ -1,4 +1,4 @@
--- What the configuration of what is supported is, and what follows of it.
+-- What the default configuration is, and what follows of it.
 use Rattle.std.proofs.Common.{◌≡◌, ◌^◌, ℕ, zero, suc, Bool, true, false, not, IsFalse, List, [], ◌∷◌, replicate, refl, sym, ap, subst, ◌∙◌}
 use Rattle.std.specs.List.{list_all}
 use Rattle.std.proofs.lemmas.List.Sums.{AllPass-from_list_all}
@@ -6,8 +6,9 @@ use Rattle.wasm_spec.specs.Features.{MutableGlobal, SaturatingFloatToInt, SignEx
 use Rattle.wasm_smith.specs.Config.{AreFeaturesOf, AreGood, Field, fields, sanitized}
 use Rattle.wasm_smith.specs.Defaults.{IsDefault, least_counts, largest_counts, off_by_default, on_by_default}
 use Rattle.wasm_smith.specs.Family.{IsAskable}
-use Rattle.wasm_smith.specs.Parts.{Config}
-use Rattle.wasm_smith.specs.SupportedConfig.{IsSupportedConfig, supported}
+use Rattle.wasm_smith.specs.Instructions.{all_kinds}
+use Rattle.wasm_smith.specs.Offsets.{default_choices}
+use Rattle.wasm_smith.specs.Parts.{Config, InstructionKinds, MemoryOffsetChoices}
 use Rattle.wasm_gen_calls.specs.Generate.{generated_features}
 
 -- the flag at a place
@@ -23,8 +24,8 @@ number_at (number ∷ numbers) zero = number
 number_at (number ∷ numbers) (suc place) = number_at numbers place
 
 -- the configuration whose fields stand in these lists, in the order in which the default is told
-config_of : (on off : List Bool) (least largest : List ℕ) (tables memories type_size table_elements memory32_bytes memory64_bytes : ℕ) → Config
-config_of on off least largest tables memories type_size table_elements memory32_bytes memory64_bytes = record {
+config_of : (on off : List Bool) (least largest : List ℕ) (tables memories type_size table_elements memory32_bytes memory64_bytes : ℕ) (instructions : InstructionKinds) (offsets : MemoryOffsetChoices) → Config
+config_of on off least largest tables memories type_size table_elements memory32_bytes memory64_bytes instructions offsets = record {
   allow_floats = flag_at on 0;
   allow_start_export = flag_at on 1;
   bulk_memory_enabled = flag_at on 2;
@@ -78,23 +79,25 @@ config_of on off least largest tables memories type_size table_elements memory32
   max_table_elements = table_elements;
   max_memory32_bytes = memory32_bytes;
   max_memory64_bytes = memory64_bytes;
+  allowed_instructions = instructions;
+  memory_offset_choices = offsets;
 }
 
 -- the default one
 default : Config
-default = config_of (replicate 14 true) (replicate 12 false) (replicate 11 0) (replicate 10 100) 1 1 1000 1000000 (2 ^ 32) (2 ^ 64)
+default = config_of (replicate 14 true) (replicate 12 false) (replicate 11 0) (replicate 10 100) 1 1 1000 1000000 (2 ^ 32) (2 ^ 64) all_kinds default_choices
 
-is_told : (d : Config) → d ≡ config_of (on_by_default d) (off_by_default d) (least_counts d) (largest_counts d) d.max_tables d.max_memories d.max_type_size d.max_table_elements d.max_memory32_bytes d.max_memory64_bytes
+is_told : (d : Config) → d ≡ config_of (on_by_default d) (off_by_default d) (least_counts d) (largest_counts d) d.max_tables d.max_memories d.max_type_size d.max_table_elements d.max_memory32_bytes d.max_memory64_bytes d.allowed_instructions d.memory_offset_choices
 unfolding config_of flag_at number_at
 is_told d = refl
 
 is_default : (d : Config) → IsDefault d → d ≡ default
 unfolding default
-is_default d is = is_told d ∙ rw (is.on, is.off, is.least, is.largest, is.tables, is.memories, is.type_size, is.table_elements, is.memory32_bytes, is.memory64_bytes) refl
+is_default d is = is_told d ∙ rw (is.on, is.off, is.least, is.largest, is.tables, is.memories, is.type_size, is.table_elements, is.memory32_bytes, is.memory64_bytes, is.instructions, is.offsets) refl
 
--- the one that is supported, put in order
+-- the same put in order
 made : Config
-made = sanitized (supported default)
+made = sanitized default
 
 flags : AreFeaturesOf made generated_features
 unfolding made default config_of flag_at number_at
@@ -136,14 +139,14 @@ askable = record {
   no_exports = refl;
 }
 
-is_made : (c : Config) → IsSupportedConfig c → sanitized c ≡ made
+is_made : (c : Config) → IsDefault c → sanitized c ≡ made
 unfolding made
-is_made c is = ap sanitized (is.is_supported ∙ ap supported (is_default is.default is.is_default))
+is_made c is = ap sanitized (is_default c is)
 
 -- these are the features under which its modules are valid
-pub are_generated : (c : Config) → IsSupportedConfig c → AreFeaturesOf (sanitized c) generated_features
+pub are_generated : (c : Config) → IsDefault c → AreFeaturesOf (sanitized c) generated_features
 are_generated c is = subst (λ d. AreFeaturesOf d generated_features) (sym (is_made c is)) flags
 
 -- lists of types and functions can be asked for with it
-pub is_askable : (c : Config) → IsSupportedConfig c → IsAskable (sanitized c)
+pub is_askable : (c : Config) → IsDefault c → IsAskable (sanitized c)
 is_askable c is = subst IsAskable (sym (is_made c is)) askable

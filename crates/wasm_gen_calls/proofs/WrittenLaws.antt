@@ -4,22 +4,22 @@ use Rattle.wasm_gen.specs.Asked.{MakesLists, RefusesRightly}
 use Rattle.wasm_gen.specs.Generate.{IsGeneratedFrom, IsCause}
 use Rattle.wasm_gen.specs.declared.error.GenerateError.{GenerateError}
 use Rattle.wasm_smith.specs.Config.{sanitized}
+use Rattle.wasm_smith.specs.Defaults.{IsDefault}
 use Rattle.wasm_smith.specs.Parts.{Config}
-use Rattle.wasm_smith.specs.SupportedConfig.{IsSupportedConfig}
 use Rattle.wasm_gen_calls.proofs.ConfigLaws.{are_generated, is_askable}
 use Rattle.wasm_gen_calls.specs.Buffers.{buffer_with}
 use Rattle.wasm_gen_calls.specs.Codes.{refusal_code, short_buffer, yes}
 use Rattle.wasm_gen_calls.specs.Generate.{IsWritten}
 
 -- a module was made, is lent as a slice, and is written where it fits
-pub made : (c : Config) (seed bytes lent old new : List ℕ) (len : ℕ) (fits : Bool) → IsSupportedConfig c → IsGeneratedFrom (sanitized c) seed bytes → MakesLists (sanitized c) seed bytes
+pub made : (c : Config) (seed bytes lent old new : List ℕ) (len : ℕ) (fits : Bool) → IsDefault c → IsGeneratedFrom (sanitized c) seed bytes → MakesLists (sanitized c) seed bytes
     → lent ≡ bytes → length lent ≡ len → new ≡ buffer_with lent old → fits ≡ nat_le (length lent) (length old) → IsWritten seed old new len (if fits then yes else short_buffer)
-made c seed bytes lent old new len fits supported generated lists same len_is new_is fitting = record {
+made c seed bytes lent old new len fits is_default generated lists same len_is new_is fitting = record {
   answer = Ok bytes;
   answered = record {
     config = c;
-    supported = supported;
-    features = are_generated c supported;
+    is_default = is_default;
+    features = are_generated c is_default;
     generated = generated;
     lists = lists;
     cause = tt;
@@ -32,19 +32,19 @@ made c seed bytes lent old new len fits supported generated lists same len_is ne
 }
 
 -- none was, for this reason
-pub refused : (c : Config) (seed old : List ℕ) (e : GenerateError) (code : ℕ) → IsSupportedConfig c → IsCause (sanitized c) seed e → RefusesRightly (sanitized c) seed e
+pub refused : (c : Config) (seed old : List ℕ) (e : GenerateError) (code : ℕ) → IsDefault c → IsCause (sanitized c) seed e → RefusesRightly (sanitized c) seed e
     → code ≡ refusal_code e → IsWritten seed old old 0 code
-refused c seed old e code supported cause rightly is = record {
+refused c seed old e code is_default cause rightly is = record {
   answer = Err e;
   answered = record {
     config = c;
-    supported = supported;
-    features = are_generated c supported;
+    is_default = is_default;
+    features = are_generated c is_default;
     generated = tt;
     lists = tt;
     cause = cause;
     rightly = rightly;
-    memory_or_limit = rightly.total (is_askable c supported);
+    memory_or_limit = rightly.total (is_askable c is_default);
   };
   told = is;
   needed = refl;

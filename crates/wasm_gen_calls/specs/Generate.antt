@@ -7,18 +7,17 @@ use Rattle.wasm_gen_calls.specs.Buffers.{buffer_with}
 use Rattle.wasm_gen_calls.specs.Codes.{config_text, refusal_code, short_buffer, yes}
 use Rattle.wasm_spec.specs.Features.{Features}
 use Rattle.wasm_smith.specs.Config.{AreFeaturesOf, sanitized}
+use Rattle.wasm_smith.specs.Defaults.{IsDefault}
 use Rattle.wasm_smith.specs.Parts.{Config}
-use Rattle.wasm_smith.specs.SupportedConfig.{IsSupportedConfig}
 
--- The features under which what is generated is valid: the default ones but threads, several memories, references to functions of a known type
--- and garbage collection, of which it uses nothing.
+-- The features under which what is generated is valid: the default ones but threads and several memories.
 abbrev pub generated_features : Features
-generated_features = 0x276ff
+generated_features = 0x3f6ff
 
--- the generator's answer to a seed, for the configuration of what is supported
+-- the generator's answer to a seed, for the default configuration
 pub record IsAnswer (seed : List ℕ) (answer : Result (List ℕ) GenerateError) : Type 0 where
   pub config : Config
-  pub supported : IsSupportedConfig config
+  pub is_default : IsDefault config
   pub features : AreFeaturesOf (sanitized config) generated_features
   pub generated : IfOk answer (IsGeneratedFrom (sanitized config) seed)
   pub lists : IfOk answer (MakesLists (sanitized config) seed)

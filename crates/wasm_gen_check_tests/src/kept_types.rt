@@ -11,8 +11,8 @@ use wasm_gen_rows::new_session::{on_new_session, on_types_after, on_types_of_bot
 use wasm_test_rows::fields::{is_row, two_fields};
 use wasm_test_rows::rows::check_rows;
 
-// Modules: the letters of their groups, and their sections. Those of `e`, `f` and `g` have two types, which stand alone in others; `hh` is what the generator
-// makes of an open structure and its clone. One with a `!` has a function whose body is refused, after which its groups stay in the list.
+// Modules: the letters of their groups, and their sections. Those of `e`, `f`, `g` and `i` have two types; those of the first three stand alone in others. The
+// generator makes `hh` of an open structure and its clone, and `i` of two structures that refer to each other. One with a `!` has a function whose body is refused, after which its groups stay in the list.
 const MODULES: &str = "
     a       | 01 04 01 600000
     b       | 01 06 01 60017f017c
@@ -23,6 +23,8 @@ const MODULES: &str = "
     g       | 01 07 01 4e025f005f00
     aa      | 01 07 02 600000 600000
     hh      | 01 0d 02 50005f017801 50005f017801
+    i       | 01 0d 01 4e025f016301005f01630000
+    ii      | 01 19 02 4e025f016301005f01630000 4e025f016303005f01630200
     ab      | 01 09 02 600000 60017f017c
     ba      | 01 09 02 60017f017c 600000
     ce      | 01 0a 02 5f00 4e025f005e7f00
@@ -49,7 +51,7 @@ const FUNCTIONS: &str = "
 
 // How many types a group has.
 fn size_of(letter: u8) -> u32 {
-    if letter >= b'e' && letter <= b'g' {
+    if (letter >= b'e' && letter <= b'g') || letter == b'i' {
         2
     } else {
         1
@@ -85,7 +87,7 @@ fn is_of_group(types: TypesRef<'_>, place: u32, id: u32, first: u32, size: u32) 
 #[derive(Drop)]
 struct Met {
     are_one: bool,
-    first: [Option<u32>; 8],
+    first: [Option<u32>; 9],
     next: u32,
 }
 
@@ -93,7 +95,7 @@ impl Met {
     fn new(are_one: bool) -> Met {
         Met {
             are_one,
-            first: [None; 8],
+            first: [None; 9],
             next: 0,
         }
     }
@@ -190,7 +192,7 @@ fn count_after(alloc: Global, session: &mut Session, table: &str, first: &str) -
 }
 
 fn are_one_in_each_order(alloc: Global, session: &mut Session, first: &str) -> Option<bool> {
-    Some(count_after(alloc, session, MODULES, first) == 441)
+    Some(count_after(alloc, session, MODULES, first) == 529)
 }
 
 fn equal_types_have_one_id(alloc: Global, first: &str) -> Option<bool> {
@@ -216,7 +218,7 @@ fn each_definition_has_an_id(alloc: Global, first: &str) -> Option<bool> {
 
 #[test]
 fn types_have_their_ids_in_each_order_of_modules(rt: HostRuntime) -> Result<(), Fail> {
-    check_rows(rt.alloc(), MODULES, 21, equal_types_have_one_id)?;
+    check_rows(rt.alloc(), MODULES, 23, equal_types_have_one_id)?;
     Ok(check_rows(rt.alloc(), FUNCTIONS, 6, each_definition_has_an_id)?)
 }
 

@@ -6,7 +6,7 @@ use std::rt::Files;
 use std::{fs, io};
 use wasm_gen::error::RunError;
 use wasm_gen::run::run_generate;
-use wasm_gen::smith::supported_config;
+use wasm_gen::smith::Config;
 use wasm_gen::status::status_of;
 
 /// Makes a module of the seed in the file, writes its bytes to standard output, tells each fault, and gives the
@@ -25,7 +25,7 @@ fn write_module<R: Files + Print + AllocGlobal>(rt: &R, name: &str) -> Result<()
     let Ok(mut file) = fs::open(rt, name) else {
         return Err(RunError::Read);
     };
-    run_generate(rt.alloc(), &supported_config(), &mut file, &mut writer)?;
+    run_generate(rt.alloc(), &Config::default(), &mut file, &mut writer)?;
     match writer.flush() {
         Ok(()) => Ok(()),
         Err(_) => Err(RunError::Write),

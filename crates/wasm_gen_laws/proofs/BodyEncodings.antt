@@ -2,16 +2,15 @@
 use Rattle.std.proofs.Common.{◌≡◌, ℕ, suc, ◌≤◌, List, [], ◌∷◌, length, map, refl, sym, subst, ap, arith, length-append}
 use Rattle.std.specs.List.{AllByRecursion}
 use Rattle.wasm_encoder_functions.specs.Locals.{locals_encoding}
-use Rattle.wasm_spec.specs.Bytes.{IsByte, AreBytes, IsBytes}
-use Rattle.wasm_spec.specs.ModuleParts.{IsBody}
+use Rattle.wasm_spec.specs.Bytes.{IsByte, AreBytes}
 use Rattle.wasm_spec.specs.Shortest.{framed_encoding}
 use Rattle.wasm_spec.specs.SmallIndexes.{IsSmallValue}
 use Rattle.wasm_spec.specs.Types.{ValType}
 use Rattle.wasm_spec.proofs.ListEncodings.{framed_length}
 use Rattle.wasm_spec.proofs.UnsignedEncodings.{at_most_five}
-use Rattle.wasm_smith.specs.ModuleEncoding.{as_run, IsBodyEncoding, AreBodyEncodings}
-use Rattle.wasm_gen_laws.specs.Written.{IsUnreachableBody, AreUnreachableBodies}
-use Rattle.wasm_gen_laws.proofs.Forms.{all_append, frame_is}
+use Rattle.wasm_smith_sections.specs.ModuleEncoding.{as_run, IsBodyEncoding, AreBodyEncodings}
+use Rattle.wasm_smith_validity_laws.specs.UnreachableBodies.{IsUnreachableBody, AreUnreachableBodies}
+use Rattle.wasm_gen_laws.proofs.Forms.{all_append}
 use Rattle.wasm_gen_laws.proofs.RunEncodings.{are_merged, locals_are, runs_encoding_is, runs_bytes, runs_length}
 
 -- the types of few locals, whose references are small
@@ -39,9 +38,6 @@ bodies_short (first ∷ others) (body ∷ bodies) h are = (short first body h.0 
 
 pub entry_length : (body : List ℕ) → IsShortBody body → length (framed_encoding body) ≤ 1112
 entry_length body h = omega (arith, h.1, framed_length body, at_most_five (length body) (omega (arith, h.1)))
-
-pub entry_is : (body : List ℕ) → IsShortBody body → IsBody (framed_encoding body) body
-entry_is body h = frame_is IsBytes body body (h.0, refl) (omega (arith, h.1))
 
 body_is : (locals : List (ValType ℕ)) (body : List ℕ) → AreFewSmall locals → IsBodyEncoding locals body → IsUnreachableBody locals body
 body_is locals body h is = record {

@@ -1,10 +1,8 @@
--- Lists and frames of encodings.
-use Rattle.std.proofs.Common.{◌≡◌, ℕ, suc, ◌+◌, ◌*◌, ◌^◌, ◌<◌, ◌≤◌, Bool, List, [], ◌∷◌, ◌++◌, length, refl, arith, length-append}
+-- Lists of encodings.
+use Rattle.std.proofs.Common.{◌≡◌, ℕ, suc, ◌+◌, ◌*◌, ◌^◌, ◌<◌, ◌≤◌, List, [], ◌∷◌, ◌++◌, length, refl, arith, length-append}
 use Rattle.std.specs.List.{AllByRecursion, flat_map}
-use Rattle.wasm_spec.specs.Bytes.{IsByte, AreBytes, IsItems, IsList, IsFramed}
-use Rattle.wasm_spec.specs.Grammar.{IsContent, IsSection, section_id}
-use Rattle.wasm_spec.specs.Syntax.{Section}
-use Rattle.wasm_spec.specs.Shortest.{unsigned_encoding, list_encoding, framed_encoding, section_encoding}
+use Rattle.wasm_spec.specs.Bytes.{IsByte, AreBytes, IsItems, IsList}
+use Rattle.wasm_spec.specs.Shortest.{unsigned_encoding, list_encoding}
 use Rattle.wasm_spec.proofs.UnsignedEncodings.{at_most_five}
 use Rattle.wasm_gen_laws.proofs.Numbers.{number_is, number_bytes}
 
@@ -33,14 +31,6 @@ pub list_is : {A : Type 0} (IsA : List ℕ → A → Type 0) (bytes : A → List
     → (xs : List A) → AllByRecursion P xs → length xs < 2 ^ 32 → IsList IsA (list_encoding bytes xs) xs
 unfolding list_encoding
 list_is IsA bytes P law xs h few = (unsigned_encoding (length xs), flat_map bytes xs, refl, number_is (length xs) few, items_are IsA bytes P law xs h)
-
-pub frame_is : {A : Type 0} (IsA : List ℕ → A → Type 0) (content : List ℕ) (x : A) → IsA content x → length content < 2 ^ 32 → IsFramed IsA (framed_encoding content) x
-unfolding framed_encoding
-frame_is IsA content x h few = (unsigned_encoding (length content), content, refl, number_is (length content) few, h)
-
-pub section_is : (compact : Bool) (content : List ℕ) (section : Section) → IsContent compact content section → length content < 2 ^ 32 → IsSection compact (section_encoding (section_id section) content) section
-unfolding section_encoding
-section_is compact content section h few = (framed_encoding content, refl, frame_is (IsContent compact) content section h few)
 
 encodings_bytes : {A : Type 0} (bytes : A → List ℕ) (P : A → Type 0) → ((x : A) → P x → AreBytes (bytes x)) → (xs : List A) → AllByRecursion P xs → AreBytes (flat_map bytes xs)
 encodings_bytes bytes P law [] h = tt

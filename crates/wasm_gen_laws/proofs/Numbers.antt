@@ -8,23 +8,13 @@ use Rattle.wasm_spec.proofs.NumberLaws.{unsigned_spelled}
 pub number_is : (n : ℕ) → n < 2 ^ 32 → IsU32 (unsigned_encoding n) n
 number_is n fits = unsigned_spelled 32 n fits
 
-padded : (more bits : ℕ) (bytes : List ℕ) (n : ℕ) → bits ≤ 7 * more + 7 → IsUnsigned bits bytes n → length bytes ≤ more + 1
-padded more bits [] n few h = omega arith
-padded more bits (b ∷ []) n few h = omega arith
-padded zero bits (b ∷ c ∷ bs) n few h = absurd (omega (arith, few, h.2))
-padded (suc more) bits (b ∷ c ∷ bs) n few h = omega (arith, padded more (bits - 7) (c ∷ bs) h.3 (omega (arith, few)) h.5)
-
--- no encoding has more, and padding is no excuse
-pub padded_length : (bytes : List ℕ) (n : ℕ) → IsU32 bytes n → length bytes ≤ 5
-padded_length bytes n h = padded 4 32 bytes n (omega arith) h
-
 signed_padded : (more bits : ℕ) (bytes : List ℕ) (z : ℤ) → bits ≤ 7 * more + 7 → IsSigned bits bytes z → length bytes ≤ more + 1
 signed_padded more bits [] z few h = omega arith
 signed_padded more bits (b ∷ []) z few h = omega arith
 signed_padded zero bits (b ∷ c ∷ bs) z few h = absurd (omega (arith, few, h.2))
 signed_padded (suc more) bits (b ∷ c ∷ bs) z few h = omega (arith, signed_padded more (bits - 7) (c ∷ bs) h.3 (omega (arith, few)) h.5)
 
--- nor has a signed one of 33 bits
+-- A signed number of 33 bits is at most five bytes, also one that is padded.
 pub signed_length : (bytes : List ℕ) (z : ℤ) → IsS33 bytes z → length bytes ≤ 5
 signed_length bytes z h = signed_padded 4 33 bytes z (omega arith) h
 

@@ -11,18 +11,18 @@ use Rattle.wasm_spec.specs.Shortest.{unsigned_encoding}
 use Rattle.wasm_spec.specs.SmallIndexes.{IsSmallValue}
 use Rattle.wasm_spec.specs.TypeEncodings.{val_encoding}
 use Rattle.wasm_spec.proofs.UnsignedEncodings.{at_most_five}
-use Rattle.wasm_smith.specs.ModuleEncoding.{as_run}
-use Rattle.wasm_gen_laws.specs.Written.{AreMerged}
+use Rattle.wasm_smith_sections.specs.ModuleEncoding.{as_run}
+use Rattle.wasm_smith_validity_laws.specs.UnreachableBodies.{AreMerged}
 use Rattle.wasm_gen_laws.proofs.Forms.{all_append, both, list_is, list_bytes, list_length}
 use Rattle.wasm_gen_laws.proofs.Numbers.{number_is, number_bytes}
 use Rattle.wasm_gen_laws.proofs.Values.{value_is, value_bytes, encoding_length}
 
 -- ---- what runs stand for
 
-abbrev pub unrolled : List Run → List (ValType ℕ)
+abbrev unrolled : List Run → List (ValType ℕ)
 unrolled runs = flat_map (λ run. replicate run.count run.type) runs
 
-pub unrolled_is : (runs : List (ℕ × ValType ℕ)) → unrolled (map as_run runs) ≡ expansion runs
+unrolled_is : (runs : List (ℕ × ValType ℕ)) → unrolled (map as_run runs) ≡ expansion runs
 unrolled_is [] = refl
 unrolled_is (run ∷ runs) = ap (λ l. replicate run.0 run.1 ++ l) (unrolled_is runs)
 
@@ -35,13 +35,13 @@ rest_holds P zero type rest h = h
 rest_holds P (suc count) type rest h = rest_holds P count type rest h.1
 
 -- what holds of each of the locals of runs holds of each run's type
-pub runs_hold : (P : ValType ℕ → Type 0) (runs : List Run) → AllByRecursion (λ run. 0 < run.count) runs → AllByRecursion P (unrolled runs)
+runs_hold : (P : ValType ℕ → Type 0) (runs : List Run) → AllByRecursion (λ run. 0 < run.count) runs → AllByRecursion P (unrolled runs)
     → AllByRecursion (λ run. P run.type) runs
 runs_hold P [] some h = tt
 runs_hold P (run ∷ runs) some h =
     (first_holds P run.count run.type (unrolled runs) some.0 h, runs_hold P runs some.1 (rest_holds P run.count run.type (unrolled runs) h))
 
-pub counts_are : (runs : List Run) → sum_by (λ run. run.count) runs ≡ length (unrolled runs)
+counts_are : (runs : List Run) → sum_by (λ run. run.count) runs ≡ length (unrolled runs)
 counts_are [] = refl
 counts_are (run ∷ runs) = omega (
   arith,
@@ -52,7 +52,7 @@ counts_are (run ∷ runs) = omega (
 )
 
 -- no more runs than locals
-pub few_runs : (runs : List Run) → AllByRecursion (λ run. 0 < run.count) runs → length runs ≤ length (unrolled runs)
+few_runs : (runs : List Run) → AllByRecursion (λ run. 0 < run.count) runs → length runs ≤ length (unrolled runs)
 few_runs [] some = omega arith
 few_runs (run ∷ runs) some = omega (
   arith,
@@ -63,7 +63,7 @@ few_runs (run ∷ runs) some = omega (
 )
 
 -- and none of them has more
-pub short_runs : (most : ℕ) (runs : List Run) → length (unrolled runs) ≤ most → AllByRecursion (λ run. run.count ≤ most) runs
+short_runs : (most : ℕ) (runs : List Run) → length (unrolled runs) ≤ most → AllByRecursion (λ run. run.count ≤ most) runs
 short_runs most [] few = tt
 short_runs most (run ∷ runs) few =
     let parts = length-append (replicate run.count run.type) (unrolled runs) in
@@ -72,7 +72,7 @@ short_runs most (run ∷ runs) few =
 
 -- ---- runs of equal neighbours
 
-pub none_empty : (runs : List (ℕ × ValType ℕ)) → AllByRecursion (λ run. 1 ≤ run.0) runs → AllByRecursion (λ run. 0 < run.count) (map as_run runs)
+none_empty : (runs : List (ℕ × ValType ℕ)) → AllByRecursion (λ run. 1 ≤ run.0) runs → AllByRecursion (λ run. 0 < run.count) (map as_run runs)
 none_empty [] some = tt
 none_empty (run ∷ runs) some = (omega (arith, some.0), none_empty runs some.1)
 

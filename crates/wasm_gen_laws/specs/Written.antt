@@ -1,57 +1,36 @@
--- The sections of a made module, and what it means that they are written.
-use Rattle.std.specs.Prelude.{◌≡◌, ◌≢◌, ⊤, ℕ, Bool, ◌<◌, List, [], ◌∷◌, ◌++◌, replicate}
-use Rattle.std.specs.List.{AllZip, flat_map}
-use Rattle.wasm_bodies.specs.Bodies.{Run, IsRun}
-use Rattle.wasm_spec.specs.Bytes.{IsList}
-use Rattle.wasm_spec.specs.Features.{Features}
+-- What it means that a made module is written.
+use Rattle.std.specs.Prelude.{◌≡◌, ℕ, Bool, true, List}
+use Rattle.std.specs.List.{AllByRecursion}
+use Rattle.wasm_spec.specs.Features.{Features, CompactImports, has}
 use Rattle.wasm_spec.specs.Grammar.{IsModule}
-use Rattle.wasm_spec.specs.Syntax.{Section, TypeSection, FunctionSection, CodeSection}
-use Rattle.wasm_spec.specs.Types.{ValType}
 use Rattle.wasm_valid_modules.specs.Validity.{IsValid}
-use Rattle.wasm_smith.specs.Bounds.{IsWithinBounds}
-use Rattle.wasm_smith.specs.Config.{AreFeaturesOf}
-use Rattle.wasm_smith.specs.Made.{Made}
-use Rattle.wasm_smith.specs.ModuleEncoding.{AreBodyEncodings, encoding_with}
-use Rattle.wasm_smith.specs.Parts.{Config}
+use Rattle.wasm_smith_config.specs.Config.{AreFeaturesOf}
+use Rattle.wasm_smith_config.specs.declared.config.Config.{Config}
+use Rattle.wasm_smith_limits.specs.Measured.{AreShort, HasShortNames}
+use Rattle.wasm_smith_limits.specs.Measures.{numbers_of}
+use Rattle.wasm_smith_module.specs.Bounds.{IsWithinBounds}
+use Rattle.wasm_smith_sections.specs.ModuleEncoding.{AreBodyEncodings, encoding_with}
+use Rattle.wasm_smith_sections_laws.specs.SmallModules.{IsReadable, IsSmallModule}
+use Rattle.wasm_smith_validity.specs.Made.{Made}
+use Rattle.wasm_smith_validity.specs.Sections.{sections_with}
+use Rattle.wasm_smith_validity_laws.specs.UnreachableBodies.{AreUnreachableBodies}
+use Rattle.wasm_validity.specs.Rules.{are_within}
 
--- runs of locals of which none is empty and no two neighbours have one type
-abbrev pub AreMerged : List Run → Type 0
-AreMerged [] = ⊤
-AreMerged (run ∷ []) = 0 < run.count
-AreMerged (run ∷ next ∷ runs) = (0 < run.count) × (run.type ≢ next.type) × AreMerged (next ∷ runs)
+-- Bytes can state the module, where compact imports are on, or where no import is compact.
+abbrev pub CanBeStated : Made → Type 0
+CanBeStated m = (compact : Bool) → AllByRecursion (IsReadable compact) m.imports → IsSmallModule compact m
 
--- A body of these locals and the one operator `unreachable`.
-pub record IsUnreachableBody (locals : List (ValType ℕ)) (body : List ℕ) : Type 0 where
-  pub runs : List Run
-  pub encoding : List ℕ
-  pub is : body ≡ encoding ++ 0x00 ∷ 0x0b ∷ []
-  pub declared : IsList IsRun encoding runs
-  pub merged : AreMerged runs
-  pub locals_are : flat_map (λ run. replicate run.count run.type) runs ≡ locals
+-- No number of a module passes its limit, where its names and bodies are short.
+abbrev pub PassesNoLimit : Made → Type 0
+PassesNoLimit m = (bodies : List (List ℕ)) → HasShortNames m → AreShort bodies → are_within (numbers_of bodies m) ≡ true
 
--- each of the locals has its body
-abbrev pub AreUnreachableBodies : List (List (ValType ℕ)) → List (List ℕ) → Type 0
-AreUnreachableBodies locals bodies = AllZip IsUnreachableBody locals bodies
-
--- the section, where it has some items
-abbrev pub unless_empty : {A : Type 0} → List A → Section → List Section
-unless_empty [] section = []
-unless_empty (item ∷ items) section = section ∷ []
-
--- the sections of a made module, whose functions have these bodies
-abbrev pub sections_with : Made → List (List ℕ) → List Section
-sections_with m bodies =
-    unless_empty m.groups (TypeSection m.groups)
-    ++ unless_empty m.funcs (FunctionSection m.funcs)
-    ++ unless_empty m.funcs (CodeSection bodies)
-
--- The bytes read as a made module, whether compact imports are on or not. Its bodies are `unreachable`, it is valid under the features of the
--- configuration and within its bounds. The bytes are its encoding, the shortest that there is.
+-- The bytes read as a made module, under the features of the configuration. Its bodies are `unreachable`, it is valid under the same features, and within the
+-- configuration's bounds. The bytes are its encoding, the shortest that there is. Data segments are counted where bulk memory is on.
 pub record IsGenerated (c : Config) (m : Made) (bytes : List ℕ) : Type 0 where
   pub bodies : List (List ℕ)
   pub encoded : AreBodyEncodings m.locals bodies
   pub unreachable : AreUnreachableBodies m.locals bodies
-  pub reads : (compact : Bool) → IsModule compact bytes (sections_with m bodies)
-  pub valid : (features : Features) → AreFeaturesOf c features → IsValid features (sections_with m bodies)
+  pub reads : (features : Features) → AreFeaturesOf c features → IsModule (has features CompactImports) bytes (sections_with c.bulk_memory_enabled bodies m)
+  pub valid : (features : Features) → AreFeaturesOf c features → IsValid features (sections_with c.bulk_memory_enabled bodies m)
   pub within : IsWithinBounds c m
-  pub shortest : bytes ≡ encoding_with m bodies
+  pub shortest : bytes ≡ encoding_with c.bulk_memory_enabled m bodies

@@ -1,6 +1,5 @@
-//! Seeds for lists of groups and functions that are drawn by numbers, with garbage collection.
+//! Seeds for lists of groups and functions that are drawn by numbers.
 
-use crate::configs::gc_config;
 use crate::generated::is_accepted;
 use crate::lists::put;
 use crate::numbers::Numbers;
@@ -165,7 +164,7 @@ impl Lists {
 
     // Returns a configuration for the lists, after which there may be more types, or not.
     fn config(&mut self) -> Config {
-        let mut config = gc_config();
+        let mut config = Config::default();
         config.stack_switching_enabled = self.heaps > 12;
         config.max_types = match self.numbers.below(4) {
             0 => self.end,

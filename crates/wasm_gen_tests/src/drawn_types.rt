@@ -1,6 +1,5 @@
-//! Types that are drawn from seeds with garbage collection.
+//! Types that are drawn from seeds.
 
-use crate::configs::gc_config;
 use crate::generated::is_accepted;
 use crate::lists::put;
 use crate::marks::{Count, are_all_counted, count_module, no_counts};
@@ -10,19 +9,12 @@ use wasm_gen::smith::Config;
 use wasm_smith::module::Module;
 use wasm_smith::unstructured::Unstructured;
 
-#[test]
-fn modules_of_one_byte_are_accepted(rt: HostRuntime) {
-    for byte in 0..=255u8 {
-        assert!(rt; is_accepted(rt.alloc(), &gc_config(), &[byte]));
-    }
-}
-
 const ONES: &[u8] = &[0xff; 4096];
 
 // Checks that the module that is made of so many bytes of ones is accepted.
 fn is_front_accepted(alloc: Global, len: usize) -> bool {
     match ONES.get(..len) {
-        Some(seed) => is_accepted(alloc, &gc_config(), seed),
+        Some(seed) => is_accepted(alloc, &Config::default(), seed),
         None => false,
     }
 }
@@ -46,9 +38,9 @@ fn drawn_max_types(numbers: &mut Numbers) -> u32 {
     }
 }
 
-// Returns a configuration with garbage collection in which the bits of a number turn features off.
+// Returns a configuration in which the bits of a number turn features off.
 fn drawn_config(numbers: &mut Numbers) -> Config {
-    let mut config = gc_config();
+    let mut config = Config::default();
     config.max_types = drawn_max_types(numbers);
     let bits = numbers.byte(0);
     config.allow_floats = bits & 1 == 0;

@@ -1,18 +1,18 @@
 //! Seeds, and the modules that are made of them.
 
-use crate::configs::config_of;
 use std::alloc::Global;
 use std::test::Fail;
 use wasm_core::features::WasmFeatures;
 use wasm_gen::error::GenerateError;
 use wasm_gen::generate::generate;
-use wasm_gen::smith::{Config, supported_config};
+use wasm_gen::smith::Config;
 use wasm_gen_rows::answers::answers_under;
 use wasm_gen_rows::modules::{module_of, parts_of};
+use wasm_smith_config_rows::settings::{config_in, plain_config};
 use wasm_test_rows::fields::three_fields;
 use wasm_test_rows::rows::check_rows;
 
-// Settings, a seed, and the sections that are made of it, or why none are.
+// A configuration, a seed, and the sections that are made of it, or why none are.
 const ROWS: &str = "
     |                                     |
     | 01 00 00 00 01                      | types functions code
@@ -41,6 +41,25 @@ const ROWS: &str = "
     gc_enabled=yes min_funcs=1                         | 01 00 00 01 00 00 | refused: minimum
     gc_enabled=yes max_types=2147483648                | 01 7f ff ff ff    | refused: limit Types
     gc_enabled=yes min_types=1000001 max_types=1000001 |                   | refused: limit Types
+    // By default: nothing, and a memory that is exported.
+    default | |
+    default | 00 00 00 01 00 00 00 01 00 00 01 61 01 | 05 03 01 00 01 07 05 01 01 61 02 00
+    // A function that is started, a table, a tag, a global, and a segment with the function.
+    default | 01 00 00 00 00 00 00 00 01 00 01 00 01 00 00 00 00 00 00 01 00 00 00 01 00 01 00 07 00 00 00 00 00 01 01 00 01 01 | 01 04 01 60 00 00 03 02 01 00 04 04 01 70 00 01 0d 03 01 00 00 06 06 01 7f 01 41 07 0b 08 01 00 09 07 01 00 41 00 0b 01 00 0a 05 01 03 00 00 0b
+    // Types alone.
+    default | 01 00 01 01 01 01 01 00 01 01                            | 01 0d 02 50 00 5f 01 78 01 50 00 5f 01 78 01
+    default | 01 01 00 01 01 00 05 00 01 01 00 00 00 01 01 00 05 00 01 | 01 0d 01 4e 02 5f 01 63 01 00 5f 01 63 00 00
+    // Imports, one by itself and one of a list.
+    default                             | 00 01 02 00 00 00 00 00 6d 66 01 01          | 02 08 01 01 6d 01 66 02 00 00
+    default compact_imports_enabled=yes | 00 01 01 6d 02 00 00 00 00 00 61 00 01 01    | 02 0b 01 01 6d 00 7f 01 01 61 02 00 00
+    // A global of a difference, and one of the first's value; and a passive segment.
+    default | 00 00 00 00 01 00 00 01 01 05 00 00 00 02 00 00 00 01 00 00 02 | 06 0e 02 7f 00 41 05 41 02 6b 0b 7f 00 23 00 0b
+    default | 00 00 00 00 00 00 01 61 62 02                                  | 0c 01 01 0b 05 01 01 02 61 62
+    // Refusals, and memories that may be more than their limit.
+    default min_types=1 max_types=0           | | refused: config min_types
+    default min_funcs=1 max_types=0           | | refused: minimum
+    default min_memories=101 max_memories=101 | | refused: limit Memories
+    default max_memories=101                  | |
 ";
 
 // Returns the features of what is made for the configuration.
@@ -104,7 +123,7 @@ fn are_fronts_made(alloc: Global, config: &Config, seed: &[u8], expected: &str) 
 // Checks that a row holds.
 fn holds(alloc: Global, row: &str) -> Option<bool> {
     let (settings, seed, expected) = three_fields(row)?;
-    let config = config_of(settings)?;
+    let config = config_in(settings)?;
     let seed = parts_of(alloc, seed)?;
     let is_made = makes(alloc, &config, &seed, expected);
     Some(is_made && are_fronts_made(alloc, &config, &seed, expected))
@@ -112,19 +131,19 @@ fn holds(alloc: Global, row: &str) -> Option<bool> {
 
 #[test]
 fn seeds_make_these_modules(rt: HostRuntime) -> Result<(), Fail> {
-    Ok(check_rows(rt.alloc(), ROWS, 20, holds)?)
+    Ok(check_rows(rt.alloc(), ROWS, 33, holds)?)
 }
 
 #[test]
 fn modules_of_one_byte_are_accepted(rt: HostRuntime) {
     for byte in 0..=255u8 {
-        assert!(rt; is_accepted(rt.alloc(), &supported_config(), &[byte]));
+        assert!(rt; is_accepted(rt.alloc(), &Config::default(), &[byte]));
     }
 }
 
 #[test]
 fn module_of_a_long_seed_is_accepted(rt: HostRuntime) {
-    assert!(rt; is_accepted(rt.alloc(), &supported_config(), &[0xff; 4096]));
+    assert!(rt; is_accepted(rt.alloc(), &Config::default(), &[0xff; 4096]));
 }
 
 // Returns seeds of one pattern each, so that types, functions and locals come of them.
@@ -140,7 +159,7 @@ fn patterned(alloc: Global, step: u8) -> Vec<u8> {
 
 // Returns a configuration in which the bits of a number turn features off.
 fn turned(bits: u8) -> Config {
-    let mut config = supported_config();
+    let mut config = plain_config();
     config.allow_floats = bits & 1 == 0;
     config.simd_enabled = bits & 2 == 0;
     config.reference_types_enabled = bits & 4 == 0;

@@ -5,9 +5,9 @@
 #[cfg(test)]
 mod answers;
 #[cfg(test)]
-mod configs;
-#[cfg(test)]
 mod drawn_groups;
+#[cfg(test)]
+mod drawn_modules;
 #[cfg(test)]
 mod drawn_types;
 #[cfg(test)]
@@ -24,6 +24,8 @@ mod marks;
 mod narrowings;
 #[cfg(test)]
 mod numbers;
+#[cfg(test)]
+mod parts;
 #[cfg(test)]
 mod references;
 #[cfg(test)]

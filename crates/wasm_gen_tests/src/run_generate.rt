@@ -8,7 +8,8 @@ use wasm_core::limits::Limit;
 use wasm_gen::device::Source;
 use wasm_gen::error::{GenerateError, RunError};
 use wasm_gen::run::run_generate;
-use wasm_gen::smith::{Config, supported_config};
+use wasm_gen::smith::Config;
+use wasm_smith_config_rows::settings::plain_config;
 
 // A seed of one type and one function, and the bytes that are made of it.
 const SEED: &[u8] = &[0x01, 0x00, 0x00, 0x00, 0x01];
@@ -22,7 +23,7 @@ const MODULE: &[u8] = &[
 fn makes_the_module(alloc: Global) -> bool {
     let mut reader = SEED;
     let mut written = Vec::new(alloc);
-    let answer = run_generate(alloc, &supported_config(), &mut reader, &mut written);
+    let answer = run_generate(alloc, &plain_config(), &mut reader, &mut written);
     answer == Ok(()) && written.as_slice() == MODULE
 }
 
@@ -35,7 +36,7 @@ fn writes_the_module_of_a_seed(rt: HostRuntime) {
 fn fills(alloc: Global, room: usize) -> bool {
     let mut reader = SEED;
     let mut writer = NarrowWriter::new(alloc, room, WhenFull::Fails);
-    let answer = run_generate(alloc, &supported_config(), &mut reader, &mut writer);
+    let answer = run_generate(alloc, &plain_config(), &mut reader, &mut writer);
     let expected = if room < MODULE.len() {
         Err(RunError::Write)
     } else {
@@ -72,7 +73,7 @@ const REFUSED: &[(u32, u32, u32, GenerateError)] = &[
 
 #[test]
 fn writes_nothing_of_a_refused_seed(rt: HostRuntime) {
-    let mut config = supported_config();
+    let mut config = plain_config();
     for (min_types, max_types, min_funcs, cause) in REFUSED {
         config.min_types = *min_types;
         config.max_types = *max_types;
@@ -84,7 +85,7 @@ fn writes_nothing_of_a_refused_seed(rt: HostRuntime) {
 
 #[test]
 fn writes_nothing_where_a_read_fails(rt: HostRuntime) {
-    let config = supported_config();
+    let config = plain_config();
     for script in ["!", "\x01!", "\x01~!", "\x01~\0!"] {
         let reader = ScriptedReader::new(script);
         assert!(rt; is_refused_for(rt.alloc(), &config, reader, RunError::Read));
@@ -94,5 +95,5 @@ fn writes_nothing_where_a_read_fails(rt: HostRuntime) {
 #[test]
 fn writes_nothing_of_an_input_without_end(rt: HostRuntime) {
     let reader = io::repeat(1);
-    assert!(rt; is_refused_for(rt.alloc(), &supported_config(), reader, RunError::TooLong));
+    assert!(rt; is_refused_for(rt.alloc(), &plain_config(), reader, RunError::TooLong));
 }

@@ -1,6 +1,5 @@
 //! Seeds for lists of types and functions.
 
-use crate::configs::config_of;
 use crate::generated::makes;
 use crate::lists::{Drawing, function_type, put};
 use std::alloc::Global;
@@ -8,8 +7,9 @@ use std::test::Fail;
 use wasm_core::types::{SubType, ValType};
 use wasm_gen::generate::generate;
 use wasm_gen::seed::seed_for;
-use wasm_gen::smith::{Config, supported_config};
+use wasm_gen::smith::Config;
 use wasm_gen_rows::modules::parts_of;
+use wasm_smith_config_rows::settings::{config_in, plain_config};
 use wasm_test_rows::fields::four_fields;
 use wasm_test_rows::rows::check_rows;
 use wasm_test_rows::values::{number_of, numbers_of};
@@ -17,7 +17,7 @@ use wasm_test_types::types;
 
 // Checks that exactly the module is made of the seed.
 fn makes_exactly(alloc: Global, seed: &[u8], module: &[u8]) -> bool {
-    match generate(alloc, &supported_config(), seed) {
+    match generate(alloc, &plain_config(), seed) {
         Ok(made) => made.as_slice() == module,
         Err(_) => false,
     }
@@ -25,7 +25,7 @@ fn makes_exactly(alloc: Global, seed: &[u8], module: &[u8]) -> bool {
 
 // Checks that a module with the same front is made of the seed.
 fn makes_front(alloc: Global, seed: &[u8], module: &[u8], front_len: usize) -> bool {
-    match generate(alloc, &supported_config(), seed) {
+    match generate(alloc, &plain_config(), seed) {
         Ok(made) => made.get(..front_len) == module.get(..front_len),
         Err(_) => false,
     }
@@ -33,7 +33,7 @@ fn makes_front(alloc: Global, seed: &[u8], module: &[u8], front_len: usize) -> b
 
 // Checks that exactly the module is made of the seed for these groups and functions.
 fn is_found(alloc: Global, groups: &[Vec<SubType>], functions: &[u32], module: &[u8]) -> bool {
-    match seed_for(alloc, &supported_config(), groups, functions) {
+    match seed_for(alloc, &plain_config(), groups, functions) {
         Ok(Some(seed)) => makes_exactly(alloc, &seed, module),
         _ => false,
     }
@@ -71,11 +71,12 @@ fn drawn_lists_are_made_from_seeds(rt: HostRuntime) {
     }
 }
 
-// Settings; how many groups there are, of how many types each, with how many parameters; the index of each function's type, a byte each; and the
+// A configuration; how many groups there are, of how many types each, with how many parameters; the index of each function's type, a byte each; and the
 // sections that are made of the seed for them, or `none` where there is no seed.
 const ROWS: &str = "
     // One function of one type.
     | 1 1 0 | 00 | types functions code
+    default | 1 1 0 | 00 | types functions code
     // Parameters have their bound, and types that the configuration enables.
     | 1 1 20 | 00 | 01 18 01 60 14 7b*20 00 functions code
     | 1 1 21 | 00 | none
@@ -91,7 +92,6 @@ const ROWS: &str = "
     // Configurations out of reach.
     min_types=1           | 1 1 0 | 00 | none
     export_everything=yes | 1 1 0 | 00 | none
-    default               | 1 1 0 | 00 | none
     // The limit of functions is the last that is made.
     max_funcs=2000000 | 1 1 0 | 00*1000000 | types 03 c3 84 3d c0 84 3d 00*1000000 0a 83 92 f4 01 c0 84 3d 0300000b*1000000
     max_funcs=2000000 | 1 1 0 | 00*1000001 | none
@@ -166,7 +166,7 @@ fn is_expected(alloc: Global, config: &Config, seed: Option<&[u8]>, expected: &s
 // Checks that a row holds.
 fn holds(alloc: Global, row: &str) -> Option<bool> {
     let (settings, groups, functions, expected) = four_fields(row)?;
-    let config = config_of(settings)?;
+    let config = config_in(settings)?;
     let seed = seed_of(alloc, &config, groups, functions)?;
     Some(is_expected(alloc, &config, seed.as_deref(), expected))
 }
@@ -176,7 +176,7 @@ fn seeds_are_found_within_the_bounds(rt: HostRuntime) -> Result<(), Fail> {
     Ok(check_rows(rt.alloc(), ROWS, 17, holds)?)
 }
 
-// Settings, groups of types in words, the index of each function's type, and the sections that are made of the seed for them, or `none`.
+// A configuration, groups of types in words, the index of each function's type, and the sections that are made of the seed for them, or `none`.
 const IN_WORDS: &str = "
     // A reference to a type of an earlier group, two types that refer to each other, and one that refers to itself.
     gc_enabled=yes | func -> ; struct 0?    | 0 | 01 09 02 60 00 00 5f 01 63 00 00 functions code
@@ -194,6 +194,19 @@ const IN_WORDS: &str = "
     // A reference to continuations.
     stack_switching_enabled=yes | func cont? -> | 0 | 01 05 01 60 01 68 00 functions code
     | func cont? -> | 0 | none
+    // By default: a function and a structure that refers to its type, two structures that refer to each other, and an array of itself.
+    default | func -> ; struct 0?          | 0 | 01 09 02 60 00 00 5f 01 63 00 00 functions code
+    default | struct 1?, struct 0?         |   | 01 0d 01 4e 02 5f 01 63 01 00 5f 01 63 00 00
+    default | array 0?                     |   | 01 05 01 5e 63 00 00
+    // A reference to a type of a later group, and one that is never null, to a type of its own group and to none.
+    default | array 1? ; func ->           |   | none
+    default | array 0                      |   | none
+    default | func func ->                 |   | none
+    // A supertype, an empty group, a function of a type that is a structure, and too many fields.
+    default | open func -> ; sub 0 func -> |   | none
+    default | func -> ; ; func ->          |   | none
+    default | struct i8                    | 0 | none
+    default | struct i8 i8 i8 i8 i8 i8 i8 i8 i8 i8 i8 i8 i8 i8 i8 i8 i8 i8 i8 i8 i8 | | none
 ";
 
 // Checks that the seed for these groups and functions makes these sections, or that there is to be none.
@@ -212,7 +225,7 @@ fn is_answer(
 // Checks that a row with its types in words holds.
 fn holds_in_words(alloc: Global, row: &str) -> Option<bool> {
     let (settings, groups, functions, expected) = four_fields(row)?;
-    let config = config_of(settings)?;
+    let config = config_in(settings)?;
     let functions = numbers_of(alloc, functions)?;
     let groups = types::groups_of(alloc, groups)?;
     let holds = is_answer(alloc, &config, (&groups, &functions), expected);
@@ -222,5 +235,5 @@ fn holds_in_words(alloc: Global, row: &str) -> Option<bool> {
 
 #[test]
 fn seeds_are_found_for_types_in_words(rt: HostRuntime) -> Result<(), Fail> {
-    Ok(check_rows(rt.alloc(), IN_WORDS, 11, holds_in_words)?)
+    Ok(check_rows(rt.alloc(), IN_WORDS, 21, holds_in_words)?)
 }

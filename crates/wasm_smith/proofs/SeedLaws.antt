@@ -1,6 +1,6 @@
 -- Laws of seeds for lists, under the name of this crate.
-pub use Rattle.wasm_smith_witness.proofs.MemberLaws.{not_good, no_min_funcs, flat_entries}
-pub use Rattle.wasm_smith_witness.proofs.ReachLaws.{whole_reach, module_on}
+pub use Rattle.wasm_smith_witness.proofs.MemberLaws.{not_good, nothing_else, no_min_funcs, flat_entries}
+pub use Rattle.wasm_smith_witness.proofs.ReachLaws.{whole_reach, groups_on, funcs_stay}
 use Rattle.wasm_spec.specs.Features.{Features}
 use Rattle.wasm_smith_config.specs.Config.{AreFeaturesOf}
 use Rattle.wasm_smith_config.specs.Rows.{switches}

@@ -110,21 +110,13 @@ maximums c =
     at_most (codes "max_memory32_bytes") (2 ^ 32) c.max_memory32_bytes ∷
     at_most (codes "max_memory64_bytes") (2 ^ 64) c.max_memory64_bytes ∷ []
 
--- what isn't supported: of these there are none, and these are off
+-- what isn't supported: these are off
 abbrev pub not_made_yet : Config → List Field
 not_made_yet c =
-    at_most (codes "max_imports") 0 c.max_imports ∷
-    at_most (codes "max_tags") 0 c.max_tags ∷
-    at_most (codes "max_globals") 0 c.max_globals ∷
-    at_most (codes "max_exports") 0 c.max_exports ∷
-    at_most (codes "max_element_segments") 0 c.max_element_segments ∷
-    at_most (codes "max_data_segments") 0 c.max_data_segments ∷
-    at_most (codes "max_tables") 0 c.max_tables ∷
-    at_most (codes "max_memories") 0 c.max_memories ∷
-    is_off (codes "allow_start_export") c.allow_start_export ∷
     is_off (codes "export_everything") c.export_everything ∷
     is_off (codes "allow_invalid_funcs") c.allow_invalid_funcs ∷
-    is_off (codes "generate_custom_sections") c.generate_custom_sections ∷ []
+    is_off (codes "generate_custom_sections") c.generate_custom_sections ∷
+    is_off (codes "disallow_traps") c.disallow_traps ∷ []
 
 -- the fields of which something is asked, once for each thing that is asked
 abbrev pub fields : Config → List Field

@@ -1,5 +1,7 @@
 -- The configuration where nothing else is said.
 use Rattle.std.specs.Prelude.{◌≡◌, ℕ, ◌^◌, Bool, true, false, List, [], ◌∷◌, replicate}
+use Rattle.wasm_smith_config.specs.Instructions.{all_kinds}
+use Rattle.wasm_smith_config.specs.Offsets.{default_choices}
 use Rattle.wasm_smith_config.specs.declared.config.Config.{Config}
 
 -- what is allowed
@@ -40,3 +42,5 @@ pub record IsDefault (c : Config) : Type 0 where
   pub table_elements : c.max_table_elements ≡ 1000000
   pub memory32_bytes : c.max_memory32_bytes ≡ 2 ^ 32
   pub memory64_bytes : c.max_memory64_bytes ≡ 2 ^ 64
+  pub instructions : c.allowed_instructions ≡ all_kinds
+  pub offsets : c.memory_offset_choices ≡ default_choices

@@ -1,5 +1,7 @@
 pub mod Config
 pub mod Defaults
 pub mod Fields
-pub mod SupportedConfig
 pub mod Rows
+pub mod Instructions
+pub mod Offsets
+pub mod Arbitrary

@@ -92,22 +92,14 @@ impl Config {
     }
 
     // What asks for something that isn't supported.
-    fn not_made_yet(&self) -> [Field; 12]
+    fn not_made_yet(&self) -> [Field; 4]
         ensures { map field_of result ≡ table.not_made_yet self.now }
     {
         [
-            at_most("max_imports", 0, self.max_imports),
-            at_most("max_tags", 0, self.max_tags),
-            at_most("max_globals", 0, self.max_globals),
-            at_most("max_exports", 0, self.max_exports),
-            at_most("max_element_segments", 0, self.max_element_segments),
-            at_most("max_data_segments", 0, self.max_data_segments),
-            at_most("max_tables", 0, self.max_tables),
-            at_most("max_memories", 0, self.max_memories),
-            is_off("allow_start_export", self.allow_start_export),
             is_off("export_everything", self.export_everything),
             is_off("allow_invalid_funcs", self.allow_invalid_funcs),
             is_off("generate_custom_sections", self.generate_custom_sections),
+            is_off("disallow_traps", self.disallow_traps),
         ]
     }
 }

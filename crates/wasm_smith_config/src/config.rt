@@ -3,6 +3,8 @@
 ghost use Rattle.std.specs.Prelude.{◌≡◌, ◌≤◌, ◌^◌, ◌<◌, IsTrue};
 ghost use Rattle.std.specs.List.{AllZip};
 
+use crate::instruction_kinds::InstructionKinds;
+use crate::memory_offset_choices::MemoryOffsetChoices;
 use wasm_core_base::features::{Flags, WasmFeatures};
 
 /// The most bytes that a memory of 32-bit addresses has where nothing else is said.
@@ -128,6 +130,11 @@ pub struct Config {
     pub max_memory32_bytes: u64,
     /// The most bytes that the size of a memory of 64-bit addresses states.
     pub max_memory64_bytes: u128,
+
+    /// The kinds of instructions that function bodies may have. They are kept for those who make bodies, and steer nothing here.
+    pub allowed_instructions: InstructionKinds,
+    /// Weights of the offsets of memory accesses in function bodies. They are kept for those who make bodies, and steer nothing here.
+    pub memory_offset_choices: MemoryOffsetChoices,
 }
 
 /// All that the standard has may be used, and each count is at most 100, of tables and memories at most 1.
@@ -191,6 +198,8 @@ impl Default for Config {
             max_table_elements: 1_000_000,
             max_memory32_bytes: DEFAULT_MEMORY32_BYTES,
             max_memory64_bytes: DEFAULT_MEMORY64_BYTES,
+            allowed_instructions: InstructionKinds::all(),
+            memory_offset_choices: MemoryOffsetChoices::default(),
         }
     }
 }

@@ -1,4 +1,4 @@
-//! Why no module is made.
+//! Why no module is made, and why a text isn't read.
 
 use std::alloc::AllocError;
 use thiserror::Error;
@@ -42,3 +42,8 @@ impl From<AllocError> for Error {
         Error::Memory
     }
 }
+
+/// The text can't be read.
+#[derive(Clone, Copy, Debug, PartialEq, Eq, Error)]
+#[error("bad text")]
+pub struct BadText;

@@ -1,7 +1,9 @@
 //! What a generator is asked for: its configuration, and why it makes no module.
 #![tactic(auto)]
 
+mod arbitrary;
 mod check;
 pub mod config;
 pub mod error;
-pub mod supported;
+pub mod instruction_kinds;
+pub mod memory_offset_choices;

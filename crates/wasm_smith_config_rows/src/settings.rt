@@ -1,4 +1,4 @@
-//! Configurations by their settings: `max_types=1 gc_enabled=yes`.
+//! Configurations by their settings: `max_types=1 gc_enabled=yes`, after `default` where they change the default.
 
 ghost use Rattle.std.specs.Prelude.{◌≡◌, IfNone, false};
 ghost use Rattle.wasm_smith_config_rows.specs.Settings.{with_maximums, with_minimums, with_switches};
@@ -16,14 +16,17 @@ fn set_switch(config: &mut Config, name: &str, is_on: bool) -> bool
         "allow_invalid_funcs" => config.allow_invalid_funcs = is_on,
         "allow_start_export" => config.allow_start_export = is_on,
         "bulk_memory_enabled" => config.bulk_memory_enabled = is_on,
+        "canonicalize_nans" => config.canonicalize_nans = is_on,
         "compact_imports_enabled" => config.compact_imports_enabled = is_on,
         "custom_page_sizes_enabled" => config.custom_page_sizes_enabled = is_on,
+        "disallow_traps" => config.disallow_traps = is_on,
         "exceptions_enabled" => config.exceptions_enabled = is_on,
         "export_everything" => config.export_everything = is_on,
         "extended_const_enabled" => config.extended_const_enabled = is_on,
         "gc_enabled" => config.gc_enabled = is_on,
         "generate_custom_sections" => config.generate_custom_sections = is_on,
         "memory64_enabled" => config.memory64_enabled = is_on,
+        "memory_max_size_required" => config.memory_max_size_required = is_on,
         "multi_value_enabled" => config.multi_value_enabled = is_on,
         "reference_types_enabled" => config.reference_types_enabled = is_on,
         "relaxed_simd_enabled" => config.relaxed_simd_enabled = is_on,
@@ -31,6 +34,7 @@ fn set_switch(config: &mut Config, name: &str, is_on: bool) -> bool
         "sign_extension_ops_enabled" => config.sign_extension_ops_enabled = is_on,
         "simd_enabled" => config.simd_enabled = is_on,
         "stack_switching_enabled" => config.stack_switching_enabled = is_on,
+        "table_max_size_required" => config.table_max_size_required = is_on,
         "tail_call_enabled" => config.tail_call_enabled = is_on,
         "threads_enabled" => config.threads_enabled = is_on,
         "wide_arithmetic_enabled" => config.wide_arithmetic_enabled = is_on,
@@ -119,4 +123,28 @@ pub fn config_of(mut config: Config, settings: &str) -> Option<Config> {
         }
     }
     Some(config)
+}
+
+/// Returns the default configuration without garbage collection, and without anything but types and functions.
+pub fn plain_config() -> Config {
+    let mut config = Config::default();
+    config.allow_start_export = false;
+    config.gc_enabled = false;
+    config.max_imports = 0;
+    config.max_tags = 0;
+    config.max_tables = 0;
+    config.max_memories = 0;
+    config.max_globals = 0;
+    config.max_exports = 0;
+    config.max_element_segments = 0;
+    config.max_data_segments = 0;
+    config
+}
+
+/// Returns the configuration of a field: with the settings after `default` the default one, and else the plain one.
+pub fn config_in(field: &str) -> Option<Config> {
+    match field.strip_prefix("default") {
+        Some(settings) => config_of(Config::default(), settings),
+        None => config_of(plain_config(), field),
+    }
 }

@@ -1,10 +1,11 @@
-mod CodeTypes
-mod FunctionLaws
+mod BoundLaws
+mod CodeLaws
+mod DrawnLaws
+mod FrontLaws
 pub mod GoodLaws
-mod LocalTypes
+mod ImportedLaws
 pub mod MadeLaws
 mod OneEncoding
-mod RestLaws
-mod SectionLaws
-mod SeenRuns
-mod WrittenSections
+mod StepLaws
+mod TagLaws
+mod ValidLaws

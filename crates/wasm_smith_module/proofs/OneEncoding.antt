@@ -1,13 +1,13 @@
 -- A made module has one encoding.
-use Rattle.std.proofs.Common.{◌≡◌, ℕ, List, [], ◌∷◌, ◌++◌, map, refl, sym, ap, ◌∙◌}
+use Rattle.std.proofs.Common.{◌≡◌, ℕ, Bool, List, [], ◌∷◌, ◌++◌, map, refl, sym, ap, ◌∙◌}
 use Rattle.wasm_core_types.specs.CoreTypes.{val_type}
 use Rattle.wasm_core_types.specs.declared.types.ValType.{ValType}
 use Rattle.wasm_encoder_functions.specs.Locals.{locals_encoding, AreRunsOf}
 use Rattle.wasm_spec.specs.Types as spec
-use Rattle.wasm_smith_module.specs.Made.{Made}
-use Rattle.wasm_smith_module.specs.ModuleEncoding.{as_run, IsBodyEncoding, AreBodyEncodings, IsModuleEncoding, encoding_with}
-use Rattle.wasm_smith_module.proofs.CodeTypes.{code_type, same_code_type, type_there}
-use Rattle.wasm_smith_module.proofs.SeenRuns.{seen, are_runs}
+use Rattle.wasm_smith_sections.specs.ModuleEncoding.{as_run, IsBodyEncoding, AreBodyEncodings, IsModuleEncoding, encoding_with}
+use Rattle.wasm_smith_sections.proofs.CodeTypes.{code_type, same_code_type, type_there}
+use Rattle.wasm_smith_sections.proofs.SeenRuns.{seen, are_runs}
+use Rattle.wasm_smith_validity.specs.Made.{Made}
 
 -- types of the code have one list of runs
 abbrev HaveOneList : Type 0
@@ -38,6 +38,6 @@ same_bodies one (first ∷ rest) (body ∷ bodies) (other ∷ others) h k =
     let tails = same_bodies one rest bodies others h.1 k.1 in
     cc
 
-pub same_encoding : HaveOneList → (m : Made) (encoding other : List ℕ) → IsModuleEncoding m encoding → IsModuleEncoding m other → encoding ≡ other
-same_encoding one m encoding other h k =
-    h.is ∙ ap (encoding_with m) (same_bodies one m.locals h.bodies k.bodies h.are k.are) ∙ sym k.is
+pub same_encoding : HaveOneList → (counted : Bool) (m : Made) (encoding other : List ℕ) → IsModuleEncoding counted m encoding → IsModuleEncoding counted m other → encoding ≡ other
+same_encoding one counted m encoding other h k =
+    h.is ∙ ap (encoding_with counted m) (same_bodies one m.locals h.bodies k.bodies h.are k.are) ∙ sym k.is

@@ -1,18 +1,59 @@
 -- What a configuration promises of the modules that are made for it.
-use Rattle.std.specs.Prelude.{◌≤◌, length}
+use Rattle.std.specs.Prelude.{◌≤◌, ◌+◌, length}
 use Rattle.std.specs.List.{AllByRecursion}
 use Rattle.wasm_smith_config.specs.declared.config.Config.{Config}
+use Rattle.wasm_smith_definitions.specs.Bounds.{IsBoundedTable}
+use Rattle.wasm_smith_definitions.specs.Offered.{IsOfferedMemory}
+use Rattle.wasm_smith_exports.specs.Exports.{HasShortName}
+use Rattle.wasm_smith_exports.specs.Sizes.{exports_size}
+use Rattle.wasm_smith_imports.specs.Candidates.{IsOfferedImport, type_sizes}
+use Rattle.wasm_smith_imports.specs.Imports.{IsMadeEntry, import_count}
+use Rattle.wasm_smith_imports.specs.Named.{IsShortlyNamed, all_named}
+use Rattle.wasm_smith_imports.specs.Named as named
+use Rattle.wasm_smith_segments.specs.Elements.{IsBoundedElement}
 use Rattle.wasm_smith_types.specs.Bounds.{AreSmall}
 use Rattle.wasm_smith_types.specs.DrawnGroups.{AreSome}
 use Rattle.wasm_smith_types.specs.ValidGroups.{types_of}
-use Rattle.wasm_smith_module.specs.Made.{Made}
+use Rattle.wasm_smith_validity.specs.Made.{Made}
+use Rattle.wasm_smith_validity.specs.Spaces.{Spaces, functions_of, globals_of, spaces_after_all, spaces_of_types}
+use Rattle.wasm_smith_validity.specs.Validity.{entries_behind_types}
 
--- as many types and functions as the configuration says, small types, no empty group, and at most 100 locals a function
+-- the index spaces of a made module, which have the imported items too
+abbrev pub spaces_of : Made → Spaces
+spaces_of m = spaces_after_all (spaces_of_types (types_of m.groups)) (entries_behind_types m)
+
+-- As many items of each kind as the configuration says, imported ones included; small types and no empty group; at most 100 locals a function; and the
+-- bounds on each import, table, memory, export and element segment.
 pub record IsWithinBounds (c : Config) (m : Made) : Type 0 where
   pub enough_types : c.min_types ≤ length (types_of m.groups)
   pub few_types : length (types_of m.groups) ≤ c.max_types
-  pub enough_funcs : c.min_funcs ≤ length m.funcs
-  pub few_funcs : length m.funcs ≤ c.max_funcs
+  pub enough_imports : c.min_imports ≤ import_count m.imports
+  pub few_imports : import_count m.imports ≤ c.max_imports
+  pub enough_funcs : c.min_funcs ≤ length (functions_of (spaces_of m))
+  pub few_funcs : length (functions_of (spaces_of m)) ≤ c.max_funcs
+  pub enough_tables : c.min_tables ≤ length (spaces_of m).tables
+  pub few_tables : length (spaces_of m).tables ≤ c.max_tables
+  pub enough_memories : c.min_memories ≤ length (spaces_of m).memories
+  pub few_memories : length (spaces_of m).memories ≤ c.max_memories
+  pub enough_tags : c.min_tags ≤ length (spaces_of m).tags
+  pub few_tags : length (spaces_of m).tags ≤ c.max_tags
+  pub enough_globals : c.min_globals ≤ length (globals_of (spaces_of m))
+  pub few_globals : length (globals_of (spaces_of m)) ≤ c.max_globals
+  pub enough_exports : c.min_exports ≤ length m.exports
+  pub few_exports : length m.exports ≤ c.max_exports
+  pub enough_elems : c.min_element_segments ≤ length m.elems
+  pub few_elems : length m.elems ≤ c.max_element_segments
+  pub enough_data_segments : c.min_data_segments ≤ length m.data_segments
+  pub few_data_segments : length m.data_segments ≤ c.max_data_segments
   pub small_types : AreSmall (types_of m.groups)
   pub some_types : AreSome m.groups
+  -- the sizes of the types of all imports and exports
+  pub type_size : type_sizes (types_of m.groups) (named.types_of (all_named m.imports)) + exports_size (spaces_of m) ≤ c.max_type_size
+  pub made_imports : AllByRecursion (IsMadeEntry c) m.imports
+  pub offered_imports : AllByRecursion (IsOfferedImport c (types_of m.groups)) (named.types_of (all_named m.imports))
+  pub short_imports : AllByRecursion IsShortlyNamed (all_named m.imports)
+  pub tables : AllByRecursion (IsBoundedTable c) m.tables
+  pub memories : AllByRecursion (IsOfferedMemory c) m.memories
+  pub short_exports : AllByRecursion (λ export. HasShortName export.name) m.exports
+  pub elems : AllByRecursion (IsBoundedElement c (length (functions_of (spaces_of m)))) m.elems
   pub few_locals : AllByRecursion (λ locals. length locals ≤ 100) m.locals

@@ -1,37 +1,65 @@
--- What the steps of the generator draw, each from the bytes that are left: what is made, and the bytes that are left then.
-use Rattle.std.specs.Prelude.{ℕ, List, [], length, ◌==◌, Option, option_map, if◌then◌else◌}
-use Rattle.std.specs.Option.{unwrap_or}
-use Rattle.wasm_spec.specs.Types.{ValType, RecGroup}
+-- What is drawn first of a module: its types, then, where no import and no tag is made, its functions; and the bytes that are left then.
+use Rattle.std.specs.Prelude.{◌≡◌, ℕ, ◌+◌, Bool, List, [], map, Option, Some, None, option_map, if◌then◌else◌}
+use Rattle.std.specs.Option.{option_and_then}
+use Rattle.wasm_spec.specs.Types.{RecGroup}
 use Rattle.wasm_smith_config.specs.declared.config.Config.{Config}
-use Rattle.wasm_smith_unstructured.specs.Draws.{choose_at}
-use Rattle.wasm_smith_types.specs.Drawing.{Offers, values_at}
+use Rattle.wasm_smith_exports.specs.FunctionTypes.{function_indexes}
+use Rattle.wasm_smith_exports.specs.Wanted.{functions_at, wanted_tags}
+use Rattle.wasm_smith_imports.specs.Imports.{asked_imports}
+use Rattle.wasm_smith_items.specs.Steps.{asked}
 use Rattle.wasm_smith_types.specs.DrawnGroups.{drawn_groups_at}
-use Rattle.wasm_smith_types.specs.Growing.{grow_at, times_at}
-use Rattle.wasm_smith_types.specs.Offering.{offers}
 use Rattle.wasm_smith_types.specs.ValidGroups.{types_of}
-use Rattle.wasm_smith_module.specs.FunctionTypes.{function_indexes}
-use Rattle.wasm_smith_module.specs.Made.{Made}
+use Rattle.wasm_smith_validity.specs.Made.{Made}
+use Rattle.wasm_smith_validity.specs.Spaces.{spaces_of_types}
 
--- one of these function types, of which there is one
-unfoldable pub index_at : List ℕ → List ℕ → ℕ × List ℕ
-index_at indexes s = let choice = choose_at indexes s in (unwrap_or choice.0 0, choice.1)
+-- the bytes that are left where the first draw of a step says that no item is made
+abbrev pub left_unless_made : Bool × List ℕ → Option (List ℕ)
+left_unless_made first = if first.0 then None else Some first.1
 
--- functions, each of one of these function types; where there is no type there are none
-unfoldable pub funcs_at : Config → List ℕ → List ℕ → List ℕ × List ℕ
-funcs_at c indexes s = if length indexes == 0 then ([], s) else grow_at (index_at indexes) c.min_funcs c.max_funcs 0 s
+-- the bytes that are left after imports and tags, where there are these groups and none is made
+abbrev pub left_for_functions : Config → List (RecGroup ℕ) → List ℕ → Option (List ℕ)
+left_for_functions c groups s =
+    option_and_then (λ left. left_unless_made (asked (wanted_tags c) (spaces_of_types (types_of groups)) left))
+    (left_unless_made (asked_imports c (spaces_of_types (types_of groups)) s))
 
--- the locals of so many functions, whose references go to types with indexes below bound
-unfoldable pub code_at : Offers → ℕ → ℕ → List ℕ → List (List (ValType ℕ)) × List ℕ
-code_at o bound count s = times_at (values_at o bound 100) count s
+-- the functions, where no import comes before them
+abbrev pub with_functions : Config → List (RecGroup ℕ) → List ℕ → (List (RecGroup ℕ) × List ℕ) × List ℕ
+with_functions c groups s =
+    let funcs = functions_at c (function_indexes 0 (types_of groups)) 0 s in
+    ((groups, funcs.0), funcs.1)
 
--- the functions of a module with these groups, and then their locals
-unfoldable pub rest_at : Config → List (RecGroup ℕ) → List ℕ → Made × List ℕ
-rest_at c groups s =
-    let funcs = funcs_at c (function_indexes 0 (types_of groups)) s in
-    let locals = code_at (offers c) (length (types_of groups)) (length funcs.0) funcs.1 in
-    (record { groups = groups; funcs = funcs.0; locals = locals.0 }, locals.1)
+-- The groups, then the functions; only where the groups are drawn so, and the draws that come between say that there is no import and no tag.
+unfoldable pub front_at : Config → List ℕ → Option ((List (RecGroup ℕ) × List ℕ) × List ℕ)
+front_at c s = option_and_then (λ drawn. option_map (with_functions c drawn.0) (left_for_functions c drawn.0 drawn.1)) (drawn_groups_at c s)
 
--- The groups, then the functions, then their locals; with garbage collection only where the groups are drawn so: none is a clone, no type has a
--- supertype, and no types are owed.
-unfoldable pub module_at : Config → List ℕ → Option (Made × List ℕ)
-module_at c s = option_map (λ drawn. rest_at c drawn.0 drawn.1) (drawn_groups_at c s)
+-- ---- nothing but types and functions
+
+-- a module of these groups and functions, which have no locals
+abbrev pub bare_module : List (RecGroup ℕ) → List ℕ → Made
+bare_module groups funcs = record {
+  groups = groups;
+  imports = [];
+  funcs = funcs;
+  tables = [];
+  memories = [];
+  tags = [];
+  globals = [];
+  exports = [];
+  start = None;
+  elems = [];
+  data_segments = [];
+  locals = map (λ _. []) funcs;
+}
+
+-- no minimum of what is drawn after the functions is above 0
+abbrev pub OwesNothingElse : Config → Type 0
+OwesNothingElse c = c.min_tables + c.min_memories + c.min_globals + c.min_exports + c.min_element_segments + c.min_data_segments ≡ 0
+
+-- A module that is made has the groups and the functions that are drawn, no imports and no tags. Where no bytes are left after the functions, it has nothing
+-- else.
+pub record HasFront (c : Config) (drawn : (List (RecGroup ℕ) × List ℕ) × List ℕ) (m : Made) (left : List ℕ) : Type 0 where
+  pub groups : m.groups ≡ drawn.0.0
+  pub funcs : m.funcs ≡ drawn.0.1
+  pub imports : m.imports ≡ []
+  pub tags : m.tags ≡ []
+  pub alone : drawn.1 ≡ [] → OwesNothingElse c → (m ≡ bare_module drawn.0.0 drawn.0.1) × (left ≡ [])

@@ -1,9 +1,7 @@
 pub mod Bounds
 pub mod Building
-pub mod FunctionTypes
+pub mod Code
 pub mod Generating
-pub mod Made
-pub mod ModuleEncoding
+pub mod Items
+pub mod ModuleValue
 pub mod Promise
-pub mod SectionBytes
-pub mod Validity

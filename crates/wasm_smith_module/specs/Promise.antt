@@ -1,16 +1,14 @@
 -- What is promised of a module that is made, and why none is made.
-use Rattle.std.specs.Prelude.{◌≡◌, ⊤, ℕ, List, [], IfSome, ◌<◌}
+use Rattle.std.specs.Prelude.{◌≡◌, ⊤, ℕ, ◌+◌, ◌<◌, List}
 use Rattle.wasm_spec.specs.Features.{Features}
 use Rattle.wasm_smith_config.specs.Config.{AreFeaturesOf, IsGood, IsBadField}
 use Rattle.wasm_smith_config.specs.declared.config.Config.{Config}
 use Rattle.wasm_smith_config.specs.declared.error.Error.{Error}
 use Rattle.wasm_smith_config.specs.declared.error.Error.TheVariants.{IncorrectFormat, EmptyChoose, NotEnoughData, BadConfig, BadShape, TypeSize, Memory, TooLong}
-use Rattle.wasm_smith_types.specs.DrawnGroups.{AskForMore, drawn_groups_at}
-use Rattle.wasm_smith_types.specs.ValidGroups.{types_of}
+use Rattle.wasm_smith_types.specs.DrawnGroups.{AskForMore}
+use Rattle.wasm_smith_validity.specs.Validity.{IsValidByIndex}
 use Rattle.wasm_smith_module.specs.Bounds.{IsWithinBounds}
-use Rattle.wasm_smith_module.specs.FunctionTypes.{function_indexes}
-use Rattle.wasm_smith_module.specs.Made.{ModuleValue}
-use Rattle.wasm_smith_module.specs.Validity.{IsValidByIndex}
+use Rattle.wasm_smith_module.specs.ModuleValue.{ModuleValue}
 
 -- A module made for a good configuration is valid under the configuration's features, and within its bounds.
 pub record IsMadeFor (c : Config) (m : ModuleValue) : Type 0 where
@@ -19,22 +17,25 @@ pub record IsMadeFor (c : Config) (m : ModuleValue) : Type 0 where
   pub valid : (features : Features) → AreFeaturesOf c features → IsValidByIndex features m.made
   pub bounds : IsWithinBounds c m.made
 
--- Functions are owed, but there is no function type for them: where the groups are drawn so, none of their types is one.
-pub record HasNoFunctionType (c : Config) (s : List ℕ) : Type 0 where
-  pub good : IsGood c
-  pub owed : 0 < c.min_funcs
-  pub none_drawn : IfSome (drawn_groups_at c s) (λ drawn. function_indexes 0 (types_of drawn.0) ≡ [])
+-- the minimums of what can't always be made
+abbrev pub owed : Config → ℕ
+owed c = c.min_imports + c.min_tags + c.min_funcs + c.min_exports + c.min_element_segments + c.min_data_segments
 
--- Why no module is made from these bytes.
-abbrev pub IsReason : Config → List ℕ → Error → Type 0
-IsReason c s IncorrectFormat = HasNoFunctionType c s
-IsReason c s EmptyChoose = ⊥
-IsReason c s NotEnoughData = ⊥
-IsReason c s (BadConfig field) = IsBadField c field.now
-IsReason c s (BadShape field) = ⊥
-IsReason c s TypeSize = ⊥
-IsReason c s Memory = ⊤
-IsReason c s TooLong = ⊥
+-- Items are owed of which there may be none to make.
+pub record IsOwed (c : Config) : Type 0 where
+  pub good : IsGood c
+  pub some : 0 < owed c
+
+-- Why no module is made.
+abbrev pub IsReason : Config → Error → Type 0
+IsReason c IncorrectFormat = IsOwed c
+IsReason c EmptyChoose = ⊥
+IsReason c NotEnoughData = ⊥
+IsReason c (BadConfig field) = IsBadField c field.now
+IsReason c (BadShape field) = ⊥
+IsReason c TypeSize = ⊥
+IsReason c Memory = ⊤
+IsReason c TooLong = ⊥
 
 -- Why there are more types than so many.
 pub record PassesTypes (c : Config) (s : List ℕ) (most : ℕ) : Type 0 where

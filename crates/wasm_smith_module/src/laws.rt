@@ -1,14 +1,14 @@
 //! Laws of made modules. The functions do nothing: their contracts are theorems.
 
-ghost use Rattle.std.specs.Prelude.{◌≡◌, ℕ, List};
-ghost use Rattle.wasm_smith_module.specs.Made.{Made};
-ghost use Rattle.wasm_smith_module.specs.ModuleEncoding.{IsModuleEncoding};
+ghost use Rattle.std.specs.Prelude.{◌≡◌, ℕ, Bool, List};
+ghost use Rattle.wasm_smith_sections.specs.ModuleEncoding.{IsModuleEncoding};
+ghost use Rattle.wasm_smith_validity.specs.Made.{Made};
 
 use wasm_encoder_functions::laws::one_list_of_runs;
 
 /// A made module has at most one encoding, so that what it is written as depends on nothing else.
 pub fn one_encoding()
-    ensures { (m : Made) (encoding other : List ℕ) → IsModuleEncoding m encoding → IsModuleEncoding m other → encoding ≡ other }
+    ensures { (counted : Bool) (m : Made) (encoding other : List ℕ) → IsModuleEncoding counted m encoding → IsModuleEncoding counted m other → encoding ≡ other }
 {
     one_list_of_runs();
 }

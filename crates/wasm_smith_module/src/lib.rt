@@ -1,8 +1,10 @@
 //! The module generator.
 #![tactic(auto)]
 
+mod code;
+mod definitions;
+mod front;
+mod items;
 pub mod laws;
 pub mod module;
-mod sections;
-mod steps;
-mod writing;
+mod uses;

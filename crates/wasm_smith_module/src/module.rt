@@ -1,48 +1,81 @@
 //! Modules as they are made.
 
-ghost use Rattle.std.specs.Prelude.{◌≡◌, ◌≤◌, ◌^◌, IfOk, IfErr, IfSome, MatchOption, length};
+ghost use Rattle.std.specs.Prelude.{◌≡◌, ◌≤◌, ◌^◌, IfOk, IfErr, IfSome, MatchOption, length, map};
+ghost use Rattle.wasm_core_types.specs.CoreTypes.{val_type};
 ghost use Rattle.wasm_smith_config.specs.Config.{IsGood};
+ghost use Rattle.wasm_smith_definitions.specs.Offered.{HasFewTables};
 ghost use Rattle.wasm_smith_types.specs.DrawnGroups.{AskForMore};
 ghost use Rattle.wasm_smith_types.specs.Grouped.{groups, AreWhole};
 ghost use Rattle.wasm_smith_types.specs.Making.{made};
 ghost use Rattle.wasm_smith_types.specs.Offering.{offers};
-ghost use Rattle.wasm_smith_types.specs.ValidGroups.{types_of};
-ghost use Rattle.wasm_smith_module.specs.Building.{AreGroups, IsBuilt, IsEnd, IsFinished, IsUnfinished};
+ghost use Rattle.wasm_smith_types.specs.ValidGroups.{AllKeepTypeRules, types_of};
+ghost use Rattle.wasm_smith_module.specs.Building.{AreGroups, IsBuilt, IsEnd, IsFinished};
+ghost use Rattle.wasm_smith_module.specs.Items.{drawn_items, module_of};
 
-use crate::steps::{code, funcs, function_types};
-use crate::writing::write_module;
-use std::alloc::Global;
+use crate::code::code;
+use crate::items::{Items, draw_items};
+use std::alloc;
 use std::marker::Model;
 use wasm_core_types::types::{SubType, ValType};
 use wasm_core_write::encode_error::EncodeError;
+use wasm_encoder_sections::entity_type::MemoryType;
 use wasm_smith_config::config::Config;
 use wasm_smith_config::error::Error;
+use wasm_smith_imports::names::DuplicateImportsBehavior;
+use wasm_smith_items::imports::ImportEntry;
+use wasm_smith_items::items::{Export, Global, Table};
+use wasm_smith_items::segments::{DataSegment, ElementSegment};
+use wasm_smith_sections::module_items::ModuleItems;
+use wasm_smith_sections::writing::write_module;
 use wasm_smith_types::error::TypesError;
 use wasm_smith_types::types::{Types, make_types};
 use wasm_smith_types::value_types::Offers;
 use wasm_smith_unstructured::unstructured::Unstructured;
 
-/// A module that is made: recursive groups of types, and functions, each of one of the types and with locals of its own. Every
-/// body is `unreachable`. Contracts see it as its configuration and what it has.
+/// A module that is made. Every body is `unreachable`. Contracts see it as its configuration and what it has.
 #[derive(Debug, Drop)]
 pub struct Module {
     config: Config,
     types: Types,
+    imports: Vec<ImportEntry>,
     funcs: Vec<u32>,
+    tables: Vec<Table>,
+    memories: Vec<MemoryType>,
+    tags: Vec<u32>,
+    globals: Vec<Global>,
+    exports: Vec<Export>,
+    start: Option<u32>,
+    elems: Vec<ElementSegment>,
+    data_segments: Vec<DataSegment>,
     locals: Vec<Vec<ValType>>,
 }
 
 impl Model for Module {
     ghost use Rattle.std.specs.Prelude.{map};
     ghost use Rattle.wasm_core_types.specs.CoreTypes.{val_type};
+    ghost use Rattle.wasm_encoder_sections.specs.CoreItems.{memory_type};
+    ghost use Rattle.wasm_smith_items.specs.Items as items;
     ghost use Rattle.wasm_smith_types.specs.Grouped.{groups, AreWhole};
-    ghost use Rattle.wasm_smith_module.specs.Made.{ModuleValue};
+    ghost use Rattle.wasm_smith_module.specs.ModuleValue.{ModuleValue};
 
     ghost Value = { ModuleValue };
 
     ghost view = { λ m. record {
       config = m.config;
-      made = record { groups = groups m.types; funcs = m.funcs.items; locals = map (λ ls. map val_type ls.items) m.locals.items };
+      made = record {
+        groups = groups m.types;
+        imports = map items.import_entry m.imports.items;
+        funcs = m.funcs.items;
+        tables = map items.table m.tables.items;
+        memories = map memory_type m.memories.items;
+        tags = m.tags.items;
+        globals = map items.global m.globals.items;
+        exports = map items.export m.exports.items;
+        start = m.start;
+        elems = map items.element_segment m.elems.items;
+        data_segments = map items.data_segment m.data_segments.items;
+        locals = map (λ ls. map val_type ls.items) m.locals.items;
+      };
     } };
 
     ghost invariant = { λ m. AreWhole m.types };
@@ -50,7 +83,7 @@ impl Model for Module {
 
 // Makes the types, unless they are more than `most_types`.
 fn build_types(
-    alloc: Global,
+    alloc: alloc::Global,
     config: &Config,
     unstructured: &mut Unstructured<'_>,
     offered: &Offers,
@@ -62,7 +95,7 @@ fn build_types(
         (λ types. AreGroups config.now unstructured.old unstructured.new (groups types))) }
     ensures within { IfOk result (λ made. IfSome made (λ types. length (types_of (groups types)) ≤ most_types)) }
     ensures whole { IfOk result (λ made. IfSome made AreWhole) }
-    ensures refused { IfErr result (λ e. e ≡ Error.Memory) }
+    ensures ended { IfErr result (IsEnd config.now) }
 {
     match make_types(alloc, unstructured, offered, config, most_types) {
         Ok(types) => Ok(Some(types)),
@@ -71,85 +104,148 @@ fn build_types(
     }
 }
 
+// Returns the module of these parts.
+fn assembled(config: Config, types: Types, items: Items, locals: Vec<Vec<ValType>>) -> Module
+    requires whole { AreWhole types }
+    ensures { result ≡ record { config = config; made = module_of (groups types) (drawn_items items) (map (λ ls. map val_type ls.items) locals.items) } }
+{
+    let front = items.front;
+    let definitions = items.definitions;
+    let uses = items.uses;
+    Module {
+        config,
+        types,
+        imports: front.imports,
+        funcs: front.funcs,
+        tables: definitions.tables,
+        memories: definitions.memories,
+        tags: front.tags,
+        globals: definitions.globals,
+        exports: items.exports,
+        start: uses.start,
+        elems: uses.elems,
+        data_segments: uses.data_segments,
+        locals,
+    }
+}
+
 // Draws what follows the types.
-#[tactic(auto, unfolding(crate::specs::Generating::rest_at))]
 fn finish(
-    alloc: Global,
+    alloc: alloc::Global,
     config: Config,
+    duplicates: DuplicateImportsBehavior,
     unstructured: &mut Unstructured<'_>,
     offered: &Offers,
     types: Types,
 ) -> Result<Module, Error>
+    requires good { IsGood config }
+    requires tables { HasFewTables config }
     requires offered { offered.now ≡ offers config }
     requires whole { AreWhole types }
     requires few { length (made types) ≤ 2 ^ 31 }
-    ensures finished { IfOk result (IsFinished config (groups types) unstructured.old unstructured.new) }
-    ensures unfinished { IfErr result (IsUnfinished config (groups types) unstructured.old) }
+    requires rules { AllKeepTypeRules (made types) }
+    ensures finished { IfOk result (IsFinished config duplicates (groups types) unstructured.old unstructured.new) }
+    ensures ended { IfErr result (IsEnd config) }
 {
-    let indexes = function_types(alloc, types.types())?;
-    let funcs = funcs(alloc, unstructured, &config, &indexes)?;
-    if funcs.len() < config.min_funcs as usize {
-        return Err(Error::IncorrectFormat);
-    }
+    let items = draw_items(
+        alloc,
+        unstructured,
+        &config,
+        duplicates,
+        offered,
+        types.types(),
+    )?;
     let bound = types.types().len() as u32;
-    let locals = code(alloc, unstructured, offered, bound, funcs.len())?;
-    Ok(Module {
-        config,
-        types,
-        funcs,
-        locals,
-    })
+    let locals = code(alloc, unstructured, offered, bound, items.front.funcs.len())?;
+    Ok(assembled(config, types, items, locals))
 }
 
 // Draws a module, unless it has more than `most_types` types.
 fn build(
-    alloc: Global,
+    alloc: alloc::Global,
     config: Config,
+    duplicates: DuplicateImportsBehavior,
     unstructured: &mut Unstructured<'_>,
     most_types: u32,
 ) -> Result<Option<Module>, Error>
-    requires { IsGood config }
+    requires good { IsGood config }
+    requires tables { HasFewTables config }
     ensures built { IfOk result (λ built. MatchOption built (AskForMore config unstructured.old most_types)
-        (IsBuilt config unstructured.old unstructured.new)) }
+        (IsBuilt config duplicates unstructured.old unstructured.new)) }
     ensures within { IfOk result (λ built. IfSome built (λ m. length (types_of m.made.groups) ≤ most_types)) }
-    ensures ended { IfErr result (IsEnd config unstructured.old) }
+    ensures ended { IfErr result (IsEnd config) }
 {
     let offered = Offers::new(alloc, &config)?;
     let Some(types) = build_types(alloc, &config, unstructured, &offered, most_types)? else {
         return Ok(None);
     };
-    Ok(Some(finish(alloc, config, unstructured, &offered, types)?))
+    let finished = finish(alloc, config, duplicates, unstructured, &offered, types)?;
+    Ok(Some(finished))
 }
 
 impl Module {
     ghost use Rattle.std.specs.Prelude.{◌≡◌, ◌≤◌, length, map, IfOk, IfErr, IfSome, IfNone};
+    ghost use Rattle.std.specs.List.{AllByRecursion, IsDistinct};
     ghost use Rattle.wasm_core_types.specs.CoreTypes.{val_type};
     ghost use Rattle.wasm_core_types.specs.SubTypes.{sub_type};
+    ghost use Rattle.wasm_encoder_sections.specs.CoreItems.{memory_type};
     ghost use Rattle.wasm_spec.specs.Syntax.{members};
     ghost use Rattle.wasm_smith_config.specs.Config.{sanitized};
+    ghost use Rattle.wasm_smith_imports.specs.Named.{HasPlainName, all_named, have_same_names};
+    ghost use Rattle.wasm_smith_items.specs.Items as views;
+    ghost use Rattle.wasm_smith_sections.specs.ModuleEncoding.{IsModuleEncoding, IsUnwritten};
+    ghost use Rattle.wasm_smith_sections.specs.ModuleItems.{made_of};
+    ghost use Rattle.wasm_smith_types.specs.Drawing.{total};
     ghost use Rattle.wasm_smith_types.specs.ValidGroups.{types_of};
-    ghost use Rattle.wasm_smith_module.specs.Generating.{module_at};
-    ghost use Rattle.wasm_smith_module.specs.ModuleEncoding.{IsModuleEncoding, IsUnwritten};
+    ghost use Rattle.wasm_smith_module.specs.Generating.{HasFront, front_at};
     ghost use Rattle.wasm_smith_module.specs.Promise.{IsMadeFor, IsReason, IsBadConfig, PassesTypes};
 
-    /// Returns the module that is drawn from the source, for the configuration put in order ([`Config::sanitize`]).
+    /// Returns the module that is drawn from the source, for the configuration put in order ([`Config::sanitize`]). Two imports may have the same
+    /// names.
     ///
     /// # Errors
     ///
     /// [`Error::BadConfig`] names a field whose value [`Config::check`] doesn't allow; no bytes are taken then.
-    /// [`Error::IncorrectFormat`] is for functions that are owed though no function type is drawn. After it, and after
-    /// [`Error::Memory`], some of the source's bytes may be taken.
+    /// [`Error::IncorrectFormat`] is for items that are owed though none can be made: imports, tags, functions, exports, or segments. After it,
+    /// and after [`Error::Memory`], some of the source's bytes may be taken.
     pub fn new(
-        alloc: Global,
+        alloc: alloc::Global,
         config: Config,
         unstructured: &mut Unstructured<'_>,
     ) -> Result<Module, Error>
         ensures made { IfOk result (IsMadeFor (sanitized config)) }
-        ensures drawn { IfOk result (λ m. IfSome (module_at (sanitized config) unstructured.old) (λ drawn. drawn ≡ (m.made, unstructured.new))) }
-        ensures refused { IfErr result (IsReason (sanitized config) unstructured.old) }
+        ensures drawn { IfOk result (λ m. IfSome (front_at (sanitized config) unstructured.old) (λ drawn. HasFront (sanitized config) drawn m.made unstructured.new)) }
+        ensures plain { IfOk result (λ m. AllByRecursion HasPlainName (all_named m.made.imports)) }
+        ensures refused { IfErr result (IsReason (sanitized config)) }
         ensures unread { IfErr result (λ e. IsBadConfig e → unstructured.new ≡ unstructured.old) }
     {
-        let made = Module::new_within(alloc, config, unstructured, u32::MAX)?;
+        Module::new_internal(
+            alloc,
+            config,
+            DuplicateImportsBehavior::Allowed,
+            unstructured,
+        )
+    }
+
+    /// Returns the module that is drawn, as [`Module::new`] does, where two imports may have the same names or may not.
+    ///
+    /// # Errors
+    ///
+    /// Those of [`Module::new`].
+    pub fn new_internal(
+        alloc: alloc::Global,
+        config: Config,
+        duplicates: DuplicateImportsBehavior,
+        unstructured: &mut Unstructured<'_>,
+    ) -> Result<Module, Error>
+        ensures made { IfOk result (IsMadeFor (sanitized config)) }
+        ensures drawn { IfOk result (λ m. IfSome (front_at (sanitized config) unstructured.old) (λ drawn. HasFront (sanitized config) drawn m.made unstructured.new)) }
+        ensures distinct { IfOk result (λ m. duplicates ≡ DuplicateImportsBehavior.Disallowed → IsDistinct have_same_names (all_named m.made.imports)) }
+        ensures plain { IfOk result (λ m. duplicates ≡ DuplicateImportsBehavior.Allowed → AllByRecursion HasPlainName (all_named m.made.imports)) }
+        ensures refused { IfErr result (IsReason (sanitized config)) }
+        ensures unread { IfErr result (λ e. IsBadConfig e → unstructured.new ≡ unstructured.old) }
+    {
+        let made = Module::new_bounded(alloc, config, duplicates, unstructured, u32::MAX)?;
         Ok(made.unwrap())
     }
 
@@ -160,21 +256,43 @@ impl Module {
     ///
     /// Those of [`Module::new`].
     pub fn new_within(
-        alloc: Global,
-        mut config: Config,
+        alloc: alloc::Global,
+        config: Config,
         unstructured: &mut Unstructured<'_>,
         most_types: u32,
     ) -> Result<Option<Module>, Error>
         ensures made { IfOk result (λ made. IfSome made (IsMadeFor (sanitized config))) }
-        ensures drawn { IfOk result (λ made. IfSome made (λ m. IfSome (module_at (sanitized config) unstructured.old) (λ drawn. drawn ≡ (m.made, unstructured.new)))) }
+        ensures drawn { IfOk result (λ made. IfSome made (λ m. IfSome (front_at (sanitized config) unstructured.old) (λ drawn. HasFront (sanitized config) drawn m.made unstructured.new))) }
+        ensures plain { IfOk result (λ made. IfSome made (λ m. AllByRecursion HasPlainName (all_named m.made.imports))) }
         ensures within { IfOk result (λ made. IfSome made (λ m. length (types_of m.made.groups) ≤ most_types)) }
         ensures passed { IfOk result (λ made. IfNone made (PassesTypes (sanitized config) unstructured.old most_types)) }
-        ensures refused { IfErr result (IsReason (sanitized config) unstructured.old) }
+        ensures refused { IfErr result (IsReason (sanitized config)) }
+        ensures unread { IfErr result (λ e. IsBadConfig e → unstructured.new ≡ unstructured.old) }
+    {
+        let duplicates = DuplicateImportsBehavior::Allowed;
+        Module::new_bounded(alloc, config, duplicates, unstructured, most_types)
+    }
+
+    // Returns the module that is drawn; `None` as soon as more than `most_types` types are made and asked for.
+    fn new_bounded(
+        alloc: alloc::Global,
+        mut config: Config,
+        duplicates: DuplicateImportsBehavior,
+        unstructured: &mut Unstructured<'_>,
+        most_types: u32,
+    ) -> Result<Option<Module>, Error>
+        ensures made { IfOk result (λ made. IfSome made (IsMadeFor (sanitized config))) }
+        ensures drawn { IfOk result (λ made. IfSome made (λ m. IfSome (front_at (sanitized config) unstructured.old) (λ drawn. HasFront (sanitized config) drawn m.made unstructured.new))) }
+        ensures distinct { IfOk result (λ made. IfSome made (λ m. duplicates ≡ DuplicateImportsBehavior.Disallowed → IsDistinct have_same_names (all_named m.made.imports))) }
+        ensures plain { IfOk result (λ made. IfSome made (λ m. duplicates ≡ DuplicateImportsBehavior.Allowed → AllByRecursion HasPlainName (all_named m.made.imports))) }
+        ensures within { IfOk result (λ made. IfSome made (λ m. length (types_of m.made.groups) ≤ most_types)) }
+        ensures passed { IfOk result (λ made. IfNone made (PassesTypes (sanitized config) unstructured.old most_types)) }
+        ensures refused { IfErr result (IsReason (sanitized config)) }
         ensures unread { IfErr result (λ e. IsBadConfig e → unstructured.new ≡ unstructured.old) }
     {
         config.sanitize();
         config.check()?;
-        build(alloc, config, unstructured, most_types)
+        build(alloc, config, duplicates, unstructured, most_types)
     }
 
     /// Returns the configuration that it was made for, put in order.
@@ -198,11 +316,74 @@ impl Module {
         self.types.sizes()
     }
 
-    /// Returns the index of each function's type.
+    /// Returns the entries of the import section.
+    pub fn imports(&self) -> &[ImportEntry]
+        ensures { map views.import_entry result.now ≡ self.now.made.imports }
+    {
+        &self.imports
+    }
+
+    /// Returns the type index of each function.
     pub fn funcs(&self) -> &[u32]
         ensures { result.now ≡ self.now.made.funcs }
     {
         &self.funcs
+    }
+
+    /// Returns the tables that it defines.
+    pub fn tables(&self) -> &[Table]
+        ensures { map views.table result.now ≡ self.now.made.tables }
+    {
+        &self.tables
+    }
+
+    /// Returns the memories that it defines.
+    pub fn memories(&self) -> &[MemoryType]
+        ensures { map memory_type result.now ≡ self.now.made.memories }
+    {
+        &self.memories
+    }
+
+    /// Returns the type index of each tag that it defines.
+    pub fn tags(&self) -> &[u32]
+        ensures { result.now ≡ self.now.made.tags }
+    {
+        &self.tags
+    }
+
+    /// Returns the globals that it defines.
+    pub fn globals(&self) -> &[Global]
+        ensures { map views.global result.now ≡ self.now.made.globals }
+    {
+        &self.globals
+    }
+
+    /// Returns its exports.
+    pub fn exports(&self) -> &[Export]
+        ensures { map views.export result.now ≡ self.now.made.exports }
+    {
+        &self.exports
+    }
+
+    /// Returns the index of the function that it starts with.
+    pub fn start(&self) -> Option<u32>
+        ensures { result ≡ self.now.made.start }
+    {
+        self.start
+    }
+
+    /// Returns its element segments.
+    pub fn elems(&self) -> &[ElementSegment]
+        ensures { map views.element_segment result.now ≡ self.now.made.elems }
+    {
+        &self.elems
+    }
+
+    /// Returns its data segments.
+    pub fn data_segments(&self) -> &[DataSegment]
+        ensures { map views.data_segment result.now ≡ self.now.made.data_segments }
+    {
+        &self.data_segments
     }
 
     /// Returns the locals of each function.
@@ -212,23 +393,42 @@ impl Module {
         &self.locals
     }
 
+    /// Returns its items, as they are written: with bulk memory, data segments are counted.
+    pub fn items(&self) -> ModuleItems<'_>
+        ensures items { made_of result ≡ self.now.made }
+        ensures whole { total result.sizes.now ≡ length result.types.now }
+        ensures counted { result.data_count ≡ self.now.config.bulk_memory_enabled }
+    {
+        let types = &self.types;
+        ModuleItems {
+            types: types.types(),
+            sizes: types.sizes(),
+            imports: &self.imports,
+            funcs: &self.funcs,
+            tables: &self.tables,
+            memories: &self.memories,
+            tags: &self.tags,
+            globals: &self.globals,
+            exports: &self.exports,
+            start: self.start,
+            elems: &self.elems,
+            data_segments: &self.data_segments,
+            locals: &self.locals,
+            data_count: self.config.bulk_memory_enabled,
+        }
+    }
+
     /// Returns the bytes of the module: each section is measured, the bytes grow once, and then they are written.
     ///
     /// # Errors
     ///
     /// [`Error::TooLong`] where a count, a run of locals or a length is past 4,294,967,295, and else [`Error::Memory`].
-    pub fn to_bytes(&self, alloc: Global) -> Result<Vec<u8>, Error>
-        ensures written { IfOk result (λ bytes. IsModuleEncoding self.now.made bytes.items) }
-        ensures refused { IfErr result (IsUnwritten self.now.made) }
+    pub fn to_bytes(&self, alloc: alloc::Global) -> Result<Vec<u8>, Error>
+        ensures written { IfOk result (λ bytes. IsModuleEncoding self.now.config.bulk_memory_enabled self.now.made bytes.items) }
+        ensures refused { IfErr result (IsUnwritten self.now.config.bulk_memory_enabled self.now.made) }
     {
-        let types = &self.types;
-        match write_module(
-            alloc,
-            types.types(),
-            types.sizes(),
-            &self.funcs,
-            &self.locals,
-        ) {
+        let items = self.items();
+        match write_module(alloc, &items) {
             Ok(bytes) => Ok(bytes),
             Err(EncodeError::Memory) => Err(Error::Memory),
             Err(EncodeError::TooLong) => Err(Error::TooLong),

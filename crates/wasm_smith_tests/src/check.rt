@@ -4,7 +4,6 @@ use std::alloc::Global;
 use std::test::Fail;
 use wasm_smith::config::Config;
 use wasm_smith::error::Error;
-use wasm_smith::supported::supported_config;
 use wasm_smith_config_rows::settings::config_of;
 use wasm_test_rows::fields::two_fields;
 use wasm_test_rows::rows::check_rows;
@@ -18,7 +17,7 @@ fn is_answer(answer: Result<(), Error>, expected: &str) -> bool {
     }
 }
 
-// In what a configuration is not the plain one, and the field that is named.
+// In what a configuration differs from the default, and the field that is named.
 const CHECKED: &str = "
     | allowed
     min_funcs=2147483648 max_funcs=2147483648 max_instructions=2147483648 max_table_elements=18446744073709551615 | allowed
@@ -43,32 +42,19 @@ const CHECKED: &str = "
     max_memory32_bytes=4294967297 | max_memory32_bytes
     max_memory64_bytes=18446744073709551617 | max_memory64_bytes
     // What can't be made.
-    max_imports=1 | max_imports
-    max_tags=1 | max_tags
-    max_globals=1 | max_globals
-    max_exports=1 | max_exports
-    max_element_segments=1 | max_element_segments
-    max_data_segments=1 | max_data_segments
-    max_tables=1 | max_tables
-    max_memories=1 | max_memories
-    allow_start_export=yes | allow_start_export
     export_everything=yes | export_everything
     allow_invalid_funcs=yes | allow_invalid_funcs
     generate_custom_sections=yes | generate_custom_sections
+    disallow_traps=yes | disallow_traps
 ";
 
 fn holds(_alloc: Global, row: &str) -> Option<bool> {
     let (settings, expected) = two_fields(row)?;
-    let config = config_of(supported_config(), settings)?;
+    let config = config_of(Config::default(), settings)?;
     Some(is_answer(config.check(), expected))
 }
 
 #[test]
-fn names_a_field_of_the_default(rt: HostRuntime) {
-    assert!(rt; is_answer(Config::default().check(), "max_imports"));
-}
-
-#[test]
 fn bad_fields_are_named(rt: HostRuntime) -> Result<(), Fail> {
-    Ok(check_rows(rt.alloc(), CHECKED, 32, holds)?)
+    Ok(check_rows(rt.alloc(), CHECKED, 24, holds)?)
 }

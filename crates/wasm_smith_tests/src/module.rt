@@ -4,16 +4,15 @@ use std::alloc::Global;
 use std::test::Fail;
 use wasm_smith::config::Config;
 use wasm_smith::module::Module;
-use wasm_smith::supported::supported_config;
 use wasm_smith::unstructured::Unstructured;
-use wasm_smith_config_rows::settings::config_of;
-use wasm_test_rows::fields::four_fields;
+use wasm_smith_config_rows::settings::config_in;
+use wasm_test_rows::fields::{four_fields, two_fields};
 use wasm_test_rows::rows::check_rows;
 use wasm_test_rows::shown::{debugs, debugs_same, displays};
 use wasm_test_rows::values::bytes_of;
 use wasm_test_types::types::sub_types_of;
 
-// In what a configuration differs from the supported one, the bytes, the types that are made, and the functions with their locals. Where no module is made, the
+// A configuration, the bytes, the types that are made, and the functions with their locals. Where no module is made, the
 // third field is `refused`, and then there is the cause.
 const MADE: &str = "
     | | | ([], [])
@@ -60,9 +59,60 @@ fn makes(alloc: Global, config: Config, bytes: &[u8], types: &str, rest: &str) -
 
 fn holds(alloc: Global, row: &str) -> Option<bool> {
     let (settings, bytes, types, rest) = four_fields(row)?;
-    let config = config_of(supported_config(), settings)?;
+    let config = config_in(settings)?;
     let bytes = bytes_of(alloc, bytes)?;
     Some(makes(alloc, config, &bytes, types, rest))
+}
+
+// The bytes of a module with most kinds of items.
+const BYTES: &[u8] = &[
+    1, 0, 0, 0, 0, 0, 0, 0, 1, 0, 1, 0, 1, 0, 0, 0, 0, 0, 0, 1, 0, 0, 0, 1, 0, 1, 0, 7, 0, 0, 0, 0,
+    0, 1, 1, 0, 1, 1,
+];
+
+// Accessors, and what they show of the module that is made of these bytes by default.
+const SHOWN: &str = "
+    imports | []
+    tables | [Table { ty: TableType { element_type: RefType { nullable: true, heap_type: Abstract(Func) }, table64: false, minimum: 1, maximum: None }, init: None }]
+    memories | []
+    tags | [0]
+    globals | [Global { ty: GlobalType { val_type: I32, mutable: true }, init: I32(7) }]
+    exports | []
+    start | Some(0)
+    elems | [ElementSegment { mode: Active { table: 0, offset: I32(0) }, items: Functions([0]) }]
+    data | []
+";
+
+// Checks what an accessor of a module shows.
+fn shows(alloc: Global, module: &Module, accessor: &str, expected: &str) -> Option<bool> {
+    match accessor {
+        "imports" => Some(debugs(alloc, &module.imports(), expected)),
+        "tables" => Some(debugs(alloc, &module.tables(), expected)),
+        "memories" => Some(debugs(alloc, &module.memories(), expected)),
+        "tags" => Some(debugs(alloc, &module.tags(), expected)),
+        "globals" => Some(debugs(alloc, &module.globals(), expected)),
+        "exports" => Some(debugs(alloc, &module.exports(), expected)),
+        "start" => Some(debugs(alloc, &module.start(), expected)),
+        "elems" => Some(debugs(alloc, &module.elems(), expected)),
+        "data" => Some(debugs(alloc, &module.data_segments(), expected)),
+        _ => None,
+    }
+}
+
+fn is_shown(alloc: Global, row: &str) -> Option<bool> {
+    let (accessor, expected) = two_fields(row)?;
+    let made = Module::new(alloc, Config::default(), &mut Unstructured::new(BYTES));
+    let holds = match &made {
+        Ok(module) => shows(alloc, module, accessor, expected),
+        Err(_) => None,
+    };
+    drop(made);
+    holds
+}
+
+#[test]
+fn modules_show_their_items(rt: HostRuntime) -> Result<(), Fail> {
+    Ok(check_rows(rt.alloc(), SHOWN, 9, is_shown)?)
 }
 
 #[test]

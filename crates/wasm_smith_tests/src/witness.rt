@@ -5,17 +5,16 @@ use std::test::Fail;
 use wasm_core::types::SubType;
 use wasm_smith::config::Config;
 use wasm_smith::module::Module;
-use wasm_smith::supported::supported_config;
 use wasm_smith::unstructured::Unstructured;
 use wasm_smith::witness::witness;
-use wasm_smith_config_rows::settings::config_of;
+use wasm_smith_config_rows::settings::config_in;
 use wasm_test_rows::fields::four_fields;
 use wasm_test_rows::rows::check_rows;
 use wasm_test_rows::shown::debugs_same;
 use wasm_test_rows::values::{are_bytes, numbers_of};
 use wasm_test_types::types::groups_of;
 
-// In what a configuration differs from the supported one, groups of types, the functions' types, and the seed: its bytes, `some`, or `none`.
+// A configuration, groups of types, the functions' types, and the seed: its bytes, `some`, or `none`.
 const SEEDS: &str = "
     | func -> ; | 0 | some
     | func i32 i64 f32 f64 v128 func? extern? exn? -> i32 i64 f32 f64 v128 func? extern? exn? ; | 0 | some
@@ -78,6 +77,14 @@ const SEEDS: &str = "
     gc_enabled=yes | array 1? ; | | none
     gc_enabled=yes | sub 0 array 0? ; | | none
     gc_enabled=yes stack_switching_enabled=yes | array nocont? ; | | 01 00 00 02 00 05 00 00 0d 00 00
+    // By default no import is asked for, and no tag where there is a type for one.
+    default | | | 00 00
+    default | func -> ; | 0 | 01 00 00 00 00 00 00 00 00 01
+    default | func -> i32 ; | 0 | 01 00 00 00 00 01 00 00 00 00 01
+    default max_imports=0 | func -> ; | 0 | 01 00 00 00 00 00 00 00 01
+    default exceptions_enabled=no | func -> ; | 0 | 01 00 00 00 00 00 00 00 01
+    default min_imports=1 | func -> ; | 0 | none
+    default min_memories=1 | | | none
 ";
 
 // Checks that the types are those of the groups, one group after the other.
@@ -157,7 +164,7 @@ fn has_seed(
 
 fn holds(alloc: Global, row: &str) -> Option<bool> {
     let (settings, groups, funcs, expected) = four_fields(row)?;
-    let config = config_of(supported_config(), settings)?;
+    let config = config_in(settings)?;
     let funcs = numbers_of(alloc, funcs)?;
     let groups = groups_of(alloc, groups)?;
     let holds = has_seed(alloc, config, (&groups, &funcs), expected);
@@ -167,5 +174,5 @@ fn holds(alloc: Global, row: &str) -> Option<bool> {
 
 #[test]
 fn lists_have_their_seeds(rt: HostRuntime) -> Result<(), Fail> {
-    Ok(check_rows(rt.alloc(), SEEDS, 48, holds)?)
+    Ok(check_rows(rt.alloc(), SEEDS, 55, holds)?)
 }

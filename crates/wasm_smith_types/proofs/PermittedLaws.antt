@@ -63,7 +63,7 @@ module _ (features : Features) (o : Offers) (suits : SuitsValues features o) (bo
       (rw (suits.gc asked.0) refl, (index_below bound concrete.1 (λ z. absurd (omega arith)), tt)))
       (λ e. heap_of_permitted nullable gc c.0 (λ heap is. chosen (λ h. is_allowed_abstract features nullable h ≡ true) o.heaps concrete.1 heap (each_heap nullable gc) is))
 
-  reference_permitted : (s : List ℕ) → has features ReferenceTypes ≡ true → IsPermittedValue features bound (reference_at o bound s).0
+  pub reference_permitted : (s : List ℕ) → has features ReferenceTypes ≡ true → IsPermittedValue features bound (reference_at o bound s).0
   unfolding reference_at
   reference_permitted s on =
       let non_null = bool_if o.gc s in

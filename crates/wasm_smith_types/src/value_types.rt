@@ -152,17 +152,17 @@ impl Offers {
         HeapType::Abstract(heap)
     }
 
-    // Draws a reference type.
+    /// Draws a reference type, which goes to an abstract type or to the type of an index below `bound`.
     #[tactic(auto, unfolding(crate::specs::Drawing::reference_at))]
-    fn reference(&self, unstructured: &mut Unstructured<'_>, bound: u32) -> ValType
-        ensures { IsDrawn val_type result unstructured.new (reference_at self.now bound unstructured.old) }
+    pub fn reference(&self, unstructured: &mut Unstructured<'_>, bound: u32) -> RefType
+        ensures { IsDrawn (λ reference. val_type (ValType.Ref reference)) result unstructured.new (reference_at self.now bound unstructured.old) }
     {
         let non_null = bool_if(unstructured, self.gc);
         let heap_type = self.heap(unstructured, bound);
-        ValType::Ref(RefType {
+        RefType {
             nullable: !non_null,
             heap_type,
-        })
+        }
     }
 
     /// Draws a value type, whose references go to types with indexes below `bound`.
@@ -172,7 +172,7 @@ impl Offers {
     {
         match *unstructured.choose(&self.kinds).unwrap() {
             Kind::NumberOrVector(type_) => type_,
-            Kind::Reference => self.reference(unstructured, bound),
+            Kind::Reference => ValType::Ref(self.reference(unstructured, bound)),
         }
     }
 

@@ -1,3 +1,4 @@
 pub mod NumberLaws
 pub mod ChooseLaws
+pub mod NameLaws
 pub mod TextLaws

@@ -1,5 +1,6 @@
 -- What holds of an encoding that is drawn.
-use Rattle.std.specs.Prelude.{◌≡◌, ℕ, ◌<◌, ◌≤◌, List, ◌++◌, length, take, min}
+use Rattle.std.specs.Prelude.{◌≡◌, ℕ, ◌<◌, ◌≤◌, Bool, true, false, List, ◌++◌, length, take, min}
+use Rattle.std.specs.Fmt.{decimal}
 use Rattle.std.specs.Str.{IsUtf8}
 use Rattle.wasm_smith_unstructured.specs.Draws.{len_at}
 
@@ -10,3 +11,16 @@ pub record IsLongestText (max : ℕ) (old text new : List ℕ) : Type 0 where
   pub utf8 : IsUtf8 text
   pub within : length text ≤ min (len_at old).0 max
   pub longest : (k : ℕ) → length text < k → k ≤ min (len_at old).0 max → ¬ (IsUtf8 (take k (len_at old).1))
+
+-- a text with the least number at its end that makes it new, from count on
+pub record IsNumbered (taken : List ℕ → Bool) (count : ℕ) (text name : List ℕ) : Type 0 where
+  pub number : ℕ
+  pub from : count ≤ number
+  pub written : name ≡ text ++ decimal number
+  pub least : (n : ℕ) → count ≤ n → n < number → taken (text ++ decimal n) ≡ true
+
+-- A name that isn't taken, though count of them are: the text itself, if that isn't taken, and otherwise the text with a number.
+pub record IsNewName (taken : List ℕ → Bool) (count : ℕ) (text name : List ℕ) : Type 0 where
+  pub new : taken name ≡ false
+  pub same : taken text ≡ false → name ≡ text
+  pub numbered : taken text ≡ true → IsNumbered taken count text name

@@ -1,6 +1,6 @@
 -- The places of function types that are kept, and the spelling of functions.
 use Rattle.std.proofs.Common.{◌≡◌, ℕ, zero, suc, ◌+◌, ◌-◌, ◌≤◌, ◌<◌, ◌^◌, Bool, true, false, cond, List, [], ◌∷◌, ◌++◌, length, map, drop, get_or, Some, None, refl, sym, ◌∙◌, ap, append_assoc, arith}
-use Rattle.std.specs.Prelude.{is_some, slice_get}
+use Rattle.std.specs.Prelude.{◌||◌, is_some, slice_get}
 use Rattle.std.specs.List.{list_all}
 use Rattle.std.specs.Option.{option_flatten}
 use Rattle.std.proofs.lemmas.List.{append-nil, drop_more}
@@ -11,8 +11,8 @@ use Rattle.wasm_core_types.specs.SubTypes.{sub_type}
 use Rattle.wasm_core_types.specs.declared.types.SubType as code
 use Rattle.wasm_smith_types.specs.Spelling.{SpellsChoice, SpellsEach}
 use Rattle.wasm_smith_witness.specs.Family.{is_function_at}
-use Rattle.wasm_smith_witness.specs.Functions.{AreKept, places_after, place_in, place_word}
-use Rattle.wasm_smith_module.specs.FunctionTypes.{is_function, function_indexes}
+use Rattle.wasm_smith_witness.specs.Functions.{AreKept, are_some_resultless, places_after, place_in, place_word}
+use Rattle.wasm_smith_exports.specs.FunctionTypes.{is_function, is_resultless, function_indexes}
 use Rattle.wasm_smith_witness.specs.Spelling.{SpellsFunctions}
 use Rattle.wasm_smith_witness.specs.Words.{each_word, index_word, int_word, place_of}
 use Rattle.wasm_smith_witness.specs.declared.functions.FunctionTypes.{FunctionTypes}
@@ -29,19 +29,32 @@ as_many (type ∷ types) a b = by_kind (is_function type.composite_type) (as_man
     by_kind true e = ap suc e
     by_kind false e = e
 
+-- one more type
+kept_resultless : (old now one others all : Bool) → now ≡ (old || one) → (old || (one || others)) ≡ all → (now || others) ≡ all
+kept_resultless true now one others all e kept = rw e kept
+kept_resultless false now one others all e kept = rw e kept
+
 pub kept_function : (old new : FunctionTypes) (type : SubType ℕ) (rest types : List (SubType ℕ)) → is_function type.composite_type ≡ true → new.places.items ≡ old.places.items ++ Some old.count ∷ [] → new.count ≡ old.count + 1
-    → AreKept old (type ∷ rest) types → AreKept new rest types
-kept_function old new type rest types is placed counted kept =
+    → new.has_resultless ≡ (old.has_resultless || is_resultless type.composite_type) → AreKept old (type ∷ rest) types → AreKept new rest types
+kept_function old new type rest types is placed counted seen kept =
     let places : old.places.items ++ (Some old.count ∷ places_after (old.count + 1) rest) ≡ places_after 0 types = rw is at kept.places in
     let count : old.count + suc (length (function_indexes 1 rest)) ≡ length (function_indexes 0 types) = rw is at kept.count in
-    record { places = rw (placed, counted) (simp append_assoc places); count = omega (arith, counted, count, as_many rest 1 0) }
+    record {
+      places = rw (placed, counted) (simp append_assoc places);
+      count = omega (arith, counted, count, as_many rest 1 0);
+      resultless = kept_resultless old.has_resultless new.has_resultless (is_resultless type.composite_type) (are_some_resultless rest) (are_some_resultless types) seen kept.resultless;
+    }
 
 pub kept_other : (old new : FunctionTypes) (type : SubType ℕ) (rest types : List (SubType ℕ)) → is_function type.composite_type ≡ false → new.places.items ≡ old.places.items ++ None ∷ [] → new.count ≡ old.count
-    → AreKept old (type ∷ rest) types → AreKept new rest types
-kept_other old new type rest types is placed counted kept =
+    → new.has_resultless ≡ (old.has_resultless || is_resultless type.composite_type) → AreKept old (type ∷ rest) types → AreKept new rest types
+kept_other old new type rest types is placed counted seen kept =
     let places : old.places.items ++ (None ∷ places_after old.count rest) ≡ places_after 0 types = rw is at kept.places in
     let count : old.count + length (function_indexes 1 rest) ≡ length (function_indexes 0 types) = rw is at kept.count in
-    record { places = rw (placed, counted) (simp append_assoc places); count = omega (arith, counted, count, as_many rest 1 0) }
+    record {
+      places = rw (placed, counted) (simp append_assoc places);
+      count = omega (arith, counted, count, as_many rest 1 0);
+      resultless = kept_resultless old.has_resultless new.has_resultless (is_resultless type.composite_type) (are_some_resultless rest) (are_some_resultless types) seen kept.resultless;
+    }
 
 -- the next type of a group
 pub next_type : (group : List code.SubType) (i : ℕ) (type : code.SubType) → i < length group → type ≡ get_or group i type → map sub_type (drop i group) ≡ sub_type type ∷ map sub_type (drop (i + 1) group)

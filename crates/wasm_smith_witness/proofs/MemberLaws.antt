@@ -16,6 +16,7 @@ use Rattle.wasm_smith_config.specs.declared.error.Error.TheVariants.{IncorrectFo
 use Rattle.wasm_smith_types.specs.Grouped.{entry}
 use Rattle.wasm_smith_types.specs.ValidGroups as flat
 use Rattle.wasm_smith_types.proofs.GroupedLaws.{entry_members}
+use Rattle.wasm_smith_module.specs.Generating.{OwesNothingElse}
 use Rattle.wasm_smith_witness.specs.Family.{AreMemberGroups, IsAskable, is_member_group, are_member_groups, types_of}
 
 -- ---- configurations
@@ -42,8 +43,21 @@ types_small c asked = ltb-false (2 ^ 31) c.max_types (asked.good 11 (at_least []
 pub no_min_types : (c : Config) → IsAskable c → c.min_types ≡ 0
 no_min_types c asked = asked.nothing_owed.0
 
+pub no_min_imports : (c : Config) → IsAskable c → c.min_imports ≡ 0
+no_min_imports c asked = asked.nothing_owed.1.0
+
+pub no_min_tags : (c : Config) → IsAskable c → c.min_tags ≡ 0
+no_min_tags c asked = asked.nothing_owed.1.1.0
+
 pub no_min_funcs : (c : Config) → IsAskable c → c.min_funcs ≡ 0
 no_min_funcs c asked = asked.nothing_owed.1.1.1.0
+
+-- nothing has to be made after the functions
+pub nothing_else : (c : Config) → IsAskable c → OwesNothingElse c
+nothing_else c asked =
+    let rest = asked.nothing_owed.1.1.1.1 in
+    let segments = rest.1.1.1.1 in
+    omega (arith, rest.0, rest.1.0, rest.1.1.0, segments.0, segments.1.0, segments.1.1.0)
 
 -- ---- groups
 

@@ -1,26 +1,33 @@
 -- From each spelling of a list that list is drawn.
-use Rattle.std.proofs.Common.{◌≡◌, ℕ, ◌%◌, zero, suc, ◌+◌, ◌-◌, ◌≤◌, Bool, true, false, List, [], ◌∷◌, ◌++◌, length, map, Some, refl, sym, ap, ◌∙◌, append_assoc, inl, inr, arith}
-use Rattle.std.specs.Prelude.{◌==◌, option_map}
+use Rattle.std.proofs.Common.{◌≡◌, ℕ, ◌%◌, zero, suc, ◌+◌, ◌-◌, ◌≤◌, Bool, true, false, cond, List, [], ◌∷◌, ◌++◌, length, map, Some, refl, sym, ap, ◌∙◌, append_assoc, inl, inr, arith}
+use Rattle.std.specs.Prelude.{◌==◌, ◌&&◌, nat_lt, option_map}
 use Rattle.std.proofs.lemmas.Bool.{cond-true, cond-false}
 use Rattle.std.proofs.lemmas.List.{append-nil}
 use Rattle.std.proofs.lemmas.Bool.Decides.{eqb_tells}
 use Rattle.wasm_spec.specs.Types.{CompositeType, FuncComposite, StructComposite, ArrayComposite, ContComposite, SubType, RecGroup, Single}
 use Rattle.wasm_smith_unstructured.specs.Draws.{bool_at}
 use Rattle.wasm_smith_config.specs.declared.config.Config.{Config}
-use Rattle.wasm_smith_types.specs.Drawing.{Offers, value_at, values_at, function_at, function_type_at, no_groups}
+use Rattle.wasm_smith_types.specs.Drawing.{Offers, function_at, function_type_at, no_groups}
 use Rattle.wasm_smith_types.specs.DrawnGroups.{drawn_groups_at}
 use Rattle.wasm_smith_types.specs.Grouped.{entry}
-use Rattle.wasm_smith_types.specs.Growing.{grow_from, grow_at, times_at, with_front}
+use Rattle.wasm_smith_types.specs.Growing.{grows_from, grows_at, grow_from, grow_at, with_front}
 use Rattle.wasm_smith_types.specs.Offering.{function_types_at, gc_groups_at, offers}
-use Rattle.wasm_smith_types.specs.Spelling.{SpellsChoice, SpellsEach, SpellsList, SpellsGroups}
+use Rattle.wasm_smith_types.specs.Spelling.{SpellsChoice, SpellsEach, SpellsList, SpellsGroups, SpellsNo}
 use Rattle.wasm_smith_types.proofs.ReachLaws.{Reaches, bool_false, more_room, choice_reach, grow_stop, front_last, each_reach, from_start, list_reach, values_reach, groups_reach}
-use Rattle.wasm_smith_module.specs.FunctionTypes.{function_indexes}
-use Rattle.wasm_smith_module.specs.Generating.{index_at, funcs_at, code_at, rest_at, module_at}
-use Rattle.wasm_smith_module.specs.Made.{Made}
-use Rattle.wasm_smith_witness.specs.Family.{IsAskable, bare, types_of}
+use Rattle.wasm_smith_exports.specs.FunctionTypes.{function_indexes}
+use Rattle.wasm_smith_exports.specs.Indexes.{index_at}
+use Rattle.wasm_smith_exports.specs.Wanted.{functions_at, wanted_tags}
+use Rattle.wasm_smith_imports.specs.Candidates.{can_import_some}
+use Rattle.wasm_smith_imports.specs.Imports.{asked_imports}
+use Rattle.wasm_smith_items.specs.Steps.{asked}
+use Rattle.wasm_smith_module.specs.Generating.{front_at, left_for_functions, with_functions}
+use Rattle.wasm_smith_types.specs.ValidGroups as flat
+use Rattle.wasm_smith_validity.specs.Spaces.{spaces_of_types}
+use Rattle.wasm_smith_witness.specs.Asking.{asks_for_import, asks_for_tag}
+use Rattle.wasm_smith_witness.specs.Family.{IsAskable, types_of}
 use Rattle.wasm_smith_witness.specs.Spelling.{SpellsLoneComposite, SpellsLoneFunction, SpellsTypes, SpellsFunctions, Spells}
 use Rattle.wasm_smith_witness.proofs.LoneLaws.{SpellsLone, are_lone}
-use Rattle.wasm_smith_witness.proofs.MemberLaws.{flat_entries, no_min_types, no_min_funcs}
+use Rattle.wasm_smith_witness.proofs.MemberLaws.{flat_entries, no_min_types, no_min_imports, no_min_tags, no_min_funcs}
 
 -- ---- the last list, which nothing follows, or an even byte
 
@@ -105,93 +112,96 @@ groups_drawn c groups s rest asked h = by_gc c.gc_enabled refl h
     by_gc true on h = drawn_with_gc c on (no_min_types c asked) groups s rest h
     by_gc false off h = drawn_without_gc c off (no_min_types c asked) groups s rest h
 
+-- ---- imports and tags, of which there is none
+
+-- the first draw of a step, where nothing is owed
+first_draw : (min max : ℕ) (s : List ℕ) → min ≡ 0 → grows_at min max 0 s ≡ cond (nat_lt 0 max) (bool_at s) (false, s)
+unfolding grows_at grows_from
+first_draw min max s none =
+    let owed : min - 0 ≡ 0 = omega (arith, none) in
+    let room : max - 0 ≡ max = omega arith in
+    rw (owed, room) refl
+
+no_first : (can : Bool) (min max : ℕ) (s rest : List ℕ) → min ≡ 0 → SpellsNo (can && nat_lt 0 max) s → cond can (grows_at min max 0 (s ++ rest)) (false, s ++ rest) ≡ (false, rest)
+no_first true min max s rest none h = first_draw min max (s ++ rest) none ∙ by_room (nat_lt 0 max) h
+  where
+    by_room : (room : Bool) → SpellsNo room s → cond room (bool_at (s ++ rest)) (false, s ++ rest) ≡ (false, rest)
+    by_room true h = bool_false s rest h
+    by_room false h = rw h refl
+no_first false min max s rest none h = rw h refl
+
+no_imports : (c : Config) → IsAskable c → (types : List (SubType ℕ)) (s rest : List ℕ) → SpellsNo (asks_for_import c types) s → asked_imports c (spaces_of_types types) (s ++ rest) ≡ (false, rest)
+no_imports c asked_for types s rest h = no_first (can_import_some c (spaces_of_types types)) c.min_imports c.max_imports s rest (no_min_imports c asked_for) h
+
+no_tags : (c : Config) → IsAskable c → (types : List (SubType ℕ)) (s rest : List ℕ) → SpellsNo (asks_for_tag c types) s → asked (wanted_tags c) (spaces_of_types types) (s ++ rest) ≡ (false, rest)
+no_tags c asked_for types s rest h = no_first ((wanted_tags c).can (spaces_of_types types)) c.min_tags c.max_tags s rest (no_min_tags c asked_for) h
+
+none_between : (c : Config) → IsAskable c → (groups : List (RecGroup ℕ)) (types : List (SubType ℕ)) (imports tags rest : List ℕ) → flat.types_of groups ≡ types
+    → SpellsNo (asks_for_import c types) imports → SpellsNo (asks_for_tag c types) tags → left_for_functions c groups (imports ++ (tags ++ rest)) ≡ Some rest
+none_between c asked_for groups types imports tags rest are of_imports of_tags =
+    rw (are, no_imports c asked_for types imports (tags ++ rest) of_imports, no_tags c asked_for types tags rest of_tags) refl
+
 -- ---- functions
 
 index_reach : (indexes : List ℕ) → Reaches (SpellsChoice indexes) (index_at indexes)
 unfolding index_at
 index_reach indexes index s rest h = rw (choice_reach indexes index s rest h) refl
 
-no_types : (c : Config) (s : List ℕ) → funcs_at c [] s ≡ ([], s)
-unfolding funcs_at
+no_types : (c : Config) (s : List ℕ) → functions_at c [] 0 s ≡ ([], s)
+unfolding functions_at
 no_types c s = refl
 
-some_types : (c : Config) → c.min_funcs ≡ 0 → (first : ℕ) (others s : List ℕ) → funcs_at c (first ∷ others) s ≡ grow_from (index_at (first ∷ others)) 0 c.max_funcs s
-unfolding funcs_at
+some_types : (c : Config) → c.min_funcs ≡ 0 → (first : ℕ) (others s : List ℕ) → functions_at c (first ∷ others) 0 s ≡ grow_from (index_at (first ∷ others)) 0 c.max_funcs s
+unfolding functions_at
 some_types c none first others s =
     elim (eqb_tells (length (first ∷ others)) 0) [
       | inl (t, e) ↦ absurd (omega arith)
       | inr (t, ne) ↦ rw t (from_zero (index_at (first ∷ others)) c.min_funcs c.max_funcs s none)
     ]
 
-funcs_reach : (c : Config) → c.min_funcs ≡ 0 → (indexes funcs s : List ℕ) → SpellsFunctions indexes c.max_funcs funcs s → funcs_at c indexes s ≡ (funcs, [])
+funcs_reach : (c : Config) → c.min_funcs ≡ 0 → (indexes funcs s : List ℕ) → SpellsFunctions indexes c.max_funcs funcs s → functions_at c indexes 0 s ≡ (funcs, [])
 funcs_reach c none [] funcs s h = rw (h.0, h.1) (no_types c [])
 funcs_reach c none (first ∷ others) funcs s h =
     some_types c none first others s ∙ last_reach (SpellsChoice (first ∷ others)) (index_at (first ∷ others)) (index_reach (first ∷ others)) c.max_funcs funcs s h.1 h.0
 
-funcs_on : (c : Config) → c.min_funcs ≡ 0 → (indexes funcs s : List ℕ) (byte : ℕ) (rest : List ℕ) → SpellsFunctions indexes c.max_funcs funcs s → byte % 2 ≡ 0 → (funcs_at c indexes (s ++ byte ∷ rest)).0 ≡ funcs
+funcs_on : (c : Config) → c.min_funcs ≡ 0 → (indexes funcs s : List ℕ) (byte : ℕ) (rest : List ℕ) → SpellsFunctions indexes c.max_funcs funcs s → byte % 2 ≡ 0 → (functions_at c indexes 0 (s ++ byte ∷ rest)).0 ≡ funcs
 funcs_on c none [] funcs s byte rest h even = ap (λ d. d.0) (no_types c (s ++ byte ∷ rest)) ∙ sym h.0
 funcs_on c none (first ∷ others) funcs s byte rest h even =
     ap (λ d. d.0) (some_types c none first others (s ++ byte ∷ rest)) ∙ last_on (SpellsChoice (first ∷ others)) (index_at (first ∷ others)) (index_reach (first ∷ others)) c.max_funcs funcs s byte rest h.1 h.0 even
 
--- ---- locals, of which none are drawn from nothing
-
-no_values : (o : Offers) (bound : ℕ) → values_at o bound 100 [] ≡ ([], [])
-unfolding values_at
-no_values o bound = from_start (value_at o bound) 100 [] ∙ nothing_left (value_at o bound) 100
-
-no_times : {A : Type 0} (step : List ℕ → List A × List ℕ) → step [] ≡ ([], []) → (fs : List ℕ) → times_at step (length fs) [] ≡ (map (λ _. []) fs, [])
-unfolding times_at
-no_times step none [] = refl
-no_times step none (f ∷ fs) = rw (none, no_times step none fs) refl
-
-code_reach : (o : Offers) (bound : ℕ) (funcs : List ℕ) → code_at o bound (length funcs) [] ≡ (map (λ _. []) funcs, [])
-unfolding code_at
-code_reach o bound funcs = no_times (values_at o bound 100) (no_values o bound) funcs
-
 -- ---- modules
 
-module_parts : (c : Config) (groups : List (List (SubType ℕ))) (funcs s more : List ℕ) → IsAskable c → (h : Spells c groups funcs s) → module_at c (s ++ more) ≡ Some (rest_at c (map entry groups) (h.back ++ more))
-unfolding module_at
-module_parts c groups funcs s more asked h =
-    let split : s ++ more ≡ h.front ++ (h.back ++ more) = rw h.parts (append_assoc h.front h.back more) in
-    rw (split, groups_drawn c groups h.front (h.back ++ more) asked h.spells_groups) refl
+-- the functions of these groups
+flat_functions : (c : Config) (groups : List (List (SubType ℕ))) (s : List ℕ) → with_functions c (map entry groups) s
+    ≡ ((map entry groups, (functions_at c (function_indexes 0 (types_of groups)) 0 s).0), (functions_at c (function_indexes 0 (types_of groups)) 0 s).1)
+flat_functions c groups s =
+    ap (λ types. ((map entry groups, (functions_at c (function_indexes 0 types) 0 s).0), (functions_at c (function_indexes 0 types) 0 s).1)) (flat_entries groups)
 
-rest_reach : (c : Config) → c.min_funcs ≡ 0 → (groups : List (List (SubType ℕ))) (funcs s : List ℕ) → SpellsFunctions (function_indexes 0 (types_of groups)) c.max_funcs funcs s → rest_at c (map entry groups) s ≡ (bare groups funcs, [])
-unfolding rest_at
-rest_reach c none groups funcs s h =
-    rw (flat_entries groups, funcs_reach c none (function_indexes 0 (types_of groups)) funcs s h, code_reach (offers c) (length (types_of groups)) funcs) refl
+front_parts : (c : Config) (groups : List (List (SubType ℕ))) (funcs s more : List ℕ) → IsAskable c → (h : Spells c groups funcs s)
+    → front_at c (s ++ more) ≡ Some ((map entry groups, (functions_at c (function_indexes 0 (types_of groups)) 0 (h.back ++ more)).0), (functions_at c (function_indexes 0 (types_of groups)) 0 (h.back ++ more)).1)
+unfolding front_at
+front_parts c groups funcs s more asked_for h =
+    let after = h.back ++ more in
+    let split : s ++ more ≡ h.front ++ (h.imports ++ (h.tags ++ after)) = rw h.parts (simp append_assoc) in
+    let between = none_between c asked_for (map entry groups) (types_of groups) h.imports h.tags after (flat_entries groups) h.spells_imports h.spells_tags in
+    rw (split, groups_drawn c groups h.front (h.imports ++ (h.tags ++ after)) asked_for h.spells_groups, between) (ap (λ d. Some d) (flat_functions c groups after))
 
-pub whole_reach : (c : Config) (groups : List (List (SubType ℕ))) (funcs s : List ℕ) → IsAskable c → Spells c groups funcs s → module_at c s ≡ Some (bare groups funcs, [])
-whole_reach c groups funcs s asked h =
+pub whole_reach : (c : Config) (groups : List (List (SubType ℕ))) (funcs s : List ℕ) → IsAskable c → Spells c groups funcs s → front_at c s ≡ Some ((map entry groups, funcs), [])
+whole_reach c groups funcs s asked_for h =
     let whole : s ++ [] ≡ s = append-nil s in
     let back : h.back ++ [] ≡ h.back = append-nil h.back in
-    let parts : module_at c s ≡ Some (rest_at c (map entry groups) h.back) = rw (whole, back) at (module_parts c groups funcs s [] asked h) in
-    parts ∙ ap (λ d. Some d) (rest_reach c (no_min_funcs c asked) groups funcs h.back h.spells_funcs)
-
-rest_groups : (c : Config) (groups : List (RecGroup ℕ)) (s : List ℕ) → (rest_at c groups s).0.groups ≡ groups
-unfolding rest_at
-rest_groups c groups s = refl
-
-rest_funcs : (c : Config) (groups : List (List (SubType ℕ))) (s : List ℕ) → (rest_at c (map entry groups) s).0.funcs ≡ (funcs_at c (function_indexes 0 (types_of groups)) s).0
-unfolding rest_at
-rest_funcs c groups s = ap (λ types. (funcs_at c (function_indexes 0 types) s).0) (flat_entries groups)
+    let parts = rw (whole, back) at (front_parts c groups funcs s [] asked_for h) in
+    parts ∙ ap (λ drawn. Some ((map entry groups, drawn.0), drawn.1)) (funcs_reach c (no_min_funcs c asked_for) (function_indexes 0 (types_of groups)) funcs h.back h.spells_funcs)
 
 -- the groups stay, whatever follows
-pub groups_on : (c : Config) (groups : List (List (SubType ℕ))) (funcs s rest : List ℕ) → IsAskable c → Spells c groups funcs s
-    → (m : Made) × (left : List ℕ) × (module_at c (s ++ rest) ≡ Some (m, left)) × (m.groups ≡ map entry groups)
-groups_on c groups funcs s rest asked h =
-    let drawn = rest_at c (map entry groups) (h.back ++ rest) in
-    (drawn.0, drawn.1, module_parts c groups funcs s rest asked h, rest_groups c (map entry groups) (h.back ++ rest))
+pub groups_on : (c : Config) (groups : List (List (SubType ℕ))) (funcs s rest : List ℕ) → IsAskable c → Spells c groups funcs s → (more left : List ℕ) × (front_at c (s ++ rest) ≡ Some ((map entry groups, more), left))
+groups_on c groups funcs s rest asked_for h =
+    let drawn = functions_at c (function_indexes 0 (types_of groups)) 0 (h.back ++ rest) in
+    (drawn.0, drawn.1, front_parts c groups funcs s rest asked_for h)
 
 -- the functions stay too, where an even byte follows
-pub module_on : (c : Config) (groups : List (List (SubType ℕ))) (funcs s : List ℕ) (byte : ℕ) (rest : List ℕ) → IsAskable c → Spells c groups funcs s → byte % 2 ≡ 0
-    → (m : Made) × (left : List ℕ) × (module_at c (s ++ byte ∷ rest) ≡ Some (m, left)) × (m.groups ≡ map entry groups) × (m.funcs ≡ funcs)
-module_on c groups funcs s byte rest asked h even =
-    let after = h.back ++ byte ∷ rest in
-    let drawn = rest_at c (map entry groups) after in (
-      drawn.0,
-      drawn.1,
-      module_parts c groups funcs s (byte ∷ rest) asked h,
-      rest_groups c (map entry groups) after,
-      rest_funcs c groups after ∙ funcs_on c (no_min_funcs c asked) (function_indexes 0 (types_of groups)) funcs h.back byte rest h.spells_funcs even,
-    )
+pub funcs_stay : (c : Config) (groups : List (List (SubType ℕ))) (funcs s : List ℕ) (byte : ℕ) (rest : List ℕ) → IsAskable c → Spells c groups funcs s → byte % 2 ≡ 0 → (left : List ℕ) × (front_at c (s ++ byte ∷ rest) ≡ Some ((map entry groups, funcs), left))
+funcs_stay c groups funcs s byte rest asked_for h even =
+    let drawn = functions_at c (function_indexes 0 (types_of groups)) 0 (h.back ++ byte ∷ rest) in
+    let stay : drawn.0 ≡ funcs = funcs_on c (no_min_funcs c asked_for) (function_indexes 0 (types_of groups)) funcs h.back byte rest h.spells_funcs even in
+    (drawn.1, front_parts c groups funcs s (byte ∷ rest) asked_for h ∙ ap (λ fs. Some ((map entry groups, fs), drawn.1)) stay)

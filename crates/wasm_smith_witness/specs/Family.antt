@@ -1,14 +1,12 @@
 -- The lists of groups and functions that the generator can be asked for. They know no bytes.
-use Rattle.std.specs.Prelude.{◌≡◌, ℕ, zero, suc, ◌+◌, ◌≤◌, Bool, true, false, ◌&&◌, ◌||◌, IsTrue, nat_le, nat_lt, ◌==◌, List, [], ◌∷◌, ◌++◌, length, map}
+use Rattle.std.specs.Prelude.{◌≡◌, ℕ, zero, suc, ◌+◌, ◌≤◌, Bool, true, false, ◌&&◌, ◌||◌, IsTrue, nat_le, nat_lt, ◌==◌, List, [], ◌∷◌, ◌++◌, length}
 use Rattle.std.specs.List.{AllByRecursion, list_all}
 use Rattle.wasm_spec.specs.Types.{AbstractHeapType, Func, Extern, Exn, NoExn, Cont, NoCont, HeapType, Abstract, Concrete, ValType, I32, I64, F32, F64, V128, Ref, StorageType, I8, I16, Val, FieldType, FuncType, CompositeType, FuncComposite, StructComposite, ArrayComposite, ContComposite, SubType}
 use Rattle.wasm_smith_config.specs.Config.{IsGood}
-use Rattle.wasm_smith_module.specs.FunctionTypes.{is_function}
-use Rattle.wasm_smith_module.specs.Made.{Made}
 use Rattle.wasm_smith_config.specs.Defaults.{least_counts}
 use Rattle.wasm_smith_config.specs.declared.config.Config.{Config}
-use Rattle.wasm_smith_types.specs.Grouped.{entry}
 use Rattle.wasm_smith_types.specs.Offering.{max_results}
+use Rattle.wasm_smith_exports.specs.FunctionTypes.{is_function}
 
 -- ---- configurations
 
@@ -119,7 +117,3 @@ pub record IsMember (c : Config) (groups : List (List (SubType ℕ))) (funcs : L
 pub record IsInFamily (c : Config) (groups : List (List (SubType ℕ))) (funcs : List ℕ) : Type 0 where
   pub askable : IsAskable c
   pub member : IsMember c groups funcs
-
--- the module with these groups and functions, without locals
-abbrev pub bare : List (List (SubType ℕ)) → List ℕ → Made
-bare groups funcs = record { groups = map entry groups; funcs = funcs; locals = map (λ _. []) funcs }

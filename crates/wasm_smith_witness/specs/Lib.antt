@@ -1,3 +1,4 @@
+pub mod Asking
 pub mod Examples
 pub mod Family
 pub mod Functions

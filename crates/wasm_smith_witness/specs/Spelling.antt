@@ -1,12 +1,13 @@
--- How a list of groups and functions is spelled: the groups as the step of types draws them, and then each function as a choice among the function
--- types.
+-- How a list of groups and functions is spelled: the groups as the step of types draws them; that there are no imports and no tags, where this is asked; and
+-- then each function as a choice among the function types.
 use Rattle.std.specs.Prelude.{◌≡◌, ℕ, ◌≤◌, Bool, true, false, List, [], ◌∷◌, ◌++◌, length}
 use Rattle.wasm_spec.specs.Types.{FuncType, CompositeType, FuncComposite, StructComposite, ArrayComposite, ContComposite, SubType}
 use Rattle.wasm_smith_config.specs.declared.config.Config.{Config}
 use Rattle.wasm_smith_types.specs.Drawing.{Offers, no_groups}
 use Rattle.wasm_smith_types.specs.Offering.{offers}
-use Rattle.wasm_smith_types.specs.Spelling.{SpellsChoice, SpellsEach, SpellsGroups, SpellsList, SpellsValue}
-use Rattle.wasm_smith_module.specs.FunctionTypes.{function_indexes}
+use Rattle.wasm_smith_types.specs.Spelling.{SpellsChoice, SpellsEach, SpellsGroups, SpellsList, SpellsNo, SpellsValue}
+use Rattle.wasm_smith_exports.specs.FunctionTypes.{function_indexes}
+use Rattle.wasm_smith_witness.specs.Asking.{asks_for_import, asks_for_tag}
 use Rattle.wasm_smith_witness.specs.Family.{types_of}
 
 -- a group of one final function type, of which nothing is drawn but its parameters and then its results
@@ -33,10 +34,14 @@ abbrev pub SpellsFunctions : List ℕ → ℕ → List ℕ → List ℕ → Type
 SpellsFunctions [] max funcs s = (funcs ≡ []) × (s ≡ [])
 SpellsFunctions (first ∷ others) max funcs s = SpellsEach (SpellsChoice (first ∷ others)) funcs s × (length funcs ≤ max)
 
--- the groups, and then the functions
+-- the groups, false for imports and for tags, and then the functions
 pub record Spells (c : Config) (groups : List (List (SubType ℕ))) (funcs s : List ℕ) : Type 0 where
   pub front : List ℕ
+  pub imports : List ℕ
+  pub tags : List ℕ
   pub back : List ℕ
-  pub parts : s ≡ front ++ back
+  pub parts : s ≡ front ++ (imports ++ (tags ++ back))
   pub spells_groups : SpellsTypes c.gc_enabled (offers c) c.max_types groups front
+  pub spells_imports : SpellsNo (asks_for_import c (types_of groups)) imports
+  pub spells_tags : SpellsNo (asks_for_tag c (types_of groups)) tags
   pub spells_funcs : SpellsFunctions (function_indexes 0 (types_of groups)) c.max_funcs funcs back

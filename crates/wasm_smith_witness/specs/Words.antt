@@ -7,7 +7,8 @@ use Rattle.wasm_smith_unstructured.specs.Draws.{width}
 use Rattle.wasm_smith_config.specs.declared.config.Config.{Config}
 use Rattle.wasm_smith_types.specs.Drawing.{Front, front_then, asks_then, fits, no_groups, total}
 use Rattle.wasm_smith_types.specs.Offering.{common_heaps, max_results}
-use Rattle.wasm_smith_module.specs.FunctionTypes.{is_function, function_indexes}
+use Rattle.wasm_smith_exports.specs.FunctionTypes.{is_function, function_indexes}
+use Rattle.wasm_smith_witness.specs.Asking.{asks_for_import, asks_for_tag}
 use Rattle.wasm_smith_witness.specs.Family.{types_of}
 
 -- ---- draws
@@ -139,6 +140,7 @@ place_of (type ∷ types) (suc index) = if is_function type.composite_type then 
 abbrev pub index_word : List (SubType ℕ) → ℕ → List ℕ
 index_word types index = int_word (length (function_indexes 0 types) - 1) (place_of types index)
 
--- the groups, and then the functions
+-- the groups, false for imports and for tags, and then the functions
 abbrev pub module_word : Config → List (List (SubType ℕ)) → List ℕ → List ℕ
-module_word c groups funcs = types_word c groups ++ each_word (index_word (types_of groups)) funcs
+module_word c groups funcs =
+    types_word c groups ++ (no_word (asks_for_import c (types_of groups)) ++ (no_word (asks_for_tag c (types_of groups)) ++ each_word (index_word (types_of groups)) funcs))

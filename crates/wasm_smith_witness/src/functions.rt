@@ -1,10 +1,10 @@
 //! The function types of a list, which its functions name.
 
-ghost use Rattle.std.specs.Prelude.{◌≡◌, ◌≤◌, ◌∷◌, ◌++◌, [], ℕ, IfOk, IsTrue, List, is_some, length, map};
+ghost use Rattle.std.specs.Prelude.{◌≡◌, ◌≤◌, ◌||◌, ◌∷◌, ◌++◌, [], ℕ, IfOk, IsTrue, List, is_some, length, map};
 ghost use Rattle.std.specs.List.{list_all};
 ghost use Rattle.wasm_core_types.specs.SubTypes.{composite_type, sub_type};
 ghost use Rattle.wasm_spec.specs.Types as spec;
-ghost use Rattle.wasm_smith_module.specs.FunctionTypes.{is_function};
+ghost use Rattle.wasm_smith_exports.specs.FunctionTypes.{is_function, is_resultless};
 ghost use Rattle.wasm_smith_witness.specs.Family.{types_of};
 ghost use Rattle.wasm_smith_witness.specs.Functions.{AreKept, place_in};
 ghost use Rattle.wasm_smith_witness.specs.Groups.{group_of};
@@ -19,6 +19,8 @@ pub struct FunctionTypes {
     places: Vec<Option<usize>>,
     // the number of function types
     count: usize,
+    // true if one of them has no results
+    has_resultless: bool,
 }
 
 /// Checks that it is a function type.
@@ -31,6 +33,17 @@ pub fn is_function(type_: &CompositeType) -> bool
     }
 }
 
+// Checks that it is a function type without results.
+#[tactic(auto, using(crate::proofs::AskingLaws::as_many))]
+fn is_resultless(type_: &CompositeType) -> bool
+    ensures { result ≡ is_resultless (composite_type type_.now) }
+{
+    match type_ {
+        CompositeType::Func(type_) => type_.results().is_empty(),
+        _ => false,
+    }
+}
+
 impl FunctionTypes {
     // Adds a type.
     fn push(&mut self, type_: &SubType) -> Result<(), AllocError>
@@ -39,6 +52,7 @@ impl FunctionTypes {
         ensures kept { IfOk result (λ _. (rest types : List (spec.SubType ℕ))
             → AreKept self.old (sub_type type_.now ∷ rest) types → AreKept self.new rest types) }
     {
+        self.has_resultless |= is_resultless(&type_.composite_type);
         if is_function(&type_.composite_type) {
             self.places.push(Some(self.count))?;
             self.count += 1;
@@ -71,6 +85,7 @@ impl FunctionTypes {
         let mut types = FunctionTypes {
             places: Vec::new(alloc),
             count: 0,
+            has_resultless: false,
         };
         for group in groups {
             types.push_group(group)?;
@@ -83,6 +98,13 @@ impl FunctionTypes {
         ensures { result ≡ self.now.count }
     {
         self.count
+    }
+
+    /// Checks that one of the function types has no results.
+    pub fn has_resultless(&self) -> bool
+        ensures { result ≡ self.now.has_resultless }
+    {
+        self.has_resultless
     }
 
     /// Returns the place among the function types of the type of this index, if it is one.

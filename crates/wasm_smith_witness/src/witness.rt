@@ -8,7 +8,7 @@ ghost use Rattle.wasm_smith_witness.specs.Spelling.{Spells};
 
 use crate::functions::FunctionTypes;
 use crate::membership::{are_member_groups, is_askable};
-use crate::words::{push_functions, push_types};
+use crate::words::{push_functions, push_no_imports_or_tags, push_types};
 use std::alloc::{AllocError, Global};
 use wasm_core_types::types::SubType;
 use wasm_smith_config::config::Config;
@@ -45,11 +45,12 @@ fn spelling(
     }
     let mut seed = Vec::new(alloc);
     push_types(&mut seed, config, groups)?;
+    push_no_imports_or_tags(&mut seed, config, &types)?;
     push_functions(&mut seed, &types, funcs)?;
     Ok(Some(seed))
 }
 
-/// Returns a seed from which exactly these groups and functions are made for the configuration, without locals; `None` where
+/// Returns a seed from which exactly these groups and functions are made for the configuration, and nothing else; `None` where
 /// they can't be asked for.
 ///
 /// # Errors

@@ -6,10 +6,11 @@ ghost use Rattle.wasm_core_types.specs.SubTypes.{composite_type, sub_type};
 ghost use Rattle.wasm_smith_types.specs.Drawing.{asks_then, asked_after, no_groups};
 ghost use Rattle.wasm_smith_types.specs.Offering.{common_heaps};
 ghost use Rattle.wasm_smith_witness.specs.Family.{AreMemberGroups};
-ghost use Rattle.wasm_smith_witness.specs.Functions.{place_in, place_word};
+ghost use Rattle.wasm_smith_witness.specs.Functions.{import_is_asked, place_in, place_word, tag_is_asked};
 ghost use Rattle.wasm_smith_witness.specs.Groups.{group_of};
 ghost use Rattle.wasm_smith_witness.specs.Words.{bool_byte, no_word, int_word, place_after_floats, value_place, heap_place, heap_word, value_word, storage_word, field_word, each_word, list_word, function_word, composite_word, type_word, members_word, group_word, groups_word, lone_composite_word, lone_word, types_word};
 
+use crate::asking::{asks_for_import, asks_for_tag};
 use crate::functions::FunctionTypes;
 use std::alloc::AllocError;
 use wasm_core_types::types::{
@@ -409,6 +410,22 @@ pub fn push_types(
     } else {
         push_lone_groups(out, config, groups)
     }
+}
+
+/// Writes that there are no imports and no tags, where this is asked.
+///
+/// # Errors
+/// Where memory runs out. Some of the spelling may be written by then.
+pub fn push_no_imports_or_tags(
+    out: &mut Vec<u8>,
+    config: &Config,
+    types: &FunctionTypes,
+) -> Result<(), AllocError>
+    ensures { IfOk result (λ _. out.new.items ≡ out.old.items ++ (no_word (import_is_asked config.now types.now) ++ no_word (tag_is_asked config.now types.now))) }
+{
+    push_no(out, asks_for_import(config, types))?;
+    push_no(out, asks_for_tag(config, types))?;
+    Ok(())
 }
 
 // Writes a place among the function types, if there is one.

@@ -6,37 +6,62 @@ use wasm_core::types::SubType;
 use wasm_gen::error::GenerateError;
 use wasm_gen::generate::generate;
 use wasm_gen::seed::seed_for;
-use wasm_gen::smith::{Config, supported_config};
+use wasm_gen::smith::Config;
 use wasm_test_rows::fields::{three_fields, two_fields};
 use wasm_test_rows::rows::check_rows;
 use wasm_test_rows::values::{bytes_of, numbers_of};
 use wasm_test_types::types::groups_of;
 
-// Seeds, and the modules that are made of them.
+// Seeds, and the modules that are made of them by default.
 const MADE: &str = "
     | 0061736d01000000
-    01 00 00 00 00 | 0061736d01000000 01 04 01 60 00 00
-    01 01 00 00 00 00 01 | 0061736d01000000 01 05 01 60 01 7f 00 03 02 01 00 0a 05 01 03 00 00 0b
-    01 00 00 00 01 00 01 00 01 00 01 03 | 0061736d01000000 01 04 01 60 00 00 03 02 01 00 0a 09 01 07 02 02 7f 01 7c 00 0b
-";
-
-// Seeds, and the modules that are made of them with garbage collection: a function type, one below it and its clone, with a function whose local refers to a
-// type; and a group of a structure and an array that refer to each other, its clone, and a structure below that of the clone.
-const MADE_WITH_GC: &str = "
-    01 00 01 00 01 05 01 00 00 00 01 05 00 00 01 00 01 00 00 01 00 01 01 01 01 00 00 01 01 00 01 05 00 01 02 00 | 0061736d01000000 01 1a 03 50 00 60 01 64 70 01 6f 4f 01 00 60 01 70 01 64 6f 50 00 60 01 64 70 01 6f 03 02 01 01 0a 08 01 06 01 01 63 02 00 0b
+    // An import, element segments of constants, an export, operations, clones, data without a memory, names with a number, and an active segment.
+    00 01 | 0061736d01000000 02 06 01 00 00 03 7f 00
+    00 00 01 00 00 00 00 00 00 00 00 00 00 00 01 02 00 01 01 00 01 01 | 0061736d01000000 04 04 01 70 00 00 09 0a 02 07 6f 01 d0 6f 0b 05 70 00
+    00 00 00 01 00 00 00 00 00 00 01 | 0061736d01000000 05 03 01 00 00 07 04 01 00 02 00
+    00 00 00 00 01 01 00 01 00 00 00 00 00 00 00 00 00 00 00 00 00 00 00 00 00 01 00 00 01 01 | 0061736d01000000 06 11 02 7e 00 42 00 42 00 7c 0b 7f 00 41 00 41 00 6b 0b
+    01 00 00 01 00 01 01 00 01 01 | 0061736d01000000 01 05 02 5f 00 5f 00 02 07 01 00 00 01 70 00 00
+    00 00 00 00 01 02 00 00 00 00 00 01 00 00 00 00 00 00 00 00 01 00 00 00 00 01 01 | 0061736d01000000 06 0e 02 7d 00 43 00 00 00 00 0b 7f 00 41 00 0b 07 05 01 01 00 03 00 0c 01 01 0b 03 01 01 00
+    00 00 01 00 00 00 00 00 00 01 00 00 00 01 00 00 01 01 | 0061736d01000000 04 0a 01 40 00 70 01 00 00 d0 70 0b 07 08 02 00 01 00 01 31 01 00
+    00 01 47 00 00 00 00 00 01 01 00 00 01 00 00 00 00 00 00 00 00 00 01 00 7a 00 00 | 0061736d01000000 02 0e 02 00 00 02 00 00 02 00 00 00 01 70 04 00 09 06 01 04 42 00 0b 00
+    // An imported tag and a supertype, the value of a global, a product, references to a function, a vector, exports by kind, and a start function.
+    01 01 01 00 01 00 00 00 01 00 00 01 01 00 00 00 00 00 00 01 03 01 | 0061736d01000000 01 10 01 4e 02 50 00 60 01 7f 00 4f 01 00 60 01 7f 00 02 0a 01 01 00 03 00 00 00 04 00 00 0d 03 01 00 00
+    00 00 01 00 00 00 00 00 00 00 00 00 01 03 00 00 00 00 00 00 00 00 00 01 03 00 01 01 05 00 00 00 00 01 00 00 01 01 00 00 01 00 | 0061736d01000000 04 04 01 70 00 00 06 17 03 7c 00 44 00 00 00 00 00 00 00 00 0b 7c 00 23 00 0b 70 00 d0 70 0b 07 04 01 00 01 00 09 04 01 01 00 00
+    00 00 01 00 00 00 00 00 00 00 00 01 01 00 00 00 00 00 00 00 00 00 00 01 00 01 00 00 00 00 00 00 01 01 00 01 00 01 02 00 01 | 0061736d01000000 04 04 01 70 00 00 05 03 01 04 00 09 06 01 00 41 00 0b 00 0c 01 02 0b 0c 02 01 01 00 00 42 00 42 00 7e 0b 00
+    01 00 00 00 01 05 00 00 00 00 00 00 00 00 01 00 01 00 00 00 00 00 00 00 00 01 01 00 00 01 | 0061736d01000000 01 05 01 60 01 70 00 03 02 01 00 04 09 01 40 00 70 00 00 d2 00 0b 07 04 01 00 00 00 0a 05 01 03 00 00 0b
+    00 00 00 00 01 fa 00 00 00 00 00 00 00 00 00 00 00 00 00 00 00 00 00 00 00 01 01 00 00 01 | 0061736d01000000 06 16 01 7b 00 fd 0c 00 00 00 00 00 00 00 00 00 00 00 00 00 00 00 00 0b 09 04 01 03 00 00
+    01 00 00 00 00 00 01 01 01 01 00 00 01 00 00 00 00 01 00 00 01 00 00 00 00 00 01 00 00 01 00 00 00 00 00 00 00 00 00 00 00 00 00 00 00 00 00 00 00 00 00 00 01 01 00 00 00 00 00 00 00 00 00 00 00 7a 00 00 01 | 0061736d01000000 01 0a 03 60 00 00 60 00 00 60 00 00 02 06 01 01 00 00 00 00 03 02 01 00 0d 03 01 00 00 07 1f 03 00 00 00 14 00 00 00 00 00 00 00 00 00 00 00 00 00 00 00 00 00 00 00 00 00 00 01 32 04 00 0a 05 01 03 00 00 0b
+    01 00 00 00 00 00 00 00 00 01 00 00 00 00 00 01 | 0061736d01000000 01 04 01 60 00 00 03 02 01 00 08 01 00 0a 05 01 03 00 00 0b
+    // A module of most sections, and modules of one or two.
+    01 00 00 00 00 00 00 00 01 00 01 00 01 00 00 00 00 00 00 01 00 00 00 01 00 01 00 07 00 00 00 00 00 01 01 00 01 01 | 0061736d01000000 01 04 01 60 00 00 03 02 01 00 04 04 01 70 00 01 0d 03 01 00 00 06 06 01 7f 01 41 07 0b 08 01 00 09 07 01 00 41 00 0b 01 00 0a 05 01 03 00 00 0b
+    00 00 00 01 00 00 00 01 00 00 01 61 01 | 0061736d01000000 05 03 01 00 01 07 05 01 01 61 02 00
+    00 01 02 00 00 00 00 00 6d 66 01 01 | 0061736d01000000 02 08 01 01 6d 01 66 02 00 00
+    00 00 00 00 01 00 00 01 01 05 00 00 00 02 00 00 00 01 00 00 02 | 0061736d01000000 06 0e 02 7f 00 41 05 41 02 6b 0b 7f 00 23 00 0b
+    00 00 00 00 00 00 01 61 62 02 | 0061736d01000000 0c 01 01 0b 05 01 01 02 61 62
+    // A function type, one below it and its clone; and a group of a structure and an array that refer to each other, its clone, and a structure below that of
+    // the clone.
+    01 00 01 00 01 05 01 00 00 00 01 05 00 00 01 00 01 00 00 01 00 01 01 01 01 00 00 01 01 00 01 05 00 01 02 00 | 0061736d01000000 01 1a 03 50 00 60 01 64 70 01 6f 4f 01 00 60 01 70 01 64 6f 50 00 60 01 64 70 01 6f 02 0c 02 00 02 05 00 03 7f 01 00 00 00 00
     01 01 01 01 01 00 05 00 01 01 00 00 00 00 02 00 05 00 01 00 00 01 01 01 00 00 01 01 00 01 01 01 01 00 00 | 0061736d01000000 01 25 03 4e 02 50 00 5f 01 63 01 00 5e 63 00 00 4e 02 50 00 5f 01 63 03 00 5e 63 02 00 4f 01 02 5f 02 64 03 00 78 01
+    // Functions with locals, one of which refers to a type.
+    01 00 00 00 00 00 00 00 00 01 00 00 00 00 00 00 00 00 01 00 01 00 01 03 | 0061736d01000000 01 04 01 60 00 00 03 02 01 00 0a 09 01 07 02 02 7f 01 7c 00 0b
+    01 00 00 01 00 01 00 00 00 00 00 00 00 00 00 01 00 00 00 00 00 00 00 00 01 05 01 01 01 | 0061736d01000000 01 06 02 5f 00 60 00 00 03 02 01 01 0a 08 01 06 01 01 64 01 00 0b
 ";
 
-// Groups of types in words, the index of each function's type, and the seed that is found for them with garbage collection.
+// The same where imports may share the name of their module, or their type too.
+const MADE_WITH_GROUPS: &str = "
+    00 01 01 00 00 00 00 01 2c 00 00 | 0061736d01000000 02 11 02 00 00 7f 01 00 03 7f 00 00 00 7e 03 7f 00 01 00
+";
+
+// Groups of types in words, the index of each function's type, and the seed that is found for them by default.
 const SOUGHT: &str = "
-    struct 1?, struct 0? | | 01 01 00 01 01 00 05 00 01 01 00 00 00 01 01 00 05 00 01 00 00 00 00
-    open struct i8 ; array 3?, func v128 nofunc? -> f64, array 0? | 2 | 01 00 01 01 01 01 00 00 01 00 02 00 00 02 00 05 00 01 03 00 00 00 00 01 04 01 05 00 00 08 00 01 03 00 00 00 02 00 05 00 01 00 00 00 01
+    struct 1?, struct 0? | | 01 01 00 01 01 00 05 00 01 01 00 00 00 01 01 00 05 00 01 00 00 00 00 00
+    open struct i8 ; array 3?, func v128 nofunc? -> f64, array 0? | 2 | 01 00 01 01 01 01 00 00 01 00 02 00 00 02 00 05 00 01 03 00 00 00 00 01 04 01 05 00 00 08 00 01 03 00 00 00 02 00 05 00 01 00 00 00 00 01
 ";
 
-// Returns the supported configuration with garbage collection.
-fn gc_config() -> Config {
-    let mut config = supported_config();
-    config.gc_enabled = true;
+// Returns the default configuration in which imports may share the name of their module.
+fn with_groups() -> Config {
+    let mut config = Config::default();
+    config.compact_imports_enabled = true;
     config
 }
 
@@ -85,24 +110,24 @@ fn makes_row(alloc: Global, config: &Config, row: &str) -> Option<bool> {
 }
 
 fn holds(alloc: Global, row: &str) -> Option<bool> {
-    makes_row(alloc, &supported_config(), row)
+    makes_row(alloc, &Config::default(), row)
 }
 
-fn holds_with_gc(alloc: Global, row: &str) -> Option<bool> {
-    makes_row(alloc, &gc_config(), row)
+fn holds_with_groups(alloc: Global, row: &str) -> Option<bool> {
+    makes_row(alloc, &with_groups(), row)
 }
 
 #[test]
 fn modules_are_made_after_memory_ran_out(rt: HostRuntime) -> Result<(), Fail> {
-    check_rows(rt.alloc(), MADE, 4, holds)?;
-    Ok(check_rows(rt.alloc(), MADE_WITH_GC, 2, holds_with_gc)?)
+    check_rows(rt.alloc(), MADE, 25, holds)?;
+    Ok(check_rows(rt.alloc(), MADE_WITH_GROUPS, 1, holds_with_groups)?)
 }
 
 // Checks that just this seed is found for the groups and functions, at the second time where memory ran out.
 fn finds(alloc: Global, groups: &[Vec<SubType>], funcs: &[u32], expected: &[u8]) -> bool {
-    let mut found = seed_for(alloc, &gc_config(), groups, funcs);
+    let mut found = seed_for(alloc, &Config::default(), groups, funcs);
     if found.is_err() {
-        found = seed_for(alloc, &gc_config(), groups, funcs);
+        found = seed_for(alloc, &Config::default(), groups, funcs);
     }
     match found {
         Ok(Some(seed)) => seed.as_slice() == expected,

@@ -1,16 +1,12 @@
-use Rattle.std.proofs.Common.{◌≤◌, Option, Some, None, length, map, List, ℕ, arith}
+use Rattle.std.proofs.Common.{◌≤◌, Option, Some, None, length, List, ℕ}
 use Rattle.std.specs.Prelude.{MatchOption}
 use Rattle.std.specs.declared.vec.Vec.{Vec}
-use Rattle.std.proofs.lemmas.Result.{IfOk-weaker}
 use Rattle.wasm_spec.specs.Limits.{Types, Functions, most}
 use Rattle.wasm_spec.specs.Types.{SubType}
-use Rattle.wasm_smith.specs.Config.{sanitized}
 use Rattle.wasm_smith.specs.Family.{IsInFamily, types_of}
-use Rattle.wasm_smith.specs.Groups.{group_of}
 use Rattle.wasm_smith.specs.Spelling.{Spells}
 use Rattle.wasm_smith.specs.Parts.{Config}
 use Rattle.wasm_gen.specs.Asked.{IsReachable}
-use Rattle.wasm_gen.proofs.seed.seed_for.Goals as goal
 
 asked_for : {A : Type 0} (config : Config) (groups : List (List (SubType ℕ))) (funcs : List ℕ) → length (types_of groups) ≤ most Types → length funcs ≤ most Functions
     → (answer : Option (Vec ℕ A)) → MatchOption answer (¬ (IsInFamily config groups funcs)) (λ seed. IsInFamily config groups funcs × Spells config groups funcs seed.items)

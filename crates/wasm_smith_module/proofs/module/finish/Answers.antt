@@ -1,28 +1,33 @@
-use Rattle.std.proofs.Common.{◌≡◌, ◌∙◌, ℕ, List, length, vec_len, refl, arith, ap}
+use Rattle.std.proofs.Common.{◌≡◌, ◌∙◌, length, map, vec_len, refl, sym, arith, ap, subst}
 use Rattle.std.proofs.lemmas.List.{length-map}
 use Rattle.wasm_core_types.specs.SubTypes.{sub_type}
-use Rattle.wasm_smith_module.proofs.MadeLaws.{funcs_are, rest_is}
+use Rattle.wasm_smith_types.proofs.GroupedLaws.{types_of_grouped}
+use Rattle.wasm_smith_types.specs.Grouped.{groups}
+use Rattle.wasm_smith_types.specs.Making.{made}
+use Rattle.wasm_smith_types.specs.ValidGroups.{AllKeepTypeRules, types_of}
+use Rattle.wasm_smith_module.proofs.MadeLaws.{locals_are}
+use Rattle.wasm_smith_module.specs.Building.{AreItems}
+use Rattle.wasm_smith_module.specs.Items.{drawn_items}
 use Rattle.wasm_smith_module.proofs.module.finish.Goals as goal
 
-pub returns-then-len-config-clause-unfinished : goal.returns-then-len-config-clause-unfinished
-returns-then-len-config-clause-unfinished c =
-    let count : vec_len c.in_ok-funcs.funcs ≡ length c.in_ok-funcs.funcs.items = c.in_ok-funcs.funcs.ok.0 in
-    let drawn =
-    funcs_are c.args.config c.args.types c.types.result.now _ _ _ _ c.requires.whole c.types.ensures (c.deref.ensures.value ∙ c.in_ok-indexes.ensures)
-    c.in_ok-funcs.ensures in
-    omega (arith, count, c.len.ensures, ap (λ (d : List ℕ × List ℕ). length d.0) drawn)
+pub draw_items-requires-clause-few : goal.draw_items-requires-clause-few
+draw_items-requires-clause-few c = omega (arith, c.requires.few, ap length c.types.ensures, length-map c.types.result.now sub_type)
+
+pub draw_items-requires-clause-rules : goal.draw_items-requires-clause-rules
+draw_items-requires-clause-rules c = subst AllKeepTypeRules (sym c.types.ensures) c.requires.rules
 
 pub returns-clause-finished : goal.returns-clause-finished
 returns-clause-finished c =
-    let count : vec_len c.in_ok-funcs.funcs ≡ length c.in_ok-funcs.funcs.items = c.in_ok-funcs.funcs.ok.0 in
-    let drawn =
-    funcs_are c.args.config c.args.types c.types.result.now _ _ _ _ c.requires.whole c.types.ensures (c.deref.ensures.value ∙ c.in_ok-indexes.ensures)
-    c.in_ok-funcs.ensures in
-    record {
+    let types = c.args.types in
+    let items = c.in_ok-items.items in
+    let count : vec_len items.front.funcs ≡ length items.front.funcs.items = items.front.funcs.ok.0 in
+    let all : map sub_type c.types.result.now ≡ types_of (groups types) = c.types.ensures ∙ sym (types_of_grouped types.sizes.items (made types) c.requires.whole) in
+    rw c.assembled.ensures (record {
       config = refl;
       same_groups = refl;
-      drawn =
-          rest_is c.args.config c.args.offered.now c.args.types _ _ _ _ _ _ _ c.requires.offered c.requires.whole
-          (omega (arith, c.len-2.ensures, ap length c.types-2.ensures, length-map c.types-2.result.now sub_type)) (omega (arith, count, c.len.ensures)) drawn c.in_ok-locals.ensures;
-      enough = omega (arith, count, c.len.ensures);
-    }
+      after_items = c.draw_items.new.unstructured;
+      items = subst (λ ts. AreItems c.args.config c.args.duplicates ts c.args.unstructured.now c.draw_items.new.unstructured (drawn_items items)) all c.in_ok-items.ensures.drawn;
+      locals =
+          locals_are c.args.config c.args.offered.now types _ _ items.front.funcs.items c.draw_items.new.unstructured _ _ c.requires.offered c.requires.whole
+          (omega (arith, c.len.ensures, ap length c.types-2.ensures, length-map c.types-2.result.now sub_type)) (omega (arith, count)) c.in_ok-locals.ensures;
+    })

@@ -16,4 +16,4 @@ returns c =
         functions_fit = functions_fit _ (map group_of c.args.groups.now) _ _ _ c.in_ok-types.ensures c.have_all.ensures c.if-not-have_all.false c.if-funcs-config.false;
       };
     } in
-    (family, seed_spells _ _ _ _ _ _ _ family c.in_ok-types.ensures c.new-seed.ensures.items c.in_ok-push_types.ensures c.in_ok-push_functions.ensures)
+    (family, seed_spells _ _ _ _ _ _ _ _ family c.in_ok-types.ensures c.new-seed.ensures.items c.in_ok-push_types.ensures c.in_ok-push_no_imports_or_tags.ensures c.in_ok-push_functions.ensures)

@@ -1,8 +1,8 @@
 use Rattle.std.proofs.Common.{length, map, sym, ap, ◌∙◌}
 use Rattle.wasm_spec.specs.Syntax.{members}
 use Rattle.wasm_smith_types.specs.Making.{made}
-use Rattle.wasm_smith_module.specs.Made.{ModuleValue}
-use Rattle.wasm_smith_module.proofs.SectionLaws.{sizes_are}
+use Rattle.wasm_smith_module.specs.ModuleValue.{ModuleValue}
+use Rattle.wasm_smith_sections.proofs.TypeGroups.{sizes_are}
 use Rattle.wasm_smith_module.proofs.module.Module.group_sizes.Goals as goal
 
 pub returns : goal.returns

@@ -1,0 +1,4 @@
+pub mod ConstantLaws
+pub mod DrawLaws
+pub mod OfferedLaws
+pub mod TableLaws

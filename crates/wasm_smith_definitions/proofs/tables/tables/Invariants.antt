@@ -1,0 +1,17 @@
+use Rattle.std.proofs.Common.{◌≡◌, ◌-◌, [], length, map}
+use Rattle.wasm_smith_definitions.specs.Bounds.{IsBoundedTable}
+use Rattle.wasm_smith_items.specs.Items as items
+use Rattle.wasm_smith_items.specs.Kinds.{of_table, wanted_tables}
+use Rattle.wasm_smith_items.proofs.StepLaws.{IsGrowing}
+use Rattle.wasm_smith_types.specs.ValidGroups.{AllKeepTypeRules}
+use Rattle.wasm_smith_definitions.proofs.tables.tables.Given as goal
+
+abbrev pub invariant-grow : goal.invariant-grow
+invariant-grow l = record {
+  no_own_globals : l.spaces.own_globals ≡ [];
+  rules : AllKeepTypeRules l.spaces.types;
+  growing : IsGrowing l.config (wanted_tables l.config) of_table (IsBoundedTable l.config) l.fn.spaces l.fn.unstructured l.spaces l.unstructured (map items.table l.own.items);
+}
+
+abbrev pub decreases-grow : goal.decreases-grow
+decreases-grow l = l.config.max_tables - length l.spaces.tables

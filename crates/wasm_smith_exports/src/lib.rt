@@ -1,0 +1,11 @@
+//! The functions, tags, exports and start function of a made module.
+#![tactic(auto)]
+
+mod candidates;
+pub mod exports;
+mod fitting;
+pub mod function_types;
+pub mod functions;
+mod indexes;
+pub mod start;
+pub mod tags;

@@ -1,0 +1,4 @@
+pub mod AddedLaws
+pub mod CandidateLaws
+pub mod ImportLaws
+pub mod NamedLaws

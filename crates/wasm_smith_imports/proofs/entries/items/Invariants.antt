@@ -1,0 +1,15 @@
+use Rattle.std.proofs.Common.{◌<◌, map}
+use Rattle.wasm_smith_items.specs.Items.{import_item}
+use Rattle.wasm_smith_imports.specs.Added.{AreAdded, IsImporterFor}
+use Rattle.wasm_smith_imports.specs.Named.{named_item}
+use Rattle.wasm_smith_imports.proofs.entries.items.Given as goal
+
+abbrev pub invariant-items : goal.invariant-items
+invariant-items l = record {
+  importer : IsImporterFor l.spaces.types l.importer;
+  added : AreAdded l.importer.config l.fn.spaces l.spaces l.fn.progress l.progress (map (named_item l.origin) (map import_item l.items.items));
+  fewer : l.progress.left < l.fn.progress.left;
+}
+
+abbrev pub decreases-items : goal.decreases-items
+decreases-items l = l.progress.left

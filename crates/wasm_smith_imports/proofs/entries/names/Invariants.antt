@@ -1,0 +1,17 @@
+use Rattle.std.proofs.Common.{◌<◌, map, string_bytes}
+use Rattle.wasm_encoder_sections.specs.CoreItems.{entity_type}
+use Rattle.wasm_smith_imports.specs.Added.{AreAdded, IsImporterFor}
+use Rattle.wasm_smith_imports.specs.Candidates.{IsOfferedImport}
+use Rattle.wasm_smith_imports.specs.Named.{named}
+use Rattle.wasm_smith_imports.proofs.entries.names.Given as goal
+
+abbrev pub invariant-names : goal.invariant-names
+invariant-names l = record {
+  importer : IsImporterFor l.spaces.types l.importer;
+  offered : IsOfferedImport l.importer.config l.spaces.types (entity_type l.ty);
+  added : AreAdded l.importer.config l.fn.spaces l.spaces l.fn.progress l.progress (map (named l.origin (entity_type l.ty)) (map string_bytes l.names.items));
+  fewer : l.progress.left < l.fn.progress.left;
+}
+
+abbrev pub decreases-names : goal.decreases-names
+decreases-names l = l.progress.left

@@ -1,0 +1,16 @@
+use Rattle.std.proofs.Common.{◌≡◌, map}
+use Rattle.wasm_smith_items.specs.Items.{import_entry}
+use Rattle.wasm_smith_imports.specs.Added.{AreMadeSoFar, IsImporterFor}
+use Rattle.wasm_smith_imports.proofs.ImportLaws.{HasBegun}
+use Rattle.wasm_smith_imports.proofs.imports.imports.Given as goal
+
+abbrev pub invariant-grow : goal.invariant-grow
+invariant-grow l = record {
+  importer : IsImporterFor l.spaces.types l.importer;
+  config : l.importer.config ≡ l.config;
+  made : AreMadeSoFar l.config l.fn.duplicates l.fn.spaces l.spaces l.progress (map import_entry l.entries.items);
+  begun : HasBegun l.config l.fn.spaces l.fn.unstructured l.progress l.spaces l.unstructured (map import_entry l.entries.items);
+}
+
+abbrev pub decreases-grow : goal.decreases-grow
+decreases-grow l = l.progress.left

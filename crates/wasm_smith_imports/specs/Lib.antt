@@ -1,0 +1,5 @@
+pub mod Added
+pub mod Candidates
+pub mod Imports
+pub mod Named
+pub mod Names

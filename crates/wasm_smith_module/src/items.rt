@@ -1,0 +1,84 @@
+//! All items of a module after its types.
+
+ghost use Rattle.std.specs.Prelude.{◌≤◌, ◌^◌, IfOk, IfErr, length, map};
+ghost use Rattle.wasm_core_types.specs.SubTypes.{sub_type};
+ghost use Rattle.wasm_smith_config.specs.Config.{IsGood};
+ghost use Rattle.wasm_smith_definitions.specs.Offered.{AreOffersOf, HasFewTables};
+ghost use Rattle.wasm_smith_types.specs.ValidGroups.{AllKeepTypeRules};
+ghost use Rattle.wasm_smith_module.specs.Building.{AreItems, IsEnd};
+ghost use Rattle.wasm_smith_module.specs.Items.{drawn_items};
+
+use crate::definitions::{Definitions, draw_definitions};
+use crate::front::{Front, draw_front};
+use crate::uses::{Uses, draw_uses};
+use std::alloc::Global;
+use wasm_core_types::types::SubType;
+use wasm_smith_config::config::Config;
+use wasm_smith_config::error::Error;
+use wasm_smith_definitions::constants::Constants;
+use wasm_smith_imports::names::DuplicateImportsBehavior;
+use wasm_smith_items::index_spaces::IndexSpaces;
+use wasm_smith_items::items::Export;
+use wasm_smith_types::value_types::Offers;
+use wasm_smith_unstructured::unstructured::Unstructured;
+
+/// All items of a module after its types.
+#[derive(Debug, Drop)]
+pub struct Items {
+    /// Imports, tags and functions.
+    pub front: Front,
+    /// Tables, memories and globals.
+    pub definitions: Definitions,
+    /// The start function and segments.
+    pub uses: Uses,
+    /// The exports.
+    pub exports: Vec<Export>,
+}
+
+/// Draws all items of a module that has these types.
+///
+/// # Errors
+/// [`Error::IncorrectFormat`] where items are owed that can't be made, and [`Error::Memory`]. Some of the source's bytes may be taken by then.
+pub fn draw_items(
+    alloc: Global,
+    unstructured: &mut Unstructured<'_>,
+    config: &Config,
+    duplicates: DuplicateImportsBehavior,
+    offers: &Offers,
+    types: &[SubType],
+) -> Result<Items, Error>
+    requires good { IsGood config.now }
+    requires tables { HasFewTables config.now }
+    requires offers { AreOffersOf config.now offers.now }
+    requires few { length types.now ≤ 2 ^ 31 }
+    requires rules { AllKeepTypeRules (map sub_type types.now) }
+    ensures drawn { IfOk result (λ items. AreItems config.now duplicates (map sub_type types.now) unstructured.old unstructured.new (drawn_items items)) }
+    ensures ended { IfErr result (IsEnd config.now) }
+{
+    let mut spaces = IndexSpaces::new(alloc, types);
+    let mut constants = Constants::new(alloc);
+    let front = draw_front(alloc, unstructured, config, duplicates, &mut spaces)?;
+    let definitions = draw_definitions(
+        alloc,
+        unstructured,
+        config,
+        offers,
+        &mut constants,
+        &mut spaces,
+    )?;
+    let uses = draw_uses(
+        alloc,
+        unstructured,
+        config,
+        offers,
+        front.imports_size,
+        &mut constants,
+        &mut spaces,
+    )?;
+    Ok(Items {
+        front,
+        definitions,
+        uses,
+        exports: spaces.into_exports(),
+    })
+}

@@ -1,0 +1,12 @@
+use Rattle.std.proofs.Common.{map}
+use Rattle.std.proofs.lemmas.Result.{IfOk-weaker}
+use Rattle.wasm_core_types.specs.SubTypes.{sub_type}
+use Rattle.wasm_smith_types.specs.Grouped.{grouped}
+use Rattle.wasm_smith_sections.proofs.FilledParts.{added_items}
+use Rattle.wasm_smith_sections.proofs.filling.add_types.Goals as goal
+use Rattle.wasm_spec.specs.Syntax as spec
+
+pub returns-clause-added : goal.returns-clause-added
+returns-clause-added c =
+    IfOk-weaker c.add.result _ _ (λ x h. added_items (λ xs. spec.TypeSection xs) (grouped c.args.sizes.now (map sub_type c.args.types.now)) c.in_ok-section.section c.is_empty-is_empty.result _ _ c.in_ok-section.ensures.kept c.is_empty-is_empty.ensures h)
+    c.add.ensures.added

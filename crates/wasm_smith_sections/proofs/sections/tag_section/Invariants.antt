@@ -1,0 +1,7 @@
+use Rattle.std.proofs.Common.{◌≡◌, ◌++◌, drop}
+use Rattle.wasm_smith_sections.proofs.sections.tag_section.Given as goal
+
+abbrev pub invariant-loop-index : goal.invariant-loop-index
+invariant-loop-index l = record {
+  kept : l.section ++ drop l.index-index l.tags ≡ l.tags;
+}

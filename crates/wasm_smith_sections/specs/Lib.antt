@@ -1,0 +1,5 @@
+pub mod Contents
+pub mod FilledSections
+pub mod ItemViews
+pub mod ModuleEncoding
+pub mod ModuleItems

@@ -1,0 +1,304 @@
+//! The sections of a made module, filled in their order (Core Specification 3.0, Binary Format, "Modules").
+
+ghost use Rattle.std.specs.Prelude.{◌≡◌, ◌⊎◌, ◌≤◌, ◌<◌, ◌+◌, ◌++◌, ◌∷◌, [], ◌^◌, ℕ, List, length, map, IfOk, IfErr, if◌then◌else◌};
+ghost use Rattle.std.specs.Option.{option_to_list};
+ghost use Rattle.wasm_core_types.specs.CoreTypes.{val_type};
+ghost use Rattle.wasm_core_types.specs.SubTypes.{sub_type};
+ghost use Rattle.wasm_encoder_sections.specs.CoreItems.{memory_type};
+ghost use Rattle.wasm_smith_items.specs.Items as items;
+ghost use Rattle.wasm_smith_sections.specs.FilledSections.{AddSections, filled_frame, first_sections, frame, last_sections, middle_sections};
+ghost use Rattle.wasm_smith_sections.specs.ModuleEncoding.{AreBodyEncodings, PassesLength, SomeHaveLongFront};
+ghost use Rattle.wasm_smith_sections.specs.ModuleItems.{made_of};
+ghost use Rattle.wasm_smith_types.specs.Drawing.{total};
+ghost use Rattle.wasm_smith_types.specs.Grouped.{grouped};
+ghost use Rattle.wasm_smith_validity.specs.Sections.{sections_with, unless_empty};
+ghost use Rattle.wasm_spec.specs.Syntax as spec;
+
+use crate::bodies::code_section;
+use crate::filled_section::FilledSection;
+use crate::imports::import_section;
+use crate::module_items::ModuleItems;
+use crate::sections::{
+    export_section, function_section, global_section, memory_section, table_section, tag_section,
+};
+use crate::segments::{data_section, element_section};
+use crate::types::type_section;
+use std::alloc::Global;
+use wasm_core_types::types::{SubType, ValType};
+use wasm_core_write::encode_error::EncodeError;
+use wasm_encoder_sections::data_count_section::DataCountSection;
+use wasm_encoder_sections::entity_type::MemoryType;
+use wasm_encoder_sections::start_section::StartSection;
+use wasm_smith_items::imports::ImportEntry;
+use wasm_smith_items::items;
+use wasm_smith_items::items::{Export, Table};
+use wasm_smith_items::segments::{DataSegment, ElementSegment};
+
+/// Returns the sections that have items, in their order.
+///
+/// # Errors
+/// `TooLong` where a count or a run is past 4,294,967,295, and else `Memory`.
+pub fn filled_sections(
+    alloc: Global,
+    made: &ModuleItems<'_>,
+) -> Result<Vec<FilledSection>, EncodeError>
+    requires whole { total made.now.sizes.now ≡ length made.now.types.now }
+    ensures kept { IfOk result (λ sections. (bodies : List (List ℕ)) × AreBodyEncodings (made_of made.now).locals bodies × (map filled_frame sections.items ≡ map frame (sections_with made.now.data_count bodies (made_of made.now)))) }
+    ensures too_long { IfErr result (λ e. e ≡ EncodeError.TooLong → PassesLength made.now.data_count (made_of made.now)) }
+{
+    let mut sections = Vec::new(alloc);
+    add_first(alloc, made, &mut sections)?;
+    add_middle(alloc, made, &mut sections)?;
+    add_last(alloc, made, &mut sections)?;
+    Ok(sections)
+}
+
+// Adds the sections from types to memories.
+fn add_first(
+    alloc: Global,
+    made: &ModuleItems<'_>,
+    sections: &mut Vec<FilledSection>,
+) -> Result<(), EncodeError>
+    requires whole { total made.now.sizes.now ≡ length made.now.types.now }
+    ensures added { IfOk result (λ _. AddSections sections.old.items sections.new.items (first_sections (made_of made.now))) }
+    ensures too_long { IfErr result (λ e. e ≡ EncodeError.TooLong → PassesLength made.now.data_count (made_of made.now)) }
+{
+    add_types(alloc, made.types, made.sizes, sections)?;
+    add_imports(alloc, made.imports, sections)?;
+    add_functions(alloc, made.funcs, sections)?;
+    add_tables(alloc, made.tables, sections)?;
+    add_memories(alloc, made.memories, sections)
+}
+
+// Adds the sections from tags to element segments.
+fn add_middle(
+    alloc: Global,
+    made: &ModuleItems<'_>,
+    sections: &mut Vec<FilledSection>,
+) -> Result<(), EncodeError>
+    ensures added { IfOk result (λ _. AddSections sections.old.items sections.new.items (middle_sections (made_of made.now))) }
+    ensures too_long { IfErr result (λ e. e ≡ EncodeError.TooLong → PassesLength made.now.data_count (made_of made.now)) }
+{
+    add_tags(alloc, made.tags, sections)?;
+    add_globals(alloc, made.globals, sections)?;
+    add_exports(alloc, made.exports, sections)?;
+    add_start(made.start, sections)?;
+    add_elements(alloc, made.elems, sections)
+}
+
+// Adds the sections from the number of data segments to these.
+fn add_last(
+    alloc: Global,
+    made: &ModuleItems<'_>,
+    sections: &mut Vec<FilledSection>,
+) -> Result<(), EncodeError>
+    ensures added { IfOk result (λ _. (bodies : List (List ℕ)) × AreBodyEncodings (made_of made.now).locals bodies × (AddSections sections.old.items sections.new.items (last_sections made.now.data_count bodies (made_of made.now)))) }
+    ensures too_long { IfErr result (λ e. e ≡ EncodeError.TooLong → PassesLength made.now.data_count (made_of made.now)) }
+{
+    add_data_count(made.data_count, made.data_segments, sections)?;
+    add_code(alloc, made.locals, sections)?;
+    add_data(alloc, made.data_segments, sections)
+}
+
+// Adds a section, unless it is empty.
+fn add(
+    section: FilledSection,
+    is_empty: bool,
+    sections: &mut Vec<FilledSection>,
+) -> Result<(), EncodeError>
+    ensures added { IfOk result (λ _. map filled_frame sections.new.items ≡ map filled_frame sections.old.items ++ (if is_empty then [] else filled_frame section ∷ [])) }
+    ensures memory_alone { IfErr result (λ e. e ≡ EncodeError.Memory) }
+{
+    if is_empty {
+        return Ok(());
+    }
+    sections.push(section)?;
+    Ok(())
+}
+
+// Adds the types.
+fn add_types(
+    alloc: Global,
+    types: &[SubType],
+    sizes: &[u32],
+    sections: &mut Vec<FilledSection>,
+) -> Result<(), EncodeError>
+    requires whole { total sizes.now ≡ length types.now }
+    ensures added { IfOk result (λ _. AddSections sections.old.items sections.new.items (unless_empty (λ xs. spec.TypeSection xs) (grouped sizes.now (map sub_type types.now)))) }
+    ensures too_long { IfErr result (λ e. e ≡ EncodeError.TooLong → 2 ^ 32 ≤ length sizes.now) }
+{
+    let section = type_section(alloc, types, sizes)?;
+    let is_empty = section.is_empty();
+    add(FilledSection::Types(section), is_empty, sections)
+}
+
+// Adds the imports.
+fn add_imports(
+    alloc: Global,
+    imports: &[ImportEntry],
+    sections: &mut Vec<FilledSection>,
+) -> Result<(), EncodeError>
+    ensures added { IfOk result (λ _. AddSections sections.old.items sections.new.items (unless_empty (λ xs. spec.ImportSection xs) (map items.import_entry imports.now))) }
+    ensures too_long { IfErr result (λ e. e ≡ EncodeError.TooLong → 2 ^ 32 ≤ length imports.now) }
+{
+    let section = import_section(alloc, imports)?;
+    let is_empty = section.is_empty();
+    add(FilledSection::Imports(section), is_empty, sections)
+}
+
+// Adds the functions.
+fn add_functions(
+    alloc: Global,
+    funcs: &[u32],
+    sections: &mut Vec<FilledSection>,
+) -> Result<(), EncodeError>
+    ensures added { IfOk result (λ _. AddSections sections.old.items sections.new.items (unless_empty (λ xs. spec.FunctionSection xs) funcs.now)) }
+    ensures too_long { IfErr result (λ e. e ≡ EncodeError.TooLong → 2 ^ 32 ≤ length funcs.now) }
+{
+    let section = function_section(alloc, funcs)?;
+    let is_empty = section.is_empty();
+    add(FilledSection::Functions(section), is_empty, sections)
+}
+
+// Adds the tables.
+fn add_tables(
+    alloc: Global,
+    tables: &[Table],
+    sections: &mut Vec<FilledSection>,
+) -> Result<(), EncodeError>
+    ensures added { IfOk result (λ _. AddSections sections.old.items sections.new.items (unless_empty (λ xs. spec.TableSection xs) (map items.table tables.now))) }
+    ensures too_long { IfErr result (λ e. e ≡ EncodeError.TooLong → 2 ^ 32 ≤ length tables.now) }
+{
+    let section = table_section(alloc, tables)?;
+    let is_empty = section.is_empty();
+    add(FilledSection::Tables(section), is_empty, sections)
+}
+
+// Adds the memories.
+fn add_memories(
+    alloc: Global,
+    memories: &[MemoryType],
+    sections: &mut Vec<FilledSection>,
+) -> Result<(), EncodeError>
+    ensures added { IfOk result (λ _. AddSections sections.old.items sections.new.items (unless_empty (λ xs. spec.MemorySection xs) (map memory_type memories.now))) }
+    ensures too_long { IfErr result (λ e. e ≡ EncodeError.TooLong → 2 ^ 32 ≤ length memories.now) }
+{
+    let section = memory_section(alloc, memories)?;
+    let is_empty = section.is_empty();
+    add(FilledSection::Memories(section), is_empty, sections)
+}
+
+// Adds the tags.
+fn add_tags(
+    alloc: Global,
+    tags: &[u32],
+    sections: &mut Vec<FilledSection>,
+) -> Result<(), EncodeError>
+    ensures added { IfOk result (λ _. AddSections sections.old.items sections.new.items (unless_empty (λ xs. spec.TagSection xs) tags.now)) }
+    ensures too_long { IfErr result (λ e. e ≡ EncodeError.TooLong → 2 ^ 32 ≤ length tags.now) }
+{
+    let section = tag_section(alloc, tags)?;
+    let is_empty = section.is_empty();
+    add(FilledSection::Tags(section), is_empty, sections)
+}
+
+// Adds the globals.
+fn add_globals(
+    alloc: Global,
+    globals: &[items::Global],
+    sections: &mut Vec<FilledSection>,
+) -> Result<(), EncodeError>
+    ensures added { IfOk result (λ _. AddSections sections.old.items sections.new.items (unless_empty (λ xs. spec.GlobalSection xs) (map items.global globals.now))) }
+    ensures too_long { IfErr result (λ e. e ≡ EncodeError.TooLong → 2 ^ 32 ≤ length globals.now) }
+{
+    let section = global_section(alloc, globals)?;
+    let is_empty = section.is_empty();
+    add(FilledSection::Globals(section), is_empty, sections)
+}
+
+// Adds the exports.
+fn add_exports(
+    alloc: Global,
+    exports: &[Export],
+    sections: &mut Vec<FilledSection>,
+) -> Result<(), EncodeError>
+    ensures added { IfOk result (λ _. AddSections sections.old.items sections.new.items (unless_empty (λ xs. spec.ExportSection xs) (map items.export exports.now))) }
+    ensures too_long { IfErr result (λ e. e ≡ EncodeError.TooLong → 2 ^ 32 ≤ length exports.now) }
+{
+    let section = export_section(alloc, exports)?;
+    let is_empty = section.is_empty();
+    add(FilledSection::Exports(section), is_empty, sections)
+}
+
+// Adds the function that the module starts with, if there is one.
+fn add_start(start: Option<u32>, sections: &mut Vec<FilledSection>) -> Result<(), EncodeError>
+    ensures added { IfOk result (λ _. AddSections sections.old.items sections.new.items (map (λ f. spec.StartSection f) (option_to_list start))) }
+    ensures memory_alone { IfErr result (λ e. e ≡ EncodeError.Memory) }
+{
+    let Some(function_index) = start else {
+        return Ok(());
+    };
+    let section = StartSection { function_index };
+    add(FilledSection::Start(section), false, sections)
+}
+
+// Adds the element segments.
+fn add_elements(
+    alloc: Global,
+    segments: &[ElementSegment],
+    sections: &mut Vec<FilledSection>,
+) -> Result<(), EncodeError>
+    ensures added { IfOk result (λ _. AddSections sections.old.items sections.new.items (unless_empty (λ xs. spec.ElementSection xs) (map items.element_segment segments.now))) }
+    ensures too_long { IfErr result (λ e. e ≡ EncodeError.TooLong → 2 ^ 32 ≤ length segments.now) }
+{
+    let section = element_section(alloc, segments)?;
+    let is_empty = section.is_empty();
+    add(FilledSection::Elements(section), is_empty, sections)
+}
+
+// Adds the number of data segments, if it is stated.
+fn add_data_count(
+    counted: bool,
+    segments: &[DataSegment],
+    sections: &mut Vec<FilledSection>,
+) -> Result<(), EncodeError>
+    ensures added { IfOk result (λ _. AddSections sections.old.items sections.new.items (unless_empty (λ xs. spec.DataCountSection (length xs)) (if counted then map items.data_segment segments.now else []))) }
+    ensures too_long { IfErr result (λ e. e ≡ EncodeError.TooLong → 2 ^ 32 ≤ length segments.now) }
+{
+    if !counted {
+        return Ok(());
+    }
+    let Ok(count) = u32::try_from(segments.len()) else {
+        return Err(EncodeError::TooLong);
+    };
+    let section = DataCountSection { count };
+    add(FilledSection::DataCount(section), count == 0, sections)
+}
+
+// Adds the bodies.
+fn add_code(
+    alloc: Global,
+    locals: &[Vec<ValType>],
+    sections: &mut Vec<FilledSection>,
+) -> Result<(), EncodeError>
+    ensures added { IfOk result (λ _. (bodies : List (List ℕ)) × AreBodyEncodings (map (λ ls. map val_type ls.items) locals.now) bodies × (AddSections sections.old.items sections.new.items (unless_empty (λ xs. spec.CodeSection xs) bodies))) }
+    ensures too_long { IfErr result (λ e. e ≡ EncodeError.TooLong → (2 ^ 32 ≤ length locals.now) ⊎ SomeHaveLongFront (map (λ ls. map val_type ls.items) locals.now)) }
+{
+    let section = code_section(alloc, locals)?;
+    let is_empty = section.is_empty();
+    add(FilledSection::Code(section), is_empty, sections)
+}
+
+// Adds the data segments.
+fn add_data(
+    alloc: Global,
+    segments: &[DataSegment],
+    sections: &mut Vec<FilledSection>,
+) -> Result<(), EncodeError>
+    ensures added { IfOk result (λ _. AddSections sections.old.items sections.new.items (unless_empty (λ xs. spec.DataSection xs) (map items.data_segment segments.now))) }
+    ensures too_long { IfErr result (λ e. e ≡ EncodeError.TooLong → 2 ^ 32 ≤ length segments.now) }
+{
+    let section = data_section(alloc, segments)?;
+    let is_empty = section.is_empty();
+    add(FilledSection::Data(section), is_empty, sections)
+}

@@ -1,0 +1,6 @@
+pub mod Constants
+pub mod Made
+pub mod Rules
+pub mod Sections
+pub mod Spaces
+pub mod Validity

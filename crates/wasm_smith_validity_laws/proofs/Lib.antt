@@ -1,0 +1,5 @@
+mod FunctionTypes
+mod LocalRuns
+mod SectionItems
+mod TypedBodies
+pub mod ValidModules

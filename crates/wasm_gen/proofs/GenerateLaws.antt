@@ -16,7 +16,7 @@ use Rattle.wasm_smith_limits.specs.Measures.{numbers_of}
 use Rattle.wasm_smith_module.specs.Bounds.{IsWithinBounds}
 use Rattle.wasm_smith_module.specs.Generating.{HasFront, front_at}
 use Rattle.wasm_smith_module.specs.ModuleValue.{ModuleValue}
-use Rattle.wasm_smith_module.specs.Promise.{IsMadeFor, PassesTypes}
+use Rattle.wasm_smith_module.specs.Promise.{HasDrawnData, IsMadeFor, PassesTypes}
 use Rattle.wasm_smith_sections.specs.ModuleEncoding.{IsModuleEncoding, IsUnwritten}
 use Rattle.wasm_smith_validity.specs.Made.{Made}
 use Rattle.wasm_smith_validity.specs.Sections.{sections_with}
@@ -67,9 +67,9 @@ unwritten c m e made h = of_writing c m.made e (subst (λ (c : Config). IsUnwrit
 abbrev pub IsDrawn : Config → List ℕ → Made → List ℕ → Type 0
 IsDrawn c seed m left = IfSome (front_at c seed) (λ drawn. HasFront c drawn m left)
 
-pub generated_from : (c : Config) (seed left : List ℕ) (m : ModuleValue) (bytes : List ℕ) → IsMadeFor c m → IsDrawn c seed m.made left → IsGenerated c m.made bytes
+pub generated_from : (c : Config) (seed left : List ℕ) (m : ModuleValue) (bytes : List ℕ) → IsMadeFor c m → IsDrawn c seed m.made left → HasDrawnData seed left m.made → IsGenerated c m.made bytes
     → IsGeneratedFrom c seed bytes
-generated_from c seed left m bytes made drawn generated = record { good = made.good; made = m.made; left = left; drawn = drawn; generated = generated }
+generated_from c seed left m bytes made drawn contents generated = record { good = made.good; made = m.made; left = left; drawn = drawn; contents = contents; generated = generated }
 
 pub refused_from : (c : Config) (seed left : List ℕ) (m : ModuleValue) (e : GenerateError) → IsMadeFor c m → IsDrawn c seed m.made left → IsUnwritable c m.made e
     → IsCause c seed e

@@ -13,7 +13,7 @@ use Rattle.wasm_smith.specs.ErrorCases as smith
 use Rattle.wasm_smith.specs.Parts.{Config, Error}
 use Rattle.wasm_smith_module.specs.Bounds.{IsWithinBounds}
 use Rattle.wasm_smith_module.specs.Generating.{HasFront, front_at}
-use Rattle.wasm_smith_module.specs.Promise.{IsOwed, PassesTypes}
+use Rattle.wasm_smith_module.specs.Promise.{HasDrawnData, IsOwed, PassesTypes}
 use Rattle.wasm_smith_sections.specs.ModuleEncoding.{PassesLength}
 use Rattle.wasm_smith_validity.specs.Made.{Made}
 use Rattle.wasm_smith_validity.specs.Sections.{sections_with}
@@ -34,12 +34,13 @@ told smith.Memory = Memory
 told smith.TooLong = Limit limits.Length
 
 -- What is generated from these bytes for a configuration that was put in order, and is good: a made module. Its types and functions are those that are drawn,
--- where the draws say which they are; where nothing is left then, and nothing else is owed, it has nothing else.
+-- where the draws say which they are; where nothing is left then, and nothing else is owed, it has nothing else. Its data are no longer than these bytes.
 pub record IsGeneratedFrom (c : Config) (seed bytes : List ℕ) : Type 0 where
   pub good : IsGood c
   pub made : Made
   pub left : List ℕ
   pub drawn : IfSome (front_at c seed) (λ drawn. HasFront c drawn made left)
+  pub contents : HasDrawnData seed left made
   pub generated : IsGenerated c made bytes
 
 -- ---- limits

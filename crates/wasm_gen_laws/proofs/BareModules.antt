@@ -15,6 +15,7 @@ use Rattle.wasm_smith_validity.specs.Rules.{KeepAll}
 use Rattle.wasm_smith_validity.specs.Spaces as validity
 use Rattle.wasm_smith_validity.specs.Spaces.{func_type_at, spaces_after, spaces_of_types}
 use Rattle.wasm_smith_validity.specs.Validity.{IsValidByIndex}
+use Rattle.wasm_smith_validity.proofs.MadeSections.{rules_of}
 use Rattle.wasm_spec.specs.Features.{Features}
 use Rattle.wasm_spec.specs.Limits.{Limit, Types, Functions, most}
 use Rattle.wasm_spec.specs.Shortest.{unsigned_encoding, list_encoding, framed_encoding}
@@ -174,9 +175,9 @@ no_length features groups funcs counted v small some few_types few_funcs (inr (i
     let short = bodies_short (no_locals funcs) long.0 (without_locals funcs) long.1 in
     let few : length long.0 ≤ most Functions = omega (arith, few_funcs, as_many_bodies (no_locals funcs) long.0 long.1, length-map {B = List (ValType ℕ)} funcs (λ _. [])) in
     elim (some_section IsLongSection groups funcs long.0 (subst (SomeByRecursion IsLongSection) (sections_are counted groups funcs long.0) long.2)) [
-      | inl types ↦ omega (arith, types, groups_length groups (groups_short features groups v.groups small some few_types))
+      | inl types ↦ omega (arith, types, groups_length groups (groups_short features groups (rules_of features (bare_module groups funcs) v).valid small some few_types))
       | inr others ↦ elim others [
-        | inl functions ↦ omega (arith, functions, short_funcs funcs (named_funcs features (spaces_of_types (types_of groups)) funcs [] v.behind_types few_types) few_funcs)
+        | inl functions ↦ omega (arith, functions, short_funcs funcs (named_funcs features (spaces_of_types (types_of groups)) funcs [] (rules_of features (bare_module groups funcs) v).behind_types few_types) few_funcs)
         | inr code ↦ omega (arith, code, short_code long.0 short few)
       ]
     ]

@@ -1,11 +1,12 @@
 //! Modules of configurations and seeds that are drawn.
 
-use crate::generated::is_accepted;
+use crate::generated::{is_accepted, is_valid};
 use crate::lists::put;
 use crate::numbers::Numbers;
 use crate::parts::{PartCount, are_all_there, count_parts, no_parts};
 use std::alloc::Global;
 use wasm_gen::smith::Config;
+use wasm_smith::error::Error;
 use wasm_smith::module::Module;
 use wasm_smith::unstructured::Unstructured;
 
@@ -95,4 +96,45 @@ fn each_part_is_reached(rt: HostRuntime) {
     let mut counts = no_parts(rt.alloc());
     let holds = are_reached(rt.alloc(), &mut counts, 10_000);
     assert!(rt; holds, "{counts:?}");
+}
+
+// Checks that the bytes of a module are accepted under the features of its configuration.
+fn is_written_so(alloc: Global, module: &Module) -> bool {
+    match module.to_bytes(alloc) {
+        Ok(bytes) => is_valid(alloc, module.config(), &bytes),
+        Err(_) => false,
+    }
+}
+
+// Checks that the module of a source, and of a configuration that is drawn from it first, is accepted. Returns none where the configuration is bad.
+fn is_arbitrary_accepted(alloc: Global, source: &[u8]) -> Option<bool> {
+    let made = Module::arbitrary(alloc, &mut Unstructured::new(source));
+    let answer = match &made {
+        Ok(module) => Some(is_written_so(alloc, module)),
+        Err(Error::BadConfig(_)) => None,
+        Err(_) => Some(false),
+    };
+    // (dropped by a call, which is cheaper to prove)
+    drop(made);
+    answer
+}
+
+// Checks that at least so many modules are made of these sources, and that each is accepted.
+fn are_arbitrary_accepted(alloc: Global, sources: u32, least: u32) -> bool {
+    let mut numbers = Numbers::new(23);
+    let mut modules = 0u32;
+    for _ in 0..sources {
+        let source = drawn_seed(alloc, &mut numbers);
+        match is_arbitrary_accepted(alloc, &source) {
+            Some(true) => modules = modules.wrapping_add(1),
+            Some(false) => return false,
+            None => {}
+        }
+    }
+    modules >= least
+}
+
+#[test]
+fn arbitrary_modules_are_accepted(rt: HostRuntime) {
+    assert!(rt; are_arbitrary_accepted(rt.alloc(), 10_000, 200));
 }

@@ -68,8 +68,8 @@ fn features_of(mut config: Config) -> WasmFeatures {
     config.features()
 }
 
-// Checks that a new session with the features of the configuration accepts a module.
-fn is_valid(alloc: Global, config: &Config, module: &[u8]) -> bool {
+/// Checks that a new session with the features of the configuration accepts a module.
+pub fn is_valid(alloc: Global, config: &Config, module: &[u8]) -> bool {
     answers_under(alloc, features_of(*config), module, "yes")
 }
 

@@ -3,7 +3,7 @@ use Rattle.std.proofs.Common.{◌≡◌, ℕ, ◌^◌, ◌≤◌, Bool, true, fa
 use Rattle.std.specs.List.{AllByRecursion}
 use Rattle.std.proofs.lemmas.Bool.{le-ltb}
 use Rattle.std.proofs.lemmas.List.Elements.{All-from_recursion}
-use Rattle.wasm_smith_config.specs.Arbitrary.{on_at, off_at, maximums_at, maximums_of, arbitrary_at}
+use Rattle.wasm_smith_config.specs.Arbitrary.{IsArbitrary, on_at, off_at, maximums_at, maximums_of, arbitrary_at}
 use Rattle.wasm_smith_config.specs.Config.{AreGood, minimums, maximums, sanitized}
 use Rattle.wasm_smith_config.specs.Defaults.{IsDefault, least_counts}
 use Rattle.wasm_smith_config.specs.declared.config.Config.{Config}
@@ -42,6 +42,16 @@ all_kept default on off drawn s after_on after_off left is first second third =
 pub all_drawn : (default on off drawn : Config) (s after_on after_off left : List ℕ) → on_at default s ≡ (on, after_on) → off_at on after_on ≡ (off, after_off) → maximums_at off after_off ≡ (drawn, left) → arbitrary_at default s ≡ (sanitized drawn, left)
 unfolding arbitrary_at
 all_drawn default on off drawn s after_on after_off left first second third = rw (first, second, third) refl
+
+arbitrary_keeps : (c : Config) (s : List ℕ) → kept_of (arbitrary_at c s).0 ≡ kept_of c
+unfolding arbitrary_at
+arbitrary_keeps c s =
+    let on = on_at c s in
+    let off = off_at on.0 on.1 in
+    maximums_keep off.0 off.1 ∙ off_keeps on.0 on.1 ∙ on_keeps c s
+
+pub drawn_kept : (s left : List ℕ) (c : Config) → IsArbitrary s c left → IsKept c
+drawn_kept s left c is = sym (ap (λ (step : Config × List ℕ). kept_of step.0) is.drawn) ∙ arbitrary_keeps is.default s ∙ default_kept is.default is.is_default
 
 -- a minimum of nothing is good, and so is a maximum that is small
 none_least : (minimum maximum : ℕ) → minimum ≡ 0 → nat_lt maximum minimum ≡ false

@@ -1,6 +1,6 @@
 //! Configurations that are drawn.
 
-ghost use Rattle.std.specs.Prelude.{◌≡◌, ◌≤◌};
+ghost use Rattle.std.specs.Prelude.{◌≡◌, ◌≤◌, length};
 ghost use Rattle.std.specs.List.{AllByRecursion};
 ghost use Rattle.wasm_smith_unstructured.specs.Draws.{IsDrawn, int_at};
 ghost use Rattle.wasm_smith_config.specs.Arbitrary.{IsArbitrary, on_at, off_at, maximums_at, maximums_of};
@@ -13,6 +13,7 @@ impl Config {
     /// Draws a configuration: each switch, and each maximum that has a minimum. All else is as in the default, and the configuration is sanitized.
     pub fn arbitrary(unstructured: &mut Unstructured<'_>) -> Config
         ensures exact { IsArbitrary unstructured.old result unstructured.new }
+        ensures taken { length unstructured.new ≤ length unstructured.old }
         ensures in_order { table.sanitized result ≡ result }
         ensures minimums { table.AreGood (table.minimums result) }
         ensures maximums { table.AreGood (table.maximums result) }
@@ -27,7 +28,8 @@ impl Config {
 
     // Draws each switch that is on by default.
     fn draw_on(&mut self, unstructured: &mut Unstructured<'_>)
-        ensures { IsDrawn (λ c. c) self.new unstructured.new (on_at self.old unstructured.old) }
+        ensures exact { IsDrawn (λ c. c) self.new unstructured.new (on_at self.old unstructured.old) }
+        ensures taken { length unstructured.new ≤ length unstructured.old }
     {
         self.allow_floats = unstructured.bool();
         self.allow_start_export = unstructured.bool();
@@ -47,7 +49,8 @@ impl Config {
 
     // Draws each switch that is off by default.
     fn draw_off(&mut self, unstructured: &mut Unstructured<'_>)
-        ensures { IsDrawn (λ c. c) self.new unstructured.new (off_at self.old unstructured.old) }
+        ensures exact { IsDrawn (λ c. c) self.new unstructured.new (off_at self.old unstructured.old) }
+        ensures taken { length unstructured.new ≤ length unstructured.old }
     {
         self.allow_invalid_funcs = unstructured.bool();
         self.canonicalize_nans = unstructured.bool();
@@ -66,6 +69,7 @@ impl Config {
     // Draws each maximum that has a minimum.
     fn draw_maximums(&mut self, unstructured: &mut Unstructured<'_>)
         ensures exact { IsDrawn (λ c. c) self.new unstructured.new (maximums_at self.old unstructured.old) }
+        ensures taken { length unstructured.new ≤ length unstructured.old }
         ensures few { AllByRecursion (λ most. most ≤ 100) (maximums_of self.new) }
     {
         self.max_types = maximum(unstructured);
@@ -85,6 +89,7 @@ impl Config {
 // Draws a maximum.
 fn maximum(unstructured: &mut Unstructured<'_>) -> u32
     ensures exact { IsDrawn (λ n. n) result unstructured.new (int_at 0 100 unstructured.old) }
+    ensures taken { length unstructured.new ≤ length unstructured.old }
     ensures few { result ≤ 100 }
 {
     unstructured.int_in_range(0..=100) as u32

@@ -1,4 +1,3 @@
 pub mod ConstantLaws
-pub mod DrawLaws
 pub mod OfferedLaws
 pub mod TableLaws

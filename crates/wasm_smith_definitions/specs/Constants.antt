@@ -14,11 +14,11 @@ use Rattle.wasm_smith_definitions.specs.declared.candidates.Form.TheVariants as 
 
 -- a module may write a type, under the features of a configuration
 abbrev pub MayWrite : Config → Spaces → ValType ℕ → Type 0
-MayWrite c k type = (features : Features) → AreFeaturesOf c features → is_value features k.types type ≡ true
+MayWrite c spaces type = (features : Features) → AreFeaturesOf c features → is_value features spaces.types type ≡ true
 
 -- a constant expression gives a value of a type, under the features of a configuration
 abbrev pub Gives : Config → Spaces → ValType ℕ → ConstantExpression → Type 0
-Gives c k type e = (features : Features) → AreFeaturesOf c features → IsConstant features (scope features k) type e
+Gives c spaces type e = (features : Features) → AreFeaturesOf c features → IsConstant features (scope features spaces) type e
 
 -- A type has plain constants, which name no global and no function, unless it is a reference that can't be null.
 abbrev pub has_plain : ValType ℕ → Bool
@@ -45,7 +45,7 @@ IsOnIntegers type e = ⊥
 
 -- there are constants of a type in this form
 abbrev pub Fits : Config → Spaces → ValType ℕ → Form → Type 0
-Fits c k type forms.Plain = has_plain type ≡ true
-Fits c k type forms.Operation = (c.extended_const_enabled ≡ true) × IsInteger type
-Fits c k type (forms.Global global) = Gives c k type (GlobalGet global ∷ [])
-Fits c k type (forms.Function function) = Gives c k type (RefFunc function ∷ [])
+Fits c spaces type forms.Plain = has_plain type ≡ true
+Fits c spaces type forms.Operation = (c.extended_const_enabled ≡ true) × IsInteger type
+Fits c spaces type (forms.Global global) = Gives c spaces type (GlobalGet global ∷ [])
+Fits c spaces type (forms.Function function) = Gives c spaces type (RefFunc function ∷ [])

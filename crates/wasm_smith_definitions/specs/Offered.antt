@@ -1,4 +1,4 @@
--- What a configuration offers: the types of the items that are drawn for it.
+-- The types of the items that are drawn for a configuration.
 use Rattle.std.specs.Prelude.{◌≡◌, ℕ, ◌-◌, ◌/◌, ◌^◌, ◌≤◌, Bool, true, false, min, nat_eq, Option, Some, None, is_some, if◌then◌else◌}
 use Rattle.wasm_spec.specs.Features.{Features}
 use Rattle.wasm_spec.specs.Types.{ValType, Ref, RefType, TableType, MemoryType}

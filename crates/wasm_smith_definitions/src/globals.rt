@@ -1,6 +1,6 @@
 //! The globals of a module.
 
-ghost use Rattle.std.specs.Prelude.{◌≡◌, ◌≤◌, map, IfOk, IfErr};
+ghost use Rattle.std.specs.Prelude.{◌≡◌, ◌≤◌, map, IfOk, IfErr, length};
 ghost use Rattle.wasm_core_types.specs.CoreTypes.{val_type};
 ghost use Rattle.wasm_smith_config.specs.declared.config.Config.{Config};
 ghost use Rattle.wasm_smith_definitions.specs.Offered.{AreOffersOf, IsOfferedValue};
@@ -28,7 +28,8 @@ pub fn global_type(
     offers: &Offers,
     type_count: u32,
 ) -> GlobalType
-    ensures { (c : Config) → AreOffersOf c offers.now → IsOfferedValue c type_count (val_type result.val_type) }
+    ensures offered { (c : Config) → AreOffersOf c offers.now → IsOfferedValue c type_count (val_type result.val_type) }
+    ensures taken { length unstructured.new ≤ length unstructured.old }
 {
     let val_type = global_value(unstructured, offers, type_count);
     let mutable = unstructured.bool();
@@ -47,6 +48,7 @@ fn global(
     requires offers { AreOffersOf config.now offers.now }
     requires rules { AllKeepTypeRules spaces.now.types }
     ensures allowed { IfOk result (λ global. Allows config.now spaces.now (of_global (items.global global))) }
+    ensures taken { length unstructured.new ≤ length unstructured.old }
     ensures refused { IfErr result (λ e. e ≡ Error.Memory) }
 {
     let ty = global_type(unstructured, offers, spaces.type_count());
@@ -70,6 +72,7 @@ pub fn globals(
     requires ordered { config.now.min_globals ≤ config.now.max_globals }
     requires rules { AllKeepTypeRules spaces.old.types }
     ensures grown { IfOk result (λ v. IsGrown config.now (wanted_globals config.now) of_global (AnyBound config.now) spaces.old unstructured.old spaces.new unstructured.new (map items.global v.items)) }
+    ensures taken { length unstructured.new ≤ length unstructured.old }
     ensures refused { IfErr result (λ e. e ≡ Error.Memory) }
 {
     let mut own = Vec::new(alloc);

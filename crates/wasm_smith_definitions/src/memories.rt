@@ -1,6 +1,6 @@
 //! The memories of a module.
 
-ghost use Rattle.std.specs.Prelude.{◌≡◌, ◌≤◌, true, map, IfOk, is_some};
+ghost use Rattle.std.specs.Prelude.{◌≡◌, ◌≤◌, true, map, IfOk, is_some, length};
 ghost use Rattle.wasm_encoder_sections.specs.CoreItems.{memory_type};
 ghost use Rattle.wasm_smith_definitions.specs.Offered.{HasByteLimits, IsOfferedMemory, most_pages_for};
 ghost use Rattle.wasm_smith_items.specs.Kinds.{of_memory, wanted_memories};
@@ -19,6 +19,7 @@ use wasm_smith_unstructured::unstructured::Unstructured;
 fn page_size(unstructured: &mut Unstructured<'_>, config: &Config) -> Option<u32>
     ensures offered { is_some result ≡ true → config.now.custom_page_sizes_enabled ≡ true }
     ensures valid { is_page_size result ≡ true }
+    ensures taken { length unstructured.new ≤ length unstructured.old }
 {
     if !config.custom_page_sizes_enabled {
         return None;
@@ -52,7 +53,8 @@ fn most_pages(config: &Config, memory64: bool, page_size_log2: Option<u32>) -> u
 
 /// Draws the type of a memory.
 pub fn memory_type(unstructured: &mut Unstructured<'_>, config: &Config) -> MemoryType
-    ensures { IsOfferedMemory config.now (memory_type result) }
+    ensures offered { IsOfferedMemory config.now (memory_type result) }
+    ensures taken { length unstructured.new ≤ length unstructured.old }
 {
     let memory64 = bool_if(unstructured, config.memory64_enabled);
     let shared = bool_if(unstructured, config.threads_enabled);
@@ -81,7 +83,8 @@ pub fn memories(
 ) -> Result<Vec<MemoryType>, AllocError>
     requires limits { HasByteLimits config.now }
     requires ordered { config.now.min_memories ≤ config.now.max_memories }
-    ensures { IfOk result (λ v. IsGrown config.now (wanted_memories config.now) of_memory (IsOfferedMemory config.now) spaces.old unstructured.old spaces.new unstructured.new (map memory_type v.items)) }
+    ensures grown { IfOk result (λ v. IsGrown config.now (wanted_memories config.now) of_memory (IsOfferedMemory config.now) spaces.old unstructured.old spaces.new unstructured.new (map memory_type v.items)) }
+    ensures taken { length unstructured.new ≤ length unstructured.old }
 {
     let mut own = Vec::new(alloc);
     'grow: while grows(

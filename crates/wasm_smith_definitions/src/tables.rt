@@ -43,7 +43,8 @@ pub fn table_type(
     type_count: u32,
 ) -> TableType
     requires { AreOffersOf config.now offers.now }
-    ensures { IsOfferedTable config.now type_count (table_type result) }
+    ensures offered { IsOfferedTable config.now type_count (table_type result) }
+    ensures taken { length unstructured.new ≤ length unstructured.old }
 {
     let element_type = table_element(unstructured, config, offers, type_count);
     let table64 = bool_if(unstructured, config.memory64_enabled);
@@ -73,6 +74,7 @@ fn table(
     requires no_own_globals { spaces.now.own_globals ≡ [] }
     ensures allowed { IfOk result (λ table. Allows config.now spaces.now (of_table (items.table table))) }
     ensures bounded { IfOk result (λ table. IsBoundedTable config.now (items.table table)) }
+    ensures taken { length unstructured.new ≤ length unstructured.old }
     ensures refused { IfErr result (λ e. e ≡ Error.Memory) }
 {
     let ty = table_type(unstructured, config, offers, spaces.type_count());
@@ -105,6 +107,7 @@ pub fn tables(
     requires rules { AllKeepTypeRules spaces.old.types }
     requires no_own_globals { spaces.old.own_globals ≡ [] }
     ensures grown { IfOk result (λ v. IsGrown config.now (wanted_tables config.now) of_table (IsBoundedTable config.now) spaces.old unstructured.old spaces.new unstructured.new (map items.table v.items)) }
+    ensures taken { length unstructured.new ≤ length unstructured.old }
     ensures refused { IfErr result (λ e. e ≡ Error.Memory) }
 {
     let mut own = Vec::new(alloc);

@@ -1,6 +1,6 @@
 //! The types of the values of globals and of the elements of tables.
 
-ghost use Rattle.std.specs.Prelude.{◌≡◌};
+ghost use Rattle.std.specs.Prelude.{◌≡◌, ◌≤◌, length};
 ghost use Rattle.wasm_core_types.specs.CoreTypes.{val_type};
 ghost use Rattle.wasm_encoder_sections.specs.CoreItems.{ref_type};
 ghost use Rattle.wasm_smith_definitions.specs.Offered.{AreOffersOf, IsOfferedElement, IsOfferedValue, with_null};
@@ -27,7 +27,8 @@ pub fn global_value(
     offers: &Offers,
     type_count: u32,
 ) -> ValType
-    ensures { (c : Config) → AreOffersOf c offers.now → IsOfferedValue c type_count (val_type result) }
+    ensures offered { (c : Config) → AreOffersOf c offers.now → IsOfferedValue c type_count (val_type result) }
+    ensures taken { length unstructured.new ≤ length unstructured.old }
 {
     match offers.value(unstructured, type_count) {
         ValType::Ref(reference) => ValType::Ref(nullable(reference)),
@@ -43,7 +44,8 @@ pub fn table_element(
     type_count: u32,
 ) -> RefType
     requires { AreOffersOf config.now offers.now }
-    ensures { IsOfferedElement config.now type_count (ref_type result) }
+    ensures offered { IsOfferedElement config.now type_count (ref_type result) }
+    ensures taken { length unstructured.new ≤ length unstructured.old }
 {
     if !config.reference_types_enabled {
         return RefType {

@@ -1,9 +1,7 @@
 -- Exports of items that are there, with names that are new, keep the rule.
 use Rattle.std.specs.Prelude.{bytes_eq}
 use Rattle.std.proofs.Common.{◌≡◌, ℕ, ◌+◌, ◌<◌, Bool, true, false, not, ◌||◌, List, [], ◌∷◌, ◌++◌, length, map, refl, ap, sym, ◌∙◌, Some, slice_get}
-use Rattle.std.specs.BTreeSet.{BTreeSet, contains_text}
 use Rattle.std.specs.List.{list_any}
-use Rattle.std.specs.declared.string.String.{String}
 use Rattle.std.proofs.lemmas.Bool.{and_from}
 use Rattle.std.proofs.lemmas.Slice.Eq.{bytes_eq-Decides}
 use Rattle.std.proofs.lemmas.List.{map_push}
@@ -20,6 +18,7 @@ use Rattle.wasm_smith_config.specs.declared.config.Config.{Config}
 use Rattle.wasm_smith_items.specs.Kinds.{count_of, of_export}
 use Rattle.wasm_smith_items.specs.Steps.{Allows}
 use Rattle.wasm_smith_items.proofs.SpaceLaws.{got_mapped}
+use Rattle.wasm_smith_unstructured.specs.Names.{is_name}
 use Rattle.wasm_smith_validity.specs.Rules.{item_at}
 use Rattle.wasm_smith_validity.specs.Spaces.{Spaces, functions_of, globals_of}
 use Rattle.wasm_smith_types.proofs.GroupDraws.{any_more}
@@ -44,10 +43,10 @@ may_be_exported c features k TagKind index f lt = leaves features (λ x. TagExte
 pub export_allowed : (c : Config) (k : Spaces) (export : Export) → export.index < count_of k export.kind → list_any (bytes_eq export.name) (names_of k.exports) ≡ false → Allows c k (of_export export)
 export_allowed c k export lt new features f = and_from _ _ (may_be_exported c features k export.kind export.index f lt) (ap not new)
 
--- ---- the names of exports are in a set
+-- ---- the names of exports are among those that differ
 
-abbrev pub AreNames : {Y : Type 0} → BTreeSet (String Y) → List Export → Type 0
-AreNames names exports = (text : List ℕ) → contains_text names text ≡ list_any (bytes_eq text) (names_of exports)
+abbrev pub AreNames : List (List ℕ) → List Export → Type 0
+AreNames names exports = (text : List ℕ) → is_name names text ≡ list_any (bytes_eq text) (names_of exports)
 
 bytes_alike : (xs ys : List ℕ) → bytes_eq xs ys ≡ bytes_eq ys xs
 bytes_alike xs ys = go (bytes_eq xs ys) (bytes_eq ys xs) refl refl
@@ -64,7 +63,7 @@ either_way true false = refl
 either_way false true = refl
 either_way false false = refl
 
-pub one_more_name : {Y : Type 0} (old new : BTreeSet (String Y)) (exports all : List Export) (export : Export) → all ≡ exports ++ export ∷ [] → IsAddedName old new export.name → AreNames old exports → AreNames new all
+pub one_more_name : (old new : List (List ℕ)) (exports all : List Export) (export : Export) → all ≡ exports ++ export ∷ [] → IsAddedName old new export.name → AreNames old exports → AreNames new all
 one_more_name old new exports all export pushed added names text =
     let here = bytes_eq export.name text in
     let before = list_any (bytes_eq text) (names_of exports) in

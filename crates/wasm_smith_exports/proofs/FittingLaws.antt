@@ -10,10 +10,10 @@ use Rattle.wasm_spec.proofs.Places.{get_right}
 use Rattle.wasm_spec.specs.Types.{SubType}
 use Rattle.wasm_smith_unstructured.specs.Draws.{choose_at}
 use Rattle.wasm_smith_types.proofs.ListLaws.{chosen}
+use Rattle.wasm_smith_items.specs.FunctionTypes.{func_size}
 use Rattle.wasm_smith_validity.specs.Spaces.{func_type_at}
 use Rattle.wasm_smith_exports.specs.Exports.{type_fits}
 use Rattle.wasm_smith_exports.specs.Fitting.{fits, sized}
-use Rattle.wasm_smith_exports.specs.Sizes.{func_size}
 use Rattle.wasm_smith_exports.specs.declared.fitting.SizedItem.{SizedItem}
 
 -- ---- what a filter keeps

@@ -8,7 +8,7 @@ use Rattle.wasm_smith_config.specs.declared.config.Config.{Config}
 use Rattle.wasm_smith_types.specs.Growing.{grows_from, grows_at, grow_at, with_front}
 use Rattle.wasm_smith_types.proofs.GrowLaws.{grow_step, grow_ends}
 use Rattle.wasm_smith_validity.specs.Spaces.{Spaces, functions_of}
-use Rattle.wasm_smith_exports.specs.Indexes.{index_at}
+use Rattle.wasm_smith_items.specs.Indexes.{index_at}
 use Rattle.wasm_smith_exports.specs.Wanted.{AreTooFew, functions_at}
 
 abbrev drawn_unless : Bool → (List ℕ → ℕ × List ℕ) → ℕ → ℕ → ℕ → List ℕ → List ℕ × List ℕ

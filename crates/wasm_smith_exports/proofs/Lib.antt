@@ -1,6 +1,4 @@
 pub mod ExportLaws
 pub mod FittingLaws
 pub mod GrowLaws
-pub mod IndexLaws
-pub mod SizeLaws
 pub mod TypeLaws

@@ -1,15 +1,15 @@
 -- Which items may be exported: those whose types fit into what is left.
 use Rattle.std.specs.Prelude.{◌≡◌, ℕ, ◌-◌, ◌<◌, ◌≤◌, Bool, bytes_eq, false, ◌&&◌, ◌||◌, List, [], ◌∷◌, length, nat_lt, nat_le}
-use Rattle.std.specs.BTreeSet.{BTreeSet, contains_text}
 use Rattle.std.specs.List.{filter, list_any}
-use Rattle.std.specs.declared.string.String.{String}
 use Rattle.wasm_spec.specs.Types.{SubType, ExternalKind, FuncKind, TableKind, MemoryKind, GlobalKind, TagKind}
 use Rattle.wasm_smith_config.specs.declared.config.Config.{Config}
+use Rattle.wasm_smith_items.specs.FunctionTypes.{func_size}
 use Rattle.wasm_smith_items.specs.Kinds.{count_of}
 use Rattle.wasm_smith_items.specs.Steps.{Wanted}
+use Rattle.wasm_smith_unstructured.specs.Names.{is_name}
 use Rattle.wasm_smith_validity.specs.Spaces.{Spaces, functions_of, globals_of, func_type_at}
 use Rattle.wasm_smith_exports.specs.Fitting.{fits, sized}
-use Rattle.wasm_smith_exports.specs.Sizes.{func_size, item_size, exports_size}
+use Rattle.wasm_smith_exports.specs.Sizes.{item_size, exports_size}
 use Rattle.wasm_smith_exports.specs.declared.candidates.Candidates.{Candidates}
 
 -- the function type of an index fits into what is left
@@ -63,7 +63,7 @@ abbrev pub HasShortName : List ℕ → Type 0
 HasShortName name = length name ≤ 1020
 
 -- a name that is new among these, and is added to them
-pub record IsAddedName {Y : Type 0} (old new : BTreeSet (String Y)) (name : List ℕ) : Type 0 where
-  pub is_new : contains_text old name ≡ false
-  pub added : (text : List ℕ) → contains_text new text ≡ (bytes_eq name text || contains_text old text)
+pub record IsAddedName (old new : List (List ℕ)) (name : List ℕ) : Type 0 where
+  pub is_new : is_name old name ≡ false
+  pub added : (text : List ℕ) → is_name new text ≡ (bytes_eq name text || is_name old text)
   pub short : HasShortName name

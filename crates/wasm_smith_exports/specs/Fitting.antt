@@ -1,8 +1,8 @@
 -- Functions and tags with the sizes of their types.
 use Rattle.std.specs.Prelude.{ℕ, suc, Bool, List, [], ◌∷◌, nat_le}
 use Rattle.wasm_spec.specs.Types.{SubType}
+use Rattle.wasm_smith_items.specs.FunctionTypes.{func_size}
 use Rattle.wasm_smith_validity.specs.Spaces.{func_type_at}
-use Rattle.wasm_smith_exports.specs.Sizes.{func_size}
 use Rattle.wasm_smith_exports.specs.declared.fitting.SizedItem.{SizedItem}
 
 -- an item's type fits into what is left

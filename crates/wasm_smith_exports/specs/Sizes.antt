@@ -1,15 +1,11 @@
 -- How large the types of exported items are.
-use Rattle.std.specs.Prelude.{ℕ, ◌+◌, List, length, Option, Some, None, slice_get}
+use Rattle.std.specs.Prelude.{ℕ, List, slice_get}
 use Rattle.std.specs.List.{sum_by}
 use Rattle.std.specs.Option.{option_and_then}
 use Rattle.wasm_spec.specs.Syntax.{Export}
-use Rattle.wasm_spec.specs.Types.{SubType, FuncType, ExternalKind, FuncKind, TableKind, MemoryKind, GlobalKind, TagKind}
+use Rattle.wasm_spec.specs.Types.{SubType, ExternalKind, FuncKind, TableKind, MemoryKind, GlobalKind, TagKind}
+use Rattle.wasm_smith_items.specs.FunctionTypes.{func_size}
 use Rattle.wasm_smith_validity.specs.Spaces.{Spaces, functions_of, func_type_at}
-
--- the type of a function or a tag counts 1, and its parameters and results
-abbrev pub func_size : Option (FuncType ℕ) → ℕ
-func_size None = 1
-func_size (Some type) = 1 + (length type.params + length type.results)
 
 -- the size of the type of an item, with the type indexes of all functions and tags
 abbrev pub item_size : List (SubType ℕ) → List ℕ → List ℕ → ExternalKind → ℕ → ℕ

@@ -7,8 +7,8 @@ use Rattle.wasm_smith_types.specs.Growing.{grow_at}
 use Rattle.wasm_smith_items.specs.Steps.{Wanted}
 use Rattle.wasm_smith_validity.specs.Rules.{is_unit}
 use Rattle.wasm_smith_validity.specs.Spaces.{Spaces, functions_of, func_type_at}
-use Rattle.wasm_smith_exports.specs.FunctionTypes.{function_indexes, tag_indexes}
-use Rattle.wasm_smith_exports.specs.Indexes.{index_at, places}
+use Rattle.wasm_smith_items.specs.FunctionTypes.{function_indexes, tag_indexes}
+use Rattle.wasm_smith_items.specs.Indexes.{index_at, places}
 
 -- Items of a kind are fewer than their minimum, and none can be made any more.
 pub record AreTooFew (wanted : Wanted) (k : Spaces) : Type 0 where

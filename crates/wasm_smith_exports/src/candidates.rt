@@ -8,9 +8,9 @@ ghost use Rattle.wasm_smith_exports.specs.Exports.{AreCandidates, IsExportable, 
 ghost use Rattle.wasm_smith_exports.specs.Fitting.{sized};
 
 use crate::fitting::{Fitting, SizedItem};
-use crate::function_types::type_size;
 use std::alloc::{AllocError, Global};
 use wasm_encoder_sections::entity_type::ExportKind;
+use wasm_smith_items::function_types::function_size;
 use wasm_smith_items::index_spaces::IndexSpaces;
 use wasm_smith_unstructured::unstructured::Unstructured;
 
@@ -31,7 +31,7 @@ fn sized_functions(alloc: Global, spaces: &IndexSpaces<'_>) -> Result<Fitting, A
     let types = spaces.types();
     for index in 0..spaces.count_of(ExportKind::Func) as u32 {
         if let Some(ty) = spaces.function(index) {
-            let size = type_size(types, ty);
+            let size = function_size(types, ty);
             items.push(SizedItem { index, size })?;
         }
     }
@@ -47,7 +47,7 @@ fn sized_tags(alloc: Global, spaces: &IndexSpaces<'_>) -> Result<Fitting, AllocE
     let types = spaces.types();
     for index in 0..spaces.count_of(ExportKind::Tag) as u32 {
         if let Some(ty) = spaces.tag(index) {
-            let size = type_size(types, ty);
+            let size = function_size(types, ty);
             items.push(SizedItem { index, size })?;
         }
     }
@@ -66,6 +66,7 @@ fn draw_one(unstructured: &mut Unstructured<'_>, count: usize) -> SizedItem
     requires { 0 < count }
     ensures there { result.index < count }
     ensures size { result.size ≡ 1 }
+    ensures taken { length unstructured.new ≤ length unstructured.old }
 {
     let last = (count - 1).min(u32::MAX as usize) as u64;
     let index = unstructured.int_in_range(0..=last) as u32;
@@ -128,7 +129,8 @@ impl Candidates {
     fn draw_kind(&self, unstructured: &mut Unstructured<'_>, spaces: &IndexSpaces<'_>) -> ExportKind
         requires candidates { AreCandidates spaces.now.types (functions_of spaces.now) spaces.now.tags self.now }
         requires some { any_fits spaces.now self.now.left ≡ true }
-        ensures { kind_fits spaces.now self.now.left (export_kind result) ≡ true }
+        ensures fits { kind_fits spaces.now self.now.left (export_kind result) ≡ true }
+        ensures taken { length unstructured.new ≤ length unstructured.old }
     {
         let functions = u64::from(self.fits(spaces, ExportKind::Func));
         let tables = functions + u64::from(self.fits(spaces, ExportKind::Table));
@@ -158,7 +160,8 @@ impl Candidates {
     ) -> SizedItem
         requires candidates { AreCandidates spaces.now.types (functions_of spaces.now) spaces.now.tags self.now }
         requires some { kind_fits spaces.now self.now.left (export_kind kind) ≡ true }
-        ensures { IsExportable spaces.now self.now.left (export_kind kind) result.index result.size }
+        ensures exportable { IsExportable spaces.now self.now.left (export_kind kind) result.index result.size }
+        ensures taken { length unstructured.new ≤ length unstructured.old }
     {
         match kind {
             ExportKind::Func => *unstructured.choose(self.functions.items()).unwrap(),
@@ -178,6 +181,7 @@ impl Candidates {
         requires candidates { AreCandidates spaces.now.types (functions_of spaces.now) spaces.now.tags self.old }
         requires some { any_fits spaces.now self.old.left ≡ true }
         ensures drawn { IsTaken spaces.now self.old self.new (export_kind result.0) result.1 }
+        ensures taken { length unstructured.new ≤ length unstructured.old }
     {
         let kind = self.draw_kind(unstructured, spaces);
         let item = self.draw_of_kind(unstructured, spaces, kind);

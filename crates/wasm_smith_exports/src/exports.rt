@@ -12,12 +12,12 @@ ghost use Rattle.wasm_smith_exports.specs.Wanted.{AreTooFew};
 
 use crate::candidates::Candidates;
 use std::alloc::{AllocError, Global};
-use std::collections::BTreeSet;
 use wasm_smith_config::config::Config;
 use wasm_smith_config::error::Error;
 use wasm_smith_items::growing::grows_if;
 use wasm_smith_items::index_spaces::IndexSpaces;
 use wasm_smith_items::items::Export;
+use wasm_smith_unstructured::names::UniqueNames;
 use wasm_smith_unstructured::text::unique_string;
 use wasm_smith_unstructured::unstructured::Unstructured;
 
@@ -30,12 +30,13 @@ fn draw_export(
     unstructured: &mut Unstructured<'_>,
     spaces: &IndexSpaces<'_>,
     candidates: &mut Candidates,
-    names: &mut BTreeSet<String>,
+    names: &mut UniqueNames,
 ) -> Result<Export, AllocError>
     requires candidates { AreCandidates spaces.now.types (functions_of spaces.now) spaces.now.tags candidates.old }
     requires some { any_fits spaces.now candidates.old.left ≡ true }
     ensures item { IfOk result (λ drawn. IsTaken spaces.now candidates.old candidates.new (export drawn).kind (export drawn).index) }
     ensures name { IfOk result (λ drawn. IsAddedName names.old names.new (export drawn).name) }
+    ensures taken { length unstructured.new ≤ length unstructured.old }
 {
     let (kind, index) = candidates.draw(unstructured, spaces);
     let name = unique_string(alloc, unstructured, MAX_NAME, names)?;
@@ -59,11 +60,12 @@ pub fn exports(
     requires few_tags { length spaces.old.tags < 2 ^ 32 }
     ensures grown { IfOk result (λ _. IsGrown config.now (wanted_exports config.now imports_size) of_export (λ export. HasShortName export.name) spaces.old unstructured.old spaces.new unstructured.new spaces.new.exports) }
     ensures size { IfOk result (λ _. exports_size spaces.new ≤ config.now.max_type_size - imports_size) }
+    ensures taken { length unstructured.new ≤ length unstructured.old }
     ensures refused { IfErr result (λ e. (e ≡ Error.Memory) ⊎ ((e ≡ Error.IncorrectFormat) × AreTooFew (wanted_exports config.now imports_size) spaces.new)) }
 {
     let left = (config.max_type_size as usize).saturating_sub(imports_size);
     let mut candidates = Candidates::new(alloc, spaces, left)?;
-    let mut names = BTreeSet::new(alloc);
+    let mut names = UniqueNames::new(alloc);
     'grow: while grows_if(
         unstructured,
         candidates.any_fits(spaces),

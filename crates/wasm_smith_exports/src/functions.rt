@@ -5,17 +5,17 @@ ghost use Rattle.wasm_smith_items.specs.Kinds.{AnyBound};
 ghost use Rattle.wasm_smith_items.specs.Steps.{IsGrown};
 ghost use Rattle.wasm_smith_types.specs.Growing.{Draws};
 ghost use Rattle.wasm_smith_validity.specs.Spaces.{functions_of};
-ghost use Rattle.wasm_smith_exports.specs.FunctionTypes.{function_indexes};
+ghost use Rattle.wasm_smith_items.specs.FunctionTypes.{function_indexes};
 ghost use Rattle.wasm_smith_exports.specs.Wanted.{AreTooFew, functions_at, of_function, wanted_functions};
 
-use crate::function_types::function_types;
-use crate::indexes::{choose_index, push_index};
 use std::alloc::Global;
 use wasm_encoder_sections::entity_type::ExportKind;
 use wasm_smith_config::config::Config;
 use wasm_smith_config::error::Error;
+use wasm_smith_items::function_types::function_types;
 use wasm_smith_items::growing::grows_if;
 use wasm_smith_items::index_spaces::IndexSpaces;
+use wasm_smith_items::indexes::{choose_index, push_index};
 use wasm_smith_unstructured::unstructured::Unstructured;
 
 /// Draws functions after the imported ones, each of one of the function types. Where there are none, nothing is drawn.
@@ -31,6 +31,7 @@ pub fn functions(
     requires few { length spaces.old.types ≤ 2 ^ 31 }
     ensures grown { IfOk result (λ own. IsGrown config.now (wanted_functions config.now) of_function (AnyBound config.now) spaces.old unstructured.old spaces.new unstructured.new own.items) }
     ensures drawn { Draws (λ own. own.items) unstructured.new result (functions_at config.now (function_indexes 0 spaces.old.types) (length (functions_of spaces.old)) unstructured.old) }
+    ensures taken { length unstructured.new ≤ length unstructured.old }
     ensures refused { IfErr result (λ e. (e ≡ Error.Memory) ⊎ ((e ≡ Error.IncorrectFormat) × AreTooFew (wanted_functions config.now) spaces.new × (length (functions_of spaces.old) + length (functions_at config.now (function_indexes 0 spaces.old.types) (length (functions_of spaces.old)) unstructured.old).0 < config.now.min_funcs))) }
 {
     let indexes = function_types(alloc, spaces.types())?;

@@ -4,8 +4,6 @@
 mod candidates;
 pub mod exports;
 mod fitting;
-pub mod function_types;
 pub mod functions;
-mod indexes;
 pub mod start;
 pub mod tags;

@@ -1,19 +1,19 @@
 //! The start function of a module.
 
 ghost use Rattle.std.specs.Option.{option_to_list};
-ghost use Rattle.std.specs.Prelude.{◌≡◌, ◌<◌, ◌^◌, IfOk, length, slice_get};
+ghost use Rattle.std.specs.Prelude.{◌≡◌, ◌≤◌, ◌<◌, ◌^◌, IfOk, length, slice_get};
 ghost use Rattle.wasm_smith_items.specs.Steps.{IsStep};
 ghost use Rattle.wasm_smith_types.specs.Growing.{Draws};
 ghost use Rattle.wasm_smith_validity.specs.Rules.{starts};
 ghost use Rattle.wasm_smith_validity.specs.Spaces.{functions_of};
 ghost use Rattle.wasm_smith_exports.specs.Wanted.{of_start, start_at, start_functions};
 
-use crate::function_types::names_unit;
-use crate::indexes::{choose_index, push_if};
 use std::alloc::{AllocError, Global};
 use wasm_encoder_sections::entity_type::ExportKind;
 use wasm_smith_config::config::Config;
+use wasm_smith_items::function_types::names_unit;
 use wasm_smith_items::index_spaces::IndexSpaces;
+use wasm_smith_items::indexes::{choose_index, push_if};
 use wasm_smith_unstructured::unstructured::Unstructured;
 
 // Returns true if a module may start with this function.
@@ -53,6 +53,7 @@ pub fn start(
     requires few { length (functions_of spaces.now) < 2 ^ 32 }
     ensures step { IfOk result (λ start. IsStep config.now of_start spaces.now spaces.now (option_to_list start)) }
     ensures drawn { Draws (λ start. start) unstructured.new result (start_at config.now.allow_start_export (start_functions spaces.now) unstructured.old) }
+    ensures taken { length unstructured.new ≤ length unstructured.old }
 {
     if !config.allow_start_export {
         return Ok(None);

@@ -5,14 +5,14 @@ ghost use Rattle.wasm_smith_items.specs.Kinds.{AnyBound};
 ghost use Rattle.wasm_smith_items.specs.Steps.{IsGrown};
 ghost use Rattle.wasm_smith_exports.specs.Wanted.{AreTooFew, of_tag, wanted_tags};
 
-use crate::function_types::tag_types;
-use crate::indexes::{choose_index, push_index};
 use std::alloc::Global;
 use wasm_encoder_sections::entity_type::ExportKind;
 use wasm_smith_config::config::Config;
 use wasm_smith_config::error::Error;
+use wasm_smith_items::function_types::tag_types;
 use wasm_smith_items::growing::grows_if;
 use wasm_smith_items::index_spaces::IndexSpaces;
+use wasm_smith_items::indexes::{choose_index, push_index};
 use wasm_smith_unstructured::unstructured::Unstructured;
 
 /// Draws tags after the imported ones, each of one of the function types without results. Where there are none, and without exceptions, nothing is drawn.
@@ -27,6 +27,7 @@ pub fn tags(
 ) -> Result<Vec<u32>, Error>
     requires few { length spaces.old.types ≤ 2 ^ 31 }
     ensures grown { IfOk result (λ own. IsGrown config.now (wanted_tags config.now) of_tag (AnyBound config.now) spaces.old unstructured.old spaces.new unstructured.new own.items) }
+    ensures taken { length unstructured.new ≤ length unstructured.old }
     ensures refused { IfErr result (λ e. (e ≡ Error.Memory) ⊎ ((e ≡ Error.IncorrectFormat) × AreTooFew (wanted_tags config.now) spaces.new)) }
 {
     let indexes = tag_types(alloc, spaces.types())?;

@@ -5,23 +5,20 @@ use Rattle.std.proofs.lemmas.Bool.{and_from, and_parts}
 use Rattle.std.proofs.lemmas.List.{map-append}
 use Rattle.std.proofs.lemmas.List.Concat.{flat_map-append}
 use Rattle.wasm_spec.specs.Features.{Features}
-use Rattle.wasm_spec.specs.Syntax.{ImportEntry, Import, CompactItems, CompactNames, imported_by}
-use Rattle.wasm_spec.specs.Types.{SubType, ExternalType}
-use Rattle.wasm_validity.specs.Rules.{shares_small_index}
-use Rattle.wasm_smith_config.specs.Config.{AreFeaturesOf}
+use Rattle.wasm_spec.specs.Syntax.{ImportEntry, imported_by}
+use Rattle.wasm_spec.specs.Types.{ExternalType}
 use Rattle.wasm_smith_config.specs.declared.config.Config.{Config}
 use Rattle.wasm_smith_items.specs.Steps.{IsStep}
 use Rattle.wasm_smith_types.proofs.ListLaws.{all_append}
 use Rattle.wasm_smith_validity.specs.Rules.{KeepAll, keep_items, keeps_item}
 use Rattle.wasm_smith_validity.specs.Spaces.{Spaces, spaces_after_all, with_item, with_items}
 use Rattle.wasm_smith_imports.specs.Added.{AreAdded, AreMadeSoFar}
-use Rattle.wasm_smith_imports.specs.Candidates.{IsOfferedImport, can_import_some}
+use Rattle.wasm_smith_imports.specs.Candidates.{can_import_some}
 use Rattle.wasm_smith_imports.specs.Imports.{AreGrownImports, IsMadeEntry, LackImports, asked_imports, import_count, of_import}
 use Rattle.wasm_smith_imports.specs.Named.{Named, all_named, named_by, types_of}
 use Rattle.wasm_smith_imports.specs.declared.names.DuplicateImportsBehavior.{DuplicateImportsBehavior}
 use Rattle.wasm_smith_imports.specs.declared.progress.Progress.{Progress}
-use Rattle.wasm_smith_imports.proofs.AddedLaws.{all_keep_types, more_added, none_added, with_more}
-use Rattle.wasm_smith_imports.proofs.CandidateLaws.{small_index}
+use Rattle.wasm_smith_imports.proofs.AddedLaws.{more_added, none_added, with_more}
 use Rattle.wasm_smith_imports.proofs.NamedLaws.{types_named}
 
 -- ---- spaces
@@ -43,29 +40,12 @@ keep_front features k (x ∷ xs) ys h =
     let others = keep_front features (with_item k x) xs ys parts.1 in
     (and_from (keeps_item features k x) (keep_items features (with_item k x) xs) parts.0 others.0, others.1)
 
-all_front : {A : Type 0} (P : A → Type 0) (xs ys : List A) → AllByRecursion P (xs ++ ys) → AllByRecursion P xs × AllByRecursion P ys
-all_front P [] ys h = (tt, h)
-all_front P (x ∷ xs) ys h = let others = all_front P xs ys h.1 in ((h.0, others.0), others.1)
-
-shares : (c : Config) (features : Features) (types : List (SubType ℕ)) → AreFeaturesOf c features → (entry : ImportEntry) → IsMadeEntry c entry → AllByRecursion (IsOfferedImport c types) (imported_by entry)
-    → shares_small_index entry ≡ true
-shares c features types f (Import origin name type) made offered = refl
-shares c features types f (CompactItems origin items) made offered = refl
-shares c features types f (CompactNames origin type []) made offered = absurd (omega (arith, made.some))
-shares c features types f (CompactNames origin type (name ∷ names)) made offered = small_index c features types type f offered.0
-
-pub keep_entries : (c : Config) (features : Features) (k : Spaces) → AreFeaturesOf c features → (entries : List ImportEntry) → AllByRecursion (IsMadeEntry c) entries
-    → AllByRecursion (IsOfferedImport c k.types) (types_of (all_named entries)) → keep_items features k (types_of (all_named entries)) ≡ true → KeepAll features k (map of_import entries)
-keep_entries c features k f [] made offered keep = tt
-keep_entries c features k f (entry ∷ entries) made offered keep =
-    let types = types_more entry entries in
-    let parts = all_front (IsOfferedImport c k.types) (imported_by entry) (types_of (all_named entries)) (subst (AllByRecursion (IsOfferedImport c k.types)) types offered) in
-    let kept = keep_front features k (imported_by entry) (types_of (all_named entries)) (subst (λ items. keep_items features k items ≡ true) types keep) in
-    let after = with_items k (imported_by entry) in
-    let same : after.types ≡ k.types = all_keep_types k (imported_by entry) in (
-      and_from (shares_small_index entry) (keep_items features k (imported_by entry)) (shares c features k.types f entry made.0 parts.0) kept.0,
-      keep_entries c features after f entries made.1 (subst (λ ts. AllByRecursion (IsOfferedImport c ts) (types_of (all_named entries))) (sym same) parts.1) kept.1,
-    )
+pub keep_entries : (c : Config) (features : Features) (k : Spaces) (entries : List ImportEntry) → AllByRecursion (IsMadeEntry c) entries
+    → keep_items features k (types_of (all_named entries)) ≡ true → KeepAll features k (map of_import entries)
+keep_entries c features k [] made keep = tt
+keep_entries c features k (entry ∷ entries) made keep =
+    let kept = keep_front features k (imported_by entry) (types_of (all_named entries)) (subst (λ items. keep_items features k items ≡ true) (types_more entry entries) keep) in
+    ((made.0.some, kept.0), keep_entries c features (with_items k (imported_by entry)) entries made.1 kept.1)
 
 -- ---- the step
 
@@ -75,7 +55,7 @@ true_is_not_false e = cc
 made_step : (c : Config) (duplicates : DuplicateImportsBehavior) (start now : Spaces) (progress : Progress) (entries : List ImportEntry)
     → AreMadeSoFar c duplicates start now progress entries → IsStep c of_import start now entries
 made_step c duplicates start now progress entries h = record {
-  keep = λ features f. keep_entries c features start f entries h.made h.added.offered (h.added.keep features f);
+  keep = λ features f. keep_entries c features start entries h.made (h.added.keep features f);
   known = h.added.spaces ∙ spaces_by_entries start entries;
 }
 

@@ -12,7 +12,8 @@ use Rattle.wasm_smith_items.specs.Kinds.{count_of}
 use Rattle.wasm_smith_types.specs.Offering.{offers}
 use Rattle.wasm_smith_validity.specs.Rules.{keep_items}
 use Rattle.wasm_smith_validity.specs.Spaces.{Spaces, with_item, with_items}
-use Rattle.wasm_smith_imports.specs.Candidates.{HasLarger, IsOfferedImport, function_types, most_of, tag_types, type_size, type_sizes}
+use Rattle.wasm_smith_items.specs.FunctionTypes.{function_indexes, tag_indexes}
+use Rattle.wasm_smith_imports.specs.Candidates.{HasLarger, IsOfferedImport, most_of, type_size, type_sizes}
 use Rattle.wasm_smith_imports.specs.Imports.{IsMadeEntry}
 use Rattle.wasm_smith_imports.specs.Named.{HasPlainName, IsShortlyNamed, Named, all_named, types_of}
 use Rattle.wasm_smith_imports.specs.Names.{AreDrawnNames}
@@ -24,8 +25,8 @@ use Rattle.wasm_smith_imports.specs.declared.progress.Progress.{Progress}
 -- An importer has what imports are drawn from where there are these types.
 pub record IsImporterFor (types : List (SubType ℕ)) (it : Importer) : Type 0 where
   pub known : map sub_type it.types.now ≡ types
-  pub functions : it.functions.items ≡ function_types types
-  pub tags : it.tags.items ≡ tag_types types
+  pub functions : it.functions.items ≡ function_indexes 0 types
+  pub tags : it.tags.items ≡ tag_indexes 0 types
   pub offers : it.offers ≡ offers it.config
   pub few : length types ≤ 2 ^ 31
   pub limits : HasByteLimits it.config

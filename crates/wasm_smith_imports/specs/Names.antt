@@ -1,16 +1,16 @@
 -- The names of imports that were drawn.
 use Rattle.std.specs.Prelude.{◌≡◌, ℕ, Bool, true, false, List, String}
 use Rattle.std.specs.BTreeMap.{BTreeMap, get_by_text}
-use Rattle.std.specs.BTreeSet.{BTreeSet, contains_text}
 use Rattle.std.specs.List.{AllByRecursion, IsDistinct}
 use Rattle.std.specs.Option.{option_map_or}
+use Rattle.wasm_smith_unstructured.specs.Names.{is_name}
 use Rattle.wasm_smith_imports.specs.Named.{Named, have_same_names}
 use Rattle.wasm_smith_imports.specs.declared.names.DuplicateImportsBehavior.TheVariants.{Disallowed}
 use Rattle.wasm_smith_imports.specs.declared.names.ImportNames.{ImportNames}
 
 -- an import of these two names was drawn: the name of its module and its own
-abbrev pub is_used : {Y Z : Type 0} → BTreeMap (String Y) (BTreeSet (String Z)) → List ℕ → List ℕ → Bool
-is_used used origin name = option_map_or (λ names. contains_text names name) (get_by_text used origin) false
+abbrev pub is_used : {Y : Type 0} → BTreeMap (String Y) (List (List ℕ)) → List ℕ → List ℕ → Bool
+is_used used origin name = option_map_or (λ names. is_name names name) (get_by_text used origin) false
 
 -- names that were used stay used
 abbrev pub StayUsed : ImportNames → ImportNames → Type 0

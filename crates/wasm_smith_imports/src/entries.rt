@@ -52,6 +52,7 @@ fn import_of_type(
     requires can { can_import importer.now.config spaces.old (kind_of (entity_type ty.now)) ≡ true }
     ensures added { IfOk result (λ name. AreAdded importer.now.config spaces.old spaces.new progress.old progress.new (map (named origin.now (entity_type ty.now)) (map string_bytes (option_to_list name)))) }
     ensures fewer { IfOk result (λ _. progress.new.left < progress.old.left) }
+    ensures taken { length unstructured.new ≤ length unstructured.old }
     ensures refused { IfErr result (λ e. e ≡ Error.Memory) }
 {
     let name = progress.draw_name(alloc, unstructured, origin)?;
@@ -78,6 +79,7 @@ fn item(
     requires can { can_import_some importer.now.config spaces.old ≡ true }
     ensures added { IfOk result (λ item. AreAdded importer.now.config spaces.old spaces.new progress.old progress.new (map (named_item origin.now) (map import_item (option_to_list item)))) }
     ensures fewer { IfOk result (λ _. progress.new.left < progress.old.left) }
+    ensures taken { length unstructured.new ≤ length unstructured.old }
     ensures refused { IfErr result (λ e. e ≡ Error.Memory) }
 {
     let kind = importer.choose_kind(unstructured, spaces);
@@ -102,6 +104,7 @@ fn single(
     ensures added { IfOk result (λ entry. AreAdded importer.now.config spaces.old spaces.new progress.old progress.new (all_named (map import_entry (option_to_list entry)))) }
     ensures made { IfOk result (λ entry. AllByRecursion (IsMadeEntry importer.now.config) (map import_entry (option_to_list entry))) }
     ensures fewer { IfOk result (λ _. progress.new.left < progress.old.left) }
+    ensures taken { length unstructured.new ≤ length unstructured.old }
     ensures refused { IfErr result (λ e. e ≡ Error.Memory) }
 {
     let kind = importer.choose_kind(unstructured, spaces);
@@ -118,6 +121,7 @@ fn single(
 fn has_more(unstructured: &mut Unstructured<'_>, left: u32, can: bool) -> bool
     ensures left { IsTrue result → 0 < left }
     ensures can { IsTrue result → can ≡ true }
+    ensures taken { length unstructured.new ≤ length unstructured.old }
 {
     if left == 0 || !can {
         return false;
@@ -140,6 +144,7 @@ fn items(
     requires can { can_import_some importer.now.config spaces.old ≡ true }
     ensures added { IfOk result (λ items. AreAdded importer.now.config spaces.old spaces.new progress.old progress.new (map (named_item origin.now) (map import_item items.items))) }
     ensures fewer { IfOk result (λ _. progress.new.left < progress.old.left) }
+    ensures taken { length unstructured.new ≤ length unstructured.old }
     ensures refused { IfErr result (λ e. e ≡ Error.Memory) }
 {
     let mut items = Vec::new(alloc);
@@ -173,6 +178,7 @@ fn names(
     requires can { can_import importer.now.config spaces.old (kind_of (entity_type ty.now)) ≡ true }
     ensures added { IfOk result (λ names. AreAdded importer.now.config spaces.old spaces.new progress.old progress.new (map (named origin.now (entity_type ty.now)) (map string_bytes names.items))) }
     ensures fewer { IfOk result (λ _. progress.new.left < progress.old.left) }
+    ensures taken { length unstructured.new ≤ length unstructured.old }
     ensures refused { IfErr result (λ e. e ≡ Error.Memory) }
 {
     let mut names = Vec::new(alloc);
@@ -204,6 +210,7 @@ fn compact1(
     ensures added { IfOk result (λ entry. AreAdded importer.now.config spaces.old spaces.new progress.old progress.new (all_named (map import_entry (option_to_list entry)))) }
     ensures made { IfOk result (λ entry. AllByRecursion (IsMadeEntry importer.now.config) (map import_entry (option_to_list entry))) }
     ensures fewer { IfOk result (λ _. progress.new.left < progress.old.left) }
+    ensures taken { length unstructured.new ≤ length unstructured.old }
     ensures refused { IfErr result (λ e. e ≡ Error.Memory) }
 {
     let module = draw_name(alloc, unstructured)?;
@@ -230,6 +237,7 @@ fn compact2(
     ensures added { IfOk result (λ entry. AreAdded importer.now.config spaces.old spaces.new progress.old progress.new (all_named (map import_entry (option_to_list entry)))) }
     ensures made { IfOk result (λ entry. AllByRecursion (IsMadeEntry importer.now.config) (map import_entry (option_to_list entry))) }
     ensures fewer { IfOk result (λ _. progress.new.left < progress.old.left) }
+    ensures taken { length unstructured.new ≤ length unstructured.old }
     ensures refused { IfErr result (λ e. e ≡ Error.Memory) }
 {
     let kind = importer.choose_kind(unstructured, spaces);
@@ -260,6 +268,7 @@ pub fn entry(
     ensures added { IfOk result (λ entry. AreAdded importer.now.config spaces.old spaces.new progress.old progress.new (all_named (map import_entry (option_to_list entry)))) }
     ensures made { IfOk result (λ entry. AllByRecursion (IsMadeEntry importer.now.config) (map import_entry (option_to_list entry))) }
     ensures fewer { IfOk result (λ _. progress.new.left < progress.old.left) }
+    ensures taken { length unstructured.new ≤ length unstructured.old }
     ensures refused { IfErr result (λ e. e ≡ Error.Memory) }
 {
     if !importer.config().compact_imports_enabled {

@@ -1,114 +1,31 @@
 //! The kinds and types of imports.
 
-ghost use Rattle.std.specs.Prelude.{◌≡◌, ◌^◌, ◌<◌, ◌≤◌, ◌++◌, ◌∷◌, [], ℕ, IfOk, Some, length, map, nat_lt, slice_get, if◌then◌else◌};
-ghost use Rattle.wasm_core_types.specs.SubTypes.{composite_type, sub_type};
+ghost use Rattle.std.specs.Prelude.{◌≡◌, length, map, nat_lt, if◌then◌else◌};
+ghost use Rattle.wasm_core_types.specs.SubTypes.{sub_type};
 ghost use Rattle.wasm_encoder_sections.specs.CoreItems.{entity_type, export_kind};
-ghost use Rattle.wasm_smith_imports.specs.Candidates.{func_size, function_types, is_function_type, is_tag_type, most_of, tag_types, type_size};
+ghost use Rattle.wasm_smith_imports.specs.Candidates.{most_of, type_size};
 ghost use Rattle.wasm_spec.specs.Types.{kind_of};
-ghost use Rattle.wasm_validity.specs.DefinedTypes.{func_in};
-ghost use Rattle.wasm_smith_validity.specs.Spaces.{func_type_at};
 
 use std::alloc::{AllocError, Global};
-use wasm_core_types::types::{CompositeType, SubType};
+use wasm_core_types::types::SubType;
 use wasm_encoder_sections::entity_type::{EntityType, ExportKind, TagKind, TagType};
 use wasm_smith_config::config::Config;
 use wasm_smith_definitions::globals::global_type;
 use wasm_smith_definitions::memories::memory_type;
 use wasm_smith_definitions::tables::table_type;
+use wasm_smith_items::function_types::{function_size, function_types, tag_types};
 use wasm_smith_items::index_spaces::IndexSpaces;
+use wasm_smith_items::indexes::choose_index;
 use wasm_smith_types::value_types::Offers;
 use wasm_smith_unstructured::unstructured::Unstructured;
-
-// References in the types of imports go to so many types at most. Each form of import can write their indexes.
-const MAX_NAMED_TYPES: usize = 1_000_000;
-
-// Checks that it is a function type.
-fn is_function_type(type_: &SubType) -> bool
-    ensures { result ≡ is_function_type (sub_type type_.now) }
-{
-    match &type_.composite_type {
-        CompositeType::Func(_) => true,
-        CompositeType::Array(_) | CompositeType::Struct(_) | CompositeType::Cont(_) => false,
-    }
-}
-
-// Checks that it is a function type without results.
-fn is_tag_type(type_: &SubType) -> bool
-    ensures { result ≡ is_tag_type (sub_type type_.now) }
-{
-    match &type_.composite_type {
-        CompositeType::Func(function) => function.results().is_empty(),
-        CompositeType::Array(_) | CompositeType::Struct(_) | CompositeType::Cont(_) => false,
-    }
-}
-
-// Adds an index where it is wanted.
-fn push_if(indexes: &mut Vec<u32>, index: u32, wanted: bool) -> Result<(), AllocError>
-    ensures { IfOk result (λ _. indexes.new.items ≡ indexes.old.items ++ (if wanted then index ∷ [] else [])) }
-{
-    if wanted {
-        indexes.push(index)?;
-    }
-    Ok(())
-}
-
-// Returns the indexes of the function types.
-fn function_types(alloc: Global, types: &[SubType]) -> Result<Vec<u32>, AllocError>
-    requires few { length types.now ≤ 2 ^ 31 }
-    ensures { IfOk result (λ v. v.items ≡ function_types (map sub_type types.now)) }
-{
-    let mut indexes = Vec::new(alloc);
-    let mut index: u32 = 0;
-    for type_ in types {
-        push_if(&mut indexes, index, is_function_type(type_))?;
-        index += 1;
-    }
-    Ok(indexes)
-}
-
-// Returns the indexes of the function types without results.
-fn tag_types(alloc: Global, types: &[SubType]) -> Result<Vec<u32>, AllocError>
-    requires few { length types.now ≤ 2 ^ 31 }
-    ensures { IfOk result (λ v. v.items ≡ tag_types (map sub_type types.now)) }
-{
-    let mut indexes = Vec::new(alloc);
-    let mut index: u32 = 0;
-    for type_ in types {
-        push_if(&mut indexes, index, is_tag_type(type_))?;
-        index += 1;
-    }
-    Ok(indexes)
-}
-
-// Returns the size of a function type.
-fn size_of_composite(type_: &CompositeType) -> u64
-    ensures { result ≡ func_size (func_in (composite_type type_.now)) }
-{
-    match type_ {
-        CompositeType::Func(function) => {
-            1 + (function.params().len() as u64 + function.results().len() as u64)
-        }
-        CompositeType::Array(_) | CompositeType::Struct(_) | CompositeType::Cont(_) => 1,
-    }
-}
-
-// Returns the size of the type of this index, of a function or a tag.
-fn size_of_function(types: &[SubType], index: u32) -> u64
-    ensures { result ≡ func_size (func_type_at (map sub_type types.now) index) }
-{
-    match types.get(index as usize) {
-        Some(type_) => size_of_composite(&type_.composite_type),
-        None => 1,
-    }
-}
 
 // Returns the size of the type of an import.
 fn type_size(types: &[SubType], ty: &EntityType) -> u64
     ensures { result ≡ type_size (map sub_type types.now) (entity_type ty.now) }
 {
     match ty {
-        EntityType::Function(index) => size_of_function(types, *index),
-        EntityType::Tag(ty) => size_of_function(types, ty.func_type_idx),
+        EntityType::Function(index) => function_size(types, *index) as u64,
+        EntityType::Tag(ty) => function_size(types, ty.func_type_idx) as u64,
         EntityType::Table(_) | EntityType::Memory(_) | EntityType::Global(_) => 1,
     }
 }
@@ -158,15 +75,6 @@ fn one_if(more: bool) -> u64
     ensures { result ≡ (if more then 1 else 0) }
 {
     u64::from(more)
-}
-
-// Draws one of these indexes.
-fn choose_index(unstructured: &mut Unstructured<'_>, indexes: &[u32]) -> u32
-    requires some { 0 < length indexes.now }
-    ensures { (place : ℕ) × (slice_get indexes.now place ≡ Some result) }
-{
-    let last = indexes.len() as u64 - 1;
-    indexes[unstructured.int_in_range(0..=last) as usize]
 }
 
 /// The configuration and the types that imports are drawn from.
@@ -266,7 +174,8 @@ impl<'a> Importer<'a> {
     ) -> ExportKind
         requires importer { IsImporterFor spaces.now.types self.now }
         requires some { can_import_some self.now.config spaces.now ≡ true }
-        ensures { can_import self.now.config spaces.now (export_kind result) ≡ true }
+        ensures can { can_import self.now.config spaces.now (export_kind result) ≡ true }
+        ensures taken { length unstructured.new ≤ length unstructured.old }
     {
         let function = self.can_import(spaces, ExportKind::Func);
         let tag = self.can_import(spaces, ExportKind::Tag);
@@ -305,8 +214,9 @@ impl<'a> Importer<'a> {
         requires can { can_import self.now.config spaces.now (export_kind kind) ≡ true }
         ensures kind { kind_of (entity_type result) ≡ export_kind kind }
         ensures offered { IsOfferedImport self.now.config spaces.now.types (entity_type result) }
+        ensures taken { length unstructured.new ≤ length unstructured.old }
     {
-        let type_count = self.types.len().min(MAX_NAMED_TYPES) as u32;
+        let type_count = self.types.len() as u32;
         match kind {
             ExportKind::Func => {
                 EntityType::Function(choose_index(unstructured, &self.functions))

@@ -43,6 +43,7 @@ fn has_another(
     ensures can { IsTrue result → can_import_some importer.now.config spaces.now ≡ true }
     ensures ended { result ≡ false → progress.now.count < importer.now.config.min_imports → (progress.now.left ≡ 0) ⊎ (can_import_some importer.now.config spaces.now ≡ false) }
     ensures first { progress.now.count ≡ 0 → progress.now.left ≡ importer.now.config.max_imports → IsDrawn (λ b. b) result unstructured.new (asked_imports importer.now.config spaces.now unstructured.old) }
+    ensures taken { length unstructured.new ≤ length unstructured.old }
 {
     if progress.left() == 0 {
         return false;
@@ -71,6 +72,7 @@ pub fn imports<'a>(
     requires tables { HasFewTables config.now }
     ensures grown { IfOk result (λ v. AreGrownImports config.now duplicates spaces.old unstructured.old spaces.new unstructured.new (map import_entry v.entries.items)) }
     ensures size { IfOk result (λ v. v.type_size ≡ type_sizes spaces.old.types (types_of (all_named (map import_entry v.entries.items)))) }
+    ensures taken { length unstructured.new ≤ length unstructured.old }
     ensures refused { IfErr result (λ e. (e ≡ Error.Memory) ⊎ ((e ≡ Error.IncorrectFormat) × LackImports config.now spaces.old spaces.new)) }
 {
     let importer = Importer::new(alloc, config, spaces.types())?;

@@ -2,10 +2,13 @@
 
 ghost use Rattle.std.specs.Prelude.{◌≡◌, ◌≤◌, ℕ, List, IfOk, length, true, false};
 ghost use Rattle.std.specs.String.{string_bytes};
+ghost use Rattle.wasm_smith_types.specs.Growing.{Draws};
+ghost use Rattle.wasm_smith_unstructured.specs.Draws.{text_at};
 ghost use Rattle.wasm_smith_imports.specs.Names.{is_used};
 
 use std::alloc::{AllocError, Global};
-use std::collections::{BTreeMap, BTreeSet};
+use std::collections::BTreeMap;
+use wasm_smith_unstructured::names::UniqueNames;
 use wasm_smith_unstructured::text::{limited_str, unique_string};
 use wasm_smith_unstructured::unstructured::Unstructured;
 
@@ -26,7 +29,9 @@ pub enum DuplicateImportsBehavior {
 /// # Errors
 /// Where memory runs out. Some of the source's bytes may be taken by then.
 pub fn draw_name(alloc: Global, unstructured: &mut Unstructured<'_>) -> Result<String, AllocError>
-    ensures { IfOk result (λ name. length (string_bytes name) ≤ 1000) }
+    ensures drawn { Draws string_bytes unstructured.new result (text_at 1000 unstructured.old) }
+    ensures short { IfOk result (λ name. length (string_bytes name) ≤ 1000) }
+    ensures taken { length unstructured.new ≤ length unstructured.old }
 {
     String::from_str(alloc, limited_str(unstructured, MAX_NAME))
 }
@@ -35,17 +40,18 @@ pub fn draw_name(alloc: Global, unstructured: &mut Unstructured<'_>) -> Result<S
 fn draw_unique(
     alloc: Global,
     unstructured: &mut Unstructured<'_>,
-    used: &mut BTreeMap<String, BTreeSet<String>>,
+    used: &mut BTreeMap<String, UniqueNames>,
     origin: &str,
 ) -> Result<String, AllocError>
     ensures new { IfOk result (λ name. is_used used.old origin.now (string_bytes name) ≡ false) }
     ensures used { IfOk result (λ name. is_used used.new origin.now (string_bytes name) ≡ true) }
     ensures kept { IfOk result (λ name. (o n : List ℕ) → is_used used.old o n ≡ true → is_used used.new o n ≡ true) }
     ensures short { IfOk result (λ name. length (string_bytes name) ≤ 1020) }
+    ensures taken { length unstructured.new ≤ length unstructured.old }
 {
     let names = used
         .entry(String::from_str(alloc, origin)?)?
-        .or_insert(BTreeSet::new(alloc));
+        .or_insert(UniqueNames::new(alloc));
     let name = unique_string(alloc, unstructured, MAX_NAME, names)?;
     Ok(name)
 }
@@ -55,7 +61,7 @@ fn draw_unique(
 pub struct ImportNames {
     duplicates: DuplicateImportsBehavior,
     // by the name of the module; nothing is kept where two may have the same two names
-    used: BTreeMap<String, BTreeSet<String>>,
+    used: BTreeMap<String, UniqueNames>,
 }
 
 impl ImportNames {
@@ -87,6 +93,7 @@ impl ImportNames {
         ensures drawn { IfOk result (λ name. IsDrawnName self.old self.new origin.now (string_bytes name)) }
         ensures short { IfOk result (λ name. length (string_bytes name) ≤ 1020) }
         ensures plain { IfOk result (λ name. self.old.duplicates ≡ Allowed → length (string_bytes name) ≤ 1000) }
+        ensures taken { length unstructured.new ≤ length unstructured.old }
     {
         match self.duplicates {
             DuplicateImportsBehavior::Allowed => Ok(draw_name(alloc, unstructured)?),

@@ -60,6 +60,7 @@ impl Progress {
         ensures drawn { IfOk result (λ name. IsDrawnName self.old.names self.new.names origin.now (string_bytes name)) }
         ensures short { IfOk result (λ name. length (string_bytes name) ≤ 1020) }
         ensures plain { IfOk result (λ name. self.old.names.duplicates ≡ Allowed → length (string_bytes name) ≤ 1000) }
+        ensures taken { length unstructured.new ≤ length unstructured.old }
         ensures same { OnOk result (IsAsFar self.old self.new) }
     {
         let name = self.names.draw(alloc, unstructured, origin)?;

@@ -1,4 +1,4 @@
--- What a step leaves as it was, and what it promised that later steps ask.
+-- The parts of the index spaces that a step leaves as they were, and the promise on tables that later steps ask.
 use Rattle.std.proofs.Common.{◌≡◌, ℕ, zero, suc, true, List, [], ◌∷◌, map, refl, ap, sym, ◌∙◌, inl, inr, subst, Some, slice_get}
 use Rattle.std.proofs.lemmas.Bool.{and_parts}
 use Rattle.wasm_spec.specs.Features.{Features}

@@ -1,4 +1,4 @@
--- What a step of the generator makes: items of one kind, each of which keeps its rule in the index spaces before it.
+-- The steps of the generator, each of which makes items of one kind that keep their rules, each in the index spaces before it.
 use Rattle.std.specs.Prelude.{◌≡◌, ℕ, ◌≤◌, Bool, true, false, List, [], map, max, slice_get, Some, if◌then◌else◌}
 use Rattle.std.specs.List.{AllByRecursion}
 use Rattle.wasm_spec.specs.Features.{Features}
@@ -12,7 +12,7 @@ use Rattle.wasm_smith_validity.specs.Spaces.{Spaces, spaces_after_all}
 
 -- an item keeps its rule under the features of a configuration
 abbrev pub Allows : Config → Spaces → Entry → Type 0
-Allows c k entry = (features : Features) → AreFeaturesOf c features → KeepsRule features k entry
+Allows c spaces entry = (features : Features) → AreFeaturesOf c features → KeepsRule features spaces entry
 
 -- The items keep their rules, and the spaces grow by them alone.
 pub record IsStep {A : Type 0} (c : Config) (entry : A → Entry) (old new : Spaces) (items : List A) : Type 0 where
@@ -28,7 +28,7 @@ pub record Wanted : Type 0 where
 
 -- what the first draw of a step says of a first item: true where one is made
 abbrev pub asked : Wanted → Spaces → List ℕ → Bool × List ℕ
-asked wanted k s = if wanted.can k then grows_at wanted.least wanted.most (wanted.count k) s else (false, s)
+asked wanted spaces s = if wanted.can spaces then grows_at wanted.least wanted.most (wanted.count spaces) s else (false, s)
 
 -- Items that grow from some bytes, whatever these are. If no item is asked for, there are none, and no more than the first draw is taken.
 pub record IsGrown {A : Type 0} (c : Config) (wanted : Wanted) (entry : A → Entry) (Bound : A → Type 0) (old : Spaces) (s : List ℕ) (new : Spaces) (left : List ℕ) (items : List A) : Type 0 where
@@ -41,4 +41,5 @@ pub record IsGrown {A : Type 0} (c : Config) (wanted : Wanted) (entry : A → En
 
 -- the types of all tables may be written
 abbrev pub TablesKeep : Config → Spaces → Type 0
-TablesKeep c k = (index : ℕ) (type : TableType ℕ) → slice_get k.tables index ≡ Some type → (features : Features) → AreFeaturesOf c features → is_table_type features k.types type ≡ true
+TablesKeep c spaces =
+    (index : ℕ) (type : TableType ℕ) → slice_get spaces.tables index ≡ Some type → (features : Features) → AreFeaturesOf c features → is_table_type features spaces.types type ≡ true

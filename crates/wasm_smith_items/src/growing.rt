@@ -1,6 +1,6 @@
 //! Growing a list of items that can't always be made.
 
-ghost use Rattle.std.specs.Prelude.{◌≡◌, ◌<◌, IsTrue, false, if◌then◌else◌};
+ghost use Rattle.std.specs.Prelude.{◌≡◌, ◌≤◌, ◌<◌, IsTrue, false, if◌then◌else◌, length};
 ghost use Rattle.wasm_smith_unstructured.specs.Draws.{IsDrawn};
 ghost use Rattle.wasm_smith_types.specs.Growing.{grows_at};
 
@@ -16,6 +16,7 @@ pub fn grows_if(
     max: usize,
 ) -> bool
     ensures exact { IsDrawn (λ b. b) result unstructured.new (if can then grows_at min max count unstructured.old else (false, unstructured.old)) }
+    ensures taken { length unstructured.new ≤ length unstructured.old }
     ensures room { IsTrue result → count < max }
 {
     can && grows(unstructured, count, min, max)

@@ -2,8 +2,10 @@
 #![tactic(auto)]
 
 pub mod constant;
+pub mod function_types;
 pub mod growing;
 pub mod imports;
 pub mod index_spaces;
+pub mod indexes;
 pub mod items;
 pub mod segments;

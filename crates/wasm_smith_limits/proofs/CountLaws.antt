@@ -1,4 +1,4 @@
--- What the test of counts computes stands for the counts of a made module, and what is within limits where none of these is passed.
+-- The counts that the test of limits computes pass the limits that those of a made module pass. Where counts, segments, names and bodies pass none, no number does.
 use Rattle.std.proofs.Common.{◌≡◌, ◌+◌, ◌-◌, ◌^◌, ℕ, suc, true, List, [], ◌∷◌, ◌++◌, length, map, min, refl, ap, sym, ◌∙◌}
 use Rattle.std.specs.List.{flat_map, sum_by}
 use Rattle.std.proofs.lemmas.List.{length-map}

@@ -1,4 +1,4 @@
--- Which limits a made module passes, by its numbers.
+-- The limits that a made module passes, by its numbers.
 use Rattle.std.proofs.Common.{◌≡◌, ℕ, zero, suc, nat_lt, ◌&&◌, not, false, ◌<◌, ◌≤◌, Bool, true, List, [], ◌∷◌, ◌++◌, map, refl, ap, sym, ◌∙◌, subst, arith, inl, inr, Some}
 use Rattle.std.specs.List.{flat_map, slice_get}
 use Rattle.std.proofs.lemmas.Bool.{ltb-true, and_parts, ltb-false}
@@ -18,10 +18,10 @@ use Rattle.wasm_smith_validity.specs.Made.{Made}
 use Rattle.wasm_smith_validity.specs.Sections.{sections_with}
 use Rattle.wasm_smith_validity.specs.Validity.{IsValidByIndex}
 use Rattle.wasm_smith_validity.proofs.MadeGroups.{of_groups, typed, groups_stand}
-use Rattle.wasm_smith_validity.proofs.MadeSections.{behind_types_said, sections_say}
+use Rattle.wasm_smith_validity.proofs.MadeSections.{behind_types_said, rules_of, said_behind, sections_say}
 use Rattle.wasm_smith_limits.specs.Measures.{counts_of, lengths_of, numbers_of}
 use Rattle.wasm_smith_limits.proofs.EntryNumbers.{AreFew, Counts, HaveNoTypes, at_limit, keep_limits, number, own_numbers, pass_limit, pass_own, passes_parts, within_parts}
-use Rattle.wasm_smith_limits.proofs.MadeNumbers.{all_counted, all_own, bounded, have_no_types, made_counts, said_behind}
+use Rattle.wasm_smith_limits.proofs.MadeNumbers.{all_counted, all_own, bounded, have_no_types, made_counts}
 
 -- ---- numbers of a list of limits
 
@@ -88,11 +88,11 @@ pub limits_kept : (features : Features) (m : Made) (counted : Bool) (bodies : Li
     → are_within (numbers_of bodies m) ≡ true → KeepLimits at_first (entries_of (sections_with counted bodies m))
 limits_kept features m counted bodies valid small within =
     let parts = within_parts (counts_of m) (lengths_of bodies m) within in
-    let counts = all_counted counted bodies m (groups_stand features m.groups valid.groups) in
+    let counts = all_counted counted bodies m (groups_stand features m.groups (rules_of features m valid).valid) in
     let few : AreFew (after_all at_first (all_entries counted bodies m)) = λ limit.
     subst (λ (c : Counts). number c limit ≤ most limit) (sym counts) (few_counts (made_counts m) parts.0 limit) in
     let lengths : are_within (flat_map own_numbers (all_entries counted bodies m)) ≡ true = ap are_within (all_own counted bodies m) ∙ parts.1 in
-    let none = groups_have_none features at_first m.groups (behind_types_said counted bodies m) (small_groups features m.groups valid.groups small)
+    let none = groups_have_none features at_first m.groups (behind_types_said counted bodies m) (small_groups features m.groups (rules_of features m valid).valid small)
     (have_no_types (typed m.groups) (behind_types_said counted bodies m) (said_behind counted bodies m)) in
     subst (KeepLimits at_first) (sym (sections_say counted bodies m)) (keep_limits at_first (all_entries counted bodies m) few lengths none)
 
@@ -100,7 +100,7 @@ pub limit_passed : (features : Features) (m : Made) (counted : Bool) (bodies : L
     → Passes limit (numbers_of bodies m) → PassLimit limit at_first (entries_of (sections_with counted bodies m))
 limit_passed features m counted bodies limit valid passes =
     let entries = all_entries counted bodies m in
-    let counts = all_counted counted bodies m (groups_stand features m.groups valid.groups) in
+    let counts = all_counted counted bodies m (groups_stand features m.groups (rules_of features m valid).valid) in
     let by_count : Passes limit (counts_of m) → PassLimit limit at_first entries = λ p.
     pass_limit limit at_first entries (few_at_first limit) (subst (λ (c : Counts). most limit < number c limit) (sym counts) (passed_in (number (made_counts m)) bounded limit p)) in
     let by_length : Passes limit (lengths_of bodies m) → PassLimit limit at_first entries = λ p.

@@ -1,5 +1,4 @@
--- What is counted after all entries of a made module, by its lists.
-use Rattle.std.specs.Prelude.{⊤}
+-- The counts after all entries of a made module, by its lists.
 use Rattle.std.proofs.Common.{◌≡◌, ℕ, suc, ◌+◌, Bool, List, [], ◌∷◌, ◌++◌, length, map, refl, ap, sym, ◌∙◌, subst, arith, append_assoc, if◌then◌else◌, Option, Some, None}
 use Rattle.std.specs.List.{AllByRecursion, flat_map, sum_by}
 use Rattle.std.specs.Option.{option_to_list}
@@ -18,14 +17,12 @@ use Rattle.wasm_validity.specs.DefinedTypes.{func_type_at as defined_at}
 use Rattle.wasm_validity.specs.Entries.{Entry, OfCustom, OfType, OfImport, OfFunction, OfTable, OfMemory, OfTags, OfTag, OfGlobal, OfExport, OfStart, OfElement, OfDataCount, OfBody, OfData}
 use Rattle.wasm_validity.specs.Rules.{PassesByTypes, count_of, import_names, name_measures}
 use Rattle.wasm_smith_types.specs.ValidGroups.{types_of}
-use Rattle.wasm_smith_types.proofs.ListLaws.{all_append}
 use Rattle.wasm_smith_validity.specs.Made.{Made}
 use Rattle.wasm_smith_validity.specs.Rules.{item_at}
 use Rattle.wasm_smith_validity.specs.Spaces.{Spaces, func_type_at, functions_of, globals_of, spaces_after, spaces_of_types, with_item, with_items}
-use Rattle.wasm_smith_validity.specs.Validity.{of_tags}
-use Rattle.wasm_smith_validity.proofs.IndexedContext.{by_index, entry_after, item_types, items_types}
+use Rattle.wasm_smith_validity.proofs.IndexedContext.{IsBehind, by_index, entry_after, item_types, items_types}
 use Rattle.wasm_smith_validity.proofs.MadeGroups.{of_groups, typed}
-use Rattle.wasm_smith_validity.proofs.MadeSections.{of_bodies, of_count, behind_types_said}
+use Rattle.wasm_smith_validity.proofs.MadeSections.{of_bodies, of_count, of_tags, behind_types_said, said_behind}
 use Rattle.wasm_smith_validity.proofs.MeantTypes.{func_meant}
 use Rattle.wasm_smith_limits.specs.Measures.{counts_of, imported_items, lengths_of, size_of, size_of_export, size_of_func, size_of_item, spaces_of, type_size}
 use Rattle.wasm_smith_limits.proofs.EntryNumbers.{Counts, HaveNoTypes, counts, items_add_none, number, own_numbers}
@@ -96,11 +93,6 @@ abbrev pub with_entries : Seen → List Entry → Seen
 with_entries s [] = s
 with_entries s (entry ∷ entries) = with_entries (with_entry s entry) entries
 
--- an entry behind the types
-abbrev pub IsBehind : Entry → Type 0
-IsBehind (OfType group) = ⊥
-IsBehind _ = ⊤
-
 abbrev see : Spaces → ℕ → ℕ → Seen
 see k imports size = record { spaces = k; imports = imports; size = size }
 
@@ -117,7 +109,7 @@ entry_seen ts cx stand (OfImport entry) h =
     let cx_entered = record cx { imports = suc cx.imports } in
     let all = after_items cx_entered (imported_by entry) in
     same_seen (by_index ts (after cx (OfImport entry))) (with_items (by_index ts cx) (imported_by entry)) all.imports (suc cx.imports) all.type_size
-    (cx.type_size + sum_by (size_of ts) (imported_by entry)) (entry_after ts cx (OfImport entry)) (items_add_none cx_entered (imported_by entry)).1
+    (cx.type_size + sum_by (size_of ts) (imported_by entry)) (entry_after ts cx (OfImport entry) tt) (items_add_none cx_entered (imported_by entry)).1
     (items_size ts cx_entered stand (imported_by entry))
 entry_seen ts cx stand (OfFunction index) h = refl
 entry_seen ts cx stand (OfTable table) h = refl
@@ -128,7 +120,7 @@ entry_seen ts cx stand (OfGlobal global) h = refl
 entry_seen ts cx stand (OfExport export) h =
     ap (λ n. see (spaces_after (by_index ts cx) (OfExport export)) cx.imports (cx.type_size + n)) (export_size ts cx stand export)
 entry_seen ts cx stand (OfStart function) h = refl
-entry_seen ts cx stand (OfElement segment) h = ap (λ k. see k cx.imports cx.type_size) (entry_after ts cx (OfElement segment))
+entry_seen ts cx stand (OfElement segment) h = ap (λ k. see k cx.imports cx.type_size) (entry_after ts cx (OfElement segment) tt)
 entry_seen ts cx stand (OfDataCount count) h = refl
 entry_seen ts cx stand (OfBody body) h = refl
 entry_seen ts cx stand (OfData segment) h = refl
@@ -187,35 +179,6 @@ has_no_types cx (OfData segment) h limit p = p
 pub have_no_types : (cx : Context) (entries : List Entry) → AllByRecursion IsBehind entries → HaveNoTypes cx entries
 have_no_types cx [] h = tt
 have_no_types cx (entry ∷ entries) h = (has_no_types cx entry h.0, have_no_types (after cx entry) entries h.1)
-
--- ---- all entries of a module are behind its types
-
-each_behind : {A : Type 0} (entry : A → Entry) → ((x : A) → IsBehind (entry x)) → (xs : List A) → AllByRecursion IsBehind (map entry xs)
-each_behind entry one [] = tt
-each_behind entry one (x ∷ xs) = (one x, each_behind entry one xs)
-
-tags_behind : (tags : List ℕ) → AllByRecursion IsBehind (of_tags tags)
-tags_behind [] = tt
-tags_behind (index ∷ tags) = (tt, each_behind (λ x. OfTag x) (λ x. tt) (index ∷ tags))
-
-count_behind : (segments : List DataSegment) → AllByRecursion IsBehind (of_count segments)
-count_behind [] = tt
-count_behind (segment ∷ segments) = (tt, tt)
-
-pub said_behind : (counted : Bool) (bodies : List (List ℕ)) (m : Made) → AllByRecursion IsBehind (behind_types_said counted bodies m)
-said_behind counted bodies m =
-    all_append IsBehind (map (λ x. OfImport x) m.imports) _ (each_behind (λ x. OfImport x) (λ x. tt) m.imports)
-    (all_append IsBehind (map (λ x. OfFunction x) m.funcs) _ (each_behind (λ x. OfFunction x) (λ x. tt) m.funcs)
-    (all_append IsBehind (map (λ x. OfTable x) m.tables) _ (each_behind (λ x. OfTable x) (λ x. tt) m.tables)
-    (all_append IsBehind (map (λ x. OfMemory x) m.memories) _ (each_behind (λ x. OfMemory x) (λ x. tt) m.memories)
-    (all_append IsBehind (of_tags m.tags) _ (tags_behind m.tags)
-    (all_append IsBehind (map (λ x. OfGlobal x) m.globals) _ (each_behind (λ x. OfGlobal x) (λ x. tt) m.globals)
-    (all_append IsBehind (map (λ x. OfExport x) m.exports) _ (each_behind (λ x. OfExport x) (λ x. tt) m.exports)
-    (all_append IsBehind (map (λ x. OfStart x) (option_to_list m.start)) _ (each_behind (λ x. OfStart x) (λ x. tt) (option_to_list m.start))
-    (all_append IsBehind (map (λ x. OfElement x) m.elems) _ (each_behind (λ x. OfElement x) (λ x. tt) m.elems)
-    (all_append IsBehind (of_count (if counted then m.data_segments else [])) _ (count_behind (if counted then m.data_segments else []))
-    (all_append IsBehind (of_bodies bodies) _ (each_behind (λ x. OfBody x) (λ x. tt) bodies)
-    (each_behind (λ x. OfData x) (λ x. tt) m.data_segments)))))))))))
 
 -- ---- section by section
 

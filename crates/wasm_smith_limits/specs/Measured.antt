@@ -1,4 +1,4 @@
--- What the test of limits computes on its way.
+-- The values that the test of limits computes on its way.
 use Rattle.std.specs.Prelude.{◌≡◌, ℕ, ◌-◌, ◌^◌, ◌≤◌, List, [], length, min}
 use Rattle.std.specs.List.{AllByRecursion, flat_map}
 use Rattle.wasm_core_base.specs.Limits.{limit}
@@ -20,9 +20,9 @@ abbrev pub measured : Limit × ℕ → spec.Limit × ℕ
 measured m = (limit m.0, m.1)
 
 -- spaces of imported items alone
-pub record HasNoOwn (k : Spaces) : Type 0 where
-  pub functions : k.own_functions ≡ []
-  pub globals : k.own_globals ≡ []
+pub record HasNoOwn (spaces : Spaces) : Type 0 where
+  pub functions : spaces.own_functions ≡ []
+  pub globals : spaces.own_globals ≡ []
 
 -- how many items of a kind a module has of its own
 abbrev pub own_of : Made → ExternalKind → ℕ

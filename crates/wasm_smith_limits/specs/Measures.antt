@@ -21,11 +21,11 @@ imported_items m = flat_map imported_by m.imports
 
 -- with the module's own items
 abbrev pub with_own : Spaces → Made → Spaces
-with_own k m = record k {
+with_own spaces m = record spaces {
   own_functions = m.funcs;
-  tables = k.tables ++ map (λ table. table.type) m.tables;
-  memories = k.memories ++ m.memories;
-  tags = k.tags ++ m.tags;
+  tables = spaces.tables ++ map (λ table. table.type) m.tables;
+  memories = spaces.memories ++ m.memories;
+  tags = spaces.tags ++ m.tags;
   own_globals = map (λ global. global.type) m.globals;
   exports = m.exports;
   element_segments = length m.elems;
@@ -56,7 +56,7 @@ size_of_item types None = 0
 size_of_item types (Some type) = size_of types type
 
 abbrev pub size_of_export : Spaces → Export → ℕ
-size_of_export k export = size_of_item k.types (item_at k export.kind export.index)
+size_of_export spaces export = size_of_item spaces.types (item_at spaces export.kind export.index)
 
 -- the size of the types of all imports and exports
 abbrev pub type_size : Made → ℕ

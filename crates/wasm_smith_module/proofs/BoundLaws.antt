@@ -18,6 +18,7 @@ use Rattle.wasm_smith_types.specs.Offering.{offers}
 use Rattle.wasm_smith_types.specs.ValidGroups.{types_of}
 use Rattle.wasm_smith_validity.specs.Made.{Made}
 use Rattle.wasm_smith_validity.specs.Spaces.{Spaces, functions_of, globals_of}
+use Rattle.wasm_smith_validity.proofs.MadeSections.{made_spaces}
 use Rattle.wasm_smith_module.proofs.CodeLaws.{code_few}
 use Rattle.wasm_smith_module.proofs.FrontLaws.{defined_data, defined_elements, defined_exports, defined_funcs, defined_own_memories, defined_own_tables, defined_tags, front_few_funcs, front_few_tags, front_tags, imported_alone, without_front}
 use Rattle.wasm_smith_module.proofs.GoodLaws.{types_fine}
@@ -158,7 +159,7 @@ module _ (c : Config) (duplicates : DuplicateImportsBehavior) (m : Made) (s left
       subst (λ funcs. AllByRecursion (IsBoundedElement c (length funcs)) m.elems) (sym (ap functions_of exported)) h.uses.grown_elems.bounded
 
   pub used_are : h.used ≡ spaces_of m
-  used_are = (leads_all c duplicates m s left h).known
+  used_are = (leads_all c duplicates m s left h).known ∙ sym (made_spaces m)
 
 -- ---- a module
 

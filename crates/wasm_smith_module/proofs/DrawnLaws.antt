@@ -6,8 +6,8 @@ use Rattle.wasm_spec.specs.Syntax.{ImportEntry}
 use Rattle.wasm_spec.specs.Types.{SubType, RecGroup, ValType}
 use Rattle.wasm_smith_config.specs.declared.config.Config.{Config}
 use Rattle.wasm_smith_exports.specs.Exports.{wanted_exports}
-use Rattle.wasm_smith_exports.specs.FunctionTypes.{function_indexes}
-use Rattle.wasm_smith_exports.specs.Indexes.{index_at}
+use Rattle.wasm_smith_items.specs.FunctionTypes.{function_indexes}
+use Rattle.wasm_smith_items.specs.Indexes.{index_at}
 use Rattle.wasm_smith_exports.specs.Wanted.{functions_at, of_tag, start_at, wanted_tags}
 use Rattle.wasm_smith_imports.specs.Imports.{asked_imports, of_import}
 use Rattle.wasm_smith_imports.specs.declared.names.DuplicateImportsBehavior.{DuplicateImportsBehavior}

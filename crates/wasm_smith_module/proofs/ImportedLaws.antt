@@ -7,7 +7,6 @@ use Rattle.wasm_spec.proofs.Places.{get_cases}
 use Rattle.wasm_spec.specs.Features.{Features}
 use Rattle.wasm_spec.specs.Syntax.{ImportEntry, Table, imported_by}
 use Rattle.wasm_spec.specs.Types.{SubType, TableType, ExternalType, FuncExternal, TableExternal, MemoryExternal, GlobalExternal, TagExternal}
-use Rattle.wasm_validity.specs.Rules.{shares_small_index}
 use Rattle.wasm_smith_config.specs.Config.{AreFeaturesOf}
 use Rattle.wasm_smith_config.specs.declared.config.Config.{Config}
 use Rattle.wasm_smith_definitions.specs.Bounds.{IsBoundedTable}
@@ -84,7 +83,7 @@ pub imported_tables : (c : Config) (k : Spaces) (entries : List ImportEntry) →
 imported_tables c k [] h keep = h
 imported_tables c k (entry ∷ entries) h keep =
     imported_tables c (with_items k (imported_by entry)) entries
-    (items_tables c k (imported_by entry) h (λ features f. (and_parts (shares_small_index entry) (keep_items features k (imported_by entry)) (keep features f).0).1))
+    (items_tables c k (imported_by entry) h (λ features f. (keep features f).0.1))
     (λ features f. (keep features f).1)
 
 -- ---- tables whose elements may be null

@@ -1,3 +1,4 @@
+mod ArbitraryLaws
 mod BoundLaws
 mod CodeLaws
 mod DrawnLaws

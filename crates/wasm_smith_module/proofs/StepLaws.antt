@@ -12,7 +12,7 @@ use Rattle.wasm_smith_items.specs.Steps.{IsStep}
 use Rattle.wasm_smith_types.specs.ValidGroups.{types_of}
 use Rattle.wasm_smith_validity.specs.Made.{Made}
 use Rattle.wasm_smith_validity.specs.Spaces.{Spaces, spaces_after, spaces_after_all, spaces_of_types}
-use Rattle.wasm_smith_validity.specs.Validity.{entries_behind_types}
+use Rattle.wasm_smith_validity.proofs.MadeSections.{entries_behind_types}
 use Rattle.wasm_smith_module.proofs.TagLaws.{Leads, leads_by, leads_on, moved_tags}
 use Rattle.wasm_smith_module.specs.Building.{AreItems, AreUses}
 use Rattle.wasm_smith_module.specs.Items.{items_of}

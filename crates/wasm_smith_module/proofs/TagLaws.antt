@@ -16,7 +16,7 @@ use Rattle.wasm_smith_items.proofs.FrameLaws.{kept}
 use Rattle.wasm_smith_items.proofs.StepLaws.{keep_append, known_append}
 use Rattle.wasm_smith_validity.specs.Rules.{KeepAll, KeepsRule, may_be_thrown}
 use Rattle.wasm_smith_validity.specs.Spaces.{Spaces, func_type_at, spaces_after, spaces_after_all}
-use Rattle.wasm_smith_validity.specs.Validity.{of_tags}
+use Rattle.wasm_smith_validity.proofs.MadeSections.{of_tags}
 
 -- ---- entries, one after the other
 

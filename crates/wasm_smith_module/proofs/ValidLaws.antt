@@ -13,6 +13,7 @@ use Rattle.wasm_smith_types.specs.Offering.{offers}
 use Rattle.wasm_smith_types.specs.ValidGroups.{AllKeepTypeRules, types_of}
 use Rattle.wasm_smith_validity.specs.Spaces.{is_value}
 use Rattle.wasm_smith_validity.specs.Validity.{IsValidByIndex}
+use Rattle.wasm_smith_validity.proofs.MadeSections.{made_rules}
 use Rattle.wasm_spec.specs.Types.{RecGroup}
 use Rattle.wasm_smith_module.proofs.CodeLaws.{code_many, code_valid}
 use Rattle.wasm_smith_module.proofs.StepLaws.{leads_all}
@@ -32,8 +33,9 @@ valid_for c duplicates old new m h features are =
     let code = code_at (offers c) (length types) (length m.made.funcs) finished.after_items in
     let locals : code.0 ≡ m.made.locals = ap (λ (d : List (List (ValType ℕ)) × List ℕ). d.0) finished.locals in
     record {
-      groups = h.groups.valid features are;
-      behind_types = (leads_all c duplicates m.made h.after finished.after_items finished.items).keep features are;
+      rules =
+          made_rules features m.made
+          (record { valid = h.groups.valid features are; behind_types = (leads_all c duplicates m.made h.after finished.after_items finished.items).keep features are });
       bodies = ap length (sym locals) ∙ code_many (offers c) (length types) (length m.made.funcs) finished.after_items;
       locals =
           subst (AllByRecursion (AllByRecursion (λ type. is_value features types type ≡ true))) locals

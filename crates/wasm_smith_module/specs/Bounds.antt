@@ -1,5 +1,5 @@
 -- What a configuration promises of the modules that are made for it.
-use Rattle.std.specs.Prelude.{◌≤◌, ◌+◌, length}
+use Rattle.std.specs.Prelude.{◌≤◌, ◌+◌, [], length}
 use Rattle.std.specs.List.{AllByRecursion}
 use Rattle.wasm_smith_config.specs.declared.config.Config.{Config}
 use Rattle.wasm_smith_definitions.specs.Bounds.{IsBoundedTable}
@@ -16,11 +16,11 @@ use Rattle.wasm_smith_types.specs.DrawnGroups.{AreSome}
 use Rattle.wasm_smith_types.specs.ValidGroups.{types_of}
 use Rattle.wasm_smith_validity.specs.Made.{Made}
 use Rattle.wasm_smith_validity.specs.Spaces.{Spaces, functions_of, globals_of, spaces_after_all, spaces_of_types}
-use Rattle.wasm_smith_validity.specs.Validity.{entries_behind_types}
+use Rattle.wasm_smith_validity.specs.Validity.{made_entries}
 
 -- the index spaces of a made module, which have the imported items too
 abbrev pub spaces_of : Made → Spaces
-spaces_of m = spaces_after_all (spaces_of_types (types_of m.groups)) (entries_behind_types m)
+spaces_of m = spaces_after_all (spaces_of_types []) (made_entries m)
 
 -- As many items of each kind as the configuration says, imported ones included; small types and no empty group; at most 100 locals a function; and the
 -- bounds on each import, table, memory, export and element segment.

@@ -11,7 +11,7 @@ use Rattle.wasm_smith_config.specs.declared.error.Error.TheVariants.{IncorrectFo
 use Rattle.wasm_smith_definitions.specs.Bounds.{IsBoundedTable}
 use Rattle.wasm_smith_definitions.specs.Offered.{IsOfferedMemory}
 use Rattle.wasm_smith_exports.specs.Exports.{HasShortName, wanted_exports}
-use Rattle.wasm_smith_exports.specs.FunctionTypes.{function_indexes}
+use Rattle.wasm_smith_items.specs.FunctionTypes.{function_indexes}
 use Rattle.wasm_smith_exports.specs.Sizes.{exports_size}
 use Rattle.wasm_smith_exports.specs.Wanted.{functions_at, of_function, of_start, of_tag, start_at, start_functions, wanted_functions, wanted_tags}
 use Rattle.wasm_smith_imports.specs.Candidates.{type_sizes}

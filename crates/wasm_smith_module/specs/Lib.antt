@@ -1,3 +1,4 @@
+pub mod ArbitraryModules
 pub mod Bounds
 pub mod Building
 pub mod Code

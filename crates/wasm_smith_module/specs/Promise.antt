@@ -1,11 +1,13 @@
 -- What is promised of a module that is made, and why none is made.
-use Rattle.std.specs.Prelude.{◌≡◌, ⊤, ℕ, ◌+◌, ◌<◌, List}
+use Rattle.std.specs.Prelude.{◌≡◌, ⊤, ℕ, ◌+◌, ◌<◌, ◌≤◌, List, length}
 use Rattle.wasm_spec.specs.Features.{Features}
 use Rattle.wasm_smith_config.specs.Config.{AreFeaturesOf, IsGood, IsBadField}
 use Rattle.wasm_smith_config.specs.declared.config.Config.{Config}
 use Rattle.wasm_smith_config.specs.declared.error.Error.{Error}
 use Rattle.wasm_smith_config.specs.declared.error.Error.TheVariants.{IncorrectFormat, EmptyChoose, NotEnoughData, BadConfig, BadShape, TypeSize, Memory, TooLong}
+use Rattle.wasm_smith_segments.specs.Data.{total_size}
 use Rattle.wasm_smith_types.specs.DrawnGroups.{AskForMore}
+use Rattle.wasm_smith_validity.specs.Made.{Made}
 use Rattle.wasm_smith_validity.specs.Validity.{IsValidByIndex}
 use Rattle.wasm_smith_module.specs.Bounds.{IsWithinBounds}
 use Rattle.wasm_smith_module.specs.ModuleValue.{ModuleValue}
@@ -16,6 +18,10 @@ pub record IsMadeFor (c : Config) (m : ModuleValue) : Type 0 where
   pub config : m.config ≡ c
   pub valid : (features : Features) → AreFeaturesOf c features → IsValidByIndex features m.made
   pub bounds : IsWithinBounds c m.made
+
+-- The data of all segments together, and the bytes that are left, are no longer than the bytes that there were.
+abbrev pub HasDrawnData : List ℕ → List ℕ → Made → Type 0
+HasDrawnData old new m = total_size m.data_segments + length new ≤ length old
 
 -- the minimums of what can't always be made
 abbrev pub owed : Config → ℕ

@@ -1,6 +1,6 @@
 //! The locals of functions.
 
-ghost use Rattle.std.specs.Prelude.{◌≡◌, ◌++◌, ◌∷◌, [], map};
+ghost use Rattle.std.specs.Prelude.{◌≡◌, ◌≤◌, ◌++◌, ◌∷◌, [], map, length};
 ghost use Rattle.wasm_core_types.specs.CoreTypes.{val_type};
 ghost use Rattle.wasm_smith_types.specs.Growing.{Draws};
 ghost use Rattle.wasm_smith_module.specs.Code.{code_at};
@@ -25,7 +25,8 @@ pub fn code(
     bound: u32,
     count: usize,
 ) -> Result<Vec<Vec<ValType>>, AllocError>
-    ensures { Draws (λ v. map (λ ls. map val_type ls.items) v.items) unstructured.new result (code_at offers.now bound count unstructured.old) }
+    ensures drawn { Draws (λ v. map (λ ls. map val_type ls.items) v.items) unstructured.new result (code_at offers.now bound count unstructured.old) }
+    ensures taken { length unstructured.new ≤ length unstructured.old }
 {
     let mut locals = Vec::new(alloc);
     for _ in 0..count {

@@ -1,6 +1,6 @@
 //! The tables, memories and globals that a module defines.
 
-ghost use Rattle.std.specs.Prelude.{◌≡◌, [], IfOk, IfErr, map};
+ghost use Rattle.std.specs.Prelude.{◌≡◌, ◌≤◌, [], IfOk, IfErr, map, length};
 ghost use Rattle.wasm_encoder_sections.specs.CoreItems.{memory_type};
 ghost use Rattle.wasm_smith_config.specs.Config.{IsGood};
 ghost use Rattle.wasm_smith_definitions.specs.Offered.{AreOffersOf, HasFewTables};
@@ -50,6 +50,7 @@ pub fn draw_definitions(
     requires rules { AllKeepTypeRules spaces.old.types }
     requires no_own_globals { spaces.old.own_globals ≡ [] }
     ensures drawn { IfOk result (λ it. AreDefinitions config.now spaces.old unstructured.old spaces.new unstructured.new (map table it.tables.items) (map memory_type it.memories.items) (map global it.globals.items)) }
+    ensures taken { length unstructured.new ≤ length unstructured.old }
     ensures ended { IfErr result (IsEnd config.now) }
 {
     let tables = tables(alloc, unstructured, config, offers, constants, spaces)?;

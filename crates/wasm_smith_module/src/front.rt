@@ -49,6 +49,7 @@ pub fn draw_front(
     requires few { length spaces.old.types ≤ 2 ^ 31 }
     ensures drawn { IfOk result (λ front. IsFront config.now duplicates spaces.old unstructured.old spaces.new unstructured.new (map import_entry front.imports.items) front.tags.items front.funcs.items) }
     ensures size { IfOk result (λ front. front.imports_size ≡ type_sizes spaces.old.types (types_of (all_named (map import_entry front.imports.items)))) }
+    ensures taken { length unstructured.new ≤ length unstructured.old }
     ensures ended { IfErr result (IsEnd config.now) }
 {
     let imported = imports(alloc, unstructured, config, duplicates, spaces)?;

@@ -1,9 +1,10 @@
 //! All items of a module after its types.
 
-ghost use Rattle.std.specs.Prelude.{◌≤◌, ◌^◌, IfOk, IfErr, length, map};
+ghost use Rattle.std.specs.Prelude.{◌≤◌, ◌+◌, ◌^◌, IfOk, IfErr, length, map};
 ghost use Rattle.wasm_core_types.specs.SubTypes.{sub_type};
 ghost use Rattle.wasm_smith_config.specs.Config.{IsGood};
 ghost use Rattle.wasm_smith_definitions.specs.Offered.{AreOffersOf, HasFewTables};
+ghost use Rattle.wasm_smith_segments.specs.Data.{total_size};
 ghost use Rattle.wasm_smith_types.specs.ValidGroups.{AllKeepTypeRules};
 ghost use Rattle.wasm_smith_module.specs.Building.{AreItems, IsEnd};
 ghost use Rattle.wasm_smith_module.specs.Items.{drawn_items};
@@ -53,6 +54,8 @@ pub fn draw_items(
     requires few { length types.now ≤ 2 ^ 31 }
     requires rules { AllKeepTypeRules (map sub_type types.now) }
     ensures drawn { IfOk result (λ items. AreItems config.now duplicates (map sub_type types.now) unstructured.old unstructured.new (drawn_items items)) }
+    ensures within { IfOk result (λ items. total_size (drawn_items items).data_segments + length unstructured.new ≤ length unstructured.old) }
+    ensures taken { length unstructured.new ≤ length unstructured.old }
     ensures ended { IfErr result (IsEnd config.now) }
 {
     let mut spaces = IndexSpaces::new(alloc, types);

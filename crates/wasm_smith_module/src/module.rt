@@ -11,6 +11,7 @@ ghost use Rattle.wasm_smith_types.specs.Offering.{offers};
 ghost use Rattle.wasm_smith_types.specs.ValidGroups.{AllKeepTypeRules, types_of};
 ghost use Rattle.wasm_smith_module.specs.Building.{AreGroups, IsBuilt, IsEnd, IsFinished};
 ghost use Rattle.wasm_smith_module.specs.Items.{drawn_items, module_of};
+ghost use Rattle.wasm_smith_module.specs.Promise.{HasDrawnData};
 
 use crate::code::code;
 use crate::items::{Items, draw_items};
@@ -95,6 +96,7 @@ fn build_types(
         (λ types. AreGroups config.now unstructured.old unstructured.new (groups types))) }
     ensures within { IfOk result (λ made. IfSome made (λ types. length (types_of (groups types)) ≤ most_types)) }
     ensures whole { IfOk result (λ made. IfSome made AreWhole) }
+    ensures taken { length unstructured.new ≤ length unstructured.old }
     ensures ended { IfErr result (IsEnd config.now) }
 {
     match make_types(alloc, unstructured, offered, config, most_types) {
@@ -145,6 +147,8 @@ fn finish(
     requires few { length (made types) ≤ 2 ^ 31 }
     requires rules { AllKeepTypeRules (made types) }
     ensures finished { IfOk result (IsFinished config duplicates (groups types) unstructured.old unstructured.new) }
+    ensures contents { IfOk result (λ m. HasDrawnData unstructured.old unstructured.new m.made) }
+    ensures taken { length unstructured.new ≤ length unstructured.old }
     ensures ended { IfErr result (IsEnd config) }
 {
     let items = draw_items(
@@ -173,6 +177,8 @@ fn build(
     ensures built { IfOk result (λ built. MatchOption built (AskForMore config unstructured.old most_types)
         (IsBuilt config duplicates unstructured.old unstructured.new)) }
     ensures within { IfOk result (λ built. IfSome built (λ m. length (types_of m.made.groups) ≤ most_types)) }
+    ensures contents { IfOk result (λ built. IfSome built (λ m. HasDrawnData unstructured.old unstructured.new m.made)) }
+    ensures taken { length unstructured.new ≤ length unstructured.old }
     ensures ended { IfErr result (IsEnd config) }
 {
     let offered = Offers::new(alloc, &config)?;
@@ -184,7 +190,7 @@ fn build(
 }
 
 impl Module {
-    ghost use Rattle.std.specs.Prelude.{◌≡◌, ◌≤◌, length, map, IfOk, IfErr, IfSome, IfNone};
+    ghost use Rattle.std.specs.Prelude.{◌≡◌, ◌≢◌, ◌≤◌, length, map, IfOk, IfErr, IfSome, IfNone};
     ghost use Rattle.std.specs.List.{AllByRecursion, IsDistinct};
     ghost use Rattle.wasm_core_types.specs.CoreTypes.{val_type};
     ghost use Rattle.wasm_core_types.specs.SubTypes.{sub_type};
@@ -197,8 +203,9 @@ impl Module {
     ghost use Rattle.wasm_smith_sections.specs.ModuleItems.{made_of};
     ghost use Rattle.wasm_smith_types.specs.Drawing.{total};
     ghost use Rattle.wasm_smith_types.specs.ValidGroups.{types_of};
+    ghost use Rattle.wasm_smith_module.specs.ArbitraryModules.{IsArbitraryModule, IsArbitraryReason};
     ghost use Rattle.wasm_smith_module.specs.Generating.{HasFront, front_at};
-    ghost use Rattle.wasm_smith_module.specs.Promise.{IsMadeFor, IsReason, IsBadConfig, PassesTypes};
+    ghost use Rattle.wasm_smith_module.specs.Promise.{HasDrawnData, IsMadeFor, IsReason, IsBadConfig, PassesTypes};
 
     /// Returns the module that is drawn from the source, for the configuration put in order ([`Config::sanitize`]). Two imports may have the same
     /// names.
@@ -216,6 +223,8 @@ impl Module {
         ensures made { IfOk result (IsMadeFor (sanitized config)) }
         ensures drawn { IfOk result (λ m. IfSome (front_at (sanitized config) unstructured.old) (λ drawn. HasFront (sanitized config) drawn m.made unstructured.new)) }
         ensures plain { IfOk result (λ m. AllByRecursion HasPlainName (all_named m.made.imports)) }
+        ensures contents { IfOk result (λ m. HasDrawnData unstructured.old unstructured.new m.made) }
+        ensures taken { length unstructured.new ≤ length unstructured.old }
         ensures refused { IfErr result (IsReason (sanitized config)) }
         ensures unread { IfErr result (λ e. IsBadConfig e → unstructured.new ≡ unstructured.old) }
     {
@@ -225,6 +234,28 @@ impl Module {
             DuplicateImportsBehavior::Allowed,
             unstructured,
         )
+    }
+
+    /// Returns a module that is drawn from the source, as [`Module::new`] does, for a configuration that is drawn from it first
+    /// ([`Config::arbitrary`]).
+    ///
+    /// # Errors
+    ///
+    /// [`Error::BadConfig`] where the drawn configuration asks for what isn't supported, and [`Error::Memory`]: a drawn configuration has no minimum
+    /// above 0. Some of the source's bytes are taken then.
+    pub fn arbitrary(
+        alloc: alloc::Global,
+        unstructured: &mut Unstructured<'_>,
+    ) -> Result<Module, Error>
+        ensures made { IfOk result (IsArbitraryModule unstructured.old unstructured.new) }
+        ensures plain { IfOk result (λ m. AllByRecursion HasPlainName (all_named m.made.imports)) }
+        ensures contents { IfOk result (λ m. HasDrawnData unstructured.old unstructured.new m.made) }
+        ensures taken { length unstructured.new ≤ length unstructured.old }
+        ensures refused { IfErr result (IsArbitraryReason unstructured.old unstructured.new) }
+        ensures nothing_owed { IfErr result (λ e. e ≢ Error.IncorrectFormat) }
+    {
+        let config = Config::arbitrary(unstructured);
+        Module::new(alloc, config, unstructured)
     }
 
     /// Returns the module that is drawn, as [`Module::new`] does, where two imports may have the same names or may not.
@@ -242,6 +273,8 @@ impl Module {
         ensures drawn { IfOk result (λ m. IfSome (front_at (sanitized config) unstructured.old) (λ drawn. HasFront (sanitized config) drawn m.made unstructured.new)) }
         ensures distinct { IfOk result (λ m. duplicates ≡ DuplicateImportsBehavior.Disallowed → IsDistinct have_same_names (all_named m.made.imports)) }
         ensures plain { IfOk result (λ m. duplicates ≡ DuplicateImportsBehavior.Allowed → AllByRecursion HasPlainName (all_named m.made.imports)) }
+        ensures contents { IfOk result (λ m. HasDrawnData unstructured.old unstructured.new m.made) }
+        ensures taken { length unstructured.new ≤ length unstructured.old }
         ensures refused { IfErr result (IsReason (sanitized config)) }
         ensures unread { IfErr result (λ e. IsBadConfig e → unstructured.new ≡ unstructured.old) }
     {
@@ -266,6 +299,8 @@ impl Module {
         ensures plain { IfOk result (λ made. IfSome made (λ m. AllByRecursion HasPlainName (all_named m.made.imports))) }
         ensures within { IfOk result (λ made. IfSome made (λ m. length (types_of m.made.groups) ≤ most_types)) }
         ensures passed { IfOk result (λ made. IfNone made (PassesTypes (sanitized config) unstructured.old most_types)) }
+        ensures contents { IfOk result (λ made. IfSome made (λ m. HasDrawnData unstructured.old unstructured.new m.made)) }
+        ensures taken { length unstructured.new ≤ length unstructured.old }
         ensures refused { IfErr result (IsReason (sanitized config)) }
         ensures unread { IfErr result (λ e. IsBadConfig e → unstructured.new ≡ unstructured.old) }
     {
@@ -287,6 +322,8 @@ impl Module {
         ensures plain { IfOk result (λ made. IfSome made (λ m. duplicates ≡ DuplicateImportsBehavior.Allowed → AllByRecursion HasPlainName (all_named m.made.imports))) }
         ensures within { IfOk result (λ made. IfSome made (λ m. length (types_of m.made.groups) ≤ most_types)) }
         ensures passed { IfOk result (λ made. IfNone made (PassesTypes (sanitized config) unstructured.old most_types)) }
+        ensures contents { IfOk result (λ made. IfSome made (λ m. HasDrawnData unstructured.old unstructured.new m.made)) }
+        ensures taken { length unstructured.new ≤ length unstructured.old }
         ensures refused { IfErr result (IsReason (sanitized config)) }
         ensures unread { IfErr result (λ e. IsBadConfig e → unstructured.new ≡ unstructured.old) }
     {

@@ -1,10 +1,11 @@
 //! What a module does with its items: exports, the start function, and segments.
 
-ghost use Rattle.std.specs.Prelude.{◌≡◌, ◌<◌, ◌^◌, [], IfOk, IfErr, length, map};
+ghost use Rattle.std.specs.Prelude.{◌≡◌, ◌≤◌, ◌<◌, ◌^◌, [], IfOk, IfErr, length, map, ◌+◌};
 ghost use Rattle.wasm_smith_config.specs.Config.{IsGood};
 ghost use Rattle.wasm_smith_definitions.specs.Offered.{AreOffersOf};
 ghost use Rattle.wasm_smith_items.specs.Items.{data_segment, element_segment};
 ghost use Rattle.wasm_smith_items.specs.Steps.{TablesKeep};
+ghost use Rattle.wasm_smith_segments.specs.Data.{total_size};
 ghost use Rattle.wasm_smith_segments.specs.Elements.{AreNullable};
 ghost use Rattle.wasm_smith_types.specs.ValidGroups.{AllKeepTypeRules};
 ghost use Rattle.wasm_smith_validity.specs.Spaces.{functions_of};
@@ -57,6 +58,8 @@ pub fn draw_uses(
     requires tables { TablesKeep config.now spaces.old }
     requires nullable { AreNullable spaces.old.tables }
     ensures drawn { IfOk result (λ it. AreUses config.now imports_size spaces.old unstructured.old spaces.new unstructured.new it.start (map element_segment it.elems.items) (map data_segment it.data_segments.items)) }
+    ensures within { IfOk result (λ it. total_size (map data_segment it.data_segments.items) + length unstructured.new ≤ length unstructured.old) }
+    ensures taken { length unstructured.new ≤ length unstructured.old }
     ensures ended { IfErr result (IsEnd config.now) }
 {
     exports(alloc, unstructured, config, imports_size as usize, spaces)?;

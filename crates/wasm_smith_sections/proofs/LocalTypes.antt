@@ -1,4 +1,4 @@
--- What a body takes of the types of some locals.
+-- The bodies of functions with some locals, from the types of these.
 use Rattle.std.proofs.Common.{◌≡◌, ℕ, zero, suc, ◌<◌, ◌≤◌, ◌^◌, List, [], ◌∷◌, ◌++◌, length, map, drop, get_or, Vec, Option, Some, refl, sym, ap, ◌∙◌, subst, arith, inl, inr, append_assoc}
 use Rattle.std.specs.Iterator.{Drains, Yields, YieldsThen}
 use Rattle.std.proofs.lemmas.Iterator.{YieldsList, items_from_drains}

@@ -1,4 +1,4 @@
--- What a section of a made module is written as: of each item the shortest encoding. Core Specification 3.0, Binary Format, "Modules".
+-- The contents of the sections of a made module: of each item the shortest encoding. Core Specification 3.0, Binary Format, "Modules".
 use Rattle.std.specs.Prelude.{ℕ, List, [], ◌∷◌, ◌++◌, length, map, Option, Some, None, option_map}
 use Rattle.std.specs.List.{flat_map}
 use Rattle.wasm_bodies.specs.Operators as bodies

@@ -1,4 +1,4 @@
--- What is written of a constant expression reads as it.
+-- The shortest encoding of a constant expression reads as it.
 use Rattle.std.proofs.Common.{ℕ, ℤ, pos, negsuc, ◌^◌, ◌<◌, ◌++◌, refl, arith}
 use Rattle.std.proofs.lemmas.Nat.{from_le_bytes-to_le_bytes_4, from_le_bytes-to_le_bytes_8}
 use Rattle.std.specs.Int.{w32, w64, to_le_bytes}

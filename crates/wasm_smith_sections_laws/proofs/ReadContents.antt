@@ -1,4 +1,4 @@
--- What stands in the frame of a section of a made module reads as that section.
+-- The contents of a section of a made module read as that section.
 use Rattle.std.proofs.Common.{Bool, List, [], ◌∷◌, refl}
 use Rattle.std.specs.List.{AllByRecursion, flat_map}
 use Rattle.wasm_encoder_sections.specs.SmallItems.{IsSmallLimits, IsSmallExport, IsSmallImport}

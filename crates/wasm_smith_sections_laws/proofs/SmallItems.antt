@@ -1,4 +1,4 @@
--- What the types of the code say of items in lists.
+-- The bounds on items in lists that the types of the code give.
 use Rattle.std.proofs.Common.{◌≡◌, ℕ, zero, suc, ◌+◌, ◌≤◌, ◌<◌, Bool, List, ℤ, Option, Some, None, [], ◌∷◌, length, map, take, drop, get_or, Fits, w8, w32, refl, sym, ap, subst, ◌∙◌, arith}
 use Rattle.std.specs.List.{AllByRecursion}
 use Rattle.std.proofs.lemmas.List.{drop_more, drop_all}

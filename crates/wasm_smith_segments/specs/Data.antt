@@ -9,7 +9,7 @@ use Rattle.wasm_smith_validity.specs.Spaces.{Spaces}
 
 -- a mode keeps its rule under the features of a configuration
 abbrev pub KeepsMode : Config → Spaces → DataMode → Type 0
-KeepsMode c k mode = (features : Features) → AreFeaturesOf c features → KeepsData features k mode
+KeepsMode c spaces mode = (features : Features) → AreFeaturesOf c features → KeepsData features spaces mode
 
 -- the bytes of all segments
 abbrev pub total_size : List DataSegment → ℕ

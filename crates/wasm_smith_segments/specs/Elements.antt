@@ -17,8 +17,8 @@ abbrev pub AreNullable : List (TableType ℕ) → Type 0
 AreNullable tables = AllByRecursion (λ type. type.element_type.nullable ≡ true) tables
 
 -- A type of which items can be drawn: without reference types it is that of nullable references to any function.
-pub record IsElementType (c : Config) (k : Spaces) (type : RefType ℕ) : Type 0 where
-  pub written : c.reference_types_enabled ≡ true → MayWrite c k (value_of type)
+pub record IsElementType (c : Config) (spaces : Spaces) (type : RefType ℕ) : Type 0 where
+  pub written : c.reference_types_enabled ≡ true → MayWrite c spaces (value_of type)
   pub functions : (features : Features) → AreFeaturesOf c features → c.reference_types_enabled ≡ false → is_funcref type ≡ true
 
 -- the items of a segment of this type: functions only if any function is of it
@@ -27,8 +27,8 @@ AreOf type (FunctionItems functions) = is_funcref type ≡ true
 AreOf type (ExpressionItems own expressions) = own ≡ type
 
 -- Under the features of a configuration the items keep their rule and are of this type.
-pub record AreItems (c : Config) (k : Spaces) (type : RefType ℕ) (items : ElementItems) : Type 0 where
-  pub keep : (features : Features) → AreFeaturesOf c features → KeepsItems features k items
+pub record AreItems (c : Config) (spaces : Spaces) (type : RefType ℕ) (items : ElementItems) : Type 0 where
+  pub keep : (features : Features) → AreFeaturesOf c features → KeepsItems features spaces items
   pub are : (features : Features) → AreFeaturesOf c features → AreOf type items
 
 -- as many items as the configuration asks for, unless they are functions and there are none

@@ -1,4 +1,4 @@
-//! What the steps of element segments and of data segments share.
+//! Choices that the steps of element segments and of data segments share.
 
 ghost use Rattle.std.specs.Prelude.{◌≡◌, ◌≤◌, ◌<◌, ◌+◌, ◌++◌, ◌∷◌, ◌||◌, [], length, nat_lt, IfOk};
 ghost use Rattle.wasm_core_types.specs.CoreTypes.{val_type};

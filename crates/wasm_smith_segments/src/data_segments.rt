@@ -21,7 +21,8 @@ use wasm_smith_unstructured::unstructured::Unstructured;
 // Draws the bytes of a segment.
 #[tactic(auto, unfolding(wasm_smith_unstructured::specs::Draws::bytes_at))]
 fn draw_contents(alloc: Global, unstructured: &mut Unstructured<'_>) -> Result<Vec<u8>, AllocError>
-    ensures { IfOk result (λ contents. length contents.items + length unstructured.new ≤ length unstructured.old) }
+    ensures within { IfOk result (λ contents. length contents.items + length unstructured.new ≤ length unstructured.old) }
+    ensures taken { length unstructured.new ≤ length unstructured.old }
 {
     let len = unstructured.arbitrary_len();
     let bytes = unstructured.bytes(len).unwrap();
@@ -66,6 +67,7 @@ fn draw_segment(
     requires can { (nat_lt 0 (length spaces.now.memories) || config.now.bulk_memory_enabled) ≡ true }
     ensures allowed { IfOk result (λ segment. Allows config.now spaces.now (of_data (data_segment segment))) }
     ensures within { IfOk result (λ segment. length segment.data.items + length unstructured.new ≤ length unstructured.old) }
+    ensures taken { length unstructured.new ≤ length unstructured.old }
     ensures refused { IfErr result (λ e. e ≡ Error.Memory) }
 {
     let memories = spaces.count_of(ExportKind::Memory);
@@ -91,6 +93,7 @@ pub fn data_segments(
     requires counts { config.now.min_data_segments ≤ config.now.max_data_segments }
     ensures grown { IfOk result (λ v. IsGrown config.now (wanted_data config.now) of_data (AnyBound config.now) spaces.old unstructured.old spaces.new unstructured.new (map data_segment v.items)) }
     ensures within { IfOk result (λ v. total_size (map data_segment v.items) + length unstructured.new ≤ length unstructured.old) }
+    ensures taken { length unstructured.new ≤ length unstructured.old }
     ensures refused { IfErr result (λ e. (e ≡ Error.Memory) ⊎ ((e ≡ Error.IncorrectFormat) × (0 < config.now.min_data_segments))) }
     ensures impossible { IfErr result (λ e. e ≡ Error.IncorrectFormat → (wanted_data config.now).can spaces.old ≡ false) }
 {

@@ -40,6 +40,7 @@ fn draw_functions(
 ) -> Result<Vec<u32>, AllocError>
     requires { config.now.min_elements ≤ config.now.max_elements }
     ensures in_range { IfOk result (λ v. AllByRecursion (λ function. function < length (functions_of spaces.now)) v.items) }
+    ensures taken { length unstructured.new ≤ length unstructured.old }
     ensures few { IfOk result (λ v. length v.items ≤ config.now.max_elements) }
     ensures enough { IfOk result (λ v. 0 < length (functions_of spaces.now) → config.now.min_elements ≤ length v.items) }
 {
@@ -73,6 +74,7 @@ fn draw_constants(
     requires nullable { ty.nullable ≡ true }
     requires bounds { config.now.min_elements ≤ config.now.max_elements }
     ensures given { IfOk result (λ v. AllByRecursion (λ constant. Gives config.now spaces.now (val_type (ValType.Ref ty)) (expression constant)) v.items) }
+    ensures taken { length unstructured.new ≤ length unstructured.old }
     ensures few { IfOk result (λ v. length v.items ≤ config.now.max_elements) }
     ensures enough { IfOk result (λ v. config.now.min_elements ≤ length v.items) }
     ensures refused { IfErr result (λ e. e ≡ Error.Memory) }
@@ -107,6 +109,7 @@ fn is_funcref(ty: RefType) -> bool
 fn are_functions(unstructured: &mut Unstructured<'_>, config: &Config, ty: RefType) -> bool
     ensures functions { result ≡ true → (config.now.reference_types_enabled ≡ false) ⊎ (is_funcref (ref_type ty) ≡ true) }
     ensures constants { result ≡ false → config.now.reference_types_enabled ≡ true }
+    ensures taken { length unstructured.new ≤ length unstructured.old }
 {
     if !config.reference_types_enabled {
         return true;
@@ -128,6 +131,7 @@ fn draw_items(
     requires nullable { ty.nullable ≡ true }
     requires bounds { config.now.min_elements ≤ config.now.max_elements }
     ensures drawn { IfOk result (λ items. AreItems config.now spaces.now (ref_type ty) (element_items items)) }
+    ensures taken { length unstructured.new ≤ length unstructured.old }
     ensures bounded { IfOk result (λ items. AreBounded config.now (length (functions_of spaces.now)) (element_items items)) }
     ensures refused { IfErr result (λ e. e ≡ Error.Memory) }
 {
@@ -173,6 +177,7 @@ fn draw_segment(
     requires bounds { config.now.min_elements ≤ config.now.max_elements }
     requires can { (nat_lt 0 (length spaces.now.tables) || config.now.bulk_memory_enabled) ≡ true }
     ensures allowed { IfOk result (λ segment. Allows config.now spaces.now (of_element (element_segment segment))) }
+    ensures taken { length unstructured.new ≤ length unstructured.old }
     ensures bounded { IfOk result (λ segment. IsBoundedElement config.now (length (functions_of spaces.now)) (element_segment segment)) }
     ensures refused { IfErr result (λ e. e ≡ Error.Memory) }
 {
@@ -225,6 +230,7 @@ pub fn element_segments(
     requires bounds { config.now.min_elements ≤ config.now.max_elements }
     requires counts { config.now.min_element_segments ≤ config.now.max_element_segments }
     ensures grown { IfOk result (λ v. IsGrown config.now (wanted_elements config.now) of_element (IsBoundedElement config.now (length (functions_of spaces.old))) spaces.old unstructured.old spaces.new unstructured.new (map element_segment v.items)) }
+    ensures taken { length unstructured.new ≤ length unstructured.old }
     ensures refused { IfErr result (λ e. (e ≡ Error.Memory) ⊎ ((e ≡ Error.IncorrectFormat) × (0 < config.now.min_element_segments))) }
     ensures impossible { IfErr result (λ e. e ≡ Error.IncorrectFormat → (wanted_elements config.now).can spaces.old ≡ false) }
 {

@@ -12,6 +12,8 @@ mod group_types;
 #[cfg(test)]
 mod module;
 #[cfg(test)]
+mod names;
+#[cfg(test)]
 mod unstructured;
 #[cfg(test)]
 mod witness;

@@ -1,6 +1,6 @@
 //! The composite types that are drawn.
 
-ghost use Rattle.std.specs.Prelude.{◌≡◌, IfOk, true, false, length, map};
+ghost use Rattle.std.specs.Prelude.{◌≡◌, ◌≤◌, IfOk, true, false, length, map};
 ghost use Rattle.wasm_core_types.specs.CoreTypes.{storage_type, field_type};
 ghost use Rattle.wasm_core_types.specs.SubTypes.{composite_type};
 ghost use Rattle.wasm_smith_unstructured.specs.Draws.{IsDrawn};
@@ -25,7 +25,8 @@ impl Offers {
     // Draws the storage type of a field.
     #[tactic(auto, unfolding(crate::specs::Drawing::storage_at))]
     fn storage(&self, unstructured: &mut Unstructured<'_>, bound: u32) -> StorageType
-        ensures { IsDrawn storage_type result unstructured.new (storage_at self.now bound unstructured.old) }
+        ensures drawn { IsDrawn storage_type result unstructured.new (storage_at self.now bound unstructured.old) }
+        ensures taken { length unstructured.new ≤ length unstructured.old }
     {
         let form = unstructured.int_in_range(0..=2);
         if form == 0 {
@@ -40,7 +41,8 @@ impl Offers {
     // Draws a field type.
     #[tactic(auto, unfolding(crate::specs::Drawing::field_at))]
     fn field(&self, unstructured: &mut Unstructured<'_>, bound: u32) -> FieldType
-        ensures { IsDrawn field_type result unstructured.new (field_at self.now bound unstructured.old) }
+        ensures drawn { IsDrawn field_type result unstructured.new (field_at self.now bound unstructured.old) }
+        ensures taken { length unstructured.new ≤ length unstructured.old }
     {
         let element_type = self.storage(unstructured, bound);
         let mutable = unstructured.bool();
@@ -59,7 +61,8 @@ impl Offers {
         bound: u32,
         mut fields: Vec<FieldType>,
     ) -> Result<Vec<FieldType>, AllocError>
-        ensures { Draws (λ v. map field_type v.items) unstructured.new result (with_front (map field_type fields.items) (fields_at self.now bound (length fields.items) unstructured.old)) }
+        ensures drawn { Draws (λ v. map field_type v.items) unstructured.new result (with_front (map field_type fields.items) (fields_at self.now bound (length fields.items) unstructured.old)) }
+        ensures taken { length unstructured.new ≤ length unstructured.old }
     {
         'grow: while grows(unstructured, fields.len(), 0, MAX_FIELDS) {
             fields.push(self.field(unstructured, bound))?;
@@ -78,7 +81,8 @@ impl Offers {
         unstructured: &mut Unstructured<'_>,
         bound: u32,
     ) -> Result<CompositeType, AllocError>
-        ensures { Draws composite_type unstructured.new result (function_at self.now bound unstructured.old) }
+        ensures drawn { Draws composite_type unstructured.new result (function_at self.now bound unstructured.old) }
+        ensures taken { length unstructured.new ≤ length unstructured.old }
     {
         let params = self.values(alloc, unstructured, bound, MAX_PARAMS)?;
         let results = self.values(alloc, unstructured, bound, self.most_results())?;
@@ -93,7 +97,8 @@ impl Offers {
         unstructured: &mut Unstructured<'_>,
         bound: u32,
     ) -> Result<CompositeType, AllocError>
-        ensures { Draws composite_type unstructured.new result (structure_at self.now bound unstructured.old) }
+        ensures drawn { Draws composite_type unstructured.new result (structure_at self.now bound unstructured.old) }
+        ensures taken { length unstructured.new ≤ length unstructured.old }
     {
         let fields = self.more_fields(alloc, unstructured, bound, Vec::new(alloc))?;
         Ok(CompositeType::Struct(StructType::new(fields)))
@@ -102,7 +107,8 @@ impl Offers {
     // Draws an array type.
     #[tactic(auto, unfolding(crate::specs::Drawing::array_at))]
     fn array(&self, unstructured: &mut Unstructured<'_>, bound: u32) -> CompositeType
-        ensures { IsDrawn composite_type result unstructured.new (array_at self.now bound unstructured.old) }
+        ensures drawn { IsDrawn composite_type result unstructured.new (array_at self.now bound unstructured.old) }
+        ensures taken { length unstructured.new ≤ length unstructured.old }
     {
         CompositeType::Array(ArrayType(self.field(unstructured, bound)))
     }
@@ -118,7 +124,8 @@ impl Offers {
         unstructured: &mut Unstructured<'_>,
         bound: u32,
     ) -> Result<CompositeType, AllocError>
-        ensures { Draws composite_type unstructured.new result (composite_at self.now bound unstructured.old) }
+        ensures drawn { Draws composite_type unstructured.new result (composite_at self.now bound unstructured.old) }
+        ensures taken { length unstructured.new ≤ length unstructured.old }
     {
         let form = unstructured.int_in_range(0..=2);
         if form == 0 {
@@ -139,6 +146,7 @@ impl Offers {
         type_: &FuncType,
     ) -> Result<FuncType, AllocError>
         ensures drawn { Draws (λ f. f) unstructured.new result (function_copy_at type_.now unstructured.old) }
+        ensures taken { length unstructured.new ≤ length unstructured.old }
         ensures vary { IfOk result (λ f. Pairwise (Varies true) f.params type_.now.params × Pairwise (Varies false) f.results type_.now.results) }
     {
         let params = varied_values(alloc, unstructured, type_.params(), true)?;
@@ -160,6 +168,7 @@ impl Offers {
         type_: &CompositeType,
     ) -> Result<CompositeType, AllocError>
         ensures drawn { Draws composite_type unstructured.new result (copy_at self.now bound (composite_type type_.now) unstructured.old) }
+        ensures taken { length unstructured.new ≤ length unstructured.old }
         ensures permitted { IfOk result (λ copy. (features : Features) → Suits features self.now
             → IsPermittedComposite features bound (composite_type type_.now)
             → IsPermittedCopy features bound (composite_type copy) (composite_type type_.now)) }

@@ -1,6 +1,6 @@
 //! Parts of a type that may have another as its supertype.
 
-ghost use Rattle.std.specs.Prelude.{◌≡◌, IfOk, map};
+ghost use Rattle.std.specs.Prelude.{◌≡◌, ◌≤◌, IfOk, length, map};
 ghost use Rattle.wasm_core_types.specs.CoreTypes.{val_type, field_type};
 ghost use Rattle.wasm_spec.specs.Matching.{Pairwise};
 ghost use Rattle.wasm_smith_unstructured.specs.Draws.{IsDrawn};
@@ -14,6 +14,7 @@ use wasm_smith_unstructured::unstructured::Unstructured;
 // Returns the type, or where a drawn bool says so, the reference that may be null or may not.
 fn varied(unstructured: &mut Unstructured<'_>, type_: ValType, nullable: bool) -> ValType
     ensures drawn { IsDrawn val_type result unstructured.new (varied_at nullable (val_type type_) unstructured.old) }
+    ensures taken { length unstructured.new ≤ length unstructured.old }
     ensures varies { Varies nullable (val_type result) (val_type type_) }
 {
     if let ValType::Ref(reference) = type_ {
@@ -39,6 +40,7 @@ pub fn varied_values(
     nullable: bool,
 ) -> Result<Vec<ValType>, AllocError>
     ensures drawn { Draws (λ v. map val_type v.items) unstructured.new result (each_at (varied_at nullable) (map val_type types.now) unstructured.old) }
+    ensures taken { length unstructured.new ≤ length unstructured.old }
     ensures vary { IfOk result (λ v. Pairwise (Varies nullable) (map val_type v.items) (map val_type types.now)) }
 {
     let mut copies = Vec::new(alloc);
@@ -51,6 +53,7 @@ pub fn varied_values(
 /// Returns the field. Where it can't be set, its reference may not be null if a drawn bool says so.
 pub fn narrowed_field(unstructured: &mut Unstructured<'_>, field: FieldType) -> FieldType
     ensures drawn { IsDrawn field_type result unstructured.new (narrowed_field_at (field_type field) unstructured.old) }
+    ensures taken { length unstructured.new ≤ length unstructured.old }
     ensures narrowed { IsNarrowedField (field_type result) (field_type field) }
 {
     if field.mutable {
@@ -76,6 +79,7 @@ pub fn narrowed_fields(
     fields: &[FieldType],
 ) -> Result<Vec<FieldType>, AllocError>
     ensures drawn { Draws (λ v. map field_type v.items) unstructured.new result (each_at narrowed_field_at (map field_type fields.now) unstructured.old) }
+    ensures taken { length unstructured.new ≤ length unstructured.old }
     ensures narrowed { IfOk result (λ v. Pairwise IsNarrowedField (map field_type v.items) (map field_type fields.now)) }
 {
     let mut copies = Vec::new(alloc);

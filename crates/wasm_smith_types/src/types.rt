@@ -73,7 +73,8 @@ impl Types {
         requires few { length (made self.old) < 2 ^ 31 }
         requires candidates { AreCandidates (made self.old) self.old.candidates.items }
         requires candidate { IsCandidate (made self.old) candidate }
-        ensures { IfOk result (λ _. Adds offers.now end self.old self.new) }
+        ensures valid { IfOk result (λ _. Adds offers.now end self.old self.new) }
+        ensures taken { length unstructured.new ≤ length unstructured.old }
     {
         let is_final = !unstructured.bool();
         let composite_type = offers.copy(
@@ -103,6 +104,7 @@ impl Types {
         requires candidates { AreCandidates (made self.old) self.old.candidates.items }
         ensures valid { IfOk result (λ _. Adds offers.now end self.old self.new) }
         ensures drawn { IfOk result (λ _. AddsDrawn (plain_type_at offers.now end unstructured.old) self.old self.new unstructured.new) }
+        ensures taken { length unstructured.new ≤ length unstructured.old }
     {
         let is_final = !unstructured.bool();
         let composite_type = offers.composite(alloc, unstructured, end)?;
@@ -129,6 +131,7 @@ impl Types {
         ensures valid { IfOk result (λ _. Adds offers.now end self.old self.new) }
         ensures drawn { IfOk result (λ _. IfSome (type_at offers.now end (has_candidates self.old) unstructured.old)
             (λ drawn. AddsDrawn drawn self.old self.new unstructured.new)) }
+        ensures taken { length unstructured.new ≤ length unstructured.old }
     {
         let asked = !self.candidates.is_empty();
         if bool_if(unstructured, asked) {
@@ -154,6 +157,7 @@ impl Types {
         ensures valid { IfOk result (λ _. AddsAll offers.now end count self.old self.new) }
         ensures drawn { IfOk result (λ _. IfSome (members_at offers.now end (has_candidates self.old) count unstructured.old)
             (λ drawn. AddsAllDrawn drawn self.old self.new unstructured.new)) }
+        ensures taken { length unstructured.new ≤ length unstructured.old }
     {
         for _ in 0..count {
             self.push_type(alloc, unstructured, offers, end)?;
@@ -175,6 +179,7 @@ impl Types {
         ensures group { IfOk result (λ _. AddsGroup (λ features. Suits features offers.now) self.old self.new) }
         ensures count { IfOk result (λ _. length (made self.new) ≡ length (made self.old) + size) }
         ensures drawn { IfOk result (λ _. IfSome (members_at offers.now (total self.old.sizes.items + size) (has_candidates self.old) size unstructured.old) (λ drawn. AddsGroupDrawn drawn self.old self.new unstructured.new)) }
+        ensures taken { length unstructured.new ≤ length unstructured.old }
     {
         let end = self.types.len() as u32 + size;
         self.push_types(alloc, unstructured, offers, end, size)?;
@@ -249,6 +254,7 @@ impl Types {
         ensures group { IfOk result (λ _. AddsGroup (λ features. SuitsValues features offers.now) self.old self.new) }
         ensures added { IfOk result (λ _. made self.new ≡ made self.old ++ ((function_type_at offers.now unstructured.old).0 ∷ [])) }
         ensures left { IfOk result (λ _. unstructured.new ≡ (function_type_at offers.now unstructured.old).1) }
+        ensures taken { length unstructured.new ≤ length unstructured.old }
         ensures groups { IfOk result (λ _. groups self.new ≡ groups self.old ++ (spec.Single (function_type_at offers.now unstructured.old).0 ∷ [])) }
     {
         let composite_type = offers.function(alloc, unstructured, 0)?;
@@ -283,6 +289,7 @@ impl Types {
         ensures within { IfOk result (λ _. length (made self.new) ≤ length (made self.old) + room) }
         ensures drawn { IfOk result (λ _. IfSome (group_at offers.now left (front_of self.old) unstructured.old)
             (λ drawn. AddsGroupDrawn drawn self.old self.new unstructured.new)) }
+        ensures taken { length unstructured.new ≤ length unstructured.old }
         ensures too_many { IfErr result (λ e. e ≡ TypesError.TooMany → (room < left)
             × IfSome (group_at offers.now left (front_of self.old) unstructured.old) (λ drawn. room < length drawn.0)) }
     {
@@ -324,6 +331,7 @@ impl Types {
         ensures within { IfOk result (λ _. length (made self.new) ≤ length (made self.old) + room) }
         ensures drawn { IfOk result (λ _. IfSome (group_at offers.now left (front_of self.old) unstructured.old)
             (λ drawn. AddsGroupDrawn drawn self.old self.new unstructured.new)) }
+        ensures taken { length unstructured.new ≤ length unstructured.old }
         ensures too_many { IfErr result (λ e. e ≡ TypesError.TooMany → (room < left)
             × IfSome (group_at offers.now left (front_of self.old) unstructured.old) (λ drawn. room < length drawn.0)) }
         ensures fitting { IfOk result (λ _. AreFitting self.new.sizes.items left fitting.new) }
@@ -369,6 +377,7 @@ fn make_groups(
     ensures some { IfOk result (λ t. AllByRecursion (λ size. 0 < size) t.sizes.items) }
     ensures drawn { IfOk result (λ t. min ≡ 0
         → IfSome (groups_at offers.now max (max + 1) no_groups unstructured.old) (λ drawn. (groups t ≡ map entry drawn.0) × (unstructured.new ≡ drawn.1))) }
+    ensures taken { length unstructured.new ≤ length unstructured.old }
     ensures too_many { IfErr result (λ e. e ≡ TypesError.TooMany → most < max) }
     ensures too_many_drawn { IfErr result (λ e. e ≡ TypesError.TooMany → min ≡ 0
         → IfSome (groups_at offers.now max (max + 1) no_groups unstructured.old) (λ drawn. most < length (types_of (map entry drawn.0)))) }
@@ -411,6 +420,7 @@ fn make_function_types(
     ensures least { IfOk result (λ t. min ≤ max → min ≤ length (made t)) }
     ensures some { IfOk result (λ t. AllByRecursion (λ size. 0 < size) t.sizes.items) }
     ensures drawn { IfOk result (λ t. grow_at (function_type_at offers.now) min max 0 unstructured.old ≡ (made t, unstructured.new)) }
+    ensures taken { length unstructured.new ≤ length unstructured.old }
     ensures singles { IfOk result (λ t. groups t ≡ map spec.Single (made t)) }
     ensures too_many { IfErr result (λ e. e ≡ TypesError.TooMany → most < max) }
     ensures too_many_drawn { IfErr result (λ e. e ≡ TypesError.TooMany → most < length (grow_at (function_type_at offers.now) min max 0 unstructured.old).0) }
@@ -452,6 +462,7 @@ pub fn make_types(
     ensures some { IfOk result (λ t. AreSome (groups t)) }
     ensures whole { IfOk result AreWhole }
     ensures drawn { IfOk result (λ t. IfSome (drawn_groups_at config.now unstructured.old) (λ drawn. drawn ≡ (groups t, unstructured.new))) }
+    ensures taken { length unstructured.new ≤ length unstructured.old }
     ensures too_many { IfErr result (λ e. e ≡ TypesError.TooMany → AskForMore config.now unstructured.old most) }
 {
     let (min, max) = (config.min_types, config.max_types);

@@ -1,6 +1,6 @@
 //! The value types that are drawn.
 
-ghost use Rattle.std.specs.Prelude.{◌≡◌, ◌<◌, ◌&&◌, IfOk, length, map, nat_lt};
+ghost use Rattle.std.specs.Prelude.{◌≡◌, ◌<◌, ◌≤◌, ◌&&◌, IfOk, length, map, nat_lt};
 ghost use Rattle.wasm_core_types.specs.CoreTypes.{abstract_heap_type, heap_type, val_type};
 ghost use Rattle.wasm_smith_unstructured.specs.Draws.{IsDrawn};
 ghost use Rattle.wasm_smith_types.specs.Drawing.{bool_if, heap_at, reference_at, value_at, values_at};
@@ -142,7 +142,8 @@ impl Offers {
     // Draws the heap type of a reference.
     #[tactic(auto, unfolding(crate::specs::Drawing::heap_at))]
     fn heap(&self, unstructured: &mut Unstructured<'_>, bound: u32) -> HeapType
-        ensures { IsDrawn heap_type result unstructured.new (heap_at self.now bound unstructured.old) }
+        ensures drawn { IsDrawn heap_type result unstructured.new (heap_at self.now bound unstructured.old) }
+        ensures taken { length unstructured.new ≤ length unstructured.old }
     {
         if bool_if(unstructured, self.asks_concrete(bound)) {
             let last = bound - 1;
@@ -155,7 +156,8 @@ impl Offers {
     /// Draws a reference type, which goes to an abstract type or to the type of an index below `bound`.
     #[tactic(auto, unfolding(crate::specs::Drawing::reference_at))]
     pub fn reference(&self, unstructured: &mut Unstructured<'_>, bound: u32) -> RefType
-        ensures { IsDrawn (λ reference. val_type (ValType.Ref reference)) result unstructured.new (reference_at self.now bound unstructured.old) }
+        ensures drawn { IsDrawn (λ reference. val_type (ValType.Ref reference)) result unstructured.new (reference_at self.now bound unstructured.old) }
+        ensures taken { length unstructured.new ≤ length unstructured.old }
     {
         let non_null = bool_if(unstructured, self.gc);
         let heap_type = self.heap(unstructured, bound);
@@ -168,7 +170,8 @@ impl Offers {
     /// Draws a value type, whose references go to types with indexes below `bound`.
     #[tactic(auto, using(crate::proofs::OfferLaws::value_reference))]
     pub fn value(&self, unstructured: &mut Unstructured<'_>, bound: u32) -> ValType
-        ensures { IsDrawn val_type result unstructured.new (value_at self.now bound unstructured.old) }
+        ensures drawn { IsDrawn val_type result unstructured.new (value_at self.now bound unstructured.old) }
+        ensures taken { length unstructured.new ≤ length unstructured.old }
     {
         match *unstructured.choose(&self.kinds).unwrap() {
             Kind::NumberOrVector(type_) => type_,
@@ -188,7 +191,8 @@ impl Offers {
         bound: u32,
         max: usize,
     ) -> Result<Vec<ValType>, AllocError>
-        ensures { Draws (λ v. map val_type v.items) unstructured.new result (values_at self.now bound max unstructured.old) }
+        ensures drawn { Draws (λ v. map val_type v.items) unstructured.new result (values_at self.now bound max unstructured.old) }
+        ensures taken { length unstructured.new ≤ length unstructured.old }
     {
         let mut values = Vec::new(alloc);
         'grow: while grows(unstructured, values.len(), 0, max) {

@@ -12,12 +12,16 @@ pub record IsLongestText (max : ℕ) (old text new : List ℕ) : Type 0 where
   pub within : length text ≤ min (len_at old).0 max
   pub longest : (k : ℕ) → length text < k → k ≤ min (len_at old).0 max → ¬ (IsUtf8 (take k (len_at old).1))
 
+-- each number from count on and below this one makes a text that is taken
+abbrev pub AreTaken : (List ℕ → Bool) → ℕ → List ℕ → ℕ → Type 0
+AreTaken taken count text number = (n : ℕ) → count ≤ n → n < number → taken (text ++ decimal n) ≡ true
+
 -- a text with the least number at its end that makes it new, from count on
 pub record IsNumbered (taken : List ℕ → Bool) (count : ℕ) (text name : List ℕ) : Type 0 where
   pub number : ℕ
   pub from : count ≤ number
   pub written : name ≡ text ++ decimal number
-  pub least : (n : ℕ) → count ≤ n → n < number → taken (text ++ decimal n) ≡ true
+  pub least : AreTaken taken count text number
 
 -- A name that isn't taken, though count of them are: the text itself, if that isn't taken, and otherwise the text with a number.
 pub record IsNewName (taken : List ℕ → Bool) (count : ℕ) (text name : List ℕ) : Type 0 where

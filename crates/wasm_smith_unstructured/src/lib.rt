@@ -2,6 +2,7 @@
 #![tactic(auto)]
 
 pub mod error;
+pub mod names;
 pub mod number;
 pub mod text;
 pub mod unstructured;

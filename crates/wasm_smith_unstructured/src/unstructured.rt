@@ -47,7 +47,8 @@ impl<'a> Unstructured<'a> {
     /// The low bit of a byte.
     #[tactic(auto, unfolding(crate::specs::Draws::bool_at))]
     pub fn bool(&mut self) -> bool
-        ensures { IsDrawn (λ b. b) result self.new (bool_at self.old) }
+        ensures exact { IsDrawn (λ b. b) result self.new (bool_at self.old) }
+        ensures taken { length self.new ≤ length self.old }
     {
         match self.rest {
             [] => false,
@@ -63,6 +64,7 @@ impl<'a> Unstructured<'a> {
     fn little(&mut self, len: usize) -> u64
         requires { len ≤ 8 }
         ensures exact { IsDrawn (λ n. n) result self.new (little_at len self.old) }
+        ensures taken { length self.new ≤ length self.old }
         ensures below { result < 256 ^ len }
     {
         let (front, rest) = self.rest.split_at(self.rest.len().min(len));
@@ -72,21 +74,24 @@ impl<'a> Unstructured<'a> {
 
     /// A byte.
     pub fn u8(&mut self) -> u8
-        ensures { IsDrawn (λ n. n) result self.new (little_at 1 self.old) }
+        ensures exact { IsDrawn (λ n. n) result self.new (little_at 1 self.old) }
+        ensures taken { length self.new ≤ length self.old }
     {
         self.little(1) as u8
     }
 
     /// The number of four bytes, least significant first.
     pub fn u32(&mut self) -> u32
-        ensures { IsDrawn (λ n. n) result self.new (little_at 4 self.old) }
+        ensures exact { IsDrawn (λ n. n) result self.new (little_at 4 self.old) }
+        ensures taken { length self.new ≤ length self.old }
     {
         self.little(4) as u32
     }
 
     /// The number of eight bytes, least significant first.
     pub fn u64(&mut self) -> u64
-        ensures { IsDrawn (λ n. n) result self.new (little_at 8 self.old) }
+        ensures exact { IsDrawn (λ n. n) result self.new (little_at 8 self.old) }
+        ensures taken { length self.new ≤ length self.old }
     {
         self.little(8)
     }
@@ -98,6 +103,7 @@ impl<'a> Unstructured<'a> {
         requires { range_inclusive_start range ≤ range_inclusive_end range }
         ensures exact { IsDrawn (λ n. n) result self.new
             (int_at (range_inclusive_start range) (range_inclusive_end range) self.old) }
+        ensures taken { length self.new ≤ length self.old }
         ensures from { range_inclusive_start range ≤ result }
         ensures to { result ≤ range_inclusive_end range }
     {
@@ -118,7 +124,8 @@ impl<'a> Unstructured<'a> {
     /// # Errors
     /// Exactly where there are none; then nothing is taken.
     pub fn choose<'b, T>(&mut self, things: &'b [T]) -> Result<&'b T, EmptyChoose>
-        ensures { IsDrawn (given (λ x. x.now)) result self.new (choose_at things.now self.old) }
+        ensures exact { IsDrawn (given (λ x. x.now)) result self.new (choose_at things.now self.old) }
+        ensures taken { length self.new ≤ length self.old }
     {
         let count = things.len();
         if count == 0 {
@@ -132,7 +139,8 @@ impl<'a> Unstructured<'a> {
     pub fn ratio(&mut self, numerator: u64, denominator: u64) -> bool
         requires some { 0 < numerator }
         requires at_most_all { numerator ≤ denominator }
-        ensures { IsDrawn (λ b. b) result self.new (ratio_at numerator denominator self.old) }
+        ensures exact { IsDrawn (λ b. b) result self.new (ratio_at numerator denominator self.old) }
+        ensures taken { length self.new ≤ length self.old }
     {
         self.int_in_range(1..=denominator) <= numerator
     }
@@ -143,7 +151,8 @@ impl<'a> Unstructured<'a> {
     /// Exactly where fewer are left; then nothing is taken.
     #[tactic(auto, unfolding(crate::specs::Draws::bytes_at))]
     pub fn bytes(&mut self, len: usize) -> Result<&'a [u8], NotEnoughData>
-        ensures { IsDrawn (given (λ bytes. bytes.now)) result self.new (bytes_at len self.old) }
+        ensures exact { IsDrawn (given (λ bytes. bytes.now)) result self.new (bytes_at len self.old) }
+        ensures taken { length self.new ≤ length self.old }
     {
         if self.rest.len() < len {
             return Err(NotEnoughData);
@@ -165,6 +174,7 @@ impl<'a> Unstructured<'a> {
     #[tactic(auto, unfolding(crate::specs::Draws::len_at))]
     pub fn arbitrary_len(&mut self) -> usize
         ensures exact { IsDrawn (λ n. n) result self.new (len_at self.old) }
+        ensures taken { length self.new ≤ length self.old }
         ensures within { result ≤ length self.new }
     {
         let len = self.rest.len();

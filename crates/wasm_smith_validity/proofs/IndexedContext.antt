@@ -1,4 +1,5 @@
--- What a context has, where a type is its index.
+-- The index spaces of a context, a type being its index.
+use Rattle.std.specs.Prelude.{⊤}
 use Rattle.std.proofs.Common.{◌≡◌, ℕ, suc, List, [], ◌∷◌, ◌++◌, length, refl, ap, ◌∙◌, arith, length-append}
 use Rattle.wasm_spec.specs.Syntax.{imported_by}
 use Rattle.wasm_spec.specs.Types.{SubType, ExternalType, FuncExternal, TableExternal, MemoryExternal, GlobalExternal, TagExternal}
@@ -52,19 +53,24 @@ items_types cx (type ∷ items) = items_types (after_item cx type) items ∙ ite
 one_more : {A : Type 0} (xs : List A) (x : A) → length (xs ++ x ∷ []) ≡ suc (length xs)
 one_more xs x = omega (arith, length-append xs (x ∷ []))
 
-pub entry_after : (types : List (SubType ℕ)) (cx : Context) (entry : Entry) → by_index types (after cx entry) ≡ spaces_after (by_index types cx) entry
-entry_after types cx (OfCustom name) = refl
-entry_after types cx (OfType group) = refl
-entry_after types cx (OfImport entry) = items_after types (record cx { imports = suc cx.imports }) (imported_by entry)
-entry_after types cx (OfFunction index) = refl
-entry_after types cx (OfTable table) = refl
-entry_after types cx (OfMemory type) = refl
-entry_after types cx OfTags = refl
-entry_after types cx (OfTag index) = refl
-entry_after types cx (OfGlobal global) = refl
-entry_after types cx (OfExport export) = refl
-entry_after types cx (OfStart function) = refl
-entry_after types cx (OfElement segment) = ap (λ n. record (by_index types cx) { element_segments = n }) (one_more cx.elements _)
-entry_after types cx (OfDataCount count) = refl
-entry_after types cx (OfBody body) = refl
-entry_after types cx (OfData segment) = refl
+-- an entry behind the types
+abbrev pub IsBehind : Entry → Type 0
+IsBehind (OfType group) = ⊥
+IsBehind _ = ⊤
+
+pub entry_after : (types : List (SubType ℕ)) (cx : Context) (entry : Entry) → IsBehind entry → by_index types (after cx entry) ≡ spaces_after (by_index types cx) entry
+entry_after types cx (OfCustom name) h = refl
+entry_after types cx (OfType group) h = absurd h
+entry_after types cx (OfImport entry) h = items_after types (record cx { imports = suc cx.imports }) (imported_by entry)
+entry_after types cx (OfFunction index) h = refl
+entry_after types cx (OfTable table) h = refl
+entry_after types cx (OfMemory type) h = refl
+entry_after types cx OfTags h = refl
+entry_after types cx (OfTag index) h = refl
+entry_after types cx (OfGlobal global) h = refl
+entry_after types cx (OfExport export) h = refl
+entry_after types cx (OfStart function) h = refl
+entry_after types cx (OfElement segment) h = ap (λ n. record (by_index types cx) { element_segments = n }) (one_more cx.elements _)
+entry_after types cx (OfDataCount count) h = refl
+entry_after types cx (OfBody body) h = refl
+entry_after types cx (OfData segment) h = refl

@@ -5,3 +5,4 @@ pub mod MeantConstants
 pub mod MeantEntries
 pub mod MeantItems
 pub mod MeantTypes
+pub mod SmallIndexes

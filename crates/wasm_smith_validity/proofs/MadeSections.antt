@@ -1,21 +1,23 @@
--- What the sections of a made module say, and that it keeps the rules.
+-- The entries of a made module's sections, which keep the rules.
 use Rattle.std.proofs.Common.{◌≡◌, ℕ, ◌≤◌, Bool, true, false, List, [], ◌∷◌, ◌++◌, length, map, refl, ap, sym, ◌∙◌, subst, append_assoc, if◌then◌else◌, Option, Some, None}
-use Rattle.std.specs.List.{flat_map}
+use Rattle.std.specs.List.{AllByRecursion, flat_map}
 use Rattle.std.specs.Option.{option_to_list}
 use Rattle.std.proofs.lemmas.List.{append-nil}
 use Rattle.wasm_spec.specs.Features.{Features, has, BulkMemory}
 use Rattle.wasm_spec.specs.Limits.{Types, most}
 use Rattle.wasm_spec.specs.Syntax.{Section, TypeSection, ImportSection, FunctionSection, TableSection, MemorySection, TagSection, GlobalSection, ExportSection, StartSection, ElementSection, DataCountSection, CodeSection, DataSection, DataSegment}
 use Rattle.wasm_validity.specs.Context.{Context, after, after_all, at_first}
-use Rattle.wasm_validity.specs.Entries.{Entry, entries_in, entries_of, OfType, OfImport, OfFunction, OfTable, OfMemory, OfGlobal, OfExport, OfStart, OfElement, OfDataCount, OfBody, OfData}
+use Rattle.wasm_validity.specs.Entries.{Entry, entries_in, entries_of, OfType, OfImport, OfFunction, OfTable, OfMemory, OfTags, OfTag, OfGlobal, OfExport, OfStart, OfElement, OfDataCount, OfBody, OfData}
 use Rattle.wasm_validity.specs.Rules.{KeepRules}
 use Rattle.wasm_smith_types.specs.ValidGroups.{types_of}
+use Rattle.wasm_smith_types.proofs.ListLaws.{all_append}
 use Rattle.wasm_smith_validity.specs.Made.{Made}
 use Rattle.wasm_smith_validity.specs.Rules.{KeepAll}
 use Rattle.wasm_smith_validity.specs.Sections.{unless_empty, sections_with}
 use Rattle.wasm_smith_validity.specs.Spaces.{Spaces, spaces_of_types, spaces_after, spaces_after_all}
-use Rattle.wasm_smith_validity.specs.Validity.{IsValidByIndex, of_tags}
-use Rattle.wasm_smith_validity.proofs.MadeGroups.{of_groups, typed, groups_keep, groups_stand, spaces_known}
+use Rattle.wasm_smith_validity.specs.Validity.{IsValidByIndex, made_entries}
+use Rattle.wasm_smith_validity.proofs.MadeGroups.{KeepRulesBehind, of_groups, typed, groups_keep, groups_stand, rules_behind, rules_together, spaces_known, spaces_together}
+use Rattle.wasm_smith_validity.proofs.IndexedContext.{IsBehind}
 use Rattle.wasm_smith_validity.proofs.MeantEntries.{rules_as}
 
 -- ---- one after the other
@@ -53,6 +55,10 @@ starts_said : (start : Option ℕ) (others : List Section) (rest : List Entry) �
     → entries_of (map (λ f. StartSection f) (option_to_list start) ++ others) ≡ map (λ x. OfStart x) (option_to_list start) ++ rest
 starts_said None others rest e = e
 starts_said (Some f) others rest e = rw e refl
+
+abbrev pub of_tags : List ℕ → List Entry
+of_tags [] = []
+of_tags (index ∷ indexes) = OfTags ∷ map (λ x. OfTag x) (index ∷ indexes)
 
 tags_said : (indexes : List ℕ) (others : List Section) (rest : List Entry) → entries_of others ≡ rest
     → entries_of (unless_empty (λ xs. TagSection xs) indexes ++ others) ≡ of_tags indexes ++ rest
@@ -106,7 +112,49 @@ sections_say counted bodies m =
     (counts_said (if counted then m.data_segments else []) _ _
     (said entries_in (λ xs. CodeSection xs) (λ xs. map (λ x. OfBody x) xs) (λ xs. refl) refl bodies _ _ (data_said m.data_segments))))))))))))
 
+-- what they say without a count of data segments and without bodies
+abbrev pub entries_behind_types : Made → List Entry
+entries_behind_types m = behind_types_said false [] m
+
+-- ---- all entries of a module are behind its types
+
+each_behind : {A : Type 0} (entry : A → Entry) → ((x : A) → IsBehind (entry x)) → (xs : List A) → AllByRecursion IsBehind (map entry xs)
+each_behind entry one [] = tt
+each_behind entry one (x ∷ xs) = (one x, each_behind entry one xs)
+
+tags_behind : (tags : List ℕ) → AllByRecursion IsBehind (of_tags tags)
+tags_behind [] = tt
+tags_behind (index ∷ tags) = (tt, each_behind (λ x. OfTag x) (λ x. tt) (index ∷ tags))
+
+count_behind : (segments : List DataSegment) → AllByRecursion IsBehind (of_count segments)
+count_behind [] = tt
+count_behind (segment ∷ segments) = (tt, tt)
+
+pub said_behind : (counted : Bool) (bodies : List (List ℕ)) (m : Made) → AllByRecursion IsBehind (behind_types_said counted bodies m)
+said_behind counted bodies m =
+    all_append IsBehind (map (λ x. OfImport x) m.imports) _ (each_behind (λ x. OfImport x) (λ x. tt) m.imports)
+    (all_append IsBehind (map (λ x. OfFunction x) m.funcs) _ (each_behind (λ x. OfFunction x) (λ x. tt) m.funcs)
+    (all_append IsBehind (map (λ x. OfTable x) m.tables) _ (each_behind (λ x. OfTable x) (λ x. tt) m.tables)
+    (all_append IsBehind (map (λ x. OfMemory x) m.memories) _ (each_behind (λ x. OfMemory x) (λ x. tt) m.memories)
+    (all_append IsBehind (of_tags m.tags) _ (tags_behind m.tags)
+    (all_append IsBehind (map (λ x. OfGlobal x) m.globals) _ (each_behind (λ x. OfGlobal x) (λ x. tt) m.globals)
+    (all_append IsBehind (map (λ x. OfExport x) m.exports) _ (each_behind (λ x. OfExport x) (λ x. tt) m.exports)
+    (all_append IsBehind (map (λ x. OfStart x) (option_to_list m.start)) _ (each_behind (λ x. OfStart x) (λ x. tt) (option_to_list m.start))
+    (all_append IsBehind (map (λ x. OfElement x) m.elems) _ (each_behind (λ x. OfElement x) (λ x. tt) m.elems)
+    (all_append IsBehind (of_count (if counted then m.data_segments else [])) _ (count_behind (if counted then m.data_segments else []))
+    (all_append IsBehind (of_bodies bodies) _ (each_behind (λ x. OfBody x) (λ x. tt) bodies)
+    (each_behind (λ x. OfData x) (λ x. tt) m.data_segments)))))))))))
+
 -- ---- rules
+
+pub rules_of : (features : Features) (m : Made) → IsValidByIndex features m → KeepRulesBehind features m.groups (entries_behind_types m)
+rules_of features m valid = rules_behind features m.groups (entries_behind_types m) (subst (KeepAll features (spaces_of_types [])) (sections_say false [] m) valid.rules)
+
+pub made_rules : (features : Features) (m : Made) → KeepRulesBehind features m.groups (entries_behind_types m) → KeepAll features (spaces_of_types []) (made_entries m)
+made_rules features m h = subst (KeepAll features (spaces_of_types [])) (sym (sections_say false [] m)) (rules_together features m.groups (entries_behind_types m) h)
+
+pub made_spaces : (m : Made) → spaces_after_all (spaces_of_types []) (made_entries m) ≡ spaces_after_all (spaces_of_types (types_of m.groups)) (entries_behind_types m)
+made_spaces m = ap (spaces_after_all (spaces_of_types [])) (sections_say false [] m) ∙ spaces_together m.groups (entries_behind_types m)
 
 bodies_are_silent : (features : Features) (bodies : List (List ℕ)) → IsSilent features (of_bodies bodies)
 bodies_are_silent features [] k = (tt, refl)
@@ -137,12 +185,13 @@ pub rules_kept : (features : Features) (m : Made) (counted : Bool) (bodies : Lis
     → (counted ≡ true → has features BulkMemory ≡ true) → KeepRules features at_first (entries_of (sections_with counted bodies m))
 rules_kept features m counted bodies valid few on =
     let types = types_of m.groups in
+    let rules = rules_of features m valid in
     let kept = behind_types_kept features (spaces_of_types types)
     (map (λ x. OfImport x) m.imports) (map (λ x. OfFunction x) m.funcs) (map (λ x. OfTable x) m.tables) (map (λ x. OfMemory x) m.memories) (of_tags m.tags)
     (map (λ x. OfGlobal x) m.globals) (map (λ x. OfExport x) m.exports) (map (λ x. OfStart x) (option_to_list m.start)) (map (λ x. OfElement x) m.elems)
     (of_count (if counted then m.data_segments else [])) (of_bodies bodies) (map (λ x. OfData x) m.data_segments)
-    (counted_is_silent features counted m.data_segments on) (bodies_are_silent features bodies) valid.behind_types in
+    (counted_is_silent features counted m.data_segments on) (bodies_are_silent features bodies) rules.behind_types in
     let known = subst (λ k. KeepAll features k (behind_types_said counted bodies m)) (sym (spaces_known m.groups)) kept in
     subst (KeepRules features at_first) (sym (sections_say counted bodies m))
-    (rules_append features at_first (of_groups m.groups) (behind_types_said counted bodies m) (groups_keep features m.groups valid.groups few)
-    (rules_as features types (typed m.groups) (groups_stand features m.groups valid.groups) (behind_types_said counted bodies m) known))
+    (rules_append features at_first (of_groups m.groups) (behind_types_said counted bodies m) (groups_keep features m.groups rules.valid few)
+    (rules_as features types (typed m.groups) (groups_stand features m.groups rules.valid) few (behind_types_said counted bodies m) (said_behind counted bodies m) known))

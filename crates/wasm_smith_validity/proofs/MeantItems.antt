@@ -64,7 +64,7 @@ items_as features ts cx stand (type ∷ items) =
 
 -- ---- tables and globals
 
-element_named : (features : Features) (k : Spaces) (type : TableType ℕ) → keeps_table features k type ≡ true → is_named_value k.types (value_of type.element_type) ≡ true
+pub element_named : (features : Features) (k : Spaces) (type : TableType ℕ) → keeps_table features k type ≡ true → is_named_value k.types (value_of type.element_type) ≡ true
 element_named features k type e = (and_parts _ _ (and_parts _ _ (and_parts _ _ e).0).0).1
 
 initialised_as : (features : Features) (cx : Context) (s : Scope) → IsScope features cx s → (type : ValType ℕ) (initialiser : Option ConstantExpression)

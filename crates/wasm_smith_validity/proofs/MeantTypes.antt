@@ -48,7 +48,7 @@ named_of features types F64 e = refl
 named_of features types V128 e = refl
 named_of features types (Ref nullable heap) e = (and_parts (is_allowed {R = ℕ} features (Ref nullable heap)) (is_named types heap) e).1
 
-below_of : (i n : ℕ) → nat_lt i n ≡ true → i < n
+pub below_of : (i n : ℕ) → nat_lt i n ≡ true → i < n
 below_of i n e = grind arith
 
 type_here : (defined : List DefType) (index : ℕ) → index < length defined → slice_get defined index ≡ Some (type_at defined index)

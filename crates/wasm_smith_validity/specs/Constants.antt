@@ -1,4 +1,4 @@
--- Which constant expressions give a value of a type, a type being its index: one operator by itself, or two operators and an operation on what they
+-- Constant expressions that give a value of a type, a type being its index: one operator by itself, or two operators and an operation on what they
 -- give. It is a part of the expressions that the standard has; the generator makes no others. Core Specification 3.0, Validation, Instructions, "Constant
 -- Expressions".
 use Rattle.std.specs.Prelude.{◌≡◌, ℕ, true, false, not, List, [], ◌∷◌, slice_get, Option, Some, None, option_map, if◌then◌else◌}
@@ -18,11 +18,12 @@ pub record Scope : Type 0 where
 
 -- An expression sees the imported globals, and with garbage collection the module's own that come before it.
 abbrev pub scope : Features → Spaces → Scope
-scope features k = record { types = k.types; functions = functions_of k; globals = if has features Gc then globals_of k else k.imported_globals }
+scope features spaces =
+    record { types = spaces.types; functions = functions_of spaces; globals = if has features Gc then globals_of spaces else spaces.imported_globals }
 
 -- An initialiser of a table sees the imported globals alone.
 abbrev pub imported_scope : Spaces → Scope
-imported_scope k = record { types = k.types; functions = functions_of k; globals = k.imported_globals }
+imported_scope spaces = record { types = spaces.types; functions = functions_of spaces; globals = spaces.imported_globals }
 
 -- One type is below another: the closure of direct steps and declared links, over type indexes (Matching, "Value Types").
 abbrev pub IsBelow : List (SubType ℕ) → ValType ℕ → ValType ℕ → Type 0

@@ -1,4 +1,4 @@
--- What a module made by the generator has: its own items, before which imported ones come in their index spaces.
+-- Modules made by the generator, as lists of their imports and of their own items, before which imported ones come in the index spaces.
 use Rattle.std.specs.Prelude.{ℕ, List, Option}
 use Rattle.wasm_spec.specs.Syntax.{ImportEntry, Table, Global, Export, ElementSegment, DataSegment}
 use Rattle.wasm_spec.specs.Types.{RecGroup, MemoryType, ValType}

@@ -3,10 +3,10 @@ use Rattle.std.specs.Prelude.{ℕ, suc, Bool, true, nat_lt, ◌&&◌, List, [], 
 use Rattle.std.specs.Option.{option_and_then}
 use Rattle.wasm_spec.specs.Features.{Features}
 use Rattle.wasm_spec.specs.Gates.{is_allowed}
-use Rattle.wasm_spec.specs.Syntax.{Export, imported_by}
+use Rattle.wasm_spec.specs.Syntax.{Export, imported_by, members}
 use Rattle.wasm_spec.specs.Types.{HeapType, Abstract, Concrete, ValType, Ref, FuncType, SubType, MemoryType, TableType, GlobalType, ExternalType, FuncExternal, TableExternal, MemoryExternal, GlobalExternal, TagExternal}
 use Rattle.wasm_validity.specs.DefinedTypes.{func_in}
-use Rattle.wasm_validity.specs.Entries.{Entry, OfImport, OfFunction, OfTable, OfMemory, OfTag, OfGlobal, OfExport, OfElement, OfData}
+use Rattle.wasm_validity.specs.Entries.{Entry, OfType, OfImport, OfFunction, OfTable, OfMemory, OfTag, OfGlobal, OfExport, OfElement, OfData}
 
 -- Imported items stand first in each space. Constant expressions tell imported globals from the module's own, and a function section lists own functions
 -- alone, so these two have a list for each. The numbers of segments bound no rule; they count what is made.
@@ -43,10 +43,10 @@ spaces_of_types types = record {
 }
 
 abbrev pub functions_of : Spaces → List ℕ
-functions_of k = k.imported_functions ++ k.own_functions
+functions_of spaces = spaces.imported_functions ++ spaces.own_functions
 
 abbrev pub globals_of : Spaces → List (GlobalType ℕ)
-globals_of k = k.imported_globals ++ k.own_globals
+globals_of spaces = spaces.imported_globals ++ spaces.own_globals
 
 -- the function type that an index names, if it names one
 abbrev pub func_type_at : List (SubType ℕ) → ℕ → Option (FuncType ℕ)
@@ -65,29 +65,30 @@ is_value features types type = is_allowed features type
 -- ---- with one entry more
 
 abbrev pub with_item : Spaces → ExternalType ℕ → Spaces
-with_item k (FuncExternal function) = record k { imported_functions = k.imported_functions ++ function ∷ [] }
-with_item k (TableExternal type) = record k { tables = k.tables ++ type ∷ [] }
-with_item k (MemoryExternal type) = record k { memories = k.memories ++ type ∷ [] }
-with_item k (GlobalExternal type) = record k { imported_globals = k.imported_globals ++ type ∷ [] }
-with_item k (TagExternal function) = record k { tags = k.tags ++ function ∷ [] }
+with_item spaces (FuncExternal function) = record spaces { imported_functions = spaces.imported_functions ++ function ∷ [] }
+with_item spaces (TableExternal type) = record spaces { tables = spaces.tables ++ type ∷ [] }
+with_item spaces (MemoryExternal type) = record spaces { memories = spaces.memories ++ type ∷ [] }
+with_item spaces (GlobalExternal type) = record spaces { imported_globals = spaces.imported_globals ++ type ∷ [] }
+with_item spaces (TagExternal function) = record spaces { tags = spaces.tags ++ function ∷ [] }
 
 abbrev pub with_items : Spaces → List (ExternalType ℕ) → Spaces
-with_items k [] = k
-with_items k (type ∷ types) = with_items (with_item k type) types
+with_items spaces [] = spaces
+with_items spaces (type ∷ types) = with_items (with_item spaces type) types
 
--- The spaces after an entry that keeps its rule. Types are there from the start.
+-- the spaces after an entry that keeps its rule
 abbrev pub spaces_after : Spaces → Entry → Spaces
-spaces_after k (OfImport entry) = with_items k (imported_by entry)
-spaces_after k (OfFunction index) = record k { own_functions = k.own_functions ++ index ∷ [] }
-spaces_after k (OfTable table) = record k { tables = k.tables ++ table.type ∷ [] }
-spaces_after k (OfMemory type) = record k { memories = k.memories ++ type ∷ [] }
-spaces_after k (OfTag index) = record k { tags = k.tags ++ index ∷ [] }
-spaces_after k (OfGlobal global) = record k { own_globals = k.own_globals ++ global.type ∷ [] }
-spaces_after k (OfExport export) = record k { exports = k.exports ++ export ∷ [] }
-spaces_after k (OfElement segment) = record k { element_segments = suc k.element_segments }
-spaces_after k (OfData segment) = record k { data_segments = suc k.data_segments }
-spaces_after k _ = k
+spaces_after spaces (OfType group) = record spaces { types = spaces.types ++ members group }
+spaces_after spaces (OfImport entry) = with_items spaces (imported_by entry)
+spaces_after spaces (OfFunction index) = record spaces { own_functions = spaces.own_functions ++ index ∷ [] }
+spaces_after spaces (OfTable table) = record spaces { tables = spaces.tables ++ table.type ∷ [] }
+spaces_after spaces (OfMemory type) = record spaces { memories = spaces.memories ++ type ∷ [] }
+spaces_after spaces (OfTag index) = record spaces { tags = spaces.tags ++ index ∷ [] }
+spaces_after spaces (OfGlobal global) = record spaces { own_globals = spaces.own_globals ++ global.type ∷ [] }
+spaces_after spaces (OfExport export) = record spaces { exports = spaces.exports ++ export ∷ [] }
+spaces_after spaces (OfElement segment) = record spaces { element_segments = suc spaces.element_segments }
+spaces_after spaces (OfData segment) = record spaces { data_segments = suc spaces.data_segments }
+spaces_after spaces _ = spaces
 
 abbrev pub spaces_after_all : Spaces → List Entry → Spaces
-spaces_after_all k [] = k
-spaces_after_all k (entry ∷ entries) = spaces_after_all (spaces_after k entry) entries
+spaces_after_all spaces [] = spaces
+spaces_after_all spaces (entry ∷ entries) = spaces_after_all (spaces_after spaces entry) entries

@@ -24,6 +24,7 @@ use Rattle.wasm_smith_validity.specs.Rules.{KeepAll}
 use Rattle.wasm_smith_validity.specs.Spaces.{Spaces, func_type_at, with_item, with_items, spaces_after, spaces_after_all, spaces_of_types}
 use Rattle.wasm_smith_validity.specs.Validity.{IsValidByIndex}
 use Rattle.wasm_smith_validity.proofs.MadeGroups.{of_groups}
+use Rattle.wasm_smith_validity.proofs.MadeSections.{rules_of}
 
 -- ---- the rule on functions
 
@@ -60,7 +61,7 @@ functions_named features m valid =
     let k = spaces_of_types (types_of m.groups) in
     let imports = map (λ x. OfImport x) m.imports in
     subst (λ types. AllByRecursion (IsFunction types) m.funcs) (imports_types k m.imports)
-    (functions_kept features (spaces_after_all k imports) m.funcs _ (keep_later features k imports _ valid.behind_types))
+    (functions_kept features (spaces_after_all k imports) m.funcs _ (keep_later features k imports _ (rules_of features m valid).behind_types))
 
 -- ---- function types
 

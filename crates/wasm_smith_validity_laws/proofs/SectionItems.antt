@@ -1,4 +1,4 @@
--- What the sections of a made module have of types, functions and bodies.
+-- The types, functions and bodies in the sections of a made module.
 use Rattle.std.proofs.Common.{◌≡◌, ℕ, Bool, List, [], ◌∷◌, ◌++◌, length, map, refl, ◌∙◌, if◌then◌else◌, Option, Some, None}
 use Rattle.std.specs.List.{flat_map}
 use Rattle.std.specs.Option.{option_to_list}

@@ -1,4 +1,4 @@
--- What is valid by index is valid, its bodies included.
+-- Modules valid by index are valid, bodies included.
 use Rattle.std.proofs.Common.{◌≡◌, ℕ, zero, suc, ◌<◌, ◌≤◌, Bool, true, List, [], ◌∷◌, length, is_some, Some, slice_get, refl, sym, subst, ap, ◌∙◌, arith}
 use Rattle.std.specs.List.{AllByRecursion}
 use Rattle.wasm_spec.specs.Features.{Features}
@@ -18,7 +18,7 @@ use Rattle.wasm_smith_validity.specs.Made.{Made}
 use Rattle.wasm_smith_validity.specs.Sections.{sections_with}
 use Rattle.wasm_smith_validity.specs.Spaces.{is_value}
 use Rattle.wasm_smith_validity.specs.Validity.{IsValidByIndex}
-use Rattle.wasm_smith_validity.proofs.MadeSections.{behind_types_said, sections_say}
+use Rattle.wasm_smith_validity.proofs.MadeSections.{behind_types_said, rules_of, sections_say}
 use Rattle.wasm_smith_validity_laws.specs.UnreachableBodies.{IsUnreachableBody, AreUnreachableBodies}
 use Rattle.wasm_smith_validity_laws.proofs.FunctionTypes.{function_at, few_params}
 use Rattle.wasm_smith_validity_laws.proofs.SectionItems.{types_are, functions_are, bodies_are}
@@ -50,7 +50,7 @@ body_at features m counted bodies limits valid few are place below =
     let (index, at) = get_some m.funcs place below in
     let n = function_at features m valid place index at in
     let pair = pair_at m.locals bodies place are (omega (arith, below, valid.bodies)) in
-    let stand = section_stands m.groups (valid_in_range features m.groups valid.groups) in
+    let stand = section_stands m.groups (valid_in_range features m.groups (rules_of features m valid).valid) in
     let fits = few_params m.groups (behind_types_said counted bodies m) stand (subst (λ entries. KeepLimits at_first entries) (sections_say counted bodies m) limits) index n in
     let few_locals = all_get (λ (locals : List (ValType ℕ)). length locals ≤ 100) m.locals few place pair.types pair.declared in
     let values = all_get (AllByRecursion (λ type. is_value features types type ≡ true)) m.locals valid.locals place pair.types pair.declared in

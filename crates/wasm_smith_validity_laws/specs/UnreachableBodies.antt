@@ -1,4 +1,4 @@
--- Which bodies a made module has. Core Specification 3.0, Binary Format, Modules, "Code Section".
+-- The bodies of a made module. Core Specification 3.0, Binary Format, Modules, "Code Section".
 use Rattle.std.specs.Prelude.{◌≡◌, ◌≢◌, ⊤, ℕ, ◌<◌, List, [], ◌∷◌, ◌++◌, replicate}
 use Rattle.std.specs.List.{AllZip, flat_map}
 use Rattle.wasm_bodies.specs.Bodies.{Run, IsRun}

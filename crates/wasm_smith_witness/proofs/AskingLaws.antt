@@ -5,11 +5,10 @@ use Rattle.std.specs.List.{list_any}
 use Rattle.std.proofs.lemmas.Bool.{lt-ltb}
 use Rattle.std.proofs.lemmas.Bool.Decides.{eqb_tells}
 use Rattle.std.proofs.lemmas.List.{length-map}
-use Rattle.wasm_spec.specs.Types.{CompositeType, FuncComposite, StructComposite, ArrayComposite, ContComposite, SubType}
+use Rattle.wasm_spec.specs.Types.{SubType}
 use Rattle.wasm_smith_config.specs.declared.config.Config.{Config}
-use Rattle.wasm_smith_exports.specs.FunctionTypes.{is_function, is_resultless, function_indexes, tag_indexes}
-use Rattle.wasm_smith_exports.specs.Indexes.{places}
-use Rattle.wasm_smith_imports.specs.Candidates.{function_types, indexes_from, is_function_type, is_tag_type, tag_types}
+use Rattle.wasm_smith_items.specs.FunctionTypes.{is_resultless, function_indexes, tag_indexes}
+use Rattle.wasm_smith_items.specs.Indexes.{places}
 use Rattle.wasm_smith_witness.specs.Asking.{asks_for_import, asks_for_tag}
 use Rattle.wasm_smith_witness.specs.Functions.{AreKept, are_some_resultless, import_is_asked, tag_is_asked}
 use Rattle.wasm_smith_witness.specs.declared.functions.FunctionTypes.{FunctionTypes}
@@ -18,12 +17,6 @@ pub as_many : {A B : Type 0} (f : A → B) (xs : List A) → length (map f xs) �
 as_many f xs = length-map xs f
 
 -- ---- the indexes of types that pass a test
-
-same_indexes : (test other : SubType ℕ → Bool) → ((type : SubType ℕ) → test type ≡ other type) → (index : ℕ) (types : List (SubType ℕ)) → indexes_from test index types ≡ places other index types
-same_indexes test other law index [] = refl
-same_indexes test other law index (type ∷ types) =
-    ap (λ b. cond b (index ∷ indexes_from test (suc index) types) (indexes_from test (suc index) types)) (law type)
-    ∙ ap (λ more. cond (other type) (index ∷ more) more) (same_indexes test other law (suc index) types)
 
 some_places : {A : Type 0} (test : A → Bool) (place : ℕ) (xs : List A) → nat_lt 0 (length (places test place xs)) ≡ list_any test xs
 some_places test place [] = refl
@@ -42,26 +35,6 @@ some_or_none (suc n) =
       | inr (t, ne) ↦ rw (t, lt-ltb 0 (suc n) (omega arith)) refl
     ]
 
--- ---- function types
-
-is_func : (composite : CompositeType ℕ) (type : SubType ℕ) → type.composite_type ≡ composite → is_function_type type ≡ is_function composite
-is_func (FuncComposite function) type e = rw e refl
-is_func (StructComposite fields) type e = rw e refl
-is_func (ArrayComposite field) type e = rw e refl
-is_func (ContComposite function) type e = rw e refl
-
-is_tag : (composite : CompositeType ℕ) (type : SubType ℕ) → type.composite_type ≡ composite → is_tag_type type ≡ is_resultless composite
-is_tag (FuncComposite function) type e = rw e refl
-is_tag (StructComposite fields) type e = rw e refl
-is_tag (ArrayComposite field) type e = rw e refl
-is_tag (ContComposite function) type e = rw e refl
-
-functions_alike : (types : List (SubType ℕ)) → function_types types ≡ function_indexes 0 types
-functions_alike types = same_indexes is_function_type (λ type. is_function type.composite_type) (λ type. is_func type.composite_type type refl) 0 types
-
-tags_alike : (types : List (SubType ℕ)) → tag_types types ≡ tag_indexes 0 types
-tags_alike types = same_indexes is_tag_type (λ type. is_resultless type.composite_type) (λ type. is_tag type.composite_type type refl) 0 types
-
 -- ---- kept
 
 or_none : (b : Bool) → (b || false) ≡ b
@@ -70,8 +43,8 @@ or_none false = refl
 
 -- as many function types as are kept, and one without results where that is kept
 record AreKnown (known : FunctionTypes) (types : List (SubType ℕ)) : Type 0 where
-  functions : length (function_types types) ≡ known.count
-  tags : nat_lt 0 (length (tag_types types)) ≡ known.has_resultless
+  functions : length (function_indexes 0 types) ≡ known.count
+  tags : nat_lt 0 (length (tag_indexes 0 types)) ≡ known.has_resultless
   tag_types : not (length (tag_indexes 0 types) == 0) ≡ known.has_resultless
 
 are_known : (known : FunctionTypes) (types : List (SubType ℕ)) → AreKept known [] types → AreKnown known types
@@ -80,8 +53,8 @@ are_known known types kept =
     let resultless : are_some_resultless types ≡ known.has_resultless = sym kept.resultless ∙ or_none known.has_resultless in
     let some : nat_lt 0 (length (tag_indexes 0 types)) ≡ known.has_resultless = some_places (λ type. is_resultless type.composite_type) 0 types ∙ resultless in
     record {
-      functions = ap length (functions_alike types) ∙ count;
-      tags = ap (λ indexes. nat_lt 0 (length indexes)) (tags_alike types) ∙ some;
+      functions = count;
+      tags = some;
       tag_types = some_or_none (length (tag_indexes 0 types)) ∙ some;
     }
 

@@ -1,6 +1,7 @@
 use Rattle.std.proofs.Common.{List, ℕ, subst}
 use Rattle.std.proofs.lemmas.Result.{IfOk-weaker, IfErr-weaker}
 use Rattle.wasm_smith.specs.Config.{sanitized}
+use Rattle.wasm_smith_module.specs.Promise.{HasDrawnData}
 use Rattle.wasm_gen_laws.specs.Written.{IsGenerated}
 use Rattle.wasm_gen.specs.Generate.{IsCause, IsGeneratedFrom, IsUnwritable}
 use Rattle.wasm_gen.proofs.GenerateLaws.{IsDrawn, generated_from, refused_from}
@@ -14,8 +15,9 @@ returns-clause-generated c =
     let m = c.in-Some.made in
     let made = rw c.in-Some.is at c.in_ok-made.ensures.made in
     let drawn = subst (λ (s : List ℕ). IsDrawn config s m.made left) c.new-unstructured.ensures (rw c.in-Some.is at c.in_ok-made.ensures.drawn) in
+    let contents = subst (λ (s : List ℕ). HasDrawnData s left m.made) c.new-unstructured.ensures (rw c.in-Some.is at c.in_ok-made.ensures.contents) in
     IfOk-weaker c.written_bytes.result (λ bytes. IsGenerated config m.made bytes.items) (λ bytes. IsGeneratedFrom config seed bytes.items)
-    (λ bytes g. generated_from config seed left m bytes.items made drawn g) (c.written_bytes.ensures.written config made)
+    (λ bytes g. generated_from config seed left m bytes.items made drawn contents g) (c.written_bytes.ensures.written config made)
 
 pub returns-clause-refused : goal.returns-clause-refused
 returns-clause-refused c =

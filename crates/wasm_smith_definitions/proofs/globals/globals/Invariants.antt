@@ -1,4 +1,4 @@
-use Rattle.std.proofs.Common.{◌-◌, length, map}
+use Rattle.std.proofs.Common.{◌-◌, length, map, ◌≤◌}
 use Rattle.wasm_smith_items.specs.Items as items
 use Rattle.wasm_smith_items.specs.Kinds.{AnyBound, of_global, wanted_globals}
 use Rattle.wasm_smith_items.proofs.StepLaws.{IsGrowing}
@@ -9,6 +9,7 @@ use Rattle.wasm_smith_definitions.proofs.globals.globals.Given as goal
 abbrev pub invariant-grow : goal.invariant-grow
 invariant-grow l = record {
   rules : AllKeepTypeRules l.spaces.types;
+  taken : length l.unstructured ≤ length l.fn.unstructured;
   growing : IsGrowing l.config (wanted_globals l.config) of_global (AnyBound l.config) l.fn.spaces l.fn.unstructured l.spaces l.unstructured (map items.global l.own.items);
 }
 

@@ -1,4 +1,4 @@
-use Rattle.std.proofs.Common.{◌≡◌, ◌-◌, [], length, map}
+use Rattle.std.proofs.Common.{◌≡◌, ◌-◌, [], length, map, ◌≤◌}
 use Rattle.wasm_smith_definitions.specs.Bounds.{IsBoundedTable}
 use Rattle.wasm_smith_items.specs.Items as items
 use Rattle.wasm_smith_items.specs.Kinds.{of_table, wanted_tables}
@@ -10,6 +10,7 @@ abbrev pub invariant-grow : goal.invariant-grow
 invariant-grow l = record {
   no_own_globals : l.spaces.own_globals ≡ [];
   rules : AllKeepTypeRules l.spaces.types;
+  taken : length l.unstructured ≤ length l.fn.unstructured;
   growing : IsGrowing l.config (wanted_tables l.config) of_table (IsBoundedTable l.config) l.fn.spaces l.fn.unstructured l.spaces l.unstructured (map items.table l.own.items);
 }
 

@@ -2,7 +2,7 @@ use Rattle.std.proofs.Common.{◌+◌, drop, refl, sym, ap, ◌∙◌, arith}
 use Rattle.std.proofs.lemmas.List.{drop_all}
 use Rattle.wasm_spec.proofs.Places.{get_some}
 use Rattle.wasm_smith_exports.proofs.FittingLaws.{one_sized, all_sized_so_far}
-use Rattle.wasm_smith_exports.proofs.IndexLaws.{from_place}
+use Rattle.wasm_smith_items.proofs.IndexLaws.{from_place}
 use Rattle.wasm_smith_exports.proofs.candidates.sized_tags.Goals.{in-Some+in_ok-push, in_default}
 use Rattle.wasm_smith_exports.proofs.candidates.sized_tags.Goals as goal
 
@@ -15,9 +15,9 @@ loop-index-preserved c =
     let i = c.loop-index.index in
     elim c.match-tag.branch [
       | in-Some+in_ok-push w ↦
-          one_sized c.args.spaces.now.types i (i + 1) w.in-Some.ty (drop i tags) (drop (i + 1) tags) (record { index = i; size = w.type_size-size.result }) c.loop-index.items c.match-tag.items _
+          one_sized c.args.spaces.now.types i (i + 1) w.in-Some.ty (drop i tags) (drop (i + 1) tags) (record { index = i; size = w.function_size-size.result }) c.loop-index.items c.match-tag.items _
           (from_place tags i w.in-Some.ty (sym c.tag.ensures ∙ w.in-Some.is)) refl
-          (ap (λ size. record { index = c.loop-index.index; size = size }) (rw c.types-types.ensures at w.type_size-size.ensures)) (w.items-is ∙ w.in_ok-push.ensures) c.loop-index.invariant
+          (ap (λ size. record { index = c.loop-index.index; size = size }) (rw c.types-types.ensures at w.function_size-size.ensures)) (w.items-is ∙ w.in_ok-push.ensures) c.loop-index.invariant
       | in_default w ↦ let at = get_some tags i (omega arith) in absurd (w.in_default.not-Some at.0 (c.tag.ensures ∙ at.1))
     ]
 

@@ -26,6 +26,7 @@ grow-preserved c =
       left = omega (arith, all, item.left, c.grow.invariant.left);
       size = omega (arith, all, item.item.small, c.grow.invariant.left, c.grow.invariant.size);
       names = one_more_name c.grow.names c.draw_export.new.names c.grow.spaces.exports _ drawn exports c.in_ok-export.ensures.name c.grow.invariant.names;
+      taken = omega arith;
       growing = grow_goes_on _ _ _ _ _ _ _ _ _ _ drawn _ _ _ c.grow.invariant.growing more (rw count at (c.grow-test.ensures.room refl))
           (export_allowed config c.grow.spaces drawn item.item.there (sym (c.grow.invariant.names drawn.name) ∙ c.in_ok-export.ensures.name.is_new)) c.in_ok-export.ensures.name.short c.in_ok-push_export.ensures.added (length-append _ _) exports;
     }

@@ -13,6 +13,7 @@ invariant-grow l = record {
   left : l.candidates.left ≡ left_for l.config l.imports_size l.spaces;
   size : exports_size l.spaces ≤ l.config.max_type_size - l.imports_size;
   names : AreNames l.names l.spaces.exports;
+  taken : length l.unstructured ≤ length l.fn.unstructured;
   growing : IsGrowing l.config (wanted_exports l.config l.imports_size) of_export (λ export. HasShortName export.name) l.fn.spaces l.fn.unstructured l.spaces l.unstructured l.spaces.exports;
 }
 

@@ -3,7 +3,7 @@ use Rattle.std.specs.Prelude.{◌==◌}
 use Rattle.wasm_smith_validity.specs.Rules.{is_unit}
 use Rattle.wasm_smith_validity.specs.Spaces.{functions_of, func_type_at}
 use Rattle.wasm_smith_exports.specs.Wanted.{start_functions}
-use Rattle.wasm_smith_exports.proofs.IndexLaws.{IsPlace, all_places, index_of, some_unless}
+use Rattle.wasm_smith_items.proofs.IndexLaws.{IsPlace, all_places, index_of, some_unless}
 use Rattle.wasm_smith_exports.proofs.TypeLaws.{start_allowed}
 use Rattle.wasm_smith_exports.proofs.start.start.Goals as goal
 
@@ -16,4 +16,4 @@ returns-clause-step c =
     start_allowed c.args.config.now spaces c.choose_index.result
     (index_of (IsPlace (λ index. is_unit (func_type_at spaces.types index)) (functions_of spaces)) (start_functions spaces) _ _ c.choose_index.result
     (some_unless (length (start_functions spaces)) none) (all_places (λ index. is_unit (func_type_at spaces.types index)) (functions_of spaces))
-    (rw (c.deref.ensures.value, c.in_ok-functions.ensures) at c.choose_index.ensures))
+    (rw (c.deref.ensures.value, c.in_ok-functions.ensures) at c.choose_index.ensures.drawn))

@@ -3,7 +3,7 @@ use Rattle.std.proofs.lemmas.List.{drop_all}
 use Rattle.wasm_spec.proofs.Places.{get_some}
 use Rattle.wasm_smith_validity.specs.Rules.{is_unit}
 use Rattle.wasm_smith_validity.specs.Spaces.{functions_of, func_type_at}
-use Rattle.wasm_smith_exports.proofs.IndexLaws.{ended, from_place, one_more}
+use Rattle.wasm_smith_items.proofs.IndexLaws.{ended, from_place, one_more}
 use Rattle.wasm_smith_exports.proofs.start.start_functions.Goals as goal
 
 pub loop-function-init : goal.loop-function-init

@@ -1,7 +1,7 @@
 use Rattle.std.proofs.Common.{◌≡◌, ◌++◌, drop}
 use Rattle.wasm_smith_validity.specs.Rules.{is_unit}
 use Rattle.wasm_smith_validity.specs.Spaces.{functions_of, func_type_at}
-use Rattle.wasm_smith_exports.specs.Indexes.{places}
+use Rattle.wasm_smith_items.specs.Indexes.{places}
 use Rattle.wasm_smith_exports.specs.Wanted.{start_functions}
 use Rattle.wasm_smith_exports.proofs.start.start_functions.Given as goal
 

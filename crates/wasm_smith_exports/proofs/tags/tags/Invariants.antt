@@ -1,7 +1,7 @@
-use Rattle.std.proofs.Common.{◌≡◌, ◌-◌, length}
+use Rattle.std.proofs.Common.{◌≡◌, ◌-◌, length, ◌≤◌}
 use Rattle.wasm_smith_items.proofs.StepLaws.{IsGrowing}
 use Rattle.wasm_smith_items.specs.Kinds.{AnyBound}
-use Rattle.wasm_smith_exports.specs.FunctionTypes.{tag_indexes}
+use Rattle.wasm_smith_items.specs.FunctionTypes.{tag_indexes}
 use Rattle.wasm_smith_exports.specs.Wanted.{of_tag, wanted_tags}
 use Rattle.wasm_smith_exports.proofs.tags.tags.Given as goal
 
@@ -9,6 +9,7 @@ abbrev pub invariant-grow : goal.invariant-grow
 invariant-grow l = record {
   indexes : l.indexes.items ≡ tag_indexes 0 l.spaces.types;
   can : l.can ≡ (wanted_tags l.config).can l.spaces;
+  taken : length l.unstructured ≤ length l.fn.unstructured;
   growing : IsGrowing l.config (wanted_tags l.config) of_tag (AnyBound l.config) l.fn.spaces l.fn.unstructured l.spaces l.unstructured l.own.items;
 }
 

@@ -1,4 +1,4 @@
-use Rattle.std.proofs.Common.{◌<◌, map}
+use Rattle.std.proofs.Common.{◌<◌, map, ◌≤◌, length}
 use Rattle.wasm_smith_items.specs.Items.{import_item}
 use Rattle.wasm_smith_imports.specs.Added.{AreAdded, IsImporterFor}
 use Rattle.wasm_smith_imports.specs.Named.{named_item}
@@ -8,6 +8,7 @@ abbrev pub invariant-items : goal.invariant-items
 invariant-items l = record {
   importer : IsImporterFor l.spaces.types l.importer;
   added : AreAdded l.importer.config l.fn.spaces l.spaces l.fn.progress l.progress (map (named_item l.origin) (map import_item l.items.items));
+  taken : length l.unstructured ≤ length l.fn.unstructured;
   fewer : l.progress.left < l.fn.progress.left;
 }
 

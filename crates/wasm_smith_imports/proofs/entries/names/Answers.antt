@@ -19,5 +19,6 @@ names-preserved c =
       offered = subst (λ ts. IsOfferedImport config ts type) (sym types) c.names.invariant.offered;
       added = more_mapped (named c.args.origin.now type) string_bytes config c.args.spaces.now old new c.args.progress.now c.names.progress c.import_of_type-in-names.new.progress
           c.names.names.items (option_to_list c.in_ok-next.next) c.push_some-in-names.new.list.items c.in_ok-push_some-2.ensures c.names.invariant.added c.in_ok-next.ensures.added;
+      taken = omega arith;
       fewer = let before = c.names.invariant.fewer in let fewer = c.in_ok-next.ensures.fewer in omega (arith, before, fewer);
     }

@@ -18,6 +18,7 @@ grow-init c =
       config = c.in_ok-importer.ensures.config;
       made = subst (AreMadeSoFar c.args.config.now c.args.duplicates c.args.spaces.now c.args.spaces.now c.new-progress.result) (sym none)
           (none_made c.args.config.now c.args.duplicates c.args.spaces.now c.new-progress.result c.new-progress.ensures.count c.new-progress.ensures.left c.new-progress.ensures.size_left c.new-progress.ensures.duplicates);
+      taken = omega arith;
       begun = inl (none, refl, refl, c.new-progress.ensures.count, c.new-progress.ensures.left);
     }
 
@@ -36,6 +37,7 @@ grow-preserved c =
       config = same;
       made = more_made import_entry config c.args.duplicates c.args.spaces.now old new c.grow.progress c.entry.new.progress c.grow.entries.items (option_to_list c.in_ok-next.next) c.push_some.new.list.items
           c.in_ok-push_some.ensures c.grow.invariant.made added made;
+      taken = omega arith;
       begun = inr (begins config c.args.spaces.now old c.args.unstructured.now c.grow.unstructured c.has_another.new.unstructured c.grow.progress entries c.grow.invariant.begun
           (λ count left. rw (same, c.grow-test.true) at (c.has_another.ensures.first count (left ∙ sym (ap (λ (it : Config). it.max_imports) same)))));
     }

@@ -1,4 +1,4 @@
-use Rattle.std.proofs.Common.{◌≡◌, map}
+use Rattle.std.proofs.Common.{◌≡◌, map, ◌≤◌, length}
 use Rattle.wasm_smith_items.specs.Items.{import_entry}
 use Rattle.wasm_smith_imports.specs.Added.{AreMadeSoFar, IsImporterFor}
 use Rattle.wasm_smith_imports.proofs.ImportLaws.{HasBegun}
@@ -9,6 +9,7 @@ invariant-grow l = record {
   importer : IsImporterFor l.spaces.types l.importer;
   config : l.importer.config ≡ l.config;
   made : AreMadeSoFar l.config l.fn.duplicates l.fn.spaces l.spaces l.progress (map import_entry l.entries.items);
+  taken : length l.unstructured ≤ length l.fn.unstructured;
   begun : HasBegun l.config l.fn.spaces l.fn.unstructured l.progress l.spaces l.unstructured (map import_entry l.entries.items);
 }
 

@@ -21,6 +21,6 @@ pub globals-requires-clause-rules : goal.globals-requires-clause-rules
 globals-requires-clause-rules c =
     let config = c.args.config.now in
     let types : c.memories.new.spaces.types ≡ c.args.spaces.now.types =
-    kept_by (λ k. k.types) config of_memory c.tables.new.spaces c.memories.new.spaces _ (λ k x. refl) c.in_ok-memories.ensures.step
+    kept_by (λ k. k.types) config of_memory c.tables.new.spaces c.memories.new.spaces _ (λ k x. refl) c.in_ok-memories.ensures.grown.step
     ∙ kept_by (λ k. k.types) config of_table c.args.spaces.now c.tables.new.spaces _ (λ k x. refl) c.in_ok-tables.ensures.grown.step in
     subst AllKeepTypeRules (sym types) c.requires.rules

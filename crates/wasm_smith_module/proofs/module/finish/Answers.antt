@@ -29,5 +29,5 @@ returns-clause-finished c =
       items = subst (λ ts. AreItems c.args.config c.args.duplicates ts c.args.unstructured.now c.draw_items.new.unstructured (drawn_items items)) all c.in_ok-items.ensures.drawn;
       locals =
           locals_are c.args.config c.args.offered.now types _ _ items.front.funcs.items c.draw_items.new.unstructured _ _ c.requires.offered c.requires.whole
-          (omega (arith, c.len.ensures, ap length c.types-2.ensures, length-map c.types-2.result.now sub_type)) (omega (arith, count)) c.in_ok-locals.ensures;
+          (omega (arith, c.len.ensures, ap length c.types-2.ensures, length-map c.types-2.result.now sub_type)) (omega (arith, count)) c.in_ok-locals.ensures.drawn;
     })

@@ -4,7 +4,7 @@ use Rattle.wasm_smith_items.specs.Items.{data_segment}
 use Rattle.wasm_smith_items.proofs.StepLaws.{grow_goes_on}
 use Rattle.wasm_smith_segments.specs.Data.{total_size}
 use Rattle.wasm_smith_segments.proofs.DataLaws.{total_more}
-use Rattle.wasm_smith_segments.proofs.DrawLaws.{grows_taken, none_made}
+use Rattle.wasm_smith_segments.proofs.DrawLaws.{none_made}
 use Rattle.wasm_smith_segments.proofs.data_segments.data_segments.Goals as goal
 
 pub grow-preserved : goal.grow-preserved
@@ -17,11 +17,12 @@ grow-preserved c =
       grown =
           grow_goes_on _ _ _ _ _ _ _ _ _ _ (data_segment c.in_ok-segment.segment) _ _ _ c.grow.invariant.grown (rw (c.data_segment_count.ensures, c.grow.invariant.can) at c.grow-test.ensures.exact)
           (rw c.data_segment_count.ensures at (c.grow-test.ensures.room refl)) c.in_ok-segment.ensures.allowed tt c.add_data_segment.ensures (omega arith) pushed;
-      within = omega (arith, ap total_size pushed, total_more (map data_segment c.grow.segments.items) (data_segment c.in_ok-segment.segment), c.grow.invariant.within, c.in_ok-segment.ensures.within, grows_taken _ _ _ _ _ _ _ c.grow-test.ensures.exact);
+      taken = omega arith;
+      within = omega (arith, ap total_size pushed, total_more (map data_segment c.grow.segments.items) (data_segment c.in_ok-segment.segment), c.grow.invariant.within, c.in_ok-segment.ensures.within);
     }
 
 pub returns-clause-within : goal.returns-clause-within
-returns-clause-within c = omega (arith, c.grow.invariant.within, grows_taken _ _ _ _ _ _ _ c.grow-test.ensures.exact)
+returns-clause-within c = omega (arith, c.grow.invariant.within)
 
 pub returns-then-data_segment_count-config-clause-impossible : goal.returns-then-data_segment_count-config-clause-impossible
 returns-then-data_segment_count-config-clause-impossible c = λ _.

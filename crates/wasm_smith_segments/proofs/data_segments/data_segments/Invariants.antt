@@ -12,6 +12,7 @@ invariant-grow l = record {
   same : l.can ≡ (wanted_data l.config).can l.fn.spaces;
   rules : AllKeepTypeRules l.spaces.types;
   grown : IsGrowing l.config (wanted_data l.config) of_data (AnyBound l.config) l.fn.spaces l.fn.unstructured l.spaces l.unstructured (map data_segment l.segments.items);
+  taken : length l.unstructured ≤ length l.fn.unstructured;
   within : total_size (map data_segment l.segments.items) + length l.unstructured ≤ length l.fn.unstructured;
 }
 

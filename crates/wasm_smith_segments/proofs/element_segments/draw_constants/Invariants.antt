@@ -8,6 +8,7 @@ use Rattle.wasm_smith_segments.proofs.element_segments.draw_constants.Given as g
 
 abbrev pub invariant-grow : goal.invariant-grow
 invariant-grow l = record {
+  taken : length l.unstructured ≤ length l.fn.unstructured;
   few : length l.items.items ≤ l.config.max_elements;
   given : AllByRecursion (λ constant. Gives l.config l.spaces (val_type (Ref l.ty)) (expression constant)) l.items.items;
 }

@@ -5,6 +5,7 @@ use Rattle.wasm_smith_validity.specs.Spaces.{functions_of}
 
 abbrev pub invariant-grow : goal.invariant-grow
 invariant-grow l = record {
+  taken : length l.unstructured ≤ length l.fn.unstructured;
   few : length l.functions.items ≤ l.config.max_elements;
   in_range : AllByRecursion (λ function. function < length (functions_of l.spaces)) l.functions.items;
 }

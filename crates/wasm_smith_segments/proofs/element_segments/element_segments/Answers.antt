@@ -17,6 +17,7 @@ grow-preserved c = record {
   tables = tables_keep_more c.args.config.now c.grow.spaces _ _ c.add_element_segment.ensures c.grow.invariant.tables;
   nullable = rw c.add_element_segment.ensures c.grow.invariant.nullable;
   functions = rw c.add_element_segment.ensures c.grow.invariant.functions;
+  taken = omega arith;
   grown =
       grow_goes_on _ _ _ _ _ _ _ _ _ _ (element_segment c.in_ok-segment.segment) _ _ _ c.grow.invariant.grown (rw (c.element_segment_count.ensures, c.grow.invariant.can) at c.grow-test.ensures.exact)
       (rw c.element_segment_count.ensures at (c.grow-test.ensures.room refl)) c.in_ok-segment.ensures.allowed (rw c.grow.invariant.functions at c.in_ok-segment.ensures.bounded) c.add_element_segment.ensures (omega arith)

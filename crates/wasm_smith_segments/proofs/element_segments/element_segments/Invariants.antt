@@ -1,4 +1,4 @@
-use Rattle.std.proofs.Common.{◌≡◌, ◌-◌, length, map}
+use Rattle.std.proofs.Common.{◌≡◌, ◌-◌, length, map, ◌≤◌}
 use Rattle.wasm_smith_items.specs.Items.{element_segment}
 use Rattle.wasm_smith_items.specs.Kinds.{of_element, wanted_elements}
 use Rattle.wasm_smith_items.specs.Steps.{TablesKeep}
@@ -16,6 +16,7 @@ invariant-grow l = record {
   tables : TablesKeep l.config l.spaces;
   nullable : AreNullable l.spaces.tables;
   functions : length (functions_of l.spaces) ≡ length (functions_of l.fn.spaces);
+  taken : length l.unstructured ≤ length l.fn.unstructured;
   grown : IsGrowing l.config (wanted_elements l.config) of_element (IsBoundedElement l.config (length (functions_of l.fn.spaces))) l.fn.spaces l.fn.unstructured l.spaces l.unstructured (map element_segment l.segments.items);
 }
 

@@ -1,4 +1,4 @@
-use Rattle.std.proofs.Common.{◌≡◌, ◌++◌, ◌∷◌, [], map, ap, ◌∙◌}
+use Rattle.std.proofs.Common.{◌≡◌, ◌++◌, ◌∷◌, [], map, ap, ◌∙◌, arith}
 use Rattle.std.proofs.lemmas.List.{map_push}
 use Rattle.wasm_core_types.specs.CoreTypes.{field_type}
 use Rattle.wasm_smith_types.specs.Copies.{IsNarrowedField, narrowed_field_at}
@@ -23,4 +23,5 @@ loop-field-preserved c =
       drawn =
           rw pushed
           (each_goes_on field_type narrowed_field_at c.args.fields.now c.loop-field.field-index _ (map field_type copies) c.loop-field.unstructured c.narrowed_field.new.unstructured copy _ c.loop-field-test.true c.narrowed_field.ensures.drawn c.loop-field.invariant.drawn);
+      taken = omega arith;
     }

@@ -1,4 +1,4 @@
-use Rattle.std.proofs.Common.{◌≡◌, ℕ, List, ◌++◌, map, drop}
+use Rattle.std.proofs.Common.{◌≡◌, ◌≤◌, ℕ, List, ◌++◌, length, map, drop}
 use Rattle.wasm_core_types.specs.CoreTypes.{field_type}
 use Rattle.wasm_spec.specs.Matching.{Pairwise}
 use Rattle.wasm_spec.specs.Types.{FieldType}
@@ -14,4 +14,5 @@ invariant-loop-field l = record {
   drawn : with_front (map field_type l.copies.items)
       (each_at narrowed_field_at (map field_type (drop l.field-index l.fields)) l.unstructured) ≡ each_at narrowed_field_at
       (map field_type l.fields) l.fn.unstructured;
+  taken : length l.unstructured ≤ length l.fn.unstructured;
 }

@@ -1,4 +1,4 @@
-use Rattle.std.proofs.Common.{◌≡◌, ◌++◌, ◌∷◌, [], map, ap, ◌∙◌}
+use Rattle.std.proofs.Common.{◌≡◌, ◌++◌, ◌∷◌, [], map, ap, ◌∙◌, arith}
 use Rattle.std.proofs.lemmas.List.{map_push}
 use Rattle.wasm_core_types.specs.CoreTypes.{val_type}
 use Rattle.wasm_smith_types.specs.Copies.{Varies, varied_at}
@@ -23,4 +23,5 @@ loop-type_-preserved c =
       drawn =
           rw pushed
           (each_goes_on val_type (varied_at c.args.nullable) c.args.types.now c.loop-type_.type_-index _ (map val_type copies) c.loop-type_.unstructured c.varied.new.unstructured copy _ c.loop-type_-test.true c.varied.ensures.drawn c.loop-type_.invariant.drawn);
+      taken = omega arith;
     }

@@ -1,4 +1,4 @@
-use Rattle.std.proofs.Common.{◌≡◌, ℕ, List, ◌++◌, map, drop}
+use Rattle.std.proofs.Common.{◌≡◌, ◌≤◌, ℕ, List, ◌++◌, length, map, drop}
 use Rattle.wasm_core_types.specs.CoreTypes.{val_type}
 use Rattle.wasm_spec.specs.Matching.{Pairwise}
 use Rattle.wasm_spec.specs.Types.{ValType}
@@ -13,4 +13,5 @@ invariant-loop-type_ l = record {
       → Pairwise (Varies l.nullable) (map val_type l.copies.items ++ rest) (map val_type l.types);
   drawn : with_front (map val_type l.copies.items) (each_at (varied_at l.nullable) (map val_type (drop l.type_-index l.types)) l.unstructured) ≡ each_at
       (varied_at l.nullable) (map val_type l.types) l.fn.unstructured;
+  taken : length l.unstructured ≤ length l.fn.unstructured;
 }

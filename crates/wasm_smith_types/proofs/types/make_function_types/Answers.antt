@@ -32,6 +32,7 @@ grow-preserved c =
           grow_step (function_type_at c.args.offers.now) (made c.grow.made) (made c.push_function.new.self) c.args.min c.args.max (vec_len c.grow.made.types)
           (vec_len c.push_function.new.self.types) _ c.grows.new.unstructured _ t _ all.added (omega (arith, m, longer, n))
           (rw c.len.ensures at c.grow-test.ensures.exact) (ap (λ u. (t, u)) (sym all.left)) c.grow.invariant.drawn;
+      taken = omega arith;
       singles =
           all.groups ∙ ap (λ gs. gs ++ spec.Single t ∷ []) c.grow.invariant.singles ∙ sym (map-append spec.Single (made c.grow.made) (t ∷ []))
           ∙ ap (map spec.Single) (sym all.added);

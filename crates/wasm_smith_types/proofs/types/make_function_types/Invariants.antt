@@ -19,6 +19,7 @@ invariant-grow l = record {
   done : (features : Features) → SuitsValues features l.offers → AreDone features l.made;
   drawn : with_front (made l.made) (grow_at (function_type_at l.offers) l.min l.max (vec_len l.made.types) l.unstructured) ≡ grow_at
       (function_type_at l.offers) l.min l.max 0 l.fn.unstructured;
+  taken : length l.unstructured ≤ length l.fn.unstructured;
   singles : groups l.made ≡ map spec.Single (made l.made);
 }
 

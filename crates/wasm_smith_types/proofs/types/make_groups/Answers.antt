@@ -28,6 +28,7 @@ grow-init c = record {
   done =
       λ features suits. record { valid = rw c.new-2.ensures.items tt; members = λ index type is. absurd (nothing_at index type (rw c.new.ensures.items at is)) };
   drawn = λ zero_owed. groups_begin c.args.offers.now c.args.max _ c.args.unstructured.now c.new-2.ensures.items c.new-3.ensures.items;
+  taken = omega arith;
   fitting = rw c.new-2.ensures.items (c.new-fitting.ensures _);
 }
   where
@@ -52,6 +53,7 @@ grow-preserved c =
           λ zero_owed. groups_go_on c.args.offers.now c.args.max c.len.result _ c.grow.made c.push_next.new.self _ c.grows.new.unstructured _ n c.grow.invariant.whole
           (c.grow-test.ensures.room refl) all.more (rw zero_owed at c.grow-test.ensures.exact)
           (rw same at all.drawn) (c.grow.invariant.drawn zero_owed);
+      taken = omega arith;
       fitting = fits_less _ _ _ _ (omega (arith, n, same, all.more)) all.fitting;
     }
 

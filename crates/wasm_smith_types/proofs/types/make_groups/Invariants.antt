@@ -17,6 +17,7 @@ invariant-grow l = record {
   candidates : AreCandidates (made l.made) l.made.candidates.items;
   done : (features : Features) → Suits features l.offers → AreDone features l.made;
   drawn : l.min ≡ 0 → IfSome (groups_at l.offers l.max (l.max + 1) no_groups l.fn.unstructured) (λ drawn. AreLeft l.offers l.max drawn l.made l.unstructured);
+  taken : length l.unstructured ≤ length l.fn.unstructured;
   fitting : AreFitting l.made.sizes.items (l.max - length (made l.made)) l.fitting;
 }
 

@@ -17,7 +17,7 @@ left c =
     let most = length-take (min c.arbitrary_len.result c.args.max) c.arbitrary_len.new.self in
     let part : length c.unwrap.result.now ≤ length c.arbitrary_len.new.self = rw (front c) (omega (arith, most)) in
     let few : length c.text_front-text.result.now ≤ length c.arbitrary_len.new.self = omega arith in
-    taken _ _ _ _ few c.bytes.ensures
+    taken _ _ _ _ few c.bytes.ensures.exact
 
 pub returns-clause-exact : goal.returns-clause-exact
 returns-clause-exact c = is_drawn _ _ _ _ _ _ _ c.arbitrary_len.ensures.exact (front c) c.text_front-text.ensures (left c)

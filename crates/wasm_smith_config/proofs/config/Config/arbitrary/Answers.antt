@@ -9,17 +9,17 @@ returns-clause-exact c = record {
   default = c.default-config.result;
   is_default = c.default-config.ensures;
   drawn = all_drawn c.default-config.result c.draw_on.new.self c.draw_off.new.self c.draw_maximums.new.self c.args.unstructured.now c.draw_on.new.unstructured c.draw_off.new.unstructured c.draw_maximums.new.unstructured
-      c.draw_on.ensures c.draw_off.ensures c.draw_maximums.ensures.exact ∙ ap (λ (config : Config). (config, c.draw_maximums.new.unstructured)) (sym c.sanitize.ensures.sanitized);
+      c.draw_on.ensures.exact c.draw_off.ensures.exact c.draw_maximums.ensures.exact ∙ ap (λ (config : Config). (config, c.draw_maximums.new.unstructured)) (sym c.sanitize.ensures.sanitized);
 }
 
 pub returns-clause-minimums : goal.returns-clause-minimums
 returns-clause-minimums c =
     let kept : IsKept c.draw_maximums.new.self = all_kept c.default-config.result c.draw_on.new.self c.draw_off.new.self c.draw_maximums.new.self c.args.unstructured.now c.draw_on.new.unstructured c.draw_off.new.unstructured c.draw_maximums.new.unstructured
-    c.default-config.ensures c.draw_on.ensures c.draw_off.ensures c.draw_maximums.ensures.exact in
+    c.default-config.ensures c.draw_on.ensures.exact c.draw_off.ensures.exact c.draw_maximums.ensures.exact in
     subst (λ (config : Config). table.AreGood (table.minimums config)) (sym c.sanitize.ensures.sanitized) (good_minimums c.draw_maximums.new.self kept)
 
 pub returns-clause-maximums : goal.returns-clause-maximums
 returns-clause-maximums c =
     let kept : IsKept c.draw_maximums.new.self = all_kept c.default-config.result c.draw_on.new.self c.draw_off.new.self c.draw_maximums.new.self c.args.unstructured.now c.draw_on.new.unstructured c.draw_off.new.unstructured c.draw_maximums.new.unstructured
-    c.default-config.ensures c.draw_on.ensures c.draw_off.ensures c.draw_maximums.ensures.exact in
+    c.default-config.ensures c.draw_on.ensures.exact c.draw_off.ensures.exact c.draw_maximums.ensures.exact in
     subst (λ (config : Config). table.AreGood (table.maximums config)) (sym c.sanitize.ensures.sanitized) (good_maximums c.draw_maximums.new.self kept c.draw_maximums.ensures.few)

@@ -2,6 +2,6 @@ use Rattle.std.proofs.Common.{refl}
 use Rattle.wasm_smith_config.specs.Arbitrary.{off_at}
 use Rattle.wasm_smith_config.proofs.config.Config.draw_off.Goals as goal
 
-pub returns : goal.returns
+pub returns-clause-exact : goal.returns-clause-exact
 unfolding off_at
-returns c = rw (c.bool-self.ensures, c.bool-self-2.ensures, c.bool-self-3.ensures, c.bool-self-4.ensures, c.bool-self-5.ensures, c.bool-self-6.ensures, c.bool-self-7.ensures, c.bool-self-8.ensures, c.bool-self-9.ensures, c.bool-self-10.ensures, c.bool-self-11.ensures, c.bool-self-12.ensures) refl
+returns-clause-exact c = rw (c.bool-self.ensures.exact, c.bool-self-2.ensures.exact, c.bool-self-3.ensures.exact, c.bool-self-4.ensures.exact, c.bool-self-5.ensures.exact, c.bool-self-6.ensures.exact, c.bool-self-7.ensures.exact, c.bool-self-8.ensures.exact, c.bool-self-9.ensures.exact, c.bool-self-10.ensures.exact, c.bool-self-11.ensures.exact, c.bool-self-12.ensures.exact) refl

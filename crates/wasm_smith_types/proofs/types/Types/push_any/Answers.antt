@@ -9,32 +9,32 @@ use Rattle.wasm_smith_types.proofs.types.Types.push_any.Goals as goal
 
 pub unwrap-span-requires : goal.unwrap-span-requires
 unwrap-span-requires c =
-    let some : 0 < length c.args.choices.now = some_asked _ _ _ _ _ c.is_empty-asked.ensures refl c.if-bool_if.ensures in
-    is_chosen _ c.args.choices.now _ _ c.choose.result c.choose.ensures some
+    let some : 0 < length c.args.choices.now = some_asked _ _ _ _ _ c.is_empty-asked.ensures refl c.if-bool_if.ensures.exact in
+    is_chosen _ c.args.choices.now _ _ c.choose.result c.choose.ensures.exact some
 
 pub push_clone-requires-clause-few : goal.push_clone-requires-clause-few
 push_clone-requires-clause-few c =
     let h =
     choice c.args.self.now.sizes.items c.args.left c.args.choices.now _ _ c.unwrap-span.result.now c.requires.choices
-    (rw c.unwrap-span.ensures at c.choose.ensures) in
+    (rw c.unwrap-span.ensures at c.choose.ensures.exact) in
     omega (arith, h.2, c.requires.few)
 
 pub push_clone-requires-clause-span : goal.push_clone-requires-clause-span
 push_clone-requires-clause-span c =
-    (choice c.args.self.now.sizes.items c.args.left c.args.choices.now _ _ c.unwrap-span.result.now c.requires.choices (rw c.unwrap-span.ensures at c.choose.ensures)).0
+    (choice c.args.self.now.sizes.items c.args.left c.args.choices.now _ _ c.unwrap-span.result.now c.requires.choices (rw c.unwrap-span.ensures at c.choose.ensures.exact)).0
 
 pub returns-then-bool_if-clause-more : goal.returns-then-bool_if-clause-more
 returns-then-bool_if-clause-more c =
     let h =
     choice c.args.self.now.sizes.items c.args.left c.args.choices.now _ _ c.unwrap-span.result.now c.requires.choices
-    (rw c.unwrap-span.ensures at c.choose.ensures) in
+    (rw c.unwrap-span.ensures at c.choose.ensures.exact) in
     omega (arith, h.1, c.in_ok-push_clone.ensures.count)
 
 pub returns-then-bool_if-clause-few : goal.returns-then-bool_if-clause-few
 returns-then-bool_if-clause-few c =
     let h =
     choice c.args.self.now.sizes.items c.args.left c.args.choices.now _ _ c.unwrap-span.result.now c.requires.choices
-    (rw c.unwrap-span.ensures at c.choose.ensures) in
+    (rw c.unwrap-span.ensures at c.choose.ensures.exact) in
     omega (arith, h.2, c.in_ok-push_clone.ensures.count)
 
 pub returns-then-bool_if-clause-drawn : goal.returns-then-bool_if-clause-drawn
@@ -42,7 +42,7 @@ returns-then-bool_if-clause-drawn c =
     let asked =
     asked_is c.is_empty-asked.result _
     (length c.args.choices.now) c.args.left c.args.self.now.sizes.items c.is_empty-asked.ensures refl c.requires.choices.asks in
-    rw (group_is_clone c.args.offers.now c.args.left (front_of c.args.self.now) c.args.unstructured.now _ (rw asked at c.if-bool_if.ensures)) tt
+    rw (group_is_clone c.args.offers.now c.args.left (front_of c.args.self.now) c.args.unstructured.now _ (rw asked at c.if-bool_if.ensures.exact)) tt
 
 pub returns-clause-drawn : goal.returns-clause-drawn
 returns-clause-drawn c =
@@ -50,19 +50,19 @@ returns-clause-drawn c =
     asked_is c.is_empty-asked.result _
     (length c.args.choices.now) c.args.left c.args.self.now.sizes.items c.is_empty-asked.ensures refl c.requires.choices.asks in
     rw
-    (group_is_new c.args.offers.now c.args.left (front_of c.args.self.now) c.args.unstructured.now _ _ c.int_in_range-size.result (rw asked at c.if-bool_if.ensures) (rw (c.new.ensures.start, c.new.ensures.end, c.from.ensures) at c.int_in_range-size.ensures.exact)) c.in_ok-push_group.ensures.drawn
+    (group_is_new c.args.offers.now c.args.left (front_of c.args.self.now) c.args.unstructured.now _ _ c.int_in_range-size.result (rw asked at c.if-bool_if.ensures.exact) (rw (c.new.ensures.start, c.new.ensures.end, c.from.ensures) at c.int_in_range-size.ensures.exact)) c.in_ok-push_group.ensures.drawn
 
 pub returns-then-span-room-clause-too_many : goal.returns-then-span-room-clause-too_many
 returns-then-span-room-clause-too_many c = λ same.
     let h =
     choice c.args.self.now.sizes.items c.args.left c.args.choices.now _ _ c.unwrap-span.result.now c.requires.choices
-    (rw c.unwrap-span.ensures at c.choose.ensures) in
+    (rw c.unwrap-span.ensures at c.choose.ensures.exact) in
     let asked =
     asked_is c.is_empty-asked.result _
     (length c.args.choices.now) c.args.left c.args.self.now.sizes.items c.is_empty-asked.ensures refl c.requires.choices.asks in
     let past : c.args.room < c.unwrap-span.result.now.size = omega arith in (
       omega (arith, h.2, past),
-      rw (group_is_clone c.args.offers.now c.args.left (front_of c.args.self.now) c.args.unstructured.now _ (rw asked at c.if-bool_if.ensures)) tt,
+      rw (group_is_clone c.args.offers.now c.args.left (front_of c.args.self.now) c.args.unstructured.now _ (rw asked at c.if-bool_if.ensures.exact)) tt,
     )
 
 pub returns-then-size-room-clause-too_many : goal.returns-then-size-room-clause-too_many
@@ -73,6 +73,6 @@ returns-then-size-room-clause-too_many c = λ same.
     let past : c.args.room < c.int_in_range-size.result = omega arith in (
       omega (arith, past, c.int_in_range-size.ensures.to, c.new.ensures.end, c.from.ensures),
       rw
-          (group_is_new c.args.offers.now c.args.left (front_of c.args.self.now) c.args.unstructured.now _ _ c.int_in_range-size.result (rw asked at c.if-bool_if.ensures) (rw (c.new.ensures.start, c.new.ensures.end, c.from.ensures) at c.int_in_range-size.ensures.exact))
+          (group_is_new c.args.offers.now c.args.left (front_of c.args.self.now) c.args.unstructured.now _ _ c.int_in_range-size.result (rw asked at c.if-bool_if.ensures.exact) (rw (c.new.ensures.start, c.new.ensures.end, c.from.ensures) at c.int_in_range-size.ensures.exact))
           (members_past c.args.offers.now _ c.int_in_range-size.result c.args.room _ _ past),
     )

@@ -12,7 +12,7 @@ push-requires-clause-height c = plain_height (made c.args.self.now) true (compos
 
 pub returns-clause-group : goal.returns-clause-group
 returns-clause-group c =
-    let is = ap (λ (d : _ × _). d.0) c.in_ok-composite_type.ensures in
+    let is = ap (λ (d : _ × _). d.0) c.in_ok-composite_type.ensures.drawn in
     let added =
     c.in_ok-push.ensures.added
     ∙ ap (λ (x : spec.CompositeType _). made c.args.self.now ++ record { is_final = true; supertypes = []; composite_type = x } ∷ []) (sym is) in
@@ -21,18 +21,18 @@ returns-clause-group c =
 pub returns-clause-added : goal.returns-clause-added
 unfolding function_type_at
 returns-clause-added c =
-    let is = ap (λ (d : _ × _). d.0) c.in_ok-composite_type.ensures in
+    let is = ap (λ (d : _ × _). d.0) c.in_ok-composite_type.ensures.drawn in
     c.in_ok-push.ensures.added
     ∙ ap (λ (x : spec.CompositeType _). made c.args.self.now ++ record { is_final = true; supertypes = []; composite_type = x } ∷ []) (sym is)
 
 pub returns-clause-left : goal.returns-clause-left
 unfolding function_type_at
-returns-clause-left c = sym (ap (λ (d : _ × _). d.1) c.in_ok-composite_type.ensures)
+returns-clause-left c = sym (ap (λ (d : _ × _). d.1) c.in_ok-composite_type.ensures.drawn)
 
 pub returns-clause-groups : goal.returns-clause-groups
 unfolding function_type_at
 returns-clause-groups c =
-    let is = ap (λ (d : _ × _). d.0) c.in_ok-composite_type.ensures in
+    let is = ap (λ (d : _ × _). d.0) c.in_ok-composite_type.ensures.drawn in
     let added =
     c.in_ok-push.ensures.added
     ∙ ap (λ (x : spec.CompositeType _). made c.args.self.now ++ record { is_final = true; supertypes = []; composite_type = x } ∷ []) (sym is) in

@@ -15,7 +15,7 @@ pub returns-clause-valid : goal.returns-clause-valid
 returns-clause-valid c =
     let ts = made c.args.self.now in
     let is_final = not c.bool-is_final.result in
-    let made_of = c.in_ok-composite_type.ensures in
+    let made_of = c.in_ok-composite_type.ensures.drawn in
     let comp = composite_type c.in_ok-composite_type.composite_type in
     let is = ap (λ (d : _ × _). d.0) made_of in
     record {
@@ -34,7 +34,7 @@ pub returns-clause-drawn : goal.returns-clause-drawn
 unfolding plain_type_at
 returns-clause-drawn c =
     let ts = made c.args.self.now in
-    let open_at = c.bool-is_final.ensures in
-    let comp_at = c.in_ok-composite_type.ensures in
+    let open_at = c.bool-is_final.ensures.exact in
+    let comp_at = c.in_ok-composite_type.ensures.drawn in
     let whole : plain_type_at c.args.offers.now c.args.end c.args.unstructured.now ≡ (record { is_final = not c.bool-is_final.result; supertypes = []; composite_type = composite_type c.in_ok-composite_type.composite_type }, c.composite.new.unstructured) = rw (open_at, comp_at) refl in
     rw whole (record { added = c.in_ok-push.ensures.added; at = refl; asks = c.in_ok-push.ensures.asks refl })

@@ -11,8 +11,8 @@ push-requires-clause-height c =
     under_height (made c.args.self.now) c.args.candidate c.requires.candidate (not c.bool-is_final.result)
     (composite_type c.in_ok-composite_type.composite_type)
 
-pub returns : goal.returns
-returns c =
+pub returns-clause-valid : goal.returns-clause-valid
+returns-clause-valid c =
     let ts = made c.args.self.now in
     let super = c.requires.candidate in
     let is_final = not c.bool-is_final.result in

@@ -16,7 +16,7 @@ returns-in_ok-fields-in-Struct-clause-permitted c = λ features suits permitted.
     rw (c.in-Struct.is, c.new.ensures)
     (grown_copy features c.args.self.now suits c.args.bound (map field_type c.in_ok-fields-in-Struct.fields.items) front c.in-Struct.structure _ _
     (rw c.fields.ensures at c.in_ok-front-in-Struct.ensures.narrowed)
-    (rw (← length-map c.in_ok-front-in-Struct.front.items field_type) at c.in_ok-fields-in-Struct.ensures)
+    (rw (← length-map c.in_ok-front-in-Struct.front.items field_type) at c.in_ok-fields-in-Struct.ensures.drawn)
     (rw c.in-Struct.is at permitted))
 
 pub returns-in-Array-clause-permitted : goal.returns-in-Array-clause-permitted

@@ -1,0 +1,49 @@
+-- A module for a configuration that is drawn first.
+use Rattle.std.proofs.Common.{◌≡◌, ℕ, ◌<◌, List, Result, Ok, Err, get_or, sym, ap, ◌∙◌, subst, arith}
+use Rattle.std.specs.Prelude.{◌≢◌, IfOk, IfErr, IfSome}
+use Rattle.wasm_smith_config.proofs.ArbitraryLaws.{IsKept, drawn_kept}
+use Rattle.wasm_smith_config.specs.Arbitrary.{IsArbitrary}
+use Rattle.wasm_smith_config.specs.Config.{sanitized}
+use Rattle.wasm_smith_config.specs.declared.config.Config.{Config}
+use Rattle.wasm_smith_config.specs.declared.error.Error.{Error}
+use Rattle.wasm_smith_config.specs.declared.error.Error.TheVariants.{IncorrectFormat}
+use Rattle.wasm_smith_module.specs.ArbitraryModules.{IsArbitraryModule, IsArbitraryReason}
+use Rattle.wasm_smith_module.specs.Generating.{HasFront, front_at}
+use Rattle.wasm_smith_module.specs.ModuleValue.{ModuleValue}
+use Rattle.wasm_smith_module.specs.Promise.{IsBadConfig, IsMadeFor, IsReason, owed}
+
+abbrev HasDrawn : List ℕ → List ℕ → ModuleValue → Config → Type 0
+HasDrawn after left m c = IfSome (front_at c after) (λ drawn. HasFront c drawn m.made left)
+
+pub made_from_drawn : (s after left : List ℕ) (c : Config) (r : Result ModuleValue Error) → IsArbitrary s c after → sanitized c ≡ c → IfOk r (IsMadeFor (sanitized c))
+    → IfOk r (λ m. HasDrawn after left m (sanitized c)) → IfOk r (IsArbitraryModule s left)
+made_from_drawn s after left c (Ok m) drawn same made front =
+    let is : m.config ≡ sanitized c = made.config in
+    record {
+      after = after;
+      config = subst (λ (x : Config). IsArbitrary s x after) (sym (is ∙ same)) drawn;
+      made = subst (λ (x : Config). IsMadeFor x m) (sym is) made;
+      drawn = subst (HasDrawn after left m) (sym is) front;
+    }
+made_from_drawn s after left c (Err e) drawn same made front = tt
+
+pub refused_from_drawn : (s after left : List ℕ) (c : Config) (r : Result ModuleValue Error) → IsArbitrary s c after → sanitized c ≡ c → IfErr r (IsReason (sanitized c))
+    → IfErr r (λ e. IsBadConfig e → left ≡ after) → IfErr r (IsArbitraryReason s left)
+refused_from_drawn s after left c (Ok m) drawn same reason unread = tt
+refused_from_drawn s after left c (Err e) drawn same reason unread =
+    record { config = c; after = after; drawn = drawn; reason = subst (λ (x : Config). IsReason x e) same reason; unread = unread }
+
+none_owed : (c : Config) → IsKept c → 0 < owed c → ⊥
+none_owed c kept some =
+    let imports : c.min_imports ≡ 0 = ap (λ numbers. get_or numbers 5 0) kept in
+    let tags : c.min_tags ≡ 0 = ap (λ numbers. get_or numbers 6 0) kept in
+    let funcs : c.min_funcs ≡ 0 = ap (λ numbers. get_or numbers 7 0) kept in
+    let exports : c.min_exports ≡ 0 = ap (λ numbers. get_or numbers 9 0) kept in
+    let element_segments : c.min_element_segments ≡ 0 = ap (λ numbers. get_or numbers 10 0) kept in
+    let data_segments : c.min_data_segments ≡ 0 = ap (λ numbers. get_or numbers 12 0) kept in
+    omega (arith, some, imports, tags, funcs, exports, element_segments, data_segments)
+
+pub nothing_owed : (s after : List ℕ) (c : Config) (r : Result ModuleValue Error) → IsArbitrary s c after → sanitized c ≡ c → IfErr r (IsReason (sanitized c)) → IfErr r (λ e. e ≢ IncorrectFormat)
+nothing_owed s after c (Ok m) drawn same reason = tt
+nothing_owed s after c (Err e) drawn same reason = λ is.
+    let owes = subst (λ (x : Error). IsReason c x) is (subst (λ (x : Config). IsReason x e) same reason) in none_owed c (drawn_kept s after c drawn) owes.some

@@ -1,9 +1,7 @@
 pub mod Bodies
 pub mod BodyContext
 pub mod Effects
-pub mod Examples
 pub mod Operands
-pub mod OperatorExamples
 pub mod OperatorGates
 pub mod OperatorGrammar
 pub mod OperatorRows

@@ -13,7 +13,6 @@ pub mod MappedOptions
 pub mod MappedSignatures
 mod Prefixes
 pub mod Runs
-pub mod Stepping
 pub mod Steps
 pub mod WantedChoices
 pub mod WantedFrames

@@ -2,5 +2,4 @@
 #![tactic(auto)]
 
 pub mod laws;
-pub mod machine_examples;
 pub mod reference_laws;

@@ -1,7 +1,6 @@
 //! Worked examples of what is written of operators. The function does nothing: its contract is a theorem.
 
 ghost use Rattle.std.specs.Prelude.{◌≡◌, [], ◌∷◌, negsuc, pos};
-ghost use Rattle.wasm_bodies.specs.OperatorExamples.{counted_from};
 ghost use Rattle.wasm_bodies.specs.OperatorRows.{Byte, Prefixed, load_rows, store_rows};
 ghost use Rattle.wasm_bodies.specs.Operators.{ArrayNewFixed, Block, BrTable, Call, CallIndirect, Empty, F32Const, F64Const, I32Const, I64Const, Indexed, Load, MemoryCopy, MemoryInit, RefNull, Scalar, SelectTyped, Store, Unreachable, V128Const, Value};
 ghost use Rattle.wasm_encoder_instructions.specs.Instructions.{first_access};
@@ -33,5 +32,6 @@ pub fn operators()
     ensures segment_first { operator_encoding (MemoryInit 1 2) ≡ 0xfc ∷ 0x08 ∷ 0x01 ∷ 0x02 ∷ [] }
     ensures written_memory_first { operator_encoding (MemoryCopy 1 2) ≡ 0xfc ∷ 0x0a ∷ 0x01 ∷ 0x02 ∷ [] }
     ensures count_last { operator_encoding (ArrayNewFixed 1 2) ≡ 0xfb ∷ 0x08 ∷ 0x01 ∷ 0x02 ∷ [] }
-    ensures vector { operator_encoding (V128Const (counted_from 0 16)) ≡ 0xfd ∷ 0x0c ∷ counted_from 0 16 }
+    ensures vector { operator_encoding (V128Const (0x00 ∷ 0x01 ∷ 0x02 ∷ 0x03 ∷ 0x04 ∷ 0x05 ∷ 0x06 ∷ 0x07 ∷ 0x08 ∷ 0x09 ∷ 0x0a ∷ 0x0b ∷ 0x0c ∷ 0x0d ∷ 0x0e ∷ 0x0f ∷ []))
+        ≡ 0xfd ∷ 0x0c ∷ 0x00 ∷ 0x01 ∷ 0x02 ∷ 0x03 ∷ 0x04 ∷ 0x05 ∷ 0x06 ∷ 0x07 ∷ 0x08 ∷ 0x09 ∷ 0x0a ∷ 0x0b ∷ 0x0c ∷ 0x0d ∷ 0x0e ∷ 0x0f ∷ [] }
 {}

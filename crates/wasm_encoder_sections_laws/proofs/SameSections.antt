@@ -3,8 +3,8 @@ use Rattle.std.proofs.Common.{◌≡◌, ℕ, Bool, true, List, [], ◌∷◌, l
 use Rattle.wasm_spec.specs.Grammar.{section_id, IsContent}
 use Rattle.wasm_spec.specs.Shortest.{unsigned_encoding, list_encoding, framed_encoding}
 use Rattle.wasm_spec.specs.SmallIndexes.{IsSmallIndex}
-use Rattle.wasm_spec.specs.Syntax.{Section, Table, FunctionSection, TableSection, MemorySection, TagSection, ExportSection, ImportSection, functions_in, tables_in, memories_in, tags_in, exports_in, imports_in}
-use Rattle.wasm_spec.specs.Types.{TableType}
+use Rattle.wasm_spec.specs.Syntax.{Section, Table, Export, ImportEntry, FunctionSection, TableSection, MemorySection, TagSection, ExportSection, ImportSection, functions_in}
+use Rattle.wasm_spec.specs.Types.{MemoryType, TableType}
 use Rattle.wasm_spec.proofs.Decoding.{apart, unsigned_at, unsigned_decodes}
 use Rattle.wasm_core_read.specs.ModuleReading.{content_of}
 use Rattle.wasm_core_read.proofs.ReadingLaws.{content_again}
@@ -12,6 +12,30 @@ use Rattle.wasm_encoder_sections.specs.ItemEncodings.{bare_table, limits_encodin
 use Rattle.wasm_encoder_sections.specs.SmallItems.{IsSmallLimits, IsSmallTable, IsSmallExport, IsSmallImport}
 use Rattle.wasm_encoder_sections.proofs.ShortestSections as shortest
 use Rattle.wasm_encoder_sections_laws.specs.Told.{TellsItems}
+
+-- ---- what sections have
+
+abbrev tables_in : Section → List Table
+tables_in (TableSection tables) = tables
+tables_in _ = []
+
+abbrev memories_in : Section → List MemoryType
+memories_in (MemorySection types) = types
+memories_in _ = []
+
+abbrev tags_in : Section → List ℕ
+tags_in (TagSection indexes) = indexes
+tags_in _ = []
+
+abbrev exports_in : Section → List Export
+exports_in (ExportSection exports) = exports
+exports_in _ = []
+
+abbrev imports_in : Section → List ImportEntry
+imports_in (ImportSection imports) = imports
+imports_in _ = []
+
+-- ---- equal bytes
 
 -- frames of the same bytes have the same content
 pub same_content : (a b : List ℕ) → framed_encoding a ≡ framed_encoding b → a ≡ b

@@ -6,8 +6,6 @@ pub mod EncodingBytes
 pub mod Elements
 pub mod Encodings
 pub mod EqualTrees
-pub mod FieldLaws
-pub mod GateForms
 pub mod GroupTrees
 pub mod ListEncodings
 pub mod MappedBack
@@ -22,9 +20,7 @@ pub mod ShortestForms
 pub mod ShortestTypes
 pub mod SignedEncodings
 pub mod TypeBytes
-pub mod TypeChains
 pub mod TypeDecoding
-pub mod TypeKinds
 pub mod TypeLimits
 pub mod TypeMaps
 pub mod TypeOrders

@@ -1,7 +1,6 @@
 pub mod Bytes
 pub mod ConstantGrammar
 pub mod Constants
-pub mod Examples
 pub mod Features
 pub mod Gates
 pub mod Grammar
@@ -17,7 +16,6 @@ pub mod Subtyping
 pub mod Syntax
 pub mod Trees
 pub mod TypeEncodings
-pub mod TypeExamples
 pub mod TypeGrammar
 pub mod TypeReferences
 pub mod Types

@@ -108,41 +108,9 @@ groups_in _ = []
 abbrev pub types_in : Section → List (SubType ℕ)
 types_in section = flat_map members (groups_in section)
 
-abbrev pub imports_in : Section → List ImportEntry
-imports_in (ImportSection imports) = imports
-imports_in _ = []
-
 abbrev pub functions_in : Section → List ℕ
 functions_in (FunctionSection indexes) = indexes
 functions_in _ = []
-
-abbrev pub tables_in : Section → List Table
-tables_in (TableSection tables) = tables
-tables_in _ = []
-
-abbrev pub memories_in : Section → List MemoryType
-memories_in (MemorySection types) = types
-memories_in _ = []
-
-abbrev pub tags_in : Section → List ℕ
-tags_in (TagSection indexes) = indexes
-tags_in _ = []
-
-abbrev pub globals_in : Section → List Global
-globals_in (GlobalSection globals) = globals
-globals_in _ = []
-
-abbrev pub exports_in : Section → List Export
-exports_in (ExportSection exports) = exports
-exports_in _ = []
-
-abbrev pub starts_in : Section → List ℕ
-starts_in (StartSection function) = function ∷ []
-starts_in _ = []
-
-abbrev pub elements_in : Section → List ElementSegment
-elements_in (ElementSection segments) = segments
-elements_in _ = []
 
 abbrev pub data_counts_in : Section → List ℕ
 data_counts_in (DataCountSection count) = count ∷ []
@@ -164,33 +132,9 @@ groups_of sections = flat_map groups_in sections
 abbrev pub types_of : List Section → List (SubType ℕ)
 types_of sections = flat_map types_in sections
 
-abbrev pub imports_of : List Section → List ImportEntry
-imports_of sections = flat_map imports_in sections
-
 -- the own functions, tables, .. alone; imported ones stand before them in their spaces
 abbrev pub functions_of : List Section → List ℕ
 functions_of sections = flat_map functions_in sections
-
-abbrev pub tables_of : List Section → List Table
-tables_of sections = flat_map tables_in sections
-
-abbrev pub memories_of : List Section → List MemoryType
-memories_of sections = flat_map memories_in sections
-
-abbrev pub tags_of : List Section → List ℕ
-tags_of sections = flat_map tags_in sections
-
-abbrev pub globals_of : List Section → List Global
-globals_of sections = flat_map globals_in sections
-
-abbrev pub exports_of : List Section → List Export
-exports_of sections = flat_map exports_in sections
-
-abbrev pub starts_of : List Section → List ℕ
-starts_of sections = flat_map starts_in sections
-
-abbrev pub elements_of : List Section → List ElementSegment
-elements_of sections = flat_map elements_in sections
 
 abbrev pub data_counts_of : List Section → List ℕ
 data_counts_of sections = flat_map data_counts_in sections

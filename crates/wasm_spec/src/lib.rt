@@ -4,13 +4,7 @@
 //! contracts are theorems on the definitions.
 #![tactic(auto)]
 
-pub mod gate_examples;
-pub mod grammar_examples;
 pub mod laws;
-pub mod matching_examples;
 pub mod number_laws;
-pub mod section_examples;
 pub mod subtyping_laws;
-pub mod type_encoding_examples;
-pub mod type_examples;
 pub mod type_laws;

@@ -1,14 +1,10 @@
-pub mod ConstantExamples
 pub mod ConstantTyping
 pub mod Context
 pub mod DefinedTypes
 pub mod Entries
-pub mod Examples
 pub mod Fronts
 pub mod ImportedItems
 pub mod IndexSpaces
-pub mod ItemExamples
 pub mod Rules
-pub mod SubtypeExamples
 pub mod TypeRules
 pub mod Validity

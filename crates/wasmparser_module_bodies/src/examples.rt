@@ -3,9 +3,8 @@
 ghost use Rattle.std.specs.Prelude.{◌≡◌, ◌∷◌, [], None, Some, false, true};
 ghost use Rattle.wasm_bodies.specs.BodyContext.{fields_at, func_at, reference_at, value_of};
 ghost use Rattle.wasm_spec.specs.Features.{default_features};
-ghost use Rattle.wasm_spec.specs.TypeExamples.{takes};
 ghost use Rattle.wasm_spec.specs.Types.{Concrete, Ref};
-ghost use Rattle.wasmparser_module_bodies.specs.Examples.{ids, interned, known, sub_types, table_of, to, types, written_types};
+ghost use Rattle.wasmparser_module_bodies.specs.Examples.{ids, interned, known, sub_types, table_of, takes, to, types, written_types};
 ghost use Rattle.wasmparser_module_bodies.specs.TypesById.{AreKnown, AreWritten, index_at, items_by_ids};
 ghost use Rattle.wasmparser_types.specs.Index.{Id, Module};
 

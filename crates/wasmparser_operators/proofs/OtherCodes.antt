@@ -2,7 +2,6 @@
 use Rattle.std.proofs.Common.{◌≡◌, ◌≤◌, ◌<◌, ◌+◌, ◌⊎◌, ℕ, zero, suc, Bool, true, false, not, ◌&&◌, List, [], ◌∷◌, Some, None, refl, ap, subst, arith, inl, inr}
 use Rattle.std.proofs.lemmas.Bool.{cases_lt}
 use Rattle.std.specs.List.{list_all}
-use Rattle.wasm_bodies.specs.OperatorExamples.{counted_from}
 use Rattle.wasm_bodies.specs.OperatorRows.{Byte}
 use Rattle.wasm_core_read.specs.Reading.{byte_at}
 use Rattle.wasm_core_read.proofs.Forms.{some_is}
@@ -14,6 +13,11 @@ both true b e = (refl, e)
 both false b e = absurd cc
 
 -- ---- bytes
+
+-- so many numbers from this one on
+abbrev pub counted_from : ℕ → ℕ → List ℕ
+counted_from first zero = []
+counted_from first (suc n) = first ∷ counted_from (suc first) n
 
 -- a test of numbers that follow one another holds of each
 pub counted : (test : ℕ → Bool) (low n b : ℕ) → list_all test (counted_from low n) ≡ true → low ≤ b → b < low + n → test b ≡ true

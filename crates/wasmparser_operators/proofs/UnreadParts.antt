@@ -2,14 +2,13 @@
 use Rattle.std.proofs.Common.{◌≡◌, ◌≤◌, ◌<◌, ◌+◌, ◌==◌, ℕ, true, not, List, [], ◌∷◌, Option, None, is_some, refl, subst, sym, inl, inr, arith}
 use Rattle.std.proofs.lemmas.Bool.Decides.{eqb_tells}
 use Rattle.std.specs.List.{list_all, list_any}
-use Rattle.wasm_bodies.specs.OperatorExamples.{counted_from}
 use Rattle.wasm_bodies.specs.OperatorRows.{Prefixed}
 use Rattle.wasm_core_read.specs.Reading.{unsigned_at, pair_at}
 use Rattle.wasm_spec.specs.Features.{Features, has, MultiMemory}
 use Rattle.wasmparser_operators.specs.CodeTables.{row_of}
 use Rattle.wasmparser_operators.specs.OperatorReading.{Kept, block_type_at, coded_at, index_with_at, memory_argument_at, operator_from, shape_of}
 use Rattle.wasmparser_operators.proofs.CodeTables.{not_some}
-use Rattle.wasmparser_operators.proofs.OtherCodes.{both, counted, is_off}
+use Rattle.wasmparser_operators.proofs.OtherCodes.{both, counted, counted_from, is_off}
 
 is_none : {X : Type 0} (o : Option X) → not (is_some o) ≡ true → o ≡ None
 is_none o e = not_some o (is_off (is_some o) e)

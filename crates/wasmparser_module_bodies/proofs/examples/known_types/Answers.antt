@@ -4,11 +4,10 @@ use Rattle.std.specs.List.{AllByRecursion}
 use Rattle.wasm_spec.specs.Features.{default_features}
 use Rattle.wasm_spec.specs.Trees.{AreDistinct, DefType, type_at, unrolled}
 use Rattle.wasm_spec.specs.TypeReferences.{composite_refs, sub_map, sub_refs}
-use Rattle.wasm_spec.specs.TypeExamples.{empty_structure, function_to, open_below, open_type}
 use Rattle.wasm_spec.specs.Types.{SubType}
 use Rattle.wasmparser_chains.specs.Chains.{AreBelowEarlier, IsBelowEarlier, below_none, below_one}
 use Rattle.wasmparser_types.specs.Index.{Index, Id}
-use Rattle.wasmparser_module_bodies.specs.Examples.{ids, interned, sub_types, types, written_types}
+use Rattle.wasmparser_module_bodies.specs.Examples.{empty_structure, function_to, ids, interned, open_below, open_type, sub_types, types, written_types}
 use Rattle.wasmparser_module_bodies.specs.TypesById.{AreKnown, AreWritten, IsIdBelow, stands_for}
 use Rattle.wasmparser_module_bodies.proofs.examples.known_types.Goals as goal
 

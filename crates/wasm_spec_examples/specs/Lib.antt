@@ -1,0 +1,4 @@
+pub mod BodyExamples
+pub mod Examples
+pub mod OperatorExamples
+pub mod TypeExamples

@@ -1,8 +1,0 @@
-mod ConstantSubtypes
-mod FirstSections
-mod FrontParts
-mod GroupFronts
-mod ManyMemories
-mod RelatedTypes
-mod SmallModules
-mod ZeroMemories

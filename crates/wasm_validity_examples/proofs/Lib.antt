@@ -1,0 +1,13 @@
+mod BodyKinds
+mod ConstantSubtypes
+mod FirstSections
+mod FrontParts
+mod GroupFronts
+mod ManyMemories
+mod ReadBodies
+mod RelatedTypes
+mod SmallBodies
+mod SmallModules
+mod SmallSections
+mod Telling
+mod ZeroMemories

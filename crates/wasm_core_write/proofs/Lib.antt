@@ -3,3 +3,12 @@ pub mod RecGroupLists
 pub mod Items
 pub mod TypeLists
 pub mod Chains
+pub mod ChainSteps
+pub mod ChainArguments
+pub mod ChainingCalls
+pub mod ChainsOfOne
+pub mod ChainsOfOneMoved
+pub mod ChainsOfTwo
+pub mod ChainsOfThree
+pub mod ChainsOfTwoAndMoved
+pub mod ChainsOfFive

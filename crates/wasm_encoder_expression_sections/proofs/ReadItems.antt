@@ -1,10 +1,10 @@
 -- What is written of tables, globals and segments reads as these.
-use Rattle.std.proofs.Common.{◌≡◌, ℕ, ◌<◌, ◌^◌, Bool, true, false, nat_eq, List, [], ◌∷◌, ◌++◌, length, Option, Some, None, inl, inr, refl, sym, ap, ◌∙◌, subst, arith, append_assoc, if◌then◌else◌}
+use Rattle.std.proofs.Common.{◌≡◌, ℕ, ◌<◌, ◌^◌, Bool, true, false, nat_eq, List, [], ◌∷◌, ◌++◌, length, Option, Some, None, inl, inr, refl, sym, ap, subst, arith, if◌then◌else◌}
 use Rattle.std.specs.Bool.{⊤}
 use Rattle.std.specs.List.{AllByRecursion, AllZip}
 use Rattle.wasm_encoder_expressions.specs.Expressions.{expression_encoding}
 use Rattle.wasm_encoder_expression_sections.specs.ItemEncodings.{table_encoding, global_encoding, ElementMode, Active, Passive, Declared, Elements, Functions, Expressions, is_funcref, written_mode, form_encoding, element_encoding, DataMode, ActiveData, PassiveData, memory_encoding, data_encoding}
-use Rattle.wasm_encoder_expression_sections.specs.ReadItems.{ReadsAs, OptionReadsAs, ModeReadsAs, ElementsReadAs, SegmentReadsAs, DataReadsAs, written_memory}
+use Rattle.wasm_encoder_expression_sections.specs.ReadItems.{ReadsAs, OptionReadsAs, ModeReadsAs, ElementsReadAs, SegmentReadsAs, DataReadsAs}
 use Rattle.wasm_encoder_expression_sections.proofs.ReadLists.{list}
 use Rattle.wasm_encoder_sections.specs.ItemEncodings.{table_type_encoding, global_type_encoding}
 use Rattle.wasm_encoder_sections.specs.SmallItems.{IsSmallTable, IsSmallGlobal}
@@ -12,7 +12,7 @@ use Rattle.wasm_encoder_sections.proofs.ShortestEntities as entities
 use Rattle.wasm_spec.specs.Bytes.{AreBytes, IsU32}
 use Rattle.wasm_spec.specs.Constants.{ConstantExpression}
 use Rattle.wasm_spec.specs.ConstantGrammar.{IsConstantExpression}
-use Rattle.wasm_spec.specs.ModuleParts.{IsTable, IsGlobal, IsFunctionItems, IsKindAndItems, IsExpressionItems, IsElementOf, IsElementSegment, IsContents, IsDataOf, IsDataSegment}
+use Rattle.wasm_spec.specs.ModuleParts.{IsTable, IsGlobal, IsFunctionItems, IsExpressionItems, IsElementOf, IsElementSegment, IsContents, IsDataOf, IsDataSegment}
 use Rattle.wasm_spec.specs.Shortest.{unsigned_encoding, list_encoding, framed_encoding}
 use Rattle.wasm_spec.specs.SmallIndexes.{IsSmallIndex, IsSmallHeap}
 use Rattle.wasm_spec.specs.Syntax as spec

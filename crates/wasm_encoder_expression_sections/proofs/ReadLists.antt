@@ -1,5 +1,5 @@
 -- A list of encodings reads as the list of what each reads as.
-use Rattle.std.proofs.Common.{◌≡◌, ℕ, suc, ◌<◌, ◌^◌, List, [], ◌∷◌, ◌++◌, length, refl, ap, subst}
+use Rattle.std.proofs.Common.{◌≡◌, ℕ, suc, ◌<◌, ◌^◌, List, [], ◌∷◌, length, refl, ap, subst}
 use Rattle.std.specs.List.{AllZip, flat_map}
 use Rattle.wasm_spec.specs.Bytes.{IsU32, IsItems, IsList}
 use Rattle.wasm_spec.specs.Shortest.{unsigned_encoding, list_encoding}

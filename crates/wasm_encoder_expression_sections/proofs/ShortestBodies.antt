@@ -1,5 +1,5 @@
 -- What is written of bodies is their shortest encoding, whatever their bytes.
-use Rattle.std.proofs.Common.{◌≡◌, ℕ, ◌^◌, ◌<◌, Bool, List, ◌++◌, length, refl, ap, arith, length-append}
+use Rattle.std.proofs.Common.{◌≡◌, ℕ, ◌^◌, ◌<◌, Bool, List, length, refl, ap, arith, length-append}
 use Rattle.std.specs.List.{AllByRecursion}
 use Rattle.wasm_spec.specs.Bytes.{AreBytes, IsShortest}
 use Rattle.wasm_spec.specs.Grammar.{IsContent}

@@ -1,8 +1,6 @@
 -- Runs of locals, as a loop writes them.
-use Rattle.std.proofs.Common.{◌≡◌, ℕ, List, ◌++◌, length, map, drop, refl, sym, ap, ◌∙◌, append_assoc, length-append}
+use Rattle.std.proofs.Common.{◌≡◌, List, ◌++◌, length, map, ◌∙◌}
 use Rattle.std.specs.List.{flat_map}
-use Rattle.std.proofs.lemmas.List.{length-map}
-use Rattle.wasm_core_types.specs.declared.types.ValType.{ValType}
 use Rattle.wasm_core_write.proofs.TypeLists.{list_mapped}
 use Rattle.wasm_encoder_functions.specs.CoreLocals.{pair_of, run_bytes}
 use Rattle.wasm_encoder_functions.specs.Locals.{run_of, run_encoding, locals_encoding}

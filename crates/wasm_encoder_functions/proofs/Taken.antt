@@ -1,5 +1,5 @@
 -- What was taken of an iterator.
-use Rattle.std.proofs.Common.{◌≡◌, List, [], ◌∷◌, ◌++◌, Option, refl, sym, subst}
+use Rattle.std.proofs.Common.{List, [], ◌∷◌, ◌++◌, Option, refl, sym, subst}
 use Rattle.std.specs.Prelude.{Some}
 use Rattle.std.specs.Iterator.{Yields}
 

@@ -1,4 +1,0 @@
-mod ChainsOfBlockType
-mod ChainsOfMemArg
-mod ChainsOfU32
-mod ChainsOfU32U32

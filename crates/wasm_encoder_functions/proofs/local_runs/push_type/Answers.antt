@@ -1,6 +1,6 @@
 use Rattle.std.proofs.Common.{rules, ◌≡◌, ◌+◌, ◌-◌, ◌<◌, ◌≤◌, ◌^◌, length, map, take, ◌++◌, ◌∷◌, [], subst}
 use Rattle.wasm_encoder_functions.specs.CoreLocals.{pair_of}
-use Rattle.wasm_encoder_functions.specs.Locals.{AreRunsOf, AreWritable}
+use Rattle.wasm_encoder_functions.specs.Locals.{AreRunsOf}
 use Rattle.wasm_encoder_functions.proofs.LastRuns.{longer_last, too_long_last, another_run, too_many, longer_writable, another_writable, has_room}
 use Rattle.wasm_encoder_functions.proofs.local_runs.push_type.Goals as goal
 

@@ -1,4 +1,4 @@
-use Rattle.std.proofs.Common.{◌≡◌, ◌≤◌, ◌<◌, ◌^◌, ◌+◌, length, map}
+use Rattle.std.proofs.Common.{◌≡◌, ◌<◌, ◌^◌, ◌+◌, length, map}
 use Rattle.std.specs.Iterator.{IsFinite, size}
 use Rattle.wasm_encoder_functions.specs.CoreLocals.{pair_of}
 use Rattle.wasm_encoder_functions.proofs.function.Function.new.Given as goal

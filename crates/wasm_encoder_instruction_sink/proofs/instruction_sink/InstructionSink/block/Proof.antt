@@ -1,15 +1,11 @@
--- `block` makes the call `push_block`, as every chaining call with such arguments makes one. Written by tools/sink_chains.py.
-use Rattle.wasm_bodies.specs.Operators as operators
-use Rattle.wasm_encoder_instructions.specs.Immediates.{block_type}
-use Rattle.wasm_encoder_instructions.specs.OperatorEncodings.{operator_encoding}
-use Rattle.wasm_encoder_instruction_sink.specs.contracts.instruction_sink.InstructionSink.block as f
 use Rattle.wasm_encoder_instruction_sink.proofs.instruction_sink.InstructionSink.block.Statement.{statement}
 use Rattle.wasm_encoder_instruction_sink.proofs.instruction_sink.InstructionSink.block.Code as code
-use Rattle.wasm_encoder_instruction_sink.specs.contracts.instruction_sink.InstructionSink.push_block as g
 use Rattle.wasm_encoder_instruction_sink.proofs.instruction_sink.InstructionSink.push_block.Met.{met}
-use Rattle.wasm_encoder_instruction_sink.proofs.ChainsOfBlockType.{chains}
+use Rattle.wasm_encoder_instruction_sink.specs.contracts.instruction_sink.InstructionSink.{the_row as R}
+use Rattle.wasm_encoder_instructions.proofs.block_type.BlockType.TheLaws.{the_row_laws as laws}
+use Rattle.wasm_core_write.proofs.ChainArguments.{by_value, same_reason}
+use Rattle.wasm_core_write.proofs.ChainsOfOne.{chains}
 
 pub block_spec : {M : Type 1} → statement M
-block_spec 𝓤 𝓛 𝓜 𝓡 wired =
-    chains 𝓤 𝓛 𝓜 𝓡 g.Key.name f.Key.name (λ ty. operator_encoding (operators.Block (block_type ty))) (code.unfolded 𝓤 𝓛.H 𝓜 𝓡 wired)
-    (met 𝓤 𝓛 𝓜 𝓡 (code.calls-wasm_encoder_instruction_sink::instruction_sink::InstructionSink::push_block 𝓡.env wired))
+block_spec 𝓤 𝓛 𝓜 𝓡 w = chains 𝓤 𝓛 𝓜 𝓡 0 R (by_value laws (λ x w. tt)) _ _ _ _ _ (λ κs a α δ new p. p) (λ κs a α δ s u. same_reason _ s u)
+    (code.unfolded 𝓤 𝓛.H 𝓜 𝓡 w) (met 𝓤 𝓛 𝓜 𝓡 (code.calls-wasm_encoder_instruction_sink::instruction_sink::InstructionSink::push_block 𝓡.env w))

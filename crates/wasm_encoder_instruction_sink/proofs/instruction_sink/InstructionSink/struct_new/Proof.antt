@@ -1,14 +1,10 @@
--- `struct_new` makes the call `push_struct_new`, as every chaining call with such arguments makes one. Written by tools/sink_chains.py.
-use Rattle.wasm_bodies.specs.Operators as operators
-use Rattle.wasm_encoder_instructions.specs.OperatorEncodings.{operator_encoding}
-use Rattle.wasm_encoder_instruction_sink.specs.contracts.instruction_sink.InstructionSink.struct_new as f
 use Rattle.wasm_encoder_instruction_sink.proofs.instruction_sink.InstructionSink.struct_new.Statement.{statement}
 use Rattle.wasm_encoder_instruction_sink.proofs.instruction_sink.InstructionSink.struct_new.Code as code
-use Rattle.wasm_encoder_instruction_sink.specs.contracts.instruction_sink.InstructionSink.push_struct_new as g
 use Rattle.wasm_encoder_instruction_sink.proofs.instruction_sink.InstructionSink.push_struct_new.Met.{met}
-use Rattle.wasm_encoder_instruction_sink.proofs.ChainsOfU32.{chains}
+use Rattle.wasm_encoder_instruction_sink.specs.contracts.instruction_sink.InstructionSink.{the_row as R}
+use Rattle.wasm_core_write.proofs.ChainArguments.{by_u32, same_reason}
+use Rattle.wasm_core_write.proofs.ChainsOfOne.{chains}
 
 pub struct_new_spec : {M : Type 1} → statement M
-struct_new_spec 𝓤 𝓛 𝓜 𝓡 wired =
-    chains 𝓤 𝓛 𝓜 𝓡 g.Key.name f.Key.name (λ type_index. operator_encoding (operators.StructNew type_index)) (code.unfolded 𝓤 𝓛.H 𝓜 𝓡 wired)
-    (met 𝓤 𝓛 𝓜 𝓡 (code.calls-wasm_encoder_instruction_sink::instruction_sink::InstructionSink::push_struct_new 𝓡.env wired))
+struct_new_spec 𝓤 𝓛 𝓜 𝓡 w = chains 𝓤 𝓛 𝓜 𝓡 0 R by_u32 _ _ _ _ _ (λ κs a α δ new p. p) (λ κs a α δ s u. same_reason _ s u)
+    (code.unfolded 𝓤 𝓛.H 𝓜 𝓡 w) (met 𝓤 𝓛 𝓜 𝓡 (code.calls-wasm_encoder_instruction_sink::instruction_sink::InstructionSink::push_struct_new 𝓡.env w))

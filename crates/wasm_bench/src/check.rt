@@ -5,8 +5,8 @@ use crate::shortest::tell_shortest;
 use std::alloc::Global;
 use std::fs;
 use std::rt::{Clock, Files};
-use wasm_gen_calls::check::{check, default_features};
-use wasm_gen_calls::codes::code_name;
+use wasm_gen_c_api::check::{check, default_features};
+use wasm_gen_c_api::codes::code_name;
 
 /// Prints the verdict on the file that the words name, and the shortest time, where it is timed at all.
 pub(crate) fn measure<R: Files + Print + Clock + AllocGlobal>(

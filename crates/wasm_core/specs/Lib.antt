@@ -7,6 +7,6 @@ pub mod ValTypeCases
 pub use Rattle.wasm_core_types.specs.CoreTypes
 pub use Rattle.wasm_core_write.specs.Encoding
 pub use Rattle.wasm_core_write.specs.ModuleBytes
-pub use Rattle.wasm_core_base.specs.Features
-pub use Rattle.wasm_core_base.specs.Limits
+pub use Rattle.wasm_core_types.specs.Features
+pub use Rattle.wasm_core_types.specs.Limits
 pub use Rattle.wasm_core_types.specs.SubTypes

@@ -1,6 +1,6 @@
 -- The types of the parts, under the name of this crate.
-pub use Rattle.wasm_core_base.specs.declared.features.WasmFeatures.{WasmFeatures}
-pub use Rattle.wasm_core_base.specs.declared.limits.Limit.{Limit}
+pub use Rattle.wasm_core_types.specs.declared.features.WasmFeatures.{WasmFeatures}
+pub use Rattle.wasm_core_types.specs.declared.limits.Limit.{Limit}
 pub use Rattle.wasm_core_read.specs.declared.malformed.Malformed.{Malformed}
 pub use Rattle.wasm_core_types.specs.declared.types.AbstractHeapType.{AbstractHeapType}
 pub use Rattle.wasm_core_types.specs.declared.types.HeapType.{HeapType}

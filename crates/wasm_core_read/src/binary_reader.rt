@@ -1,7 +1,7 @@
 //! A reader of the front of some bytes.
 
 ghost use Rattle.std.specs.Prelude.{◌≡◌, ℕ, ◌+◌, ◌<◌, ◌≤◌, ◌^◌, ◌↔◌, length, IsTrue, slice_get};
-ghost use Rattle.wasm_core_base.specs.Features.{feature_set};
+ghost use Rattle.wasm_core_types.specs.Features.{feature_set};
 ghost use Rattle.wasm_spec.specs.Bytes.{AreBytes, IsOneByte, IsU32, IsU64, IsS32, IsS33, IsS64, IsF32, IsF64, IsBytesOf, IsName};
 ghost use Rattle.wasm_spec.specs.Features.{default_features};
 ghost use Rattle.wasm_core_read.specs.Input.{end};
@@ -13,7 +13,7 @@ use crate::signed::signed_front;
 use crate::unsigned::unsigned_front;
 use crate::utf8::utf8;
 use std::marker::Model;
-use wasm_core_base::features::WasmFeatures;
+use wasm_core_types::features::WasmFeatures;
 
 /// A reader over bytes that stand in a larger input. Strings and slices that it gives are parts of the
 /// input, and no call takes memory.
@@ -29,7 +29,7 @@ pub struct BinaryReader<'a> {
 
 impl<'a> Model for BinaryReader<'a> {
     ghost use Rattle.std.specs.Prelude.{◌+◌, ◌<◌, ◌^◌, length};
-    ghost use Rattle.wasm_core_base.specs.Features.{feature_set};
+    ghost use Rattle.wasm_core_types.specs.Features.{feature_set};
     ghost use Rattle.wasm_spec.specs.Bytes.{AreBytes};
     ghost use Rattle.wasm_core_read.specs.Input.{Input};
 

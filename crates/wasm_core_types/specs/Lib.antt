@@ -1,2 +1,4 @@
 pub mod CoreTypes
+pub mod Features
+pub mod Limits
 pub mod SubTypes

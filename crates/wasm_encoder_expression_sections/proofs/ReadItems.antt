@@ -2,7 +2,7 @@
 use Rattle.std.proofs.Common.{◌≡◌, ℕ, ◌<◌, ◌^◌, Bool, true, false, nat_eq, List, [], ◌∷◌, ◌++◌, length, Option, Some, None, inl, inr, refl, sym, ap, subst, arith, if◌then◌else◌}
 use Rattle.std.specs.Bool.{⊤}
 use Rattle.std.specs.List.{AllByRecursion, AllZip}
-use Rattle.wasm_encoder_expressions.specs.Expressions.{expression_encoding}
+use Rattle.wasm_encoder_bodies.specs.Expressions.{expression_encoding}
 use Rattle.wasm_encoder_expression_sections.specs.ItemEncodings.{table_encoding, global_encoding, ElementMode, Active, Passive, Declared, Elements, Functions, Expressions, is_funcref, written_mode, form_encoding, element_encoding, DataMode, ActiveData, PassiveData, memory_encoding, data_encoding}
 use Rattle.wasm_encoder_expression_sections.specs.ReadItems.{ReadsAs, OptionReadsAs, ModeReadsAs, ElementsReadAs, SegmentReadsAs, DataReadsAs}
 use Rattle.wasm_encoder_expression_sections.proofs.ReadLists.{list}

@@ -1,7 +1,7 @@
 -- The encodings of tables, globals and segments that an encoder writes. Expressions are given as the bytes of their operators, without the end. Core
 -- Specification 3.0, Binary Format, "Modules".
 use Rattle.std.specs.Prelude.{ℕ, ◌+◌, nat_eq, Bool, true, false, List, [], ◌∷◌, ◌++◌, Option, Some, None, if◌then◌else◌}
-use Rattle.wasm_encoder_expressions.specs.Expressions.{expression_encoding}
+use Rattle.wasm_encoder_bodies.specs.Expressions.{expression_encoding}
 use Rattle.wasm_encoder_sections.specs.ItemEncodings.{table_type_encoding, global_type_encoding}
 use Rattle.wasm_spec.specs.Shortest.{unsigned_encoding, list_encoding, framed_encoding}
 use Rattle.wasm_spec.specs.TypeEncodings.{ref_encoding}

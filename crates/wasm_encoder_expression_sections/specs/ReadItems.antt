@@ -2,7 +2,7 @@
 -- bytes.
 use Rattle.std.specs.Prelude.{◌≡◌, ℕ, ◌<◌, ◌^◌, ⊤, nat_eq, List, length, Option, Some, None, if◌then◌else◌}
 use Rattle.std.specs.List.{AllByRecursion, AllZip}
-use Rattle.wasm_encoder_expressions.specs.Expressions.{expression_encoding}
+use Rattle.wasm_encoder_bodies.specs.Expressions.{expression_encoding}
 use Rattle.wasm_encoder_expression_sections.specs.ItemEncodings.{ElementMode, Active, Passive, Declared, Elements, Functions, Expressions, written_mode, DataMode, ActiveData, PassiveData}
 use Rattle.wasm_spec.specs.Constants.{ConstantExpression}
 use Rattle.wasm_spec.specs.ConstantGrammar.{IsConstantExpression}

@@ -12,7 +12,7 @@ use wasm_core_write::encode::{Encode, Section};
 use wasm_core_write::encode_error::EncodeError;
 use wasm_core_write::encoding::{Encoding, encode_framed, framed_len};
 use wasm_core_write::leb128::len_u64;
-use wasm_encoder_functions::function::Function;
+use wasm_encoder_bodies::function::Function;
 use wasm_encoder_sections::kept_list::KeptList;
 
 /// The bodies of a module's own functions. Contracts see the list of their bytes, each without its size.

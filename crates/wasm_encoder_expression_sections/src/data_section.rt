@@ -14,7 +14,7 @@ use wasm_core_write::encode::{Encode, Section};
 use wasm_core_write::encode_error::EncodeError;
 use wasm_core_write::encoding::{Encoding, add_sizes, encode_framed, framed_len};
 use wasm_core_write::leb128::len_u32;
-use wasm_encoder_expressions::const_expr::ConstExpr;
+use wasm_encoder_bodies::const_expr::ConstExpr;
 use wasm_encoder_sections::kept_list::KeptList;
 
 // A segment, or the bytes of one.

@@ -1,6 +1,6 @@
 //! Data segments (Core Specification, Structure, Modules, "Data Segments").
 
-use wasm_encoder_expressions::const_expr::ConstExpr;
+use wasm_encoder_bodies::const_expr::ConstExpr;
 
 /// When the bytes of a segment are used.
 #[derive(Clone, Copy, Debug)]

@@ -14,7 +14,7 @@ use std::marker::Model;
 use wasm_core_write::encode::{Encode, Section};
 use wasm_core_write::encode_error::EncodeError;
 use wasm_core_write::encoding::{Encoding, encode_framed, framed_len};
-use wasm_encoder_expressions::const_expr::ConstExpr;
+use wasm_encoder_bodies::const_expr::ConstExpr;
 use wasm_encoder_sections::kept_list::KeptList;
 
 // A segment, or the bytes of one.

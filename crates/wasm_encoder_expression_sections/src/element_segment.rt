@@ -1,7 +1,7 @@
 //! Element segments (Core Specification, Structure, Modules, "Element Segments").
 
 use wasm_core_types::types::RefType;
-use wasm_encoder_expressions::const_expr::ConstExpr;
+use wasm_encoder_bodies::const_expr::ConstExpr;
 
 /// When the elements of a segment are used.
 #[derive(Clone, Copy, Debug)]

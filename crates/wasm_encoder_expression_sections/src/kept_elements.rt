@@ -13,7 +13,7 @@ use wasm_core_types::types::{HeapType, RefType};
 use wasm_core_write::encode_error::EncodeError;
 use wasm_core_write::encoding::{Encoding, add_sizes, list_size, put_list};
 use wasm_core_write::type_encodings::heap_code_of;
-use wasm_encoder_expressions::const_expr::ConstExpr;
+use wasm_encoder_bodies::const_expr::ConstExpr;
 
 // The elements of a segment that is kept.
 #[derive(Debug, Drop)]

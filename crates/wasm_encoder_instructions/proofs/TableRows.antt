@@ -10,8 +10,8 @@ use Rattle.wasm_encoder_instructions.specs.declared.instruction.Instruction.TheV
 use Rattle.wasm_encoder_instructions.specs.declared.mem_arg.MemArg.{MemArg}
 use Rattle.wasm_spec.specs.Bytes.{AreBytes}
 use Rattle.wasm_encoder_instructions.specs.ScalarRows.{first_row, row_of, scalar_row}
-use Rattle.wasm_encoder_instructions.specs.declared.scalar_instruction.ScalarInstruction.{ScalarInstruction}
-use Rattle.wasm_encoder_instructions.specs.declared.scalar_instruction.ScalarInstruction.TheVariants as scalars
+use Rattle.wasm_core_types.specs.declared.scalar_operator.ScalarOperator.{ScalarOperator}
+use Rattle.wasm_core_types.specs.declared.scalar_operator.ScalarOperator.TheVariants as scalars
 use Rattle.wasm_spec.specs.SmallIndexes.{IsSmallIndex}
 
 either : (b : Bool) → (b ≡ true) ⊎ (b ≡ false)
@@ -39,7 +39,7 @@ row_at : (code : OperatorCode) → list_any (λ row. is_same_code code row.code)
 unfolding row_of
 row_at code e = row_in scalar_rows code e
 
-pub scalar_in : (it : ScalarInstruction) → Contains scalar_rows (scalar_row it)
+pub scalar_in : (it : ScalarOperator) → Contains scalar_rows (scalar_row it)
 scalar_in scalars.I32Eqz = row_at (Byte 0x45) refl
 scalar_in scalars.I32Eq = row_at (Byte 0x46) refl
 scalar_in scalars.I32Ne = row_at (Byte 0x47) refl

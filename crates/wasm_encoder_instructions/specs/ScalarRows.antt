@@ -1,8 +1,8 @@
 -- Instructions on numbers alone, each as its row of the table of operators.
 use Rattle.std.specs.Prelude.{ℕ, List, [], ◌∷◌, if◌then◌else◌}
 use Rattle.wasm_bodies.specs.OperatorRows.{OperatorCode, Byte, Prefixed, is_same_code, Int32, ScalarRow, scalar_rows}
-use Rattle.wasm_encoder_instructions.specs.declared.scalar_instruction.ScalarInstruction.{ScalarInstruction}
-use Rattle.wasm_encoder_instructions.specs.declared.scalar_instruction.ScalarInstruction.TheVariants as scalars
+use Rattle.wasm_core_types.specs.declared.scalar_operator.ScalarOperator.{ScalarOperator}
+use Rattle.wasm_core_types.specs.declared.scalar_operator.ScalarOperator.TheVariants as scalars
 
 -- the first row of a code, or else one that is in no table
 abbrev pub first_row : List ScalarRow → OperatorCode → ScalarRow
@@ -18,7 +18,7 @@ row_at code = row_of (Byte code)
 abbrev saturating : ℕ → ScalarRow
 saturating code = row_of (Prefixed 0xfc code)
 
-abbrev pub scalar_row : ScalarInstruction → ScalarRow
+abbrev pub scalar_row : ScalarOperator → ScalarRow
 scalar_row scalars.I32Eqz = row_at 0x45
 scalar_row scalars.I32Eq = row_at 0x46
 scalar_row scalars.I32Ne = row_at 0x47

@@ -5,7 +5,7 @@ use crate::block_type::BlockType;
 use crate::ieee::{Ieee32, Ieee64};
 use crate::mem_arg::MemArg;
 use crate::parts::{code_of, immediates_of};
-use crate::scalar_instruction::ScalarInstruction;
+use wasm_core_types::scalar_operator::ScalarOperator;
 use wasm_core_types::types::{HeapType, ValType};
 use wasm_core_write::encode::Encode;
 use wasm_core_write::encode_error::EncodeError;
@@ -145,7 +145,7 @@ pub enum Instruction<'a> {
     /// A float of 64 bits.
     F64Const(Ieee64),
     /// An instruction on numbers alone.
-    Scalar(ScalarInstruction),
+    Scalar(ScalarOperator),
     /// One of two operands of this type.
     TypedSelect(ValType),
     /// The same with a list of types. No valid body has one of another number than one.

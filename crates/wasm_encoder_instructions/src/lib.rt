@@ -11,6 +11,5 @@ pub mod instruction;
 pub mod laws;
 pub mod mem_arg;
 mod parts;
-pub mod scalar_instruction;
 mod scalars;
 pub mod small_instructions;

@@ -2,13 +2,13 @@
 
 use std::alloc::Global;
 use std::test::Fail;
+use wasm_core_types::scalar_operator::ScalarOperator;
 use wasm_core_types::types::{AbstractHeapType, HeapType};
 use wasm_core_write::encode::Encode;
 use wasm_core_write::encode_error::EncodeError;
-use wasm_encoder_expressions::const_expr::ConstExpr;
+use wasm_encoder_bodies::const_expr::ConstExpr;
 use wasm_encoder_instructions::ieee::{Ieee32, Ieee64};
 use wasm_encoder_instructions::instruction::Instruction;
-use wasm_encoder_instructions::scalar_instruction::ScalarInstruction;
 use wasm_test_rows::fields::two_fields;
 use wasm_test_rows::rows::check_rows;
 use wasm_test_rows::values::bytes_of;
@@ -60,7 +60,7 @@ fn all(alloc: Global) -> Result<ConstExpr, EncodeError> {
 fn extended(alloc: Global) -> Result<ConstExpr, EncodeError> {
     let first = Instruction::I32Const(7);
     let second = Instruction::I32Const(1);
-    let sum = Instruction::Scalar(ScalarInstruction::I32Add);
+    let sum = Instruction::Scalar(ScalarOperator::I32Add);
     ConstExpr::extended(alloc, [first, second, sum])
 }
 

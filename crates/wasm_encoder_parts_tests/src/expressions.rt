@@ -2,7 +2,7 @@
 
 use std::alloc::Global;
 use wasm_core_types::types::{AbstractHeapType, HeapType, RefType};
-use wasm_encoder_expressions::const_expr::ConstExpr;
+use wasm_encoder_bodies::const_expr::ConstExpr;
 use wasm_test_rows::values::bytes_of;
 
 /// The expression of these operators, which are bytes in hexadecimal digits.

@@ -6,7 +6,7 @@ use std::test::Fail;
 use wasm_core_types::types::{AbstractHeapType, HeapType, RefType, ValType};
 use wasm_core_write::encode::Encode;
 use wasm_core_write::encode_error::EncodeError;
-use wasm_encoder_functions::function::Function;
+use wasm_encoder_bodies::function::Function;
 use wasm_encoder_instructions::instruction::Instruction;
 use wasm_test_rows::fields::two_fields;
 use wasm_test_rows::rows::check_rows;

@@ -1,12 +1,12 @@
 //! Calls that append instructions and go on.
 
 use std::alloc::Global;
+use wasm_core_types::scalar_operator::ScalarOperator;
 use wasm_core_write::encode_error::EncodeError;
-use wasm_encoder_instruction_sink::instruction_sink::InstructionSink;
+use wasm_encoder_bodies::instruction_sink::InstructionSink;
 use wasm_encoder_instructions::block_type::BlockType;
 use wasm_encoder_instructions::instruction::Instruction;
 use wasm_encoder_instructions::mem_arg::MemArg;
-use wasm_encoder_instructions::scalar_instruction::ScalarInstruction;
 
 // A loop that goes on while what a memory holds is not 0.
 fn push_loop(sink: &mut InstructionSink) -> Result<(), EncodeError> {
@@ -16,7 +16,7 @@ fn push_loop(sink: &mut InstructionSink) -> Result<(), EncodeError> {
         memory_index: 1,
     };
     sink.loop_(BlockType::Empty)?.local_get(0)?.i32_load(place)?;
-    sink.push(&Instruction::Scalar(ScalarInstruction::I32Eqz))?;
+    sink.push(&Instruction::Scalar(ScalarOperator::I32Eqz))?;
     sink.br_if(0)?;
     sink.push(&Instruction::End)
 }

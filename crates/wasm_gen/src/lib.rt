@@ -1,17 +1,8 @@
 //! Modules made of seeds, seeds for lists of types and functions, sessions that validate modules, and the program's commands over
-//! readers and writers.
+//! readers and writers, in one place. The parts are `wasm_gen_sessions` and `wasm_gen_program`.
 #![tactic(auto)]
 
-pub mod check_inputs;
-pub mod device;
 pub mod error;
-pub mod generate;
-pub mod judge;
-pub mod laws;
-pub mod run;
-pub mod seed;
-pub mod session;
-pub mod smith;
-pub mod status;
-pub mod transfer;
-pub mod verdict;
+
+pub use wasm_gen_program::{check_inputs, device, run, status, transfer, verdict};
+pub use wasm_gen_sessions::{generate, judge, laws, seed, session, smith};

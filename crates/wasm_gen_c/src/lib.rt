@@ -2,17 +2,17 @@
 #![tactic(auto)]
 
 ghost use Rattle.std.specs.Prelude.{◌≡◌, length};
-ghost use Rattle.wasm_gen_calls.specs.Buffers.{buffer_with};
-ghost use Rattle.wasm_gen_calls.specs.Codes.{code_name};
-ghost use Rattle.wasm_gen_calls.specs.Generate.{IsMade, generated_features};
-ghost use Rattle.wasm_gen_calls.specs.Verdicts.{IsChecked};
+ghost use Rattle.wasm_gen_c_api.specs.Buffers.{buffer_with};
+ghost use Rattle.wasm_gen_c_api.specs.Codes.{code_name};
+ghost use Rattle.wasm_gen_c_api.specs.Generate.{IsMade, generated_features};
+ghost use Rattle.wasm_gen_c_api.specs.Verdicts.{IsChecked};
 ghost use Rattle.wasm_spec.specs.Features.{default_features};
 
 use std::alloc::Global;
-use wasm_gen_calls::check::{check, default_features};
-use wasm_gen_calls::codes::put_name;
-use wasm_gen_calls::generate::{generate, generated_features};
-use wasm_gen_calls::verdict::Verdict;
+use wasm_gen_c_api::check::{check, default_features};
+use wasm_gen_c_api::codes::put_name;
+use wasm_gen_c_api::generate::{generate, generated_features};
+use wasm_gen_c_api::verdict::Verdict;
 
 /// The version of these calls: another number where one takes or answers something else.
 #[unsafe(no_mangle)]

@@ -12,7 +12,7 @@ use std::rt::{Env, Files};
 use std::{env, io};
 use wasm_gen::error::RunError;
 use wasm_gen::status::status_of;
-use wasm_gen_words::asked::{Asked, WordsError, read_words};
+use wasm_gen_program::asked::{Asked, WordsError, read_words};
 
 fn main(rt: HostRuntime) -> ExitCode {
     ExitCode::from(run(&rt))

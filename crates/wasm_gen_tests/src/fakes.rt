@@ -1,7 +1,7 @@
 //! Readers and writers that fail as a test asks.
 ghost use Rattle.std.specs.Prelude.{◌≡◌, ◌+◌, IfOk, IfSome, Some};
 ghost use Rattle.std.specs.Option.{option_map};
-ghost use Rattle.wasm_gen.specs.Device.{FailsWrite, Tells};
+ghost use Rattle.wasm_gen_program.specs.Device.{FailsWrite, Tells};
 
 use std::alloc::Global;
 use std::io;
@@ -109,7 +109,7 @@ impl TellingReader<'_> {
 }
 
 impl Source for TellingReader<'_> {
-    ghost use Rattle.wasm_gen.specs.Device.{ReadCounts};
+    ghost use Rattle.wasm_gen_program.specs.Device.{ReadCounts};
 
     ghost remaining = { λ s. Some s.rest.now };
 

@@ -3,8 +3,8 @@
 use clap::{ArgMatches, Error};
 use std::alloc::{AllocError, Global};
 use std::test::Fail;
-use wasm_gen_words::asked::{Asked, WordsError, read_words};
-use wasm_gen_words::command::matches_of;
+use wasm_gen_program::asked::{Asked, WordsError, read_words};
+use wasm_gen_program::command::matches_of;
 use wasm_test_rows::fields::three_fields;
 use wasm_test_rows::rows::check_rows;
 

@@ -11,7 +11,7 @@ pub use Rattle.wasm_smith_types.specs.ValidGroups
 pub use Rattle.wasm_smith_types.specs.Grouped
 pub use Rattle.wasm_smith_validity.specs.Made
 pub use Rattle.wasm_smith_validity.specs.Validity
-pub use Rattle.wasm_smith_items.specs.Items
+pub use Rattle.wasm_smith_definitions.specs.Items
 pub use Rattle.wasm_smith_sections.specs.ModuleEncoding
 pub use Rattle.wasm_smith_module.specs.ArbitraryModules
 pub use Rattle.wasm_smith_module.specs.Bounds

@@ -6,7 +6,7 @@ use Rattle.std.proofs.lemmas.Bool.Decides.{eqb_tells, nat_tests}
 use Rattle.std.proofs.lemmas.List.{drop_all}
 use Rattle.std.proofs.lemmas.Nat.{and_or_self, and_or_apart, or_lt}
 use Rattle.wasm_spec.specs.Features.{bit_of, MutableGlobal, SaturatingFloatToInt, SignExtension, ReferenceTypes, MultiValue, BulkMemory, Simd, RelaxedSimd, Threads, TailCall, Floats, MultiMemory, Exceptions, Memory64, ExtendedConst, FunctionReferences, Gc, GcTypes, CustomPageSizes, CompactImports, WideArithmetic, StackSwitching}
-use Rattle.wasm_core_base.specs.declared.features.WasmFeatures.{WasmFeatures}
+use Rattle.wasm_core_types.specs.declared.features.WasmFeatures.{WasmFeatures}
 use Rattle.wasm_smith_config.specs.Config.{AreFeaturesOf}
 use Rattle.wasm_smith_config.specs.Rows.{rows_of, switches}
 use Rattle.wasm_smith_config.specs.declared.config.Config.{Config}

@@ -1,7 +1,7 @@
 -- Rows of a flag and whether it is on.
 use Rattle.std.specs.Prelude.{ℕ, Bool, List, [], ◌∷◌, map}
-use Rattle.wasm_core_base.specs.Features.{feature_set}
-use Rattle.wasm_core_base.specs.declared.features.WasmFeatures.{WasmFeatures}
+use Rattle.wasm_core_types.specs.Features.{feature_set}
+use Rattle.wasm_core_types.specs.declared.features.WasmFeatures.{WasmFeatures}
 use Rattle.wasm_spec.specs.Features.{bit_of, MutableGlobal, SaturatingFloatToInt, SignExtension, ReferenceTypes, MultiValue, BulkMemory, Simd, RelaxedSimd, Threads, TailCall, Floats, MultiMemory, Exceptions, Memory64, ExtendedConst, FunctionReferences, Gc, GcTypes, CustomPageSizes, CompactImports, WideArithmetic, StackSwitching}
 use Rattle.wasm_smith_config.specs.declared.config.Config.{Config}
 use Rattle.wasm_smith_config.specs.Config.{is_on}

@@ -5,7 +5,7 @@ ghost use Rattle.std.specs.List.{AllZip};
 
 use crate::instruction_kinds::InstructionKinds;
 use crate::memory_offset_choices::MemoryOffsetChoices;
-use wasm_core_base::features::{Flags, WasmFeatures};
+use wasm_core_types::features::{Flags, WasmFeatures};
 
 /// The most bytes that a memory of 32-bit addresses has where nothing else is said.
 pub const DEFAULT_MEMORY32_BYTES: u64 = 0x1_0000_0000;
@@ -205,7 +205,7 @@ impl Default for Config {
 }
 
 impl Config {
-    ghost use Rattle.wasm_core_base.specs.Features.{feature_set};
+    ghost use Rattle.wasm_core_types.specs.Features.{feature_set};
     ghost use Rattle.wasm_smith_config.specs.Config.{sanitized, booleans, upper_limits, AreFeaturesOf};
     ghost use Rattle.wasm_smith_config.specs.Rows.{rows_of, switches};
 

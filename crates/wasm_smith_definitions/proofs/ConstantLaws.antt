@@ -8,9 +8,9 @@ use Rattle.wasm_spec.specs.Subtyping.{same}
 use Rattle.wasm_spec.specs.Types.{Concrete, ValType, I32, I64, F32, F64, V128, Ref, SubType, GlobalType}
 use Rattle.wasm_spec.proofs.Places.{get_left}
 use Rattle.wasm_smith_config.specs.declared.config.Config.{Config}
-use Rattle.wasm_smith_items.specs.Items.{on_i32, on_i64}
-use Rattle.wasm_smith_items.specs.declared.constant.Operation.{Operation}
-use Rattle.wasm_smith_items.specs.declared.constant.Operation.TheVariants.{Add, Sub, Mul}
+use Rattle.wasm_smith_definitions.specs.Items.{on_i32, on_i64}
+use Rattle.wasm_smith_definitions.specs.declared.constant.Operation.{Operation}
+use Rattle.wasm_smith_definitions.specs.declared.constant.Operation.TheVariants.{Add, Sub, Mul}
 use Rattle.wasm_smith_types.specs.ValidGroups.{AllKeepTypeRules}
 use Rattle.wasm_smith_validity.specs.Constants.{IsBelow, IsOperation, Scope, scope}
 use Rattle.wasm_smith_validity.specs.Spaces.{Spaces, functions_of, globals_of, is_value}

@@ -1,3 +1,9 @@
 pub mod ConstantLaws
+pub mod FrameLaws
+pub mod FunctionTypeLaws
+pub mod IndexLaws
 pub mod OfferedLaws
+pub mod SizeLaws
+pub mod SpaceLaws
+pub mod StepLaws
 pub mod TableLaws

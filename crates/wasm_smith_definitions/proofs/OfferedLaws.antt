@@ -20,8 +20,8 @@ use Rattle.wasm_smith_types.specs.Drawing.{Offers, bool_if, value_at}
 use Rattle.wasm_smith_types.specs.Permitted.{IsPermittedValue, SuitsValues}
 use Rattle.wasm_smith_types.proofs.OfferingLaws.{values_suit}
 use Rattle.wasm_smith_types.proofs.PermittedLaws.{value_permitted}
-use Rattle.wasm_smith_items.specs.Kinds.{of_memory}
-use Rattle.wasm_smith_items.specs.Steps.{Allows}
+use Rattle.wasm_smith_definitions.specs.Kinds.{of_memory}
+use Rattle.wasm_smith_definitions.specs.Steps.{Allows}
 use Rattle.wasm_smith_validity.specs.Rules.{keeps_memory}
 use Rattle.wasm_smith_validity.specs.Spaces.{Spaces, is_named, is_value}
 use Rattle.wasm_smith_definitions.specs.Constants.{MayWrite, has_plain}

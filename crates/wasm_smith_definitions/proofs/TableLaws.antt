@@ -9,8 +9,8 @@ use Rattle.wasm_validity.specs.Rules.{value_of}
 use Rattle.wasm_validity.specs.TypeRules.{is_funcref}
 use Rattle.wasm_smith_config.specs.Config.{AreFeaturesOf, sanitized}
 use Rattle.wasm_smith_config.specs.declared.config.Config.{Config}
-use Rattle.wasm_smith_items.specs.Kinds.{of_table}
-use Rattle.wasm_smith_items.specs.Steps.{Allows}
+use Rattle.wasm_smith_definitions.specs.Kinds.{of_table}
+use Rattle.wasm_smith_definitions.specs.Steps.{Allows}
 use Rattle.wasm_smith_types.specs.Drawing.{Offers, reference_at}
 use Rattle.wasm_smith_types.specs.Permitted.{IsPermittedValue, SuitsValues}
 use Rattle.wasm_smith_types.proofs.OfferingLaws.{values_suit}

@@ -5,8 +5,8 @@ use Rattle.wasm_spec.specs.Features.{Features}
 use Rattle.wasm_spec.specs.Types.{ValType, I32, I64, F32, F64, V128, Ref}
 use Rattle.wasm_smith_config.specs.Config.{AreFeaturesOf}
 use Rattle.wasm_smith_config.specs.declared.config.Config.{Config}
-use Rattle.wasm_smith_items.specs.Items.{on_i32, on_i64}
-use Rattle.wasm_smith_items.specs.declared.constant.Operation.{Operation}
+use Rattle.wasm_smith_definitions.specs.Items.{on_i32, on_i64}
+use Rattle.wasm_smith_definitions.specs.declared.constant.Operation.{Operation}
 use Rattle.wasm_smith_validity.specs.Constants.{IsConstant, scope}
 use Rattle.wasm_smith_validity.specs.Spaces.{Spaces, is_value}
 use Rattle.wasm_smith_definitions.specs.declared.candidates.Form.{Form}

@@ -10,12 +10,12 @@ ghost use Rattle.wasm_spec.specs.Constants.{GlobalGet, RefFunc};
 ghost use Rattle.wasm_spec.specs.Types.{Concrete, Ref};
 
 use crate::draws::index_below;
+use crate::index_spaces::IndexSpaces;
 use crate::item_lists::ItemLists;
 use crate::merged::Merged;
 use std::alloc::{AllocError, Global};
 use wasm_core_types::types::{HeapType, RefType, SubType, ValType};
 use wasm_smith_config::config::Config;
-use wasm_smith_items::index_spaces::IndexSpaces;
 use wasm_smith_types::subtyping::is_ref_below;
 use wasm_smith_unstructured::unstructured::Unstructured;
 

@@ -3,17 +3,17 @@
 ghost use Rattle.std.specs.Prelude.{◌≡◌, ◌≤◌, ◌⊎◌, true, false, length, IfOk, IfErr, IsTrue};
 ghost use Rattle.wasm_core_types.specs.CoreTypes.{val_type};
 ghost use Rattle.wasm_smith_definitions.specs.Constants.{Fits, Gives, has_plain, IsInteger, IsOnIntegers, IsPlain, MayWrite};
-ghost use Rattle.wasm_smith_items.specs.Items.{expression};
+ghost use Rattle.wasm_smith_definitions.specs.Items.{expression};
 ghost use Rattle.wasm_smith_types.specs.ValidGroups.{AllKeepTypeRules};
 
 use crate::candidates::{Candidates, Form, can_get, can_refer};
+use crate::constant::{Constant, Operation};
 use crate::draws::{bits32, bits64, index_below};
+use crate::index_spaces::IndexSpaces;
 use std::alloc::{AllocError, Global};
 use wasm_core_types::types::ValType;
 use wasm_smith_config::config::Config;
 use wasm_smith_config::error::Error;
-use wasm_smith_items::constant::{Constant, Operation};
-use wasm_smith_items::index_spaces::IndexSpaces;
 use wasm_smith_unstructured::unstructured::Unstructured;
 
 /// Draws constant expressions. It keeps the globals and functions that constants may name, so it is made once for the index spaces of a module, and looks

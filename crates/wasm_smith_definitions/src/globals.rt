@@ -4,20 +4,20 @@ ghost use Rattle.std.specs.Prelude.{◌≡◌, ◌≤◌, map, IfOk, IfErr, leng
 ghost use Rattle.wasm_core_types.specs.CoreTypes.{val_type};
 ghost use Rattle.wasm_smith_config.specs.declared.config.Config.{Config};
 ghost use Rattle.wasm_smith_definitions.specs.Offered.{AreOffersOf, IsOfferedValue};
-ghost use Rattle.wasm_smith_items.specs.Items as items;
-ghost use Rattle.wasm_smith_items.specs.Kinds.{AnyBound, of_global, wanted_globals};
-ghost use Rattle.wasm_smith_items.specs.Steps.{Allows, IsGrown};
+ghost use Rattle.wasm_smith_definitions.specs.Items as items;
+ghost use Rattle.wasm_smith_definitions.specs.Kinds.{AnyBound, of_global, wanted_globals};
+ghost use Rattle.wasm_smith_definitions.specs.Steps.{Allows, IsGrown};
 ghost use Rattle.wasm_smith_types.specs.ValidGroups.{AllKeepTypeRules};
 
 use crate::constants::Constants;
+use crate::index_spaces::IndexSpaces;
+use crate::items::Global;
 use crate::lists::push;
 use crate::value_types::global_value;
 use std::alloc;
 use wasm_encoder_sections::entity_type::{ExportKind, GlobalType};
 use wasm_smith_config::config::Config;
 use wasm_smith_config::error::Error;
-use wasm_smith_items::index_spaces::IndexSpaces;
-use wasm_smith_items::items::Global;
 use wasm_smith_types::growing::grows;
 use wasm_smith_types::value_types::Offers;
 use wasm_smith_unstructured::unstructured::Unstructured;

@@ -3,15 +3,15 @@
 ghost use Rattle.std.specs.Prelude.{◌≡◌, ◌≤◌, true, map, IfOk, is_some, length};
 ghost use Rattle.wasm_encoder_sections.specs.CoreItems.{memory_type};
 ghost use Rattle.wasm_smith_definitions.specs.Offered.{HasByteLimits, IsOfferedMemory, most_pages_for};
-ghost use Rattle.wasm_smith_items.specs.Kinds.{of_memory, wanted_memories};
-ghost use Rattle.wasm_smith_items.specs.Steps.{IsGrown};
+ghost use Rattle.wasm_smith_definitions.specs.Kinds.{of_memory, wanted_memories};
+ghost use Rattle.wasm_smith_definitions.specs.Steps.{IsGrown};
 ghost use Rattle.wasm_validity.specs.TypeRules.{is_page_size};
 
 use crate::bounds::bounds_within;
+use crate::index_spaces::IndexSpaces;
 use std::alloc::{AllocError, Global};
 use wasm_encoder_sections::entity_type::{ExportKind, MemoryType};
 use wasm_smith_config::config::Config;
-use wasm_smith_items::index_spaces::IndexSpaces;
 use wasm_smith_types::growing::{bool_if, grows};
 use wasm_smith_unstructured::unstructured::Unstructured;
 

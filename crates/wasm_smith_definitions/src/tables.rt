@@ -4,13 +4,15 @@ ghost use Rattle.std.specs.Prelude.{◌≡◌, ◌≤◌, ◌<◌, [], length, m
 ghost use Rattle.wasm_encoder_sections.specs.CoreItems.{table_type};
 ghost use Rattle.wasm_smith_definitions.specs.Bounds.{IsBoundedTable};
 ghost use Rattle.wasm_smith_definitions.specs.Offered.{AreOffersOf, HasFewTables, IsOfferedTable, most_elements_for};
-ghost use Rattle.wasm_smith_items.specs.Items as items;
-ghost use Rattle.wasm_smith_items.specs.Kinds.{of_table, wanted_tables};
-ghost use Rattle.wasm_smith_items.specs.Steps.{Allows, IsGrown};
+ghost use Rattle.wasm_smith_definitions.specs.Items as items;
+ghost use Rattle.wasm_smith_definitions.specs.Kinds.{of_table, wanted_tables};
+ghost use Rattle.wasm_smith_definitions.specs.Steps.{Allows, IsGrown};
 ghost use Rattle.wasm_smith_types.specs.ValidGroups.{AllKeepTypeRules};
 
 use crate::bounds::bounds_within;
 use crate::constants::Constants;
+use crate::index_spaces::IndexSpaces;
+use crate::items::Table;
 use crate::lists::push;
 use crate::value_types::table_element;
 use std::alloc::Global;
@@ -18,8 +20,6 @@ use wasm_core_types::types::ValType;
 use wasm_encoder_sections::entity_type::{ExportKind, TableType};
 use wasm_smith_config::config::Config;
 use wasm_smith_config::error::Error;
-use wasm_smith_items::index_spaces::IndexSpaces;
-use wasm_smith_items::items::Table;
 use wasm_smith_types::growing::{bool_if, grows};
 use wasm_smith_types::value_types::Offers;
 use wasm_smith_unstructured::unstructured::Unstructured;

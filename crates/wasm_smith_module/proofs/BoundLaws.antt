@@ -5,15 +5,15 @@ use Rattle.wasm_spec.specs.Syntax.{Export}
 use Rattle.wasm_spec.specs.Types.{ValType, TableKind, MemoryKind, GlobalKind}
 use Rattle.wasm_smith_config.specs.Config.{IsGood}
 use Rattle.wasm_smith_config.specs.declared.config.Config.{Config}
-use Rattle.wasm_smith_exports.specs.Exports.{HasShortName}
-use Rattle.wasm_smith_exports.specs.Sizes.{exports_size}
-use Rattle.wasm_smith_imports.specs.Candidates.{type_sizes}
-use Rattle.wasm_smith_imports.specs.Named.{all_named}
-use Rattle.wasm_smith_imports.specs.Named as named
-use Rattle.wasm_smith_imports.specs.declared.names.DuplicateImportsBehavior.{DuplicateImportsBehavior}
-use Rattle.wasm_smith_items.proofs.FrameLaws.{kept_by}
-use Rattle.wasm_smith_items.specs.Kinds.{of_element, of_memory, of_table}
-use Rattle.wasm_smith_segments.specs.Elements.{IsBoundedElement}
+use Rattle.wasm_smith_externs.specs.Exports.{HasShortName}
+use Rattle.wasm_smith_externs.specs.Sizes.{exports_size}
+use Rattle.wasm_smith_externs.specs.Candidates.{type_sizes}
+use Rattle.wasm_smith_externs.specs.Named.{all_named}
+use Rattle.wasm_smith_externs.specs.Named as named
+use Rattle.wasm_smith_externs.specs.declared.names.DuplicateImportsBehavior.{DuplicateImportsBehavior}
+use Rattle.wasm_smith_definitions.proofs.FrameLaws.{kept_by}
+use Rattle.wasm_smith_definitions.specs.Kinds.{of_element, of_memory, of_table}
+use Rattle.wasm_smith_module.specs.Elements.{IsBoundedElement}
 use Rattle.wasm_smith_types.specs.Offering.{offers}
 use Rattle.wasm_smith_types.specs.ValidGroups.{types_of}
 use Rattle.wasm_smith_validity.specs.Made.{Made}

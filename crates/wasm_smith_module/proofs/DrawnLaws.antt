@@ -5,14 +5,14 @@ use Rattle.std.specs.Prelude.{IfSome, nat_lt, option_map, ◌==◌}
 use Rattle.wasm_spec.specs.Syntax.{ImportEntry}
 use Rattle.wasm_spec.specs.Types.{SubType, RecGroup, ValType}
 use Rattle.wasm_smith_config.specs.declared.config.Config.{Config}
-use Rattle.wasm_smith_exports.specs.Exports.{wanted_exports}
-use Rattle.wasm_smith_items.specs.FunctionTypes.{function_indexes}
-use Rattle.wasm_smith_items.specs.Indexes.{index_at}
-use Rattle.wasm_smith_exports.specs.Wanted.{functions_at, of_tag, start_at, wanted_tags}
-use Rattle.wasm_smith_imports.specs.Imports.{asked_imports, of_import}
-use Rattle.wasm_smith_imports.specs.declared.names.DuplicateImportsBehavior.{DuplicateImportsBehavior}
-use Rattle.wasm_smith_items.specs.Kinds.{wanted_data, wanted_elements, wanted_globals, wanted_memories, wanted_tables}
-use Rattle.wasm_smith_items.specs.Steps.{IsGrown, Wanted, asked}
+use Rattle.wasm_smith_externs.specs.Exports.{wanted_exports}
+use Rattle.wasm_smith_definitions.specs.FunctionTypes.{function_indexes}
+use Rattle.wasm_smith_definitions.specs.Indexes.{index_at}
+use Rattle.wasm_smith_externs.specs.Wanted.{functions_at, of_tag, start_at, wanted_tags}
+use Rattle.wasm_smith_externs.specs.Imports.{asked_imports, of_import}
+use Rattle.wasm_smith_externs.specs.declared.names.DuplicateImportsBehavior.{DuplicateImportsBehavior}
+use Rattle.wasm_smith_definitions.specs.Kinds.{wanted_data, wanted_elements, wanted_globals, wanted_memories, wanted_tables}
+use Rattle.wasm_smith_definitions.specs.Steps.{IsGrown, Wanted, asked}
 use Rattle.wasm_validity.specs.Entries.{Entry}
 use Rattle.wasm_smith_types.specs.DrawnGroups.{drawn_groups_at}
 use Rattle.wasm_smith_types.specs.Growing.{grows_at, grows_from}

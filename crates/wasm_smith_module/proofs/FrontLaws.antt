@@ -4,12 +4,12 @@ use Rattle.wasm_spec.specs.Syntax.{ImportEntry, Table, Global}
 use Rattle.wasm_spec.specs.Types.{SubType, MemoryType, FuncKind, TagKind}
 use Rattle.wasm_smith_config.specs.Config.{IsGood}
 use Rattle.wasm_smith_config.specs.declared.config.Config.{Config}
-use Rattle.wasm_smith_exports.specs.Wanted.{of_function, of_tag}
-use Rattle.wasm_smith_imports.specs.declared.names.DuplicateImportsBehavior.{DuplicateImportsBehavior}
-use Rattle.wasm_smith_items.proofs.FrameLaws.{kept_by}
-use Rattle.wasm_smith_items.specs.Kinds.{of_global, of_memory, of_table}
-use Rattle.wasm_smith_items.specs.Steps.{TablesKeep}
-use Rattle.wasm_smith_segments.specs.Elements.{AreNullable}
+use Rattle.wasm_smith_externs.specs.Wanted.{of_function, of_tag}
+use Rattle.wasm_smith_externs.specs.declared.names.DuplicateImportsBehavior.{DuplicateImportsBehavior}
+use Rattle.wasm_smith_definitions.proofs.FrameLaws.{kept_by}
+use Rattle.wasm_smith_definitions.specs.Kinds.{of_global, of_memory, of_table}
+use Rattle.wasm_smith_definitions.specs.Steps.{TablesKeep}
+use Rattle.wasm_smith_module.specs.Elements.{AreNullable}
 use Rattle.wasm_smith_validity.specs.Spaces.{Spaces, functions_of, spaces_of_types}
 use Rattle.wasm_smith_module.proofs.GoodLaws.{funcs_small, tags_small}
 use Rattle.wasm_smith_module.proofs.ImportedLaws.{imported_nullable, imported_tables, imports_later, later, own_nullable, own_tables}

@@ -10,14 +10,14 @@ use Rattle.wasm_spec.specs.Types.{SubType, TableType, ExternalType, FuncExternal
 use Rattle.wasm_smith_config.specs.Config.{AreFeaturesOf}
 use Rattle.wasm_smith_config.specs.declared.config.Config.{Config}
 use Rattle.wasm_smith_definitions.specs.Bounds.{IsBoundedTable}
-use Rattle.wasm_smith_imports.proofs.ImportLaws.{spaces_by_entries}
-use Rattle.wasm_smith_imports.specs.Candidates.{IsOfferedImport}
-use Rattle.wasm_smith_imports.specs.Imports.{of_import}
-use Rattle.wasm_smith_imports.specs.Named.{all_named, types_of}
-use Rattle.wasm_smith_items.proofs.FrameLaws.{kept_by}
-use Rattle.wasm_smith_items.specs.Kinds.{of_table}
-use Rattle.wasm_smith_items.specs.Steps.{IsStep, TablesKeep}
-use Rattle.wasm_smith_segments.specs.Elements.{AreNullable}
+use Rattle.wasm_smith_externs.proofs.ImportLaws.{spaces_by_entries}
+use Rattle.wasm_smith_externs.specs.Candidates.{IsOfferedImport}
+use Rattle.wasm_smith_externs.specs.Imports.{of_import}
+use Rattle.wasm_smith_externs.specs.Named.{all_named, types_of}
+use Rattle.wasm_smith_definitions.proofs.FrameLaws.{kept_by}
+use Rattle.wasm_smith_definitions.specs.Kinds.{of_table}
+use Rattle.wasm_smith_definitions.specs.Steps.{IsStep, TablesKeep}
+use Rattle.wasm_smith_module.specs.Elements.{AreNullable}
 use Rattle.wasm_smith_types.proofs.ListLaws.{all_append}
 use Rattle.wasm_smith_validity.specs.Rules.{KeepAll, is_table_type, keep_items, keeps_item}
 use Rattle.wasm_smith_validity.specs.Spaces.{Spaces, spaces_after, spaces_after_all, with_item, with_items}

@@ -6,9 +6,9 @@ use Rattle.wasm_smith_config.specs.Config.{IsGood, NamesBad, fields}
 use Rattle.wasm_smith_config.specs.declared.config.Config.{Config}
 use Rattle.wasm_smith_config.specs.declared.error.Error.{Error}
 use Rattle.wasm_smith_config.specs.declared.error.Error.TheVariants.{IncorrectFormat, EmptyChoose, NotEnoughData, BadConfig, BadShape, TypeSize, Memory, TooLong}
-use Rattle.wasm_smith_imports.specs.Named.{HasPlainName, all_named, have_same_names}
-use Rattle.wasm_smith_imports.specs.declared.names.DuplicateImportsBehavior.{DuplicateImportsBehavior}
-use Rattle.wasm_smith_imports.specs.declared.names.DuplicateImportsBehavior.TheVariants.{Allowed, Disallowed}
+use Rattle.wasm_smith_externs.specs.Named.{HasPlainName, all_named, have_same_names}
+use Rattle.wasm_smith_externs.specs.declared.names.DuplicateImportsBehavior.{DuplicateImportsBehavior}
+use Rattle.wasm_smith_externs.specs.declared.names.DuplicateImportsBehavior.TheVariants.{Allowed, Disallowed}
 use Rattle.wasm_smith_types.proofs.GroupedLaws.{types_of_grouped}
 use Rattle.wasm_smith_types.specs.Drawing.{Offers}
 use Rattle.wasm_smith_types.specs.DrawnGroups.{AskForMore}

@@ -2,7 +2,7 @@
 use Rattle.std.proofs.Common.{◌≡◌, ℕ, Bool, List, [], ◌∷◌, ◌++◌, map, refl, sym, ap, ◌∙◌}
 use Rattle.wasm_core_types.specs.CoreTypes.{val_type}
 use Rattle.wasm_core_types.specs.declared.types.ValType.{ValType}
-use Rattle.wasm_encoder_functions.specs.Locals.{locals_encoding, AreRunsOf}
+use Rattle.wasm_encoder_bodies.specs.Locals.{locals_encoding, AreRunsOf}
 use Rattle.wasm_spec.specs.Types as spec
 use Rattle.wasm_smith_sections.specs.ModuleEncoding.{as_run, IsBodyEncoding, AreBodyEncodings, IsModuleEncoding, encoding_with}
 use Rattle.wasm_smith_sections.proofs.CodeTypes.{code_type, same_code_type, type_there}

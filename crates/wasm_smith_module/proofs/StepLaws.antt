@@ -3,12 +3,12 @@ use Rattle.std.proofs.Common.{◌≡◌, ℕ, ◌+◌, List, [], ◌∷◌, ◌+
 use Rattle.std.specs.Option.{option_to_list}
 use Rattle.wasm_spec.specs.Syntax.{Export, ElementSegment, DataSegment}
 use Rattle.wasm_smith_config.specs.declared.config.Config.{Config}
-use Rattle.wasm_smith_exports.specs.Wanted.{of_start}
-use Rattle.wasm_smith_imports.specs.Imports.{of_import}
-use Rattle.wasm_smith_imports.specs.declared.names.DuplicateImportsBehavior.{DuplicateImportsBehavior}
-use Rattle.wasm_smith_items.proofs.FrameLaws.{kept_by}
-use Rattle.wasm_smith_items.specs.Kinds.{of_data, of_element, of_export, of_global}
-use Rattle.wasm_smith_items.specs.Steps.{IsStep}
+use Rattle.wasm_smith_externs.specs.Wanted.{of_start}
+use Rattle.wasm_smith_externs.specs.Imports.{of_import}
+use Rattle.wasm_smith_externs.specs.declared.names.DuplicateImportsBehavior.{DuplicateImportsBehavior}
+use Rattle.wasm_smith_definitions.proofs.FrameLaws.{kept_by}
+use Rattle.wasm_smith_definitions.specs.Kinds.{of_data, of_element, of_export, of_global}
+use Rattle.wasm_smith_definitions.specs.Steps.{IsStep}
 use Rattle.wasm_smith_types.specs.ValidGroups.{types_of}
 use Rattle.wasm_smith_validity.specs.Made.{Made}
 use Rattle.wasm_smith_validity.specs.Spaces.{Spaces, spaces_after, spaces_after_all, spaces_of_types}

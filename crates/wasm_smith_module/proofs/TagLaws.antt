@@ -9,11 +9,11 @@ use Rattle.wasm_spec.specs.Types.{MemoryType}
 use Rattle.wasm_validity.specs.Entries.{Entry}
 use Rattle.wasm_smith_config.specs.Config.{AreFeaturesOf}
 use Rattle.wasm_smith_config.specs.declared.config.Config.{Config}
-use Rattle.wasm_smith_exports.specs.Wanted.{of_function, of_tag}
-use Rattle.wasm_smith_items.specs.Kinds.{of_memory, of_table}
-use Rattle.wasm_smith_items.specs.Steps.{IsStep}
-use Rattle.wasm_smith_items.proofs.FrameLaws.{kept}
-use Rattle.wasm_smith_items.proofs.StepLaws.{keep_append, known_append}
+use Rattle.wasm_smith_externs.specs.Wanted.{of_function, of_tag}
+use Rattle.wasm_smith_definitions.specs.Kinds.{of_memory, of_table}
+use Rattle.wasm_smith_definitions.specs.Steps.{IsStep}
+use Rattle.wasm_smith_definitions.proofs.FrameLaws.{kept}
+use Rattle.wasm_smith_definitions.proofs.StepLaws.{keep_append, known_append}
 use Rattle.wasm_smith_validity.specs.Rules.{KeepAll, KeepsRule, may_be_thrown}
 use Rattle.wasm_smith_validity.specs.Spaces.{Spaces, func_type_at, spaces_after, spaces_after_all}
 use Rattle.wasm_smith_validity.proofs.MadeSections.{of_tags}

@@ -4,13 +4,13 @@ use Rattle.std.specs.List.{AllByRecursion}
 use Rattle.wasm_smith_config.specs.declared.config.Config.{Config}
 use Rattle.wasm_smith_definitions.specs.Bounds.{IsBoundedTable}
 use Rattle.wasm_smith_definitions.specs.Offered.{IsOfferedMemory}
-use Rattle.wasm_smith_exports.specs.Exports.{HasShortName}
-use Rattle.wasm_smith_exports.specs.Sizes.{exports_size}
-use Rattle.wasm_smith_imports.specs.Candidates.{IsOfferedImport, type_sizes}
-use Rattle.wasm_smith_imports.specs.Imports.{IsMadeEntry, import_count}
-use Rattle.wasm_smith_imports.specs.Named.{IsShortlyNamed, all_named}
-use Rattle.wasm_smith_imports.specs.Named as named
-use Rattle.wasm_smith_segments.specs.Elements.{IsBoundedElement}
+use Rattle.wasm_smith_externs.specs.Exports.{HasShortName}
+use Rattle.wasm_smith_externs.specs.Sizes.{exports_size}
+use Rattle.wasm_smith_externs.specs.Candidates.{IsOfferedImport, type_sizes}
+use Rattle.wasm_smith_externs.specs.Imports.{IsMadeEntry, import_count}
+use Rattle.wasm_smith_externs.specs.Named.{IsShortlyNamed, all_named}
+use Rattle.wasm_smith_externs.specs.Named as named
+use Rattle.wasm_smith_module.specs.Elements.{IsBoundedElement}
 use Rattle.wasm_smith_types.specs.Bounds.{AreSmall}
 use Rattle.wasm_smith_types.specs.DrawnGroups.{AreSome}
 use Rattle.wasm_smith_types.specs.ValidGroups.{types_of}

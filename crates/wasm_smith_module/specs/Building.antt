@@ -10,18 +10,18 @@ use Rattle.wasm_smith_config.specs.declared.error.Error.{Error}
 use Rattle.wasm_smith_config.specs.declared.error.Error.TheVariants.{IncorrectFormat, EmptyChoose, NotEnoughData, BadConfig, BadShape, TypeSize, Memory, TooLong}
 use Rattle.wasm_smith_definitions.specs.Bounds.{IsBoundedTable}
 use Rattle.wasm_smith_definitions.specs.Offered.{IsOfferedMemory}
-use Rattle.wasm_smith_exports.specs.Exports.{HasShortName, wanted_exports}
-use Rattle.wasm_smith_items.specs.FunctionTypes.{function_indexes}
-use Rattle.wasm_smith_exports.specs.Sizes.{exports_size}
-use Rattle.wasm_smith_exports.specs.Wanted.{functions_at, of_function, of_start, of_tag, start_at, start_functions, wanted_functions, wanted_tags}
-use Rattle.wasm_smith_imports.specs.Candidates.{type_sizes}
-use Rattle.wasm_smith_imports.specs.Imports.{AreGrownImports}
-use Rattle.wasm_smith_imports.specs.Named.{all_named}
-use Rattle.wasm_smith_imports.specs.Named as named
-use Rattle.wasm_smith_imports.specs.declared.names.DuplicateImportsBehavior.{DuplicateImportsBehavior}
-use Rattle.wasm_smith_items.specs.Kinds.{AnyBound, of_data, of_element, of_export, of_global, of_memory, of_table, wanted_data, wanted_elements, wanted_globals, wanted_memories, wanted_tables}
-use Rattle.wasm_smith_items.specs.Steps.{IsGrown, IsStep}
-use Rattle.wasm_smith_segments.specs.Elements.{IsBoundedElement}
+use Rattle.wasm_smith_externs.specs.Exports.{HasShortName, wanted_exports}
+use Rattle.wasm_smith_definitions.specs.FunctionTypes.{function_indexes}
+use Rattle.wasm_smith_externs.specs.Sizes.{exports_size}
+use Rattle.wasm_smith_externs.specs.Wanted.{functions_at, of_function, of_start, of_tag, start_at, start_functions, wanted_functions, wanted_tags}
+use Rattle.wasm_smith_externs.specs.Candidates.{type_sizes}
+use Rattle.wasm_smith_externs.specs.Imports.{AreGrownImports}
+use Rattle.wasm_smith_externs.specs.Named.{all_named}
+use Rattle.wasm_smith_externs.specs.Named as named
+use Rattle.wasm_smith_externs.specs.declared.names.DuplicateImportsBehavior.{DuplicateImportsBehavior}
+use Rattle.wasm_smith_definitions.specs.Kinds.{AnyBound, of_data, of_element, of_export, of_global, of_memory, of_table, wanted_data, wanted_elements, wanted_globals, wanted_memories, wanted_tables}
+use Rattle.wasm_smith_definitions.specs.Steps.{IsGrown, IsStep}
+use Rattle.wasm_smith_module.specs.Elements.{IsBoundedElement}
 use Rattle.wasm_smith_types.specs.Bounds.{AreSmall}
 use Rattle.wasm_smith_types.specs.DrawnGroups.{AreSome, drawn_groups_at}
 use Rattle.wasm_smith_types.specs.Offering.{offers}

@@ -3,10 +3,10 @@ use Rattle.std.specs.Prelude.{◌≡◌, ℕ, ◌+◌, Bool, List, [], map, Opti
 use Rattle.std.specs.Option.{option_and_then}
 use Rattle.wasm_spec.specs.Types.{RecGroup}
 use Rattle.wasm_smith_config.specs.declared.config.Config.{Config}
-use Rattle.wasm_smith_items.specs.FunctionTypes.{function_indexes}
-use Rattle.wasm_smith_exports.specs.Wanted.{functions_at, wanted_tags}
-use Rattle.wasm_smith_imports.specs.Imports.{asked_imports}
-use Rattle.wasm_smith_items.specs.Steps.{asked}
+use Rattle.wasm_smith_definitions.specs.FunctionTypes.{function_indexes}
+use Rattle.wasm_smith_externs.specs.Wanted.{functions_at, wanted_tags}
+use Rattle.wasm_smith_externs.specs.Imports.{asked_imports}
+use Rattle.wasm_smith_definitions.specs.Steps.{asked}
 use Rattle.wasm_smith_types.specs.DrawnGroups.{drawn_groups_at}
 use Rattle.wasm_smith_types.specs.ValidGroups.{types_of}
 use Rattle.wasm_smith_validity.specs.Made.{Made}

@@ -2,7 +2,11 @@ pub mod ArbitraryModules
 pub mod Bounds
 pub mod Building
 pub mod Code
+pub mod Data
+pub mod Elements
 pub mod Generating
 pub mod Items
+pub mod Measured
+pub mod Measures
 pub mod ModuleValue
 pub mod Promise

@@ -5,7 +5,7 @@ use Rattle.wasm_smith_config.specs.Config.{AreFeaturesOf, IsGood, IsBadField}
 use Rattle.wasm_smith_config.specs.declared.config.Config.{Config}
 use Rattle.wasm_smith_config.specs.declared.error.Error.{Error}
 use Rattle.wasm_smith_config.specs.declared.error.Error.TheVariants.{IncorrectFormat, EmptyChoose, NotEnoughData, BadConfig, BadShape, TypeSize, Memory, TooLong}
-use Rattle.wasm_smith_segments.specs.Data.{total_size}
+use Rattle.wasm_smith_module.specs.Data.{total_size}
 use Rattle.wasm_smith_types.specs.DrawnGroups.{AskForMore}
 use Rattle.wasm_smith_validity.specs.Made.{Made}
 use Rattle.wasm_smith_validity.specs.Validity.{IsValidByIndex}

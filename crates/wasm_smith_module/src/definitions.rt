@@ -4,7 +4,7 @@ ghost use Rattle.std.specs.Prelude.{◌≡◌, ◌≤◌, [], IfOk, IfErr, map, 
 ghost use Rattle.wasm_encoder_sections.specs.CoreItems.{memory_type};
 ghost use Rattle.wasm_smith_config.specs.Config.{IsGood};
 ghost use Rattle.wasm_smith_definitions.specs.Offered.{AreOffersOf, HasFewTables};
-ghost use Rattle.wasm_smith_items.specs.Items.{global, table};
+ghost use Rattle.wasm_smith_definitions.specs.Items.{global, table};
 ghost use Rattle.wasm_smith_types.specs.ValidGroups.{AllKeepTypeRules};
 ghost use Rattle.wasm_smith_module.specs.Building.{AreDefinitions, IsEnd};
 
@@ -14,10 +14,10 @@ use wasm_smith_config::config::Config;
 use wasm_smith_config::error::Error;
 use wasm_smith_definitions::constants::Constants;
 use wasm_smith_definitions::globals::globals;
+use wasm_smith_definitions::index_spaces::IndexSpaces;
+use wasm_smith_definitions::items::{Global, Table};
 use wasm_smith_definitions::memories::memories;
 use wasm_smith_definitions::tables::tables;
-use wasm_smith_items::index_spaces::IndexSpaces;
-use wasm_smith_items::items::{Global, Table};
 use wasm_smith_types::value_types::Offers;
 use wasm_smith_unstructured::unstructured::Unstructured;
 

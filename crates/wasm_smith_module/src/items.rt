@@ -4,7 +4,7 @@ ghost use Rattle.std.specs.Prelude.{◌≤◌, ◌+◌, ◌^◌, IfOk, IfErr, le
 ghost use Rattle.wasm_core_types.specs.SubTypes.{sub_type};
 ghost use Rattle.wasm_smith_config.specs.Config.{IsGood};
 ghost use Rattle.wasm_smith_definitions.specs.Offered.{AreOffersOf, HasFewTables};
-ghost use Rattle.wasm_smith_segments.specs.Data.{total_size};
+ghost use Rattle.wasm_smith_module.specs.Data.{total_size};
 ghost use Rattle.wasm_smith_types.specs.ValidGroups.{AllKeepTypeRules};
 ghost use Rattle.wasm_smith_module.specs.Building.{AreItems, IsEnd};
 ghost use Rattle.wasm_smith_module.specs.Items.{drawn_items};
@@ -17,9 +17,9 @@ use wasm_core_types::types::SubType;
 use wasm_smith_config::config::Config;
 use wasm_smith_config::error::Error;
 use wasm_smith_definitions::constants::Constants;
-use wasm_smith_imports::names::DuplicateImportsBehavior;
-use wasm_smith_items::index_spaces::IndexSpaces;
-use wasm_smith_items::items::Export;
+use wasm_smith_definitions::index_spaces::IndexSpaces;
+use wasm_smith_definitions::items::Export;
+use wasm_smith_externs::names::DuplicateImportsBehavior;
 use wasm_smith_types::value_types::Offers;
 use wasm_smith_unstructured::unstructured::Unstructured;
 

@@ -4,7 +4,7 @@ ghost use Rattle.std.specs.Prelude.{◌≡◌, ℕ, Bool, List};
 ghost use Rattle.wasm_smith_sections.specs.ModuleEncoding.{IsModuleEncoding};
 ghost use Rattle.wasm_smith_validity.specs.Made.{Made};
 
-use wasm_encoder_functions::laws::one_list_of_runs;
+use wasm_encoder_bodies::function_laws::one_list_of_runs;
 
 /// A made module has at most one encoding, so that what it is written as depends on nothing else.
 pub fn one_encoding()

@@ -1,10 +1,18 @@
-//! The module generator.
+//! The module generator: segments, the limits that a made module can pass, and the steps together.
 #![tactic(auto)]
 
+pub mod choices;
 mod code;
+mod counts;
+pub mod data_segments;
 mod definitions;
+pub mod element_segments;
 mod front;
+mod imported;
 mod items;
 pub mod laws;
+pub mod limit_laws;
 pub mod module;
+pub mod passed_limit;
+mod sizes;
 mod uses;

@@ -22,10 +22,10 @@ use wasm_core_write::encode_error::EncodeError;
 use wasm_encoder_sections::entity_type::MemoryType;
 use wasm_smith_config::config::Config;
 use wasm_smith_config::error::Error;
-use wasm_smith_imports::names::DuplicateImportsBehavior;
-use wasm_smith_items::imports::ImportEntry;
-use wasm_smith_items::items::{Export, Global, Table};
-use wasm_smith_items::segments::{DataSegment, ElementSegment};
+use wasm_smith_definitions::imports::ImportEntry;
+use wasm_smith_definitions::items::{Export, Global, Table};
+use wasm_smith_definitions::segments::{DataSegment, ElementSegment};
+use wasm_smith_externs::names::DuplicateImportsBehavior;
 use wasm_smith_sections::module_items::ModuleItems;
 use wasm_smith_sections::writing::write_module;
 use wasm_smith_types::error::TypesError;
@@ -55,7 +55,7 @@ impl Model for Module {
     ghost use Rattle.std.specs.Prelude.{map};
     ghost use Rattle.wasm_core_types.specs.CoreTypes.{val_type};
     ghost use Rattle.wasm_encoder_sections.specs.CoreItems.{memory_type};
-    ghost use Rattle.wasm_smith_items.specs.Items as items;
+    ghost use Rattle.wasm_smith_definitions.specs.Items as items;
     ghost use Rattle.wasm_smith_types.specs.Grouped.{groups, AreWhole};
     ghost use Rattle.wasm_smith_module.specs.ModuleValue.{ModuleValue};
 
@@ -197,8 +197,8 @@ impl Module {
     ghost use Rattle.wasm_encoder_sections.specs.CoreItems.{memory_type};
     ghost use Rattle.wasm_spec.specs.Syntax.{members};
     ghost use Rattle.wasm_smith_config.specs.Config.{sanitized};
-    ghost use Rattle.wasm_smith_imports.specs.Named.{HasPlainName, all_named, have_same_names};
-    ghost use Rattle.wasm_smith_items.specs.Items as views;
+    ghost use Rattle.wasm_smith_externs.specs.Named.{HasPlainName, all_named, have_same_names};
+    ghost use Rattle.wasm_smith_definitions.specs.Items as views;
     ghost use Rattle.wasm_smith_sections.specs.ModuleEncoding.{IsModuleEncoding, IsUnwritten};
     ghost use Rattle.wasm_smith_sections.specs.ModuleItems.{made_of};
     ghost use Rattle.wasm_smith_types.specs.Drawing.{total};

@@ -3,24 +3,24 @@
 ghost use Rattle.std.specs.Prelude.{◌≡◌, ◌≤◌, ◌<◌, ◌^◌, [], IfOk, IfErr, length, map, ◌+◌};
 ghost use Rattle.wasm_smith_config.specs.Config.{IsGood};
 ghost use Rattle.wasm_smith_definitions.specs.Offered.{AreOffersOf};
-ghost use Rattle.wasm_smith_items.specs.Items.{data_segment, element_segment};
-ghost use Rattle.wasm_smith_items.specs.Steps.{TablesKeep};
-ghost use Rattle.wasm_smith_segments.specs.Data.{total_size};
-ghost use Rattle.wasm_smith_segments.specs.Elements.{AreNullable};
+ghost use Rattle.wasm_smith_definitions.specs.Items.{data_segment, element_segment};
+ghost use Rattle.wasm_smith_definitions.specs.Steps.{TablesKeep};
+ghost use Rattle.wasm_smith_module.specs.Data.{total_size};
+ghost use Rattle.wasm_smith_module.specs.Elements.{AreNullable};
 ghost use Rattle.wasm_smith_types.specs.ValidGroups.{AllKeepTypeRules};
 ghost use Rattle.wasm_smith_validity.specs.Spaces.{functions_of};
 ghost use Rattle.wasm_smith_module.specs.Building.{AreUses, IsEnd};
 
+use crate::data_segments::data_segments;
+use crate::element_segments::element_segments;
 use std::alloc::Global;
 use wasm_smith_config::config::Config;
 use wasm_smith_config::error::Error;
 use wasm_smith_definitions::constants::Constants;
-use wasm_smith_exports::exports::exports;
-use wasm_smith_exports::start::start;
-use wasm_smith_items::index_spaces::IndexSpaces;
-use wasm_smith_items::segments::{DataSegment, ElementSegment};
-use wasm_smith_segments::data_segments::data_segments;
-use wasm_smith_segments::element_segments::element_segments;
+use wasm_smith_definitions::index_spaces::IndexSpaces;
+use wasm_smith_definitions::segments::{DataSegment, ElementSegment};
+use wasm_smith_externs::exports::exports;
+use wasm_smith_externs::start::start;
 use wasm_smith_types::value_types::Offers;
 use wasm_smith_unstructured::unstructured::Unstructured;
 

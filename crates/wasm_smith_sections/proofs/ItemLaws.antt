@@ -3,12 +3,12 @@ use Rattle.std.proofs.Common.{◌≡◌, ℕ, zero, suc, Bool, true, false, List
 use Rattle.std.proofs.lemmas.List.{append-nil}
 use Rattle.wasm_encoder_expression_sections.specs.ItemEncodings as encoder
 use Rattle.wasm_encoder_sections.specs.CoreItems.{ref_type}
-use Rattle.wasm_smith_items.specs.Items.{expression, element_segment, element_mode, element_items, written_table, written_memory}
-use Rattle.wasm_smith_items.specs.declared.segments.ElementItems.{ElementItems}
-use Rattle.wasm_smith_items.specs.declared.segments.ElementItems.TheVariants.{Functions, Expressions}
-use Rattle.wasm_smith_items.specs.declared.segments.ElementMode.{ElementMode}
-use Rattle.wasm_smith_items.specs.declared.segments.ElementMode.TheVariants.{Active, Passive, Declared}
-use Rattle.wasm_smith_items.specs.declared.segments.ElementSegment.{ElementSegment}
+use Rattle.wasm_smith_definitions.specs.Items.{expression, element_segment, element_mode, element_items, written_table, written_memory}
+use Rattle.wasm_smith_definitions.specs.declared.segments.ElementItems.{ElementItems}
+use Rattle.wasm_smith_definitions.specs.declared.segments.ElementItems.TheVariants.{Functions, Expressions}
+use Rattle.wasm_smith_definitions.specs.declared.segments.ElementMode.{ElementMode}
+use Rattle.wasm_smith_definitions.specs.declared.segments.ElementMode.TheVariants.{Active, Passive, Declared}
+use Rattle.wasm_smith_definitions.specs.declared.segments.ElementSegment.{ElementSegment}
 use Rattle.wasm_smith_sections.specs.Contents.{expression_bytes, element_bytes, items_bytes, memory_index, mode_bytes}
 use Rattle.wasm_smith_sections.specs.ItemViews.{given_items, given_mode, named_table}
 use Rattle.wasm_spec.specs.Types as types

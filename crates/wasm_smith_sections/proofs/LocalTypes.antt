@@ -7,7 +7,7 @@ use Rattle.std.proofs.Math.ListN.{drop_of_length-le}
 use Rattle.std.proofs.lemmas.List.{append-nil, map-append, map-id, take-append-drop}
 use Rattle.wasm_core_types.specs.CoreTypes.{val_type}
 use Rattle.wasm_core_types.specs.declared.types.ValType.{ValType}
-use Rattle.wasm_encoder_functions.specs.Locals.{run_of, locals_encoding, AreRunsOf, AreWritable, PassLength}
+use Rattle.wasm_encoder_bodies.specs.Locals.{run_of, locals_encoding, AreRunsOf, AreWritable, PassLength}
 use Rattle.wasm_encoder_instructions.specs.Instructions.{instruction_encoding}
 use Rattle.wasm_encoder_instructions.specs.OperatorEncodings.{operator_encoding, code_encoding}
 use Rattle.wasm_encoder_instructions.specs.declared.instruction.Instruction.TheVariants as instructions

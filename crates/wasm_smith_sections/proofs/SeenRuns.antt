@@ -4,7 +4,7 @@ use Rattle.std.specs.List.{AllByRecursion}
 use Rattle.std.proofs.lemmas.List.{map-append, length-map}
 use Rattle.wasm_core_types.specs.CoreTypes.{val_type}
 use Rattle.wasm_core_types.specs.declared.types.ValType.{ValType}
-use Rattle.wasm_encoder_functions.specs.Locals.{run_of, expansion, BeginsWithOther, AreApart, AreRunsOf, AreWritable, PassLength}
+use Rattle.wasm_encoder_bodies.specs.Locals.{run_of, expansion, BeginsWithOther, AreApart, AreRunsOf, AreWritable, PassLength}
 use Rattle.wasm_smith_sections.specs.ModuleEncoding.{as_run}
 
 abbrev IsOneToOne : {A B : Type 0} → (A → B) → Type 0

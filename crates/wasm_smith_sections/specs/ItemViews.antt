@@ -2,11 +2,11 @@
 use Rattle.std.specs.Prelude.{ℕ, zero, suc, map, Option, Some, None}
 use Rattle.wasm_encoder_expression_sections.specs.ItemEncodings as encoder
 use Rattle.wasm_encoder_sections.specs.CoreItems.{ref_type}
-use Rattle.wasm_smith_items.specs.Items.{expression}
-use Rattle.wasm_smith_items.specs.declared.segments.ElementItems.{ElementItems}
-use Rattle.wasm_smith_items.specs.declared.segments.ElementItems.TheVariants.{Functions, Expressions}
-use Rattle.wasm_smith_items.specs.declared.segments.ElementMode.{ElementMode}
-use Rattle.wasm_smith_items.specs.declared.segments.ElementMode.TheVariants.{Active, Passive, Declared}
+use Rattle.wasm_smith_definitions.specs.Items.{expression}
+use Rattle.wasm_smith_definitions.specs.declared.segments.ElementItems.{ElementItems}
+use Rattle.wasm_smith_definitions.specs.declared.segments.ElementItems.TheVariants.{Functions, Expressions}
+use Rattle.wasm_smith_definitions.specs.declared.segments.ElementMode.{ElementMode}
+use Rattle.wasm_smith_definitions.specs.declared.segments.ElementMode.TheVariants.{Active, Passive, Declared}
 use Rattle.wasm_smith_sections.specs.Contents.{expression_bytes}
 
 -- Table 0 isn't named.

@@ -3,3 +3,4 @@ pub mod FilledSections
 pub mod ItemViews
 pub mod ModuleEncoding
 pub mod ModuleItems
+pub mod SmallModules

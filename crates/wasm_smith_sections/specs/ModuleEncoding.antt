@@ -3,7 +3,7 @@
 use Rattle.std.specs.Prelude.{◌≡◌, ◌⊎◌, ⊤, ℕ, ◌≤◌, ◌<◌, ◌^◌, Bool, List, [], ◌∷◌, ◌++◌, length, map}
 use Rattle.std.specs.List.{AllByRecursion, AllZip, flat_map}
 use Rattle.wasm_bodies.specs.Bodies.{Run}
-use Rattle.wasm_encoder_functions.specs.Locals.{locals_encoding, AreRunsOf, AreWritable, PassLength}
+use Rattle.wasm_encoder_bodies.specs.Locals.{locals_encoding, AreRunsOf, AreWritable, PassLength}
 use Rattle.wasm_spec.specs.Grammar.{header}
 use Rattle.wasm_spec.specs.Syntax.{Section}
 use Rattle.wasm_spec.specs.Types.{ValType}

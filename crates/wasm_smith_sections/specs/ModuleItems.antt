@@ -3,7 +3,7 @@ use Rattle.std.specs.Prelude.{map}
 use Rattle.wasm_core_types.specs.CoreTypes.{val_type}
 use Rattle.wasm_core_types.specs.SubTypes.{sub_type}
 use Rattle.wasm_encoder_sections.specs.CoreItems.{memory_type}
-use Rattle.wasm_smith_items.specs.Items.{import_entry, table, global, export, element_segment, data_segment}
+use Rattle.wasm_smith_definitions.specs.Items.{import_entry, table, global, export, element_segment, data_segment}
 use Rattle.wasm_smith_sections.specs.declared.module_items.ModuleItems.{ModuleItems}
 use Rattle.wasm_smith_types.specs.Grouped.{grouped}
 use Rattle.wasm_smith_validity.specs.Made.{Made}

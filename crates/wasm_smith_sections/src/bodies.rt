@@ -7,8 +7,8 @@ ghost use Rattle.wasm_smith_sections.specs.ModuleEncoding.{AreBodyEncodings, Has
 use std::alloc::Global;
 use wasm_core_types::types::ValType;
 use wasm_core_write::encode_error::EncodeError;
+use wasm_encoder_bodies::function::Function;
 use wasm_encoder_expression_sections::code_section::CodeSection;
-use wasm_encoder_functions::function::Function;
 use wasm_encoder_instructions::instruction::Instruction;
 
 // Returns a body of these locals and the operator `unreachable`.

@@ -1,15 +1,15 @@
 //! Constant expressions for the encoder (Core Specification 3.0, Binary Format, "Expressions").
 
 ghost use Rattle.std.specs.Prelude.{◌≡◌, ◌++◌, ◌∷◌, [], map, IfOk, IfErr};
-ghost use Rattle.wasm_smith_items.specs.Items.{expression, on_i32, on_i64};
+ghost use Rattle.wasm_smith_definitions.specs.Items.{expression, on_i32, on_i64};
 ghost use Rattle.wasm_smith_sections.specs.Contents.{expression_bytes, operator_bytes};
 ghost use Rattle.wasm_spec.specs.Constants.{I32Const, I64Const};
 
 use std::alloc::Global;
 use wasm_core_write::encode_error::EncodeError;
-use wasm_encoder_expressions::const_expr::ConstExpr;
+use wasm_encoder_bodies::const_expr::ConstExpr;
 use wasm_encoder_instructions::ieee::{Ieee32, Ieee64};
-use wasm_smith_items::constant::{Constant, Operation};
+use wasm_smith_definitions::constant::{Constant, Operation};
 
 /// Returns the encoder's expression of a constant.
 ///

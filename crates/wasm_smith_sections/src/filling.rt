@@ -5,7 +5,7 @@ ghost use Rattle.std.specs.Option.{option_to_list};
 ghost use Rattle.wasm_core_types.specs.CoreTypes.{val_type};
 ghost use Rattle.wasm_core_types.specs.SubTypes.{sub_type};
 ghost use Rattle.wasm_encoder_sections.specs.CoreItems.{memory_type};
-ghost use Rattle.wasm_smith_items.specs.Items as items;
+ghost use Rattle.wasm_smith_definitions.specs.Items as items;
 ghost use Rattle.wasm_smith_sections.specs.FilledSections.{AddSections, filled_frame, first_sections, frame, last_sections, middle_sections};
 ghost use Rattle.wasm_smith_sections.specs.ModuleEncoding.{AreBodyEncodings, PassesLength, SomeHaveLongFront};
 ghost use Rattle.wasm_smith_sections.specs.ModuleItems.{made_of};
@@ -29,10 +29,10 @@ use wasm_core_write::encode_error::EncodeError;
 use wasm_encoder_sections::data_count_section::DataCountSection;
 use wasm_encoder_sections::entity_type::MemoryType;
 use wasm_encoder_sections::start_section::StartSection;
-use wasm_smith_items::imports::ImportEntry;
-use wasm_smith_items::items;
-use wasm_smith_items::items::{Export, Table};
-use wasm_smith_items::segments::{DataSegment, ElementSegment};
+use wasm_smith_definitions::imports::ImportEntry;
+use wasm_smith_definitions::items;
+use wasm_smith_definitions::items::{Export, Table};
+use wasm_smith_definitions::segments::{DataSegment, ElementSegment};
 
 /// Returns the sections that have items, in their order.
 ///

@@ -2,9 +2,9 @@
 
 use wasm_core_types::types::{SubType, ValType};
 use wasm_encoder_sections::entity_type::MemoryType;
-use wasm_smith_items::imports::ImportEntry;
-use wasm_smith_items::items::{Export, Global, Table};
-use wasm_smith_items::segments::{DataSegment, ElementSegment};
+use wasm_smith_definitions::imports::ImportEntry;
+use wasm_smith_definitions::items::{Export, Global, Table};
+use wasm_smith_definitions::segments::{DataSegment, ElementSegment};
 
 /// The items of a module that is to be written.
 #[derive(Drop)]

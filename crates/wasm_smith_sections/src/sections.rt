@@ -2,7 +2,7 @@
 
 ghost use Rattle.std.specs.Prelude.{◌≡◌, ◌++◌, ◌∷◌, [], ◌+◌, ◌≤◌, ◌^◌, length, map, IfOk, IfErr};
 ghost use Rattle.wasm_encoder_sections.specs.CoreItems.{memory_type};
-ghost use Rattle.wasm_smith_items.specs.Items as items;
+ghost use Rattle.wasm_smith_definitions.specs.Items as items;
 ghost use Rattle.wasm_smith_sections.specs.Contents.{global_bytes, table_bytes};
 
 use crate::constants::const_expr;
@@ -15,8 +15,8 @@ use wasm_encoder_sections::export_section::ExportSection;
 use wasm_encoder_sections::function_section::FunctionSection;
 use wasm_encoder_sections::memory_section::MemorySection;
 use wasm_encoder_sections::tag_section::TagSection;
-use wasm_smith_items::items;
-use wasm_smith_items::items::{Export, Table};
+use wasm_smith_definitions::items;
+use wasm_smith_definitions::items::{Export, Table};
 
 /// Returns the function section: the index of each function's type.
 ///

@@ -3,7 +3,7 @@
 ghost use Rattle.std.specs.Prelude.{◌≡◌, ◌++◌, ◌∷◌, [], ◌+◌, ◌≤◌, ◌^◌, length, map, IfOk, IfErr};
 ghost use Rattle.wasm_encoder_expression_sections.specs.CoreSegments.{lent_elements};
 ghost use Rattle.wasm_encoder_expression_sections.specs.ItemEncodings.{element_encoding};
-ghost use Rattle.wasm_smith_items.specs.Items.{data_segment, element_segment};
+ghost use Rattle.wasm_smith_definitions.specs.Items.{data_segment, element_segment};
 ghost use Rattle.wasm_smith_sections.specs.Contents.{data_bytes, element_bytes};
 ghost use Rattle.wasm_smith_sections.specs.ItemViews.{given_items, given_mode, named_table};
 
@@ -13,7 +13,7 @@ use wasm_core_write::encode_error::EncodeError;
 use wasm_encoder_expression_sections::data_section::DataSection;
 use wasm_encoder_expression_sections::element_section::ElementSection;
 use wasm_encoder_expression_sections::element_segment::Elements;
-use wasm_smith_items::segments::{
+use wasm_smith_definitions::segments::{
     DataMode, DataSegment, ElementItems, ElementMode, ElementSegment,
 };
 

@@ -7,7 +7,6 @@ ghost use Rattle.wasm_smith_unstructured.specs.Names.{is_name};
 ghost use Rattle.wasm_smith_unstructured.specs.Texts.{IsLongestText, IsNewName};
 
 pub use crate::names::UniqueNames;
-
 use crate::unstructured::Unstructured;
 use std::alloc::{AllocError, Global};
 

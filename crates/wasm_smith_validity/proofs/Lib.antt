@@ -1,8 +1,13 @@
+mod FunctionTypes
 pub mod IndexedContext
+mod LocalRuns
 pub mod MadeGroups
 pub mod MadeSections
 pub mod MeantConstants
 pub mod MeantEntries
 pub mod MeantItems
 pub mod MeantTypes
+mod SectionItems
 pub mod SmallIndexes
+mod TypedBodies
+pub mod ValidModules

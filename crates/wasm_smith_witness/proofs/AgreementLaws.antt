@@ -9,7 +9,7 @@ use Rattle.wasm_smith_config.specs.declared.config.Config.{Config}
 use Rattle.wasm_smith_types.specs.Drawing.{Kind, NumberOrVector, Reference, Front, front_then, asks_then, no_groups, total}
 use Rattle.wasm_smith_types.specs.Offering.{common_heaps, max_results, offers}
 use Rattle.wasm_smith_types.specs.Spelling.{SpellsInt, SpellsChoice, SpellsEach, SpellsList, SpellsHeap, SpellsValue, SpellsStorage, SpellsField, SpellsComposite, SpellsType, SpellsMembers, SpellsGroups}
-use Rattle.wasm_smith_items.specs.FunctionTypes.{is_function, function_indexes}
+use Rattle.wasm_smith_definitions.specs.FunctionTypes.{is_function, function_indexes}
 use Rattle.wasm_smith_witness.specs.Spelling.{Spells, SpellsFunctions, SpellsLoneComposite, SpellsLoneFunction, SpellsTypes}
 use Rattle.wasm_smith_types.proofs.ListLaws.{all_append, all_if, all_get}
 use Rattle.wasm_smith_types.proofs.GroupedLaws.{sum_more}

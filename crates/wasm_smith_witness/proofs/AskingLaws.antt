@@ -7,8 +7,8 @@ use Rattle.std.proofs.lemmas.Bool.Decides.{eqb_tells}
 use Rattle.std.proofs.lemmas.List.{length-map}
 use Rattle.wasm_spec.specs.Types.{SubType}
 use Rattle.wasm_smith_config.specs.declared.config.Config.{Config}
-use Rattle.wasm_smith_items.specs.FunctionTypes.{is_resultless, function_indexes, tag_indexes}
-use Rattle.wasm_smith_items.specs.Indexes.{places}
+use Rattle.wasm_smith_definitions.specs.FunctionTypes.{is_resultless, function_indexes, tag_indexes}
+use Rattle.wasm_smith_definitions.specs.Indexes.{places}
 use Rattle.wasm_smith_witness.specs.Asking.{asks_for_import, asks_for_tag}
 use Rattle.wasm_smith_witness.specs.Functions.{AreKept, are_some_resultless, import_is_asked, tag_is_asked}
 use Rattle.wasm_smith_witness.specs.declared.functions.FunctionTypes.{FunctionTypes}

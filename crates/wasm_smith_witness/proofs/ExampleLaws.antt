@@ -9,7 +9,7 @@ use Rattle.wasm_smith_config.specs.declared.config.Config.{Config}
 use Rattle.wasm_smith_types.specs.Drawing.{Offers, Reference, no_groups}
 use Rattle.wasm_smith_types.specs.Offering.{offers}
 use Rattle.wasm_smith_types.specs.Spelling.{SpellsNo, SpellsEnd, SpellsInt, SpellsChoice, SpellsList, SpellsValue, SpellsType, SpellsMembers, SpellsGroups}
-use Rattle.wasm_smith_imports.specs.Candidates.{can_import, can_import_some}
+use Rattle.wasm_smith_externs.specs.Candidates.{can_import, can_import_some}
 use Rattle.wasm_smith_validity.specs.Spaces.{spaces_of_types}
 use Rattle.wasm_smith_witness.specs.Asking.{asks_for_import, asks_for_tag}
 use Rattle.wasm_smith_witness.specs.Family.{types_of}

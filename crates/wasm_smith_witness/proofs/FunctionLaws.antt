@@ -12,7 +12,7 @@ use Rattle.wasm_core_types.specs.declared.types.SubType as code
 use Rattle.wasm_smith_types.specs.Spelling.{SpellsChoice, SpellsEach}
 use Rattle.wasm_smith_witness.specs.Family.{is_function_at}
 use Rattle.wasm_smith_witness.specs.Functions.{AreKept, are_some_resultless, places_after, place_in, place_word}
-use Rattle.wasm_smith_items.specs.FunctionTypes.{is_function, is_resultless, function_indexes}
+use Rattle.wasm_smith_definitions.specs.FunctionTypes.{is_function, is_resultless, function_indexes}
 use Rattle.wasm_smith_witness.specs.Spelling.{SpellsFunctions}
 use Rattle.wasm_smith_witness.specs.Words.{each_word, index_word, int_word, place_of}
 use Rattle.wasm_smith_witness.specs.declared.functions.FunctionTypes.{FunctionTypes}

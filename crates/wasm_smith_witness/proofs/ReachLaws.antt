@@ -14,12 +14,12 @@ use Rattle.wasm_smith_types.specs.Growing.{grows_from, grows_at, grow_from, grow
 use Rattle.wasm_smith_types.specs.Offering.{function_types_at, gc_groups_at, offers}
 use Rattle.wasm_smith_types.specs.Spelling.{SpellsChoice, SpellsEach, SpellsList, SpellsGroups, SpellsNo}
 use Rattle.wasm_smith_types.proofs.ReachLaws.{Reaches, bool_false, more_room, choice_reach, grow_stop, front_last, each_reach, from_start, list_reach, values_reach, groups_reach}
-use Rattle.wasm_smith_items.specs.FunctionTypes.{function_indexes}
-use Rattle.wasm_smith_items.specs.Indexes.{index_at}
-use Rattle.wasm_smith_exports.specs.Wanted.{functions_at, wanted_tags}
-use Rattle.wasm_smith_imports.specs.Candidates.{can_import_some}
-use Rattle.wasm_smith_imports.specs.Imports.{asked_imports}
-use Rattle.wasm_smith_items.specs.Steps.{asked}
+use Rattle.wasm_smith_definitions.specs.FunctionTypes.{function_indexes}
+use Rattle.wasm_smith_definitions.specs.Indexes.{index_at}
+use Rattle.wasm_smith_externs.specs.Wanted.{functions_at, wanted_tags}
+use Rattle.wasm_smith_externs.specs.Candidates.{can_import_some}
+use Rattle.wasm_smith_externs.specs.Imports.{asked_imports}
+use Rattle.wasm_smith_definitions.specs.Steps.{asked}
 use Rattle.wasm_smith_module.specs.Generating.{front_at, left_for_functions, with_functions}
 use Rattle.wasm_smith_types.specs.ValidGroups as flat
 use Rattle.wasm_smith_validity.specs.Spaces.{spaces_of_types}

@@ -18,7 +18,7 @@ use Rattle.wasm_smith_types.specs.Drawing.{Kind, NumberOrVector, Reference, Fron
 use Rattle.wasm_smith_types.specs.Offering.{common_heaps, max_results, offers}
 use Rattle.wasm_smith_types.specs.Spelling.{SpellsBool, SpellsNo, SpellsInt, SpellsChoice, SpellsEach, SpellsEnd, SpellsList, SpellsHeap, SpellsValue, SpellsStorage, SpellsField, SpellsComposite, SpellsType, SpellsMembers, SpellsGroup, SpellsGroups}
 use Rattle.wasm_smith_types.proofs.GroupedLaws.{sum_more}
-use Rattle.wasm_smith_items.specs.FunctionTypes.{is_function}
+use Rattle.wasm_smith_definitions.specs.FunctionTypes.{is_function}
 use Rattle.wasm_smith_witness.specs.Family.{AreMemberGroups, is_offered_heap, is_target, is_enabled, is_member_storage, is_member_field, is_member_function, is_member_composite, is_member_type, is_lone_function, is_member_group, are_member_groups, types_of}
 use Rattle.wasm_smith_witness.specs.Words.{bool_byte, no_word, heap_place, heap_word, value_word, storage_word, field_word, int_word, each_word, list_word, function_word, composite_word, type_word, members_word, group_word, groups_word, lone_composite_word, lone_word, types_word}
 use Rattle.wasm_smith_witness.specs.Spelling.{SpellsLoneComposite, SpellsLoneFunction, SpellsTypes}

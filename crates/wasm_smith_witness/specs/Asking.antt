@@ -3,8 +3,8 @@
 use Rattle.std.specs.Prelude.{ℕ, Bool, ◌&&◌, nat_lt, List}
 use Rattle.wasm_spec.specs.Types.{SubType}
 use Rattle.wasm_smith_config.specs.declared.config.Config.{Config}
-use Rattle.wasm_smith_exports.specs.Wanted.{wanted_tags}
-use Rattle.wasm_smith_imports.specs.Candidates.{can_import_some}
+use Rattle.wasm_smith_externs.specs.Wanted.{wanted_tags}
+use Rattle.wasm_smith_externs.specs.Candidates.{can_import_some}
 use Rattle.wasm_smith_validity.specs.Spaces.{spaces_of_types}
 
 abbrev pub asks_for_import : Config → List (SubType ℕ) → Bool

@@ -6,7 +6,7 @@ use Rattle.wasm_smith_config.specs.Config.{IsGood}
 use Rattle.wasm_smith_config.specs.Defaults.{least_counts}
 use Rattle.wasm_smith_config.specs.declared.config.Config.{Config}
 use Rattle.wasm_smith_types.specs.Offering.{max_results}
-use Rattle.wasm_smith_items.specs.FunctionTypes.{is_function}
+use Rattle.wasm_smith_definitions.specs.FunctionTypes.{is_function}
 
 -- ---- configurations
 

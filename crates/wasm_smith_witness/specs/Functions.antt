@@ -4,7 +4,7 @@ use Rattle.std.specs.List.{list_any}
 use Rattle.std.specs.Option.{option_flatten}
 use Rattle.wasm_spec.specs.Types.{SubType}
 use Rattle.wasm_smith_config.specs.declared.config.Config.{Config}
-use Rattle.wasm_smith_items.specs.FunctionTypes.{is_function, is_resultless, function_indexes}
+use Rattle.wasm_smith_definitions.specs.FunctionTypes.{is_function, is_resultless, function_indexes}
 use Rattle.wasm_smith_witness.specs.Words.{int_word}
 use Rattle.wasm_smith_witness.specs.declared.functions.FunctionTypes.{FunctionTypes}
 

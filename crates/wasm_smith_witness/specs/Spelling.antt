@@ -6,7 +6,7 @@ use Rattle.wasm_smith_config.specs.declared.config.Config.{Config}
 use Rattle.wasm_smith_types.specs.Drawing.{Offers, no_groups}
 use Rattle.wasm_smith_types.specs.Offering.{offers}
 use Rattle.wasm_smith_types.specs.Spelling.{SpellsChoice, SpellsEach, SpellsGroups, SpellsList, SpellsNo, SpellsValue}
-use Rattle.wasm_smith_items.specs.FunctionTypes.{function_indexes}
+use Rattle.wasm_smith_definitions.specs.FunctionTypes.{function_indexes}
 use Rattle.wasm_smith_witness.specs.Asking.{asks_for_import, asks_for_tag}
 use Rattle.wasm_smith_witness.specs.Family.{types_of}
 

@@ -7,7 +7,7 @@ use Rattle.wasm_smith_unstructured.specs.Draws.{width}
 use Rattle.wasm_smith_config.specs.declared.config.Config.{Config}
 use Rattle.wasm_smith_types.specs.Drawing.{Front, front_then, asks_then, fits, no_groups, total}
 use Rattle.wasm_smith_types.specs.Offering.{common_heaps, max_results}
-use Rattle.wasm_smith_items.specs.FunctionTypes.{is_function, function_indexes}
+use Rattle.wasm_smith_definitions.specs.FunctionTypes.{is_function, function_indexes}
 use Rattle.wasm_smith_witness.specs.Asking.{asks_for_import, asks_for_tag}
 use Rattle.wasm_smith_witness.specs.Family.{types_of}
 

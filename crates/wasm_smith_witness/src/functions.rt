@@ -4,7 +4,7 @@ ghost use Rattle.std.specs.Prelude.{◌≡◌, ◌≤◌, ◌||◌, ◌∷◌, �
 ghost use Rattle.std.specs.List.{list_all};
 ghost use Rattle.wasm_core_types.specs.SubTypes.{composite_type, sub_type};
 ghost use Rattle.wasm_spec.specs.Types as spec;
-ghost use Rattle.wasm_smith_items.specs.FunctionTypes.{is_function, is_resultless};
+ghost use Rattle.wasm_smith_definitions.specs.FunctionTypes.{is_function, is_resultless};
 ghost use Rattle.wasm_smith_witness.specs.Family.{types_of};
 ghost use Rattle.wasm_smith_witness.specs.Functions.{AreKept, place_in};
 ghost use Rattle.wasm_smith_witness.specs.Groups.{group_of};

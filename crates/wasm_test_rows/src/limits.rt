@@ -1,9 +1,9 @@
 //! Limits by their names.
 
 ghost use Rattle.std.specs.Prelude.{◌≡◌, IfSome};
-ghost use Rattle.wasm_core_base.specs.Limits.{limit_name};
+ghost use Rattle.wasm_core_types.specs.Limits.{limit_name};
 
-use wasm_core_base::limits::Limit;
+use wasm_core_types::limits::Limit;
 
 /// The limit of this name.
 pub fn limit_of(name: &str) -> Option<Limit>

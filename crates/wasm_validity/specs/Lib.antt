@@ -5,6 +5,8 @@ pub mod Entries
 pub mod Fronts
 pub mod ImportedItems
 pub mod IndexSpaces
+pub mod ModuleBodies
+pub mod Modules
 pub mod Rules
 pub mod TypeRules
 pub mod Validity

@@ -1,4 +1,4 @@
-//! What sections say, entry by entry, and the rules on an entry in the context of those before it.
+//! Valid modules: the rules on what sections say, entry by entry, and typing of bodies.
 //!
 //! Everything that this crate says stands in `specs/`.
 #![tactic(auto)]

@@ -13,8 +13,8 @@ use Rattle.wasm_spec.specs.Syntax.{Section, bodies_of, functions_of, types_of}
 use Rattle.wasm_spec.specs.Trees.{DefType, tree_of, unrolled}
 use Rattle.wasm_spec.specs.Types.{FieldType, FuncComposite, FuncType, Group, I32, StructComposite, SubType}
 use Rattle.wasm_spec_examples.specs.TypeExamples.{empty_function, empty_structure, final_type, gives, takes}
-use Rattle.wasm_valid_modules.specs.ModuleBodies.{Below, BodyAt, TellsBelow, func_type_in, items_in as module_items}
-use Rattle.wasm_valid_modules.specs.Validity.{IsTypedBody, IsValid}
+use Rattle.wasm_validity.specs.ModuleBodies.{Below, BodyAt, TellsBelow, func_type_in, items_in as module_items}
+use Rattle.wasm_validity.specs.Modules.{IsTypedBody, IsValid}
 use Rattle.wasm_validity.specs.Context.{Context}
 use Rattle.wasm_validity.specs.DefinedTypes.{PassesGroupLimit}
 use Rattle.wasm_validity.specs.Rules.{KeepsTypeRules}

@@ -6,7 +6,7 @@ use Rattle.wasm_spec.specs.Subtyping.{HeapBelow, ValBelow, abstract_of, bottom_o
 use Rattle.wasm_spec.specs.Trees.{DefType, unrolled}
 use Rattle.wasm_spec.specs.Types.{AbstractHeapType, None as NoneHeap, NoFunc, NoCont, HeapType, Abstract, Concrete, ValType, I32, I64, F32, F64, V128, Ref, CompositeType, FuncComposite, StructComposite, ArrayComposite, ContComposite, SubType}
 use Rattle.wasm_spec_examples.proofs.TypeKinds.{none_above}
-use Rattle.wasm_valid_modules.specs.ModuleBodies.{Below, TellsBelow}
+use Rattle.wasm_validity.specs.ModuleBodies.{Below, TellsBelow}
 use Rattle.wasm_validity.specs.ConstantTyping.{meant}
 use Rattle.wasm_validity.specs.Context.{Context}
 use Rattle.wasm_validity.specs.Rules.{IsBelow}

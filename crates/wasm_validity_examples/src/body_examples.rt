@@ -6,7 +6,7 @@ ghost use Rattle.wasm_spec.specs.Grammar.{header};
 ghost use Rattle.wasm_spec.specs.Syntax.{Section};
 ghost use Rattle.wasm_spec.specs.Types.{FuncType, I32};
 ghost use Rattle.wasm_spec_examples.specs.TypeExamples.{gives, takes};
-ghost use Rattle.wasm_valid_modules.specs.Validity.{HasBody, IsBodyPast, IsBrokenBody, IsOtherBody, IsTypedBody};
+ghost use Rattle.wasm_validity.specs.Modules.{HasBody, IsBodyPast, IsBrokenBody, IsOtherBody, IsTypedBody};
 ghost use Rattle.wasm_validity_examples.specs.ModuleExamples.{one_type};
 
 /// A body without an end is broken. What is broken is of no other kind.

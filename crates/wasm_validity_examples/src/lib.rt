@@ -1,6 +1,6 @@
 //! Worked examples of the rules on sections, of bodies operator by operator, and of valid modules.
 //!
-//! The functions do nothing: their contracts evaluate definitions of `wasm_validity`, `wasm_bodies_laws` and `wasm_valid_modules` on given
+//! The functions do nothing: their contracts evaluate definitions of `wasm_validity`, `wasm_bodies_laws` and `wasm_validity` on given
 //! values.
 #![tactic(auto)]
 

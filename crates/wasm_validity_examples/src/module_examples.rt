@@ -6,7 +6,7 @@ ghost use Rattle.wasm_spec.specs.Syntax.{CodeSection, DataCountSection, DataSect
 ghost use Rattle.wasm_spec.specs.Types.{Concrete, FuncComposite, FuncExternal, FuncKind, GlobalExternal, Group, I32, Ref, StructComposite};
 ghost use Rattle.wasm_spec_examples.specs.Examples.{at_least};
 ghost use Rattle.wasm_spec_examples.specs.TypeExamples.{const_field, empty_function, empty_structure, final_type, gives, takes};
-ghost use Rattle.wasm_valid_modules.specs.Validity.{IsValid};
+ghost use Rattle.wasm_validity.specs.Modules.{IsValid};
 ghost use Rattle.wasm_validity_examples.specs.ModuleExamples.{a_number, alone, no_result, one_function};
 ghost use Rattle.wasm_validity_examples.specs.Examples.{constant, export_of, one_table};
 

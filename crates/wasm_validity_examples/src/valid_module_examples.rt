@@ -5,7 +5,7 @@ ghost use Rattle.wasm_spec.specs.Features.{Features, BulkMemory, MutableGlobal, 
 ghost use Rattle.wasm_spec.specs.Syntax.{Section, Custom, TableSection, MemorySection, GlobalSection, ExportSection, ElementSection, DataCountSection, DataSection, Export, ActiveElement, FunctionItems, ActiveData};
 ghost use Rattle.wasm_spec.specs.Types.{I32, GlobalKind, MemoryKind};
 ghost use Rattle.wasm_spec_examples.specs.Examples.{at_least};
-ghost use Rattle.wasm_valid_modules.specs.Validity.{IsValid};
+ghost use Rattle.wasm_validity.specs.Modules.{IsValid};
 ghost use Rattle.wasm_validity.specs.Context.{item_at};
 ghost use Rattle.wasm_validity.specs.Validity.{context_of};
 ghost use Rattle.wasm_validity_examples.specs.ConstantExamples.{i32_number};

@@ -7,7 +7,7 @@ use Rattle.wasm_spec.specs.Trees.{DefType, unrolled}
 use Rattle.wasm_spec.specs.Types.{ValType}
 use Rattle.wasm_validity.specs.ConstantTyping.{Does, Effect, IsConstantOf, Leaves, Runs, effect, puts}
 use Rattle.wasm_validity.specs.Context.{Context}
-use Rattle.wasmparser_const_exprs.specs.ConstExprs.{are_none}
+use Rattle.wasmparser_entries.specs.ConstExprs.{are_none}
 use Rattle.wasmparser_constants.specs.Steps.{IsAlone}
 
 module _ (features : Features) (cx : Context) (type wanted : ValType DefType) where

@@ -4,8 +4,8 @@ use Rattle.wasm_spec.specs.Features.{Features}
 use Rattle.wasm_spec.specs.TypeReferences.{global_map}
 use Rattle.wasm_spec.specs.Types as spec
 use Rattle.wasm_validity.specs.Context.{Context, at_first}
-use Rattle.wasmparser_items.specs.ItemTypes.{global_type}
-use Rattle.wasmparser_items.specs.declared.global_type.GlobalType.{GlobalType}
+use Rattle.wasmparser_readers.specs.ItemTypes.{global_type}
+use Rattle.wasmparser_readers.specs.declared.global_type.GlobalType.{GlobalType}
 use Rattle.wasmparser_module_types.specs.ModuleTypes.{KnownTypes}
 use Rattle.wasmparser_types.specs.Index.{Index, number_of}
 use Rattle.wasmparser_types.specs.ValTypes.{storage_type, unpacked_type}

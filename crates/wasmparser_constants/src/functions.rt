@@ -7,14 +7,14 @@ ghost use Rattle.wasm_spec.specs.TypeReferences.{val_map};
 ghost use Rattle.wasm_validity.specs.ConstantTyping.{IsConstantFor};
 ghost use Rattle.wasm_validity.specs.Context.{Context};
 ghost use Rattle.wasm_validity.specs.DefinedTypes.{func_type_at};
-ghost use Rattle.wasmparser_const_exprs.specs.ConstExprs.{expression_of};
-ghost use Rattle.wasmparser_const_exprs.specs.ConstOperators.{const_operator};
+ghost use Rattle.wasmparser_entries.specs.ConstExprs.{expression_of};
+ghost use Rattle.wasmparser_entries.specs.ConstOperators.{const_operator};
 ghost use Rattle.wasmparser_types.specs.Index.{number_of};
 ghost use Rattle.wasmparser_types.specs.ValTypes.{val_type};
 
 use crate::scope::item_at;
-use wasmparser_const_exprs::const_expr::ConstExpr;
-use wasmparser_const_exprs::const_operator::ConstOperator;
+use wasmparser_entries::const_expr::ConstExpr;
+use wasmparser_entries::const_operator::ConstOperator;
 use wasmparser_module_types::module_types::ModuleTypes;
 use wasmparser_types::composite_type::FuncType;
 use wasmparser_types::val_type::ValType;

@@ -15,7 +15,7 @@ ghost use Rattle.wasmparser_types.specs.Index.{number_of};
 ghost use Rattle.wasmparser_types.specs.ValTypes.{val_type};
 
 use crate::scope::{Scope, item_at};
-use wasmparser_group_rules::gates::is_allowed;
+use wasmparser_type_relations::gates::is_allowed;
 use wasmparser_types::heap_type::HeapType;
 use wasmparser_types::index::PackedIndex;
 use wasmparser_types::ref_type::RefType;

@@ -2,8 +2,8 @@
 
 ghost use Rattle.std.specs.Prelude.{◌≡◌, ◌++◌, slice_get};
 
-use wasmparser_items::global_type::GlobalType;
 use wasmparser_module_types::module_types::ModuleTypes;
+use wasmparser_readers::global_type::GlobalType;
 
 /// The items of a module that a constant expression may use, and the place at which it is refused where it is wrong.
 #[derive(Clone, Copy)]

@@ -4,7 +4,7 @@ ghost use Rattle.std.specs.Prelude.{◌↔◌, IsTrue};
 ghost use Rattle.wasm_spec.specs.TypeReferences.{val_map};
 ghost use Rattle.wasm_validity.specs.ConstantTyping.{IsConstantFor};
 ghost use Rattle.wasm_validity.specs.Rules.{IsBelow};
-ghost use Rattle.wasmparser_const_exprs.specs.ConstExprs.{expression_of};
+ghost use Rattle.wasmparser_entries.specs.ConstExprs.{expression_of};
 ghost use Rattle.wasmparser_constants.specs.Scopes.{context, features_of};
 ghost use Rattle.wasmparser_constants.specs.Steps.{CanBeWanted, Judges};
 ghost use Rattle.wasmparser_types.specs.Index.{number_of};
@@ -12,7 +12,7 @@ ghost use Rattle.wasmparser_types.specs.ValTypes.{val_type};
 
 use crate::operands::Operands;
 use crate::scope::Scope;
-use wasmparser_const_exprs::const_expr::ConstExpr;
+use wasmparser_entries::const_expr::ConstExpr;
 use wasmparser_error::error::Error;
 use wasmparser_types::val_type::ValType;
 

@@ -3,7 +3,7 @@ use Rattle.std.proofs.Common.{◌≡◌, ℕ, List, Some, None}
 use Rattle.wasm_core_read.specs.PartReading.{kind_and_items_at}
 use Rattle.wasm_core_read.specs.Reading.{byte_at}
 use Rattle.wasmparser_entries.specs.PackedEntries.{initialised_from, initialised_at, packed_entry_from, packed_entry_at, marked_from}
-use Rattle.wasmparser_items.proofs.ItemSteps.{no_code, after}
+use Rattle.wasmparser_readers.proofs.ItemSteps.{no_code, after}
 
 pub none_initialised : (bytes : List ℕ) → byte_at bytes ≡ None → initialised_at bytes ≡ None
 unfolding initialised_at

@@ -11,8 +11,8 @@ use Rattle.wasm_spec.specs.Syntax as syntax
 use Rattle.wasm_spec.specs.TypeReferences.{ref_map, table_map, global_map, table_refs, global_refs}
 use Rattle.wasm_spec.specs.Types.{RefType, TableType, GlobalType}
 use Rattle.wasmparser_types.specs.Index.{Index, packable, number_of}
-use Rattle.wasmparser_items.specs.PackedItems.{packed_table_from}
-use Rattle.wasmparser_items.proofs.PackedItemLaws.{same, table_from, table_is, table_back, global_is, global_back}
+use Rattle.wasmparser_readers.specs.PackedItems.{packed_table_from}
+use Rattle.wasmparser_readers.proofs.PackedItemLaws.{same, table_from, table_is, table_back, global_is, global_back}
 use Rattle.wasmparser_readers.specs.Answers.{HasLargeIndex}
 use Rattle.wasmparser_readers.specs.ModuleIndexes.{IsModuleIndex}
 use Rattle.wasmparser_readers.specs.PackedReading.{packed_index}

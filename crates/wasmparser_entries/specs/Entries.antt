@@ -9,8 +9,8 @@ use Rattle.wasm_spec.specs.Syntax as syntax
 use Rattle.wasm_spec.specs.TypeReferences.{ref_map, table_map, global_map, ref_refs, table_refs, global_refs}
 use Rattle.wasm_spec.specs.Types as spec
 use Rattle.wasmparser_types.specs.Index.{Index, number_of}
-use Rattle.wasmparser_const_exprs.specs.ConstExprs.{expression_of}
-use Rattle.wasmparser_items.specs.ItemTypes.{table_type, global_type}
+use Rattle.wasmparser_entries.specs.ConstExprs.{expression_of}
+use Rattle.wasmparser_readers.specs.ItemTypes.{table_type, global_type}
 use Rattle.wasmparser_readers.specs.ModuleIndexes.{IsModuleIndex}
 use Rattle.wasmparser_readers.specs.Passing.{IsPart, IsLastPart}
 use Rattle.wasmparser_readers.specs.Sections.{left_items}

@@ -10,7 +10,7 @@ use Rattle.wasm_spec.specs.Syntax.{ActiveElement, PassiveElement, DeclaredElemen
 use Rattle.wasm_spec.specs.Types as spec
 use Rattle.wasm_spec.specs.Types.{RefType, TableType}
 use Rattle.wasmparser_types.specs.Index.{Index}
-use Rattle.wasmparser_items.specs.PackedItems.{packed_table_from, packed_table_at, packed_global_at}
+use Rattle.wasmparser_readers.specs.PackedItems.{packed_table_from, packed_table_at, packed_global_at}
 use Rattle.wasmparser_readers.specs.PackedReading.{packed_ref_type_at}
 use Rattle.wasmparser_entries.specs.Entries.{PackedTable, PackedGlobal, PackedItems, PackedElement, Functions, Expressions}
 

@@ -4,15 +4,15 @@ ghost use Rattle.std.specs.Prelude.{◌≡◌, ⊤, IfOk, []};
 ghost use Rattle.wasm_core_read.specs.PartReading.{body_at, data_from, data_at};
 ghost use Rattle.wasm_core_read.specs.Reading.{Answers};
 ghost use Rattle.wasm_spec.specs.Syntax as spec;
-ghost use Rattle.wasmparser_const_exprs.specs.ConstExprs.{expression_of};
+ghost use Rattle.wasmparser_entries.specs.ConstExprs.{expression_of};
 ghost use Rattle.wasmparser_entries.specs.Entries.{DataOffsetIsPart, data_segment};
 ghost use Rattle.wasmparser_entries.specs.declared.data.DataKind.TheVariants as kinds;
 ghost use Rattle.wasmparser_readers.specs.Answers.{ReadsItem};
 
+use crate::const_expr::{ConstExpr, read_const_expr};
 use std::alloc::Global;
 use wasm_core_read::binary_reader::BinaryReader;
 use wasm_core_read::malformed::Malformed;
-use wasmparser_const_exprs::const_expr::{ConstExpr, read_const_expr};
 use wasmparser_error::error::Error;
 use wasmparser_readers::from_reader::{FromReader, Item};
 

@@ -7,7 +7,7 @@ ghost use Rattle.wasm_core_read.specs.PartReading.{element_at, functions_at, kin
 ghost use Rattle.wasm_core_read.specs.Reading.{Answers};
 ghost use Rattle.wasm_core_read.specs.TypeReading.{list_at};
 ghost use Rattle.wasm_spec.specs.Syntax as spec;
-ghost use Rattle.wasmparser_const_exprs.specs.ConstExprs.{expression_of};
+ghost use Rattle.wasmparser_entries.specs.ConstExprs.{expression_of};
 ghost use Rattle.wasmparser_entries.specs.Entries.{HasItsParts, IsElementOfModule, ItemsAreLast, element_of, packed_element, packed_items, packed_refs_of_items, refs_of_element};
 ghost use Rattle.wasmparser_entries.specs.declared.element.ElementKind.TheVariants as kinds;
 ghost use Rattle.wasmparser_entries.specs.Lists.{AreExpressions, AreFunctions, expressions_of, functions_of};
@@ -15,10 +15,10 @@ ghost use Rattle.wasmparser_entries.specs.PackedEntries.{marked_from, packed_ele
 ghost use Rattle.wasmparser_readers.specs.Answers.{ReadsItem};
 ghost use Rattle.wasmparser_readers.specs.ModuleIndexes.{IsModuleIndex};
 
+use crate::const_expr::{ConstExpr, Expression, read_const_expr};
 use std::alloc::Global;
 use wasm_core_read::binary_reader::BinaryReader;
 use wasm_core_read::malformed::Malformed;
-use wasmparser_const_exprs::const_expr::{ConstExpr, Expression, read_const_expr};
 use wasmparser_error::error::{Error, ErrorKind};
 use wasmparser_readers::from_reader::{FromReader, Item};
 use wasmparser_readers::passing::{fork, pass_list, passed_part};

@@ -8,18 +8,18 @@ ghost use Rattle.wasm_spec.specs.Syntax as spec;
 ghost use Rattle.wasm_spec.specs.TypeReferences.{global_refs};
 ghost use Rattle.wasmparser_entries.specs.Entries.{global_of, packed_global, refs_of_global};
 ghost use Rattle.wasmparser_entries.specs.PackedEntries.{packed_initialised_at};
-ghost use Rattle.wasmparser_items.specs.ItemTypes.{global_type};
+ghost use Rattle.wasmparser_readers.specs.ItemTypes.{global_type};
 ghost use Rattle.wasmparser_readers.specs.Answers.{ReadsItem};
 ghost use Rattle.wasmparser_readers.specs.Passing.{IsLastPart};
 ghost use Rattle.wasmparser_readers.specs.ModuleIndexes.{IsModuleIndex};
 
+use crate::const_expr::{ConstExpr, read_const_expr};
 use std::alloc;
 use wasm_core_read::binary_reader::BinaryReader;
 use wasm_core_read::malformed::Malformed;
-use wasmparser_const_exprs::const_expr::{ConstExpr, read_const_expr};
 use wasmparser_error::error::{Error, ErrorKind};
-use wasmparser_items::global_type::{GlobalType, read_packed_global};
 use wasmparser_readers::from_reader::{FromReader, Item};
+use wasmparser_readers::global_type::{GlobalType, read_packed_global};
 use wasmparser_readers::val_type::val_is_of_module;
 
 /// A global of the module's own.

@@ -8,17 +8,17 @@ ghost use Rattle.wasm_spec.specs.Syntax as spec;
 ghost use Rattle.wasm_spec.specs.TypeReferences.{table_refs};
 ghost use Rattle.wasmparser_entries.specs.Entries.{InitialiserIsLast, packed_table, refs_of_table, table_of};
 ghost use Rattle.wasmparser_entries.specs.PackedEntries.{initialised_from, initialised_at, packed_entry_from, packed_entry_at};
-ghost use Rattle.wasmparser_items.specs.ItemTypes.{table_type};
+ghost use Rattle.wasmparser_readers.specs.ItemTypes.{table_type};
 ghost use Rattle.wasmparser_readers.specs.Answers.{ReadsItem};
 ghost use Rattle.wasmparser_readers.specs.ModuleIndexes.{IsModuleIndex};
 
+use crate::const_expr::{ConstExpr, read_const_expr};
 use std::alloc::Global;
 use wasm_core_read::binary_reader::BinaryReader;
 use wasm_core_read::malformed::Malformed;
-use wasmparser_const_exprs::const_expr::{ConstExpr, read_const_expr};
 use wasmparser_error::error::{Error, ErrorKind};
-use wasmparser_items::table_type::{TableType, read_packed_table, read_table_type_from};
 use wasmparser_readers::from_reader::{FromReader, Item};
+use wasmparser_readers::table_type::{TableType, read_packed_table, read_table_type_from};
 use wasmparser_readers::val_type::ref_is_of_module;
 
 // What a table with an initialiser begins with.

@@ -5,8 +5,8 @@ ghost use Rattle.wasmparser_error.specs.declared.error.ErrorKind.TheVariants as 
 
 use std::alloc::{AllocError, AllocFailed};
 use thiserror::Error;
-use wasm_core_base::limits::Limit;
 use wasm_core_read::malformed::Malformed;
+use wasm_core_types::limits::Limit;
 
 /// Why a module is refused. It is shown as its kind in lower case, without the case of a limit.
 #[derive(Clone, Copy, Debug, PartialEq, Eq, Hash, Error)]

@@ -12,7 +12,7 @@ use Rattle.wasm_bodies.specs.Operands.{State, taken, all_taken, applied, given, 
 use Rattle.wasm_bodies.specs.Signatures.{after_one_more, from_to, through_table, table_index, table_item}
 use Rattle.wasm_bodies_laws.specs.Machine.{Frame, frame_type, label_types, labels_of}
 use Rattle.wasm_spec.specs.Types.{ValType, I32, FuncType, TableType, funcref}
-use Rattle.wasmparser_stacks.specs.StackViews.{block_seen}
+use Rattle.wasmparser_bodies.specs.StackViews.{block_seen}
 use Rattle.wasmparser_func_validator.proofs.Taking.{all_taken-more}
 use Rattle.wasmparser_types.specs.Index.{Index}
 

@@ -12,8 +12,8 @@ use Rattle.wasm_bodies_laws.specs.Machine.{FrameKind, BlockFrame, LoopFrame, IfF
 use Rattle.wasm_spec.specs.Features.{Features}
 use Rattle.wasm_spec.specs.Types.{I32}
 use Rattle.wasmparser_operators.specs.OperatorReading.{All, OfBlock, block_type_at}
-use Rattle.wasmparser_stacks.specs.StackChanges.{entered_by, left_with, lowered}
-use Rattle.wasmparser_stacks.specs.StackViews.{block_seen}
+use Rattle.wasmparser_bodies.specs.StackChanges.{entered_by, left_with, lowered}
+use Rattle.wasmparser_bodies.specs.StackViews.{block_seen}
 use Rattle.wasmparser_types.specs.Index.{Index}
 use Rattle.wasmparser_func_validator.specs.Plain.{IsCoded, TriesBare, TriesBlock}
 use Rattle.wasmparser_func_validator.specs.Steps.{Steps, opened_if, opens}

@@ -6,7 +6,7 @@ use Rattle.wasm_bodies.specs.BodyContext.{ModuleItems, unpacked}
 use Rattle.wasm_bodies.specs.Signatures.{makes}
 use Rattle.wasm_spec.specs.Types.{FieldType, ValType}
 use Rattle.wasm_bodies.specs.Operands.{State}
-use Rattle.wasmparser_stacks.specs.StackChanges.{lowered}
+use Rattle.wasmparser_bodies.specs.StackChanges.{lowered}
 
 pub whole_list : {R : Type 0} (s : State R) → lowered 0 s ≡ s
 whole_list s = refl

@@ -20,14 +20,14 @@ use Rattle.wasm_core_read.proofs.Forms.{some_is}
 use Rattle.wasm_core_read.specs.Reading.{unsigned_at}
 use Rattle.wasm_spec.specs.Features.{Features, has}
 use Rattle.wasm_spec.specs.Types.{MemoryType, ValType, I32, I64}
-use Rattle.wasmparser_body_reading.proofs.Runs.{leads_further, leaves_less}
-use Rattle.wasmparser_body_reading.specs.Runs.{LeadsOn}
+use Rattle.wasmparser_bodies.proofs.Runs.{leads_further, leaves_less}
+use Rattle.wasmparser_bodies.specs.Runs.{LeadsOn}
 use Rattle.wasmparser_operators.specs.CodeTables.{row_of}
 use Rattle.wasmparser_operators.specs.ScalarValues.{row_or_none}
 use Rattle.wasmparser_func_validator.specs.NumericForms.{form_gives, form_takes}
 use Rattle.wasmparser_func_validator.specs.declared.numeric.NumericForm.{NumericForm}
 use Rattle.wasmparser_operators.specs.OperatorReading.{Access, All, Bare, Float, Number, OfBlock, Shape, Signed, block_type_at, code_at, kept_operator_at, memory_argument_at, operator_at, shape_at, shape_of}
-use Rattle.wasmparser_stacks.specs.StackChanges.{at_list, lowered}
+use Rattle.wasmparser_bodies.specs.StackChanges.{at_list, lowered}
 use Rattle.wasmparser_types.specs.Index.{Index}
 use Rattle.wasmparser_func_validator.specs.Plain.{AreItself, IsCoded, IsNumber, IsPast, IsPastFloat, IsScalarForm, IsStep, LeadsTo, NumbersFit, TriesBare, TriesBlock, TriesEffect, TriesNumber}
 use Rattle.wasmparser_func_validator.specs.Steps.{Steps, Takes}

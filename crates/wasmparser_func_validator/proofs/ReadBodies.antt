@@ -4,20 +4,20 @@ use Rattle.std.specs.Result.{is_err}
 use Rattle.wasm_bodies.specs.Bodies.{parameter}
 use Rattle.wasm_bodies.specs.BodyContext.{Local, ModuleItems, func_at}
 use Rattle.wasm_bodies_laws.specs.Machine.{Machine}
-use Rattle.wasm_core_base.specs.declared.limits.Limit.{Limit}
-use Rattle.wasm_core_base.specs.declared.limits.Limit.TheVariants as core
+use Rattle.wasm_core_types.specs.declared.limits.Limit.{Limit}
+use Rattle.wasm_core_types.specs.declared.limits.Limit.TheVariants as core
 use Rattle.wasm_core_read.specs.Input.{Input}
 use Rattle.wasm_spec.specs.Bytes.{AreBytes}
 use Rattle.wasm_spec.specs.Features.{Features}
 use Rattle.wasm_spec.specs.Types.{FuncType}
-use Rattle.wasmparser_body_reading.specs.BodyAnswers.{AnswersOutcome, IsBodyValidated, IsPlacedIn}
-use Rattle.wasmparser_body_reading.specs.BodyStates.{BodyState, IsAtStart, rest_outcome}
-use Rattle.wasmparser_body_reading.specs.CodeReading.{BodyOutcome}
-use Rattle.wasmparser_body_reading.specs.LocalsAnswers.{NamesLocalsFault, ReadsLocals}
-use Rattle.wasmparser_body_reading.specs.LocalsReading.{Locals, locals_outcome}
-use Rattle.wasmparser_body_reading.proofs.BodyLaws as bodies
-use Rattle.wasmparser_body_reading.proofs.BodySteps.{from_start}
-use Rattle.wasmparser_body_reading.proofs.LocalsMeaning.{locals_again, locals_found, past_again, past_found}
+use Rattle.wasmparser_bodies.specs.BodyAnswers.{AnswersOutcome, IsBodyValidated, IsPlacedIn}
+use Rattle.wasmparser_bodies.specs.BodyStates.{BodyState, IsAtStart, rest_outcome}
+use Rattle.wasmparser_bodies.specs.CodeReading.{BodyOutcome}
+use Rattle.wasmparser_bodies.specs.LocalsAnswers.{NamesLocalsFault, ReadsLocals}
+use Rattle.wasmparser_bodies.specs.LocalsReading.{Locals, locals_outcome}
+use Rattle.wasmparser_bodies.proofs.BodyLaws as bodies
+use Rattle.wasmparser_bodies.proofs.BodySteps.{from_start}
+use Rattle.wasmparser_bodies.proofs.LocalsMeaning.{locals_again, locals_found, past_again, past_found}
 use Rattle.wasmparser_error.specs.declared.error.Error.{Error}
 use Rattle.wasmparser_error.specs.declared.error.ErrorKind.{ErrorKind}
 use Rattle.wasmparser_error.specs.declared.error.ErrorKind.TheVariants as kinds

@@ -8,7 +8,7 @@ use Rattle.std.proofs.lemmas.Option.{get_or_from_slice_get}
 use Rattle.wasm_bodies.specs.BodyContext.{ModuleItems}
 use Rattle.wasm_bodies.specs.Operands.{Operand, State, fits, popped, popped_from, taken, each_taken, all_taken}
 use Rattle.wasm_spec.specs.Types.{ValType}
-use Rattle.wasmparser_stacks.specs.StackChanges.{lowered}
+use Rattle.wasmparser_bodies.specs.StackChanges.{lowered}
 
 -- where nothing is known of an open list, operands of any types are there
 pub any_taken : {R : Type 0} (items : ModuleItems R) (types : List (ValType R)) (s : State R) → s.known ≡ [] → s.is_open ≡ true → each_taken items types s ≡ Some s

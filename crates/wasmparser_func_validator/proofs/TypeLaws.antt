@@ -9,7 +9,7 @@ use Rattle.std.proofs.lemmas.Bool.Decides.{eqb_tells}
 use Rattle.std.proofs.lemmas.Option.{get_or_from_slice_get}
 use Rattle.wasm_bodies.specs.Bodies.{is_exactly, is_used_up}
 use Rattle.wasm_bodies.specs.Operands.{State, Known, each_taken, fresh}
-use Rattle.wasmparser_stacks.specs.StackChanges.{lowered}
+use Rattle.wasmparser_bodies.specs.StackChanges.{lowered}
 use Rattle.wasm_bodies.specs.BodyContext.{ModuleItems, are_below, is_defaultable, provided, unpacked}
 use Rattle.wasm_spec.specs.Types.{FieldType, StorageType, I8, I16, Val, ValType, I32, I64, F32, F64, V128, Ref}
 use Rattle.wasmparser_types.specs.Index.{Index}

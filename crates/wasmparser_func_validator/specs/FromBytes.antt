@@ -3,13 +3,13 @@ use Rattle.std.specs.Prelude.{⊤, ℕ, Bool, not, List, Result, Ok, Err}
 use Rattle.wasm_bodies.specs.Bodies.{HasManyLocals}
 use Rattle.wasm_bodies.specs.BodyContext.{Local, ModuleItems}
 use Rattle.wasm_bodies_laws.specs.Machine.{Machine}
-use Rattle.wasm_core_base.specs.declared.features.WasmFeatures.{WasmFeatures}
-use Rattle.wasm_core_base.specs.declared.limits.Limit.TheVariants as core
+use Rattle.wasm_core_types.specs.declared.features.WasmFeatures.{WasmFeatures}
+use Rattle.wasm_core_types.specs.declared.limits.Limit.TheVariants as core
 use Rattle.wasm_core_read.specs.Input.{Input}
 use Rattle.wasm_spec.specs.Features.{Features}
 use Rattle.wasm_spec.specs.Types.{FuncType}
-use Rattle.wasmparser_body_reading.specs.BodyStates.{BodyState}
-use Rattle.wasmparser_body_reading.specs.LocalsReading.{Declares}
+use Rattle.wasmparser_bodies.specs.BodyStates.{BodyState}
+use Rattle.wasmparser_bodies.specs.LocalsReading.{Declares}
 use Rattle.wasmparser_error.specs.declared.error.Error.{Error}
 use Rattle.wasmparser_error.specs.declared.error.ErrorKind.{ErrorKind}
 use Rattle.wasmparser_error.specs.declared.error.ErrorKind.TheVariants as kinds

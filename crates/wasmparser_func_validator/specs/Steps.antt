@@ -14,13 +14,13 @@ use Rattle.wasm_spec.specs.Features.{Features}
 use Rattle.wasm_spec.specs.Types.{TableType, ValType, I32}
 use Rattle.wasmparser_func_validator.specs.declared.refusal.Refusal.{Refusal}
 use Rattle.wasmparser_func_validator.specs.declared.refusal.Refusal.TheVariants.{Invalid, Memory}
-use Rattle.wasmparser_resources.specs.Resources.{Resources}
+use Rattle.wasmparser_bodies.specs.Resources.{Resources}
 use Rattle.wasmparser_operators.specs.declared.immediates.BlockType.{BlockType}
 use Rattle.wasmparser_types.specs.Index.{Index}
 use Rattle.wasmparser_types.specs.ValTypes.{val_type}
 use Rattle.wasmparser_types.specs.declared.val_type.ValType as code
-use Rattle.wasmparser_stacks.specs.StackViews.{block_with_ids, frame_kind}
-use Rattle.wasmparser_stacks.specs.declared.frame.FrameKind.{FrameKind}
+use Rattle.wasmparser_bodies.specs.StackViews.{block_with_ids, frame_kind}
+use Rattle.wasmparser_bodies.specs.declared.frame.FrameKind.{FrameKind}
 
 -- what a body of a function whose type has this index is judged in
 abbrev pub context_of : Resources → Features → List (Local Index) → ℕ → BodyContext Index

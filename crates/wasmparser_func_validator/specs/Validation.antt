@@ -4,14 +4,14 @@ use Rattle.wasm_bodies.specs.Bodies.{declared_local}
 use Rattle.wasm_bodies.specs.BodyContext.{Local}
 use Rattle.wasm_bodies.specs.Operands.{Operand, Known, Unknown, UnknownRef}
 use Rattle.wasm_bodies_laws.specs.Machine.{Machine}
-use Rattle.wasm_core_base.specs.declared.limits.Limit.TheVariants.{Locals}
+use Rattle.wasm_core_types.specs.declared.limits.Limit.TheVariants.{Locals}
 use Rattle.wasm_spec.specs.Limits as limits
 use Rattle.wasm_spec.specs.Types.{ValType}
 use Rattle.wasmparser_error.specs.declared.error.Error.{Error}
 use Rattle.wasmparser_error.specs.declared.error.ErrorKind.{ErrorKind}
 use Rattle.wasmparser_error.specs.declared.error.ErrorKind.TheVariants as kinds
-use Rattle.wasmparser_stacks.specs.declared.locals.LocalsError.{LocalsError}
-use Rattle.wasmparser_stacks.specs.declared.locals.LocalsError.TheVariants as locals
+use Rattle.wasmparser_bodies.specs.declared.locals.LocalsError.{LocalsError}
+use Rattle.wasmparser_bodies.specs.declared.locals.LocalsError.TheVariants as locals
 use Rattle.wasmparser_types.specs.Index.{Index}
 use Rattle.wasmparser_types.specs.ValTypes.{val_type}
 use Rattle.wasmparser_types.specs.declared.val_type.ValType as code

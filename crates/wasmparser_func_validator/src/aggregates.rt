@@ -9,15 +9,15 @@ ghost use Rattle.wasm_bodies.specs.Operands.{applied};
 ghost use Rattle.wasmparser_func_validator.specs.Steps.{Takes};
 ghost use Rattle.wasmparser_types.specs.ValTypes.{field_type, val_type};
 ghost use Rattle.wasm_bodies.specs.Operators as spec;
-ghost use Rattle.wasm_core_base.specs.Features.{feature_set};
+ghost use Rattle.wasm_core_types.specs.Features.{feature_set};
 ghost use Rattle.wasmparser_func_validator.specs.Steps.{HasEffect, context_of};
 
 use crate::body::Body;
 use crate::refusal::Refusal;
 use crate::type_list::{Copies, Fields, TypeList, Types};
 use std::iter::Iterator;
-use wasmparser_resources::module_resources::WasmModuleResources;
-use wasmparser_stacks::stacks::Stacks;
+use wasmparser_bodies::module_resources::WasmModuleResources;
+use wasmparser_bodies::stacks::Stacks;
 use wasmparser_types::val_type::{FieldType, ValType};
 
 fn are_defaultable(fields: &[FieldType]) -> bool

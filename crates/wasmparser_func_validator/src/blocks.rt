@@ -5,10 +5,10 @@ ghost use Rattle.wasm_bodies.specs.Bodies.{is_exactly};
 ghost use Rattle.wasm_bodies.specs.Operands.{State, fresh};
 ghost use Rattle.wasm_bodies.specs.Operators as spec;
 ghost use Rattle.wasm_bodies_laws.specs.Machine.{frame_of, may_end, stepped_in};
-ghost use Rattle.wasm_core_base.specs.Features.{feature_set};
+ghost use Rattle.wasm_core_types.specs.Features.{feature_set};
 ghost use Rattle.wasmparser_func_validator.specs.Steps.{Steps, context_of, kind_kept, opened_if, opens};
 ghost use Rattle.wasmparser_operators.specs.OperatorValues.{IsBlockOfModule, block_type};
-ghost use Rattle.wasmparser_stacks.specs.StackViews.{block_seen, block_with_ids, frame_kind};
+ghost use Rattle.wasmparser_bodies.specs.StackViews.{block_seen, block_with_ids, frame_kind};
 ghost use Rattle.wasmparser_types.specs.Index.{Index};
 ghost use Rattle.wasmparser_types.specs.ValTypes.{val_type};
 
@@ -16,10 +16,10 @@ use crate::body::Body;
 use crate::refusal::Refusal;
 use crate::type_list::Types;
 use std::slice;
+use wasmparser_bodies::frame::FrameKind;
+use wasmparser_bodies::module_resources::WasmModuleResources;
+use wasmparser_bodies::stacks::Stacks;
 use wasmparser_operators::immediates::BlockType;
-use wasmparser_resources::module_resources::WasmModuleResources;
-use wasmparser_stacks::frame::FrameKind;
-use wasmparser_stacks::stacks::Stacks;
 use wasmparser_types::val_type::ValType;
 
 impl<R: WasmModuleResources> Body<R> {

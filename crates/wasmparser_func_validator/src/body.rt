@@ -5,19 +5,19 @@ ghost use Rattle.wasm_bodies.specs.BodyContext.{are_below, provided};
 ghost use Rattle.wasm_bodies.specs.Effects.{leaves};
 ghost use Rattle.wasm_bodies.specs.Operands.{all_taken, applied, fits};
 ghost use Rattle.wasm_bodies.specs.Signatures.{after_one_more, from_to};
-ghost use Rattle.wasmparser_stacks.specs.StackChanges.{lowered};
-ghost use Rattle.wasmparser_stacks.specs.StackViews.{operand};
+ghost use Rattle.wasmparser_bodies.specs.StackChanges.{lowered};
+ghost use Rattle.wasmparser_bodies.specs.StackViews.{operand};
 ghost use Rattle.wasmparser_func_validator.specs.Steps.{Takes};
 ghost use Rattle.wasmparser_types.specs.ValTypes.{val_type};
 
 use crate::refusal::Refusal;
 use crate::type_list::{TypeList, Types};
 use std::slice;
-use wasm_core_base::features::WasmFeatures;
-use wasmparser_resources::module_resources::WasmModuleResources;
-use wasmparser_stacks::locals::Locals;
-use wasmparser_stacks::operand::Operand;
-use wasmparser_stacks::stacks::Stacks;
+use wasm_core_types::features::WasmFeatures;
+use wasmparser_bodies::locals::Locals;
+use wasmparser_bodies::module_resources::WasmModuleResources;
+use wasmparser_bodies::operand::Operand;
+use wasmparser_bodies::stacks::Stacks;
 use wasmparser_types::val_type::ValType;
 
 /// What stays the same while a body is validated, its locals aside.

@@ -9,12 +9,12 @@ ghost use Rattle.wasm_bodies.specs.Operands.{nothing_known};
 ghost use Rattle.wasm_bodies.specs.Signatures.{table_index, table_item};
 ghost use Rattle.wasm_bodies_laws.specs.Machine.{frame_type, label_types, labels_of};
 ghost use Rattle.wasm_spec.specs.Types.{FuncType, funcref};
-ghost use Rattle.wasmparser_stacks.specs.StackChanges.{lowered};
-ghost use Rattle.wasmparser_stacks.specs.StackViews.{block_with_ids, frame_kind};
+ghost use Rattle.wasmparser_bodies.specs.StackChanges.{lowered};
+ghost use Rattle.wasmparser_bodies.specs.StackViews.{block_with_ids, frame_kind};
 ghost use Rattle.wasmparser_types.specs.Index.{Index};
 ghost use Rattle.wasmparser_types.specs.ValTypes.{val_type};
 ghost use Rattle.wasm_bodies.specs.Operators as spec;
-ghost use Rattle.wasm_core_base.specs.Features.{feature_set};
+ghost use Rattle.wasm_core_types.specs.Features.{feature_set};
 ghost use Rattle.wasmparser_func_validator.specs.Steps.{HasEffect, Takes, context_of, label_kept};
 
 use crate::body::Body;
@@ -23,11 +23,11 @@ use crate::refusal::Refusal;
 use crate::type_list::Types;
 use std::iter::Iterator;
 use std::slice;
+use wasmparser_bodies::frame::FrameKind;
+use wasmparser_bodies::module_resources::WasmModuleResources;
+use wasmparser_bodies::stacks::Stacks;
 use wasmparser_operators::br_table::BrTable;
 use wasmparser_operators::immediates::BlockType;
-use wasmparser_resources::module_resources::WasmModuleResources;
-use wasmparser_stacks::frame::FrameKind;
-use wasmparser_stacks::stacks::Stacks;
 use wasmparser_types::val_type::ValType;
 
 fn is_loop(kind: FrameKind) -> bool

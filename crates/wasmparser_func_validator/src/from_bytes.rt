@@ -3,25 +3,25 @@
 ghost use Rattle.std.specs.Prelude.{◌≡◌, ◌≤◌, ◌<◌, [], Err, IfErr, IfOk, Some, false, length, map, true};
 ghost use Rattle.wasm_bodies.specs.Bodies.{parameter};
 ghost use Rattle.wasm_bodies.specs.BodyContext.{func_at};
-ghost use Rattle.wasm_core_base.specs.Features.{feature_set};
+ghost use Rattle.wasm_core_types.specs.Features.{feature_set};
 ghost use Rattle.wasm_spec.specs.Types as types;
-ghost use Rattle.wasmparser_body_reading.specs.BodyAnswers.{AnswersOutcome, IsBodyValidated};
-ghost use Rattle.wasmparser_body_reading.specs.LocalsAnswers.{ReadsLocals};
-ghost use Rattle.wasmparser_body_reading.specs.BodyStates.{IsAtStart, rest_outcome};
+ghost use Rattle.wasmparser_bodies.specs.BodyAnswers.{AnswersOutcome, IsBodyValidated};
+ghost use Rattle.wasmparser_bodies.specs.LocalsAnswers.{ReadsLocals};
+ghost use Rattle.wasmparser_bodies.specs.BodyStates.{IsAtStart, rest_outcome};
 ghost use Rattle.wasmparser_func_validator.specs.FromBytes.{ReadsDeclared, failed_at, past_types};
 ghost use Rattle.wasmparser_func_validator.specs.Validation.{is_refused};
 ghost use Rattle.wasmparser_types.specs.Index.{Index, packable};
 
 use crate::func_validator::{FuncValidator, failed};
-use wasm_core_base::limits::Limit;
 use wasm_core_read::binary_reader::BinaryReader;
-use wasmparser_body_reading::judge_body::JudgeBody;
-use wasmparser_body_reading::read_body::read_body;
-use wasmparser_body_reading::read_locals::read_locals;
+use wasm_core_types::limits::Limit;
+use wasmparser_bodies::judge_body::JudgeBody;
+use wasmparser_bodies::module_resources::WasmModuleResources;
+use wasmparser_bodies::read_body::read_body;
+use wasmparser_bodies::read_locals::read_locals;
 use wasmparser_error::error::{Error, ErrorKind};
 use wasmparser_payloads::function_body::FunctionBody;
 use wasmparser_readers::passing::fork;
-use wasmparser_resources::module_resources::WasmModuleResources;
 
 // The first type index that can't be packed. A module that the limits let through has fewer types.
 const FIRST_UNPACKED: u32 = 1 << 20;

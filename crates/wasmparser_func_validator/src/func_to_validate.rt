@@ -10,11 +10,11 @@ ghost use Rattle.wasmparser_func_validator.specs.Validation.{IsRefusedStart};
 use crate::body::Body;
 use crate::func_validator::FuncValidator;
 use std::alloc::Global;
-use wasm_core_base::features::WasmFeatures;
+use wasm_core_types::features::WasmFeatures;
+use wasmparser_bodies::locals::Locals;
+use wasmparser_bodies::module_resources::WasmModuleResources;
+use wasmparser_bodies::stacks::Stacks;
 use wasmparser_error::error::Error;
-use wasmparser_resources::module_resources::WasmModuleResources;
-use wasmparser_stacks::locals::Locals;
-use wasmparser_stacks::stacks::Stacks;
 
 /// The room that validators of bodies take, one after the other.
 #[derive(Drop)]

@@ -4,7 +4,7 @@ ghost use Rattle.std.specs.Prelude.{◌≡◌, ◌∷◌, ◌++◌, []};
 ghost use Rattle.std.specs.List.{list_all};
 ghost use Rattle.wasm_bodies.specs.OperatorGates.{block_gate, float_gate};
 ghost use Rattle.wasm_bodies.specs.OperatorGates as gates;
-ghost use Rattle.wasm_core_base.specs.Features.{feature_set};
+ghost use Rattle.wasm_core_types.specs.Features.{feature_set};
 ghost use Rattle.wasm_spec.specs.Features.{has};
 ghost use Rattle.wasmparser_func_validator.specs.NumericForms.{form_gives, form_takes, number};
 ghost use Rattle.wasmparser_operators.specs.OperatorValues.{block_type, operator};
@@ -12,10 +12,10 @@ ghost use Rattle.wasmparser_operators.specs.ScalarValues.{scalar_row};
 
 use crate::number_type::NumberType;
 use crate::numeric::{NumericForm, form_of};
-use wasm_core_base::features::WasmFeatures;
+use wasm_core_types::features::WasmFeatures;
+use wasm_core_types::scalar_operator::ScalarOperator;
 use wasmparser_operators::immediates::BlockType;
 use wasmparser_operators::operator::Operator;
-use wasmparser_operators::scalar_operator::ScalarOperator;
 
 // Whether a block of the type is allowed.
 fn is_block_on(features: WasmFeatures, blockty: &BlockType) -> bool

@@ -1,14 +1,14 @@
 //! Validators of bodies as judges of what is read.
 
 use crate::func_validator::FuncValidator;
-use wasmparser_body_reading::judge_body::JudgeBody;
+use wasmparser_bodies::judge_body::JudgeBody;
+use wasmparser_bodies::module_resources::WasmModuleResources;
 use wasmparser_error::error::Error;
 use wasmparser_operators::operator::Operator;
-use wasmparser_resources::module_resources::WasmModuleResources;
 use wasmparser_types::val_type::ValType;
 
 impl<T: WasmModuleResources> JudgeBody for FuncValidator<T> {
-    ghost use Rattle.wasm_core_base.specs.Features.{feature_set};
+    ghost use Rattle.wasm_core_types.specs.Features.{feature_set};
     ghost use Rattle.wasmparser_func_validator.specs.FromBytes.{Given, state_of};
 
     ghost state = { λ v. state_of (feature_set v.body.features) (T.resources v.body.resources).items v.body.ty v.body.locals v.stacks v.failed };

@@ -6,16 +6,16 @@ ghost use Rattle.wasm_bodies.specs.Signatures.{has_data};
 ghost use Rattle.wasmparser_func_validator.specs.NumericForms.{number};
 ghost use Rattle.wasmparser_operators.specs.OperatorValues.{memory_argument};
 ghost use Rattle.wasm_bodies.specs.Operators as spec;
-ghost use Rattle.wasm_core_base.specs.Features.{feature_set};
+ghost use Rattle.wasm_core_types.specs.Features.{feature_set};
 ghost use Rattle.wasmparser_func_validator.specs.Steps.{HasEffect, context_of};
 
 use crate::body::Body;
 use crate::lookups::{address_type, fill_types};
 use crate::number_type::NumberType;
 use crate::refusal::Refusal;
+use wasmparser_bodies::module_resources::WasmModuleResources;
+use wasmparser_bodies::stacks::Stacks;
 use wasmparser_operators::immediates::MemArg;
-use wasmparser_resources::module_resources::WasmModuleResources;
-use wasmparser_stacks::stacks::Stacks;
 use wasmparser_types::val_type::ValType;
 
 impl<R: WasmModuleResources> Body<R> {

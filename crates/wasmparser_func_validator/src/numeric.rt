@@ -4,15 +4,15 @@ ghost use Rattle.std.specs.Prelude.{◌≡◌};
 ghost use Rattle.std.specs.List.{list_all};
 ghost use Rattle.wasm_bodies.specs.OperatorGates.{float_gate};
 ghost use Rattle.wasm_bodies.specs.OperatorRows.{value_type};
-ghost use Rattle.wasm_core_base.specs.Features.{feature_set};
+ghost use Rattle.wasm_core_types.specs.Features.{feature_set};
 ghost use Rattle.wasm_spec.specs.Features.{has};
 ghost use Rattle.wasmparser_func_validator.specs.NumericForms.{form_gives, form_takes, number};
 ghost use Rattle.wasmparser_operators.specs.ScalarValues.{scalar_row};
 ghost use Rattle.wasmparser_types.specs.ValTypes.{val_type};
 
 use crate::number_type::NumberType;
-use wasm_core_base::features::WasmFeatures;
-use wasmparser_operators::scalar_operator::ScalarOperator;
+use wasm_core_types::features::WasmFeatures;
+use wasm_core_types::scalar_operator::ScalarOperator;
 
 // What an operator on numbers takes and gives.
 #[derive(Clone, Copy, Debug, PartialEq, Eq)]

@@ -9,8 +9,8 @@ ghost use Rattle.wasm_bodies.specs.Effects.{effect_of};
 ghost use Rattle.wasm_bodies.specs.OperatorGates.{block_gate};
 ghost use Rattle.wasm_bodies.specs.Operators as spec;
 ghost use Rattle.wasm_bodies_laws.specs.Machine.{labels_of};
-ghost use Rattle.wasm_core_base.specs.Features.{feature_set};
-ghost use Rattle.wasmparser_body_reading.specs.Runs.{LeadsOn};
+ghost use Rattle.wasm_core_types.specs.Features.{feature_set};
+ghost use Rattle.wasmparser_bodies.specs.Runs.{LeadsOn};
 ghost use Rattle.wasmparser_func_validator.specs.Plain.{IsNumber, IsStep, NumbersFit, TriesBare, TriesBlock, TriesEffect, TriesNumber};
 ghost use Rattle.wasmparser_func_validator.specs.Steps.{context_of};
 ghost use Rattle.wasmparser_operators.specs.OperatorValues.{IsBlockOfModule, block_type};
@@ -20,10 +20,10 @@ use crate::body::Body;
 use crate::plain_numbers::{five_bytes, past_i32, past_i64};
 use crate::plain_rows::plain_block_type;
 use std::slice;
+use wasmparser_bodies::frame::FrameKind;
+use wasmparser_bodies::module_resources::WasmModuleResources;
+use wasmparser_bodies::stacks::Stacks;
 use wasmparser_operators::immediates::BlockType;
-use wasmparser_resources::module_resources::WasmModuleResources;
-use wasmparser_stacks::frame::FrameKind;
-use wasmparser_stacks::stacks::Stacks;
 use wasmparser_types::val_type::ValType;
 
 // Whether a type is one of numbers.

@@ -1,13 +1,13 @@
 //! Numbers at the front of some bytes, of which most are a byte long.
 
 ghost use Rattle.std.specs.Prelude.{◌≡◌, ◌≤◌, ◌<◌, ◌^◌, IfSome, IsTrue, Some};
-ghost use Rattle.wasm_core_base.specs.Features.{feature_set};
+ghost use Rattle.wasm_core_types.specs.Features.{feature_set};
 ghost use Rattle.wasmparser_operators.specs.OperatorReading as reading;
 ghost use Rattle.wasm_core_read.specs.Reading.{unsigned_at};
 ghost use Rattle.wasmparser_func_validator.specs.Plain.{IsPast, IsPastFloat, IsSignedEnd};
 
-use wasm_core_base::features::WasmFeatures;
 use wasm_core_read::binary_reader::BinaryReader;
+use wasm_core_types::features::WasmFeatures;
 
 // An unsigned number of so many bits that is less than 16 and one byte long, and the bytes after it.
 #[inline(always)]

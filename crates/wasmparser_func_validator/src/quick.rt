@@ -8,8 +8,8 @@ ghost use Rattle.wasm_bodies.specs.Operands.{applied};
 ghost use Rattle.wasm_bodies.specs.Operators as spec;
 ghost use Rattle.wasm_bodies.specs.Signatures.{from_to};
 ghost use Rattle.wasm_bodies_laws.specs.Machine.{labels_of};
-ghost use Rattle.wasm_core_base.specs.Features.{feature_set};
-ghost use Rattle.wasmparser_body_reading.specs.Runs.{LeadsOn};
+ghost use Rattle.wasm_core_types.specs.Features.{feature_set};
+ghost use Rattle.wasmparser_bodies.specs.Runs.{LeadsOn};
 ghost use Rattle.wasmparser_func_validator.specs.NumericForms.{form_gives, form_takes};
 ghost use Rattle.wasmparser_func_validator.specs.Plain.{AreItself, IsScalarForm, IsStep, NumbersFit, TriesBare, TriesBlock, TriesEffect, TriesNumber};
 ghost use Rattle.wasmparser_func_validator.specs.Steps.{context_of};
@@ -27,10 +27,10 @@ use crate::plain_numbers::{
 };
 use crate::plain_rows::{load_form, store_form};
 use crate::plain_scalars::{conversion_form, f32_form, f64_form, i32_form, i64_form};
+use wasmparser_bodies::frame::FrameKind;
+use wasmparser_bodies::module_resources::WasmModuleResources;
+use wasmparser_bodies::stacks::Stacks;
 use wasmparser_operators::immediates::{BlockType, MemArg};
-use wasmparser_resources::module_resources::WasmModuleResources;
-use wasmparser_stacks::frame::FrameKind;
-use wasmparser_stacks::stacks::Stacks;
 use wasmparser_types::val_type::ValType;
 
 impl<R: WasmModuleResources> Body<R> {

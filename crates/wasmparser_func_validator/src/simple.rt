@@ -4,8 +4,8 @@ ghost use Rattle.std.specs.Prelude.{◌≡◌, ◌≢◌, [], option_map};
 ghost use Rattle.std.specs.Option.{option_and_then};
 ghost use Rattle.wasm_bodies.specs.Operands.{applied};
 ghost use Rattle.wasm_bodies.specs.Operators as spec;
-ghost use Rattle.wasm_core_base.specs.Features.{feature_set};
-ghost use Rattle.wasmparser_stacks.specs.StackViews.{operand};
+ghost use Rattle.wasm_core_types.specs.Features.{feature_set};
+ghost use Rattle.wasmparser_bodies.specs.StackViews.{operand};
 ghost use Rattle.wasmparser_func_validator.specs.Steps.{HasEffect, Takes, context_of};
 ghost use Rattle.wasmparser_operators.specs.ScalarValues.{scalar_row};
 ghost use Rattle.wasm_bodies.specs.Operands as operands;
@@ -16,10 +16,10 @@ use crate::numeric::{NumericForm, form_of};
 use crate::refusal::Refusal;
 use crate::type_list::Types;
 use std::slice;
-use wasmparser_operators::scalar_operator::ScalarOperator;
-use wasmparser_resources::module_resources::WasmModuleResources;
-use wasmparser_stacks::operand::Operand;
-use wasmparser_stacks::stacks::Stacks;
+use wasm_core_types::scalar_operator::ScalarOperator;
+use wasmparser_bodies::module_resources::WasmModuleResources;
+use wasmparser_bodies::operand::Operand;
+use wasmparser_bodies::stacks::Stacks;
 use wasmparser_types::val_type::ValType;
 
 fn are_same_plain(a: &ValType, b: &ValType) -> bool

@@ -6,7 +6,7 @@ ghost use Rattle.wasm_bodies.specs.Operands.{applied};
 ghost use Rattle.wasm_bodies.specs.Operators as spec;
 ghost use Rattle.wasm_bodies.specs.Signatures.{gives_one};
 ghost use Rattle.wasm_bodies_laws.specs.Machine.{stepped};
-ghost use Rattle.wasm_core_base.specs.Features.{feature_set};
+ghost use Rattle.wasm_core_types.specs.Features.{feature_set};
 ghost use Rattle.wasmparser_func_validator.specs.NumericForms.{number};
 ghost use Rattle.wasmparser_func_validator.specs.Steps.{HasEffect, Steps, Takes, context_of};
 ghost use Rattle.wasmparser_operators.specs.OperatorValues.{IsWhole, operator};
@@ -15,10 +15,10 @@ use crate::body::Body;
 use crate::gates::is_on;
 use crate::number_type::NumberType;
 use crate::refusal::Refusal;
+use wasmparser_bodies::frame::FrameKind;
+use wasmparser_bodies::module_resources::WasmModuleResources;
+use wasmparser_bodies::stacks::Stacks;
 use wasmparser_operators::operator::Operator;
-use wasmparser_resources::module_resources::WasmModuleResources;
-use wasmparser_stacks::frame::FrameKind;
-use wasmparser_stacks::stacks::Stacks;
 use wasmparser_types::val_type::ValType;
 
 impl<R: WasmModuleResources> Body<R> {

@@ -2,14 +2,14 @@
 
 ghost use Rattle.std.specs.Prelude.{◌≡◌};
 ghost use Rattle.wasm_bodies.specs.Operators as spec;
-ghost use Rattle.wasm_core_base.specs.Features.{feature_set};
+ghost use Rattle.wasm_core_types.specs.Features.{feature_set};
 ghost use Rattle.wasmparser_func_validator.specs.Steps.{HasEffect, context_of};
 
 use crate::body::Body;
 use crate::lookups::{address_type, fill_types};
 use crate::refusal::Refusal;
-use wasmparser_resources::module_resources::WasmModuleResources;
-use wasmparser_stacks::stacks::Stacks;
+use wasmparser_bodies::module_resources::WasmModuleResources;
+use wasmparser_bodies::stacks::Stacks;
 use wasmparser_types::val_type::ValType;
 
 impl<R: WasmModuleResources> Body<R> {

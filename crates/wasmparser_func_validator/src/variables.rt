@@ -2,15 +2,15 @@
 
 ghost use Rattle.std.specs.Prelude.{◌≡◌};
 ghost use Rattle.wasm_bodies.specs.Operators as spec;
-ghost use Rattle.wasm_core_base.specs.Features.{feature_set};
+ghost use Rattle.wasm_core_types.specs.Features.{feature_set};
 ghost use Rattle.wasmparser_func_validator.specs.Steps.{HasEffect, context_of};
 
 use crate::body::Body;
 use crate::refusal::Refusal;
 use crate::type_list::Types;
 use std::slice;
-use wasmparser_resources::module_resources::WasmModuleResources;
-use wasmparser_stacks::stacks::Stacks;
+use wasmparser_bodies::module_resources::WasmModuleResources;
+use wasmparser_bodies::stacks::Stacks;
 
 impl<R: WasmModuleResources> Body<R> {
     #[inline(always)]

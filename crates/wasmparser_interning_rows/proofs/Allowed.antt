@@ -7,7 +7,7 @@ use Rattle.wasm_spec.specs.TypeReferences.{composite_refs, func_refs, group_map,
 use Rattle.wasm_spec.specs.Types as spec
 use Rattle.wasmparser_types.specs.Index.{Index}
 use Rattle.wasmparser_types.specs.RecGroups.{members}
-use Rattle.wasmparser_interning.specs.TypeTables.{AreWithin, IsWithin, final_func}
+use Rattle.wasmparser_type_list.specs.TypeTables.{AreWithin, IsWithin, final_func}
 
 same : (xs : List Index) → map (λ index. index) xs ≡ xs
 same [] = refl

@@ -4,8 +4,8 @@ use crate::within::{func_type_within, group_within, sub_type_within};
 use std::alloc::{AllocError, Global};
 use std::marker::Model;
 use wasmparser_error::error::Error;
-use wasmparser_interning::type_identifier::TypeIdentifier;
-use wasmparser_interning::type_list::TypeList;
+use wasmparser_type_list::type_identifier::TypeIdentifier;
+use wasmparser_type_list::type_list::TypeList;
 use wasmparser_types::composite_type::FuncType;
 use wasmparser_types::index::{CoreTypeId, PackedIndex, RecGroupId, UnpackedIndex};
 use wasmparser_types::sub_type::{RecGroup, SubType};
@@ -21,7 +21,7 @@ pub struct CheckedList {
 }
 
 impl Model for CheckedList {
-    ghost use Rattle.wasmparser_interning.specs.TypeTables.{TypeTables};
+    ghost use Rattle.wasmparser_type_list.specs.TypeTables.{TypeTables};
     ghost use Rattle.wasmparser_interning_rows.specs.CheckedLists.{IsChecked};
 
     ghost Value = { TypeTables };
@@ -33,8 +33,8 @@ impl Model for CheckedList {
 
 impl CheckedList {
     ghost use Rattle.std.specs.Prelude.{◌≡◌, slice_get};
-    ghost use Rattle.wasmparser_chains.specs.Chains.{IsDepth};
-    ghost use Rattle.wasmparser_interning.specs.TypeTables.{TablesAgree, sub_types};
+    ghost use Rattle.wasmparser_type_relations.specs.Chains.{IsDepth};
+    ghost use Rattle.wasmparser_type_list.specs.TypeTables.{TablesAgree, sub_types};
 
     /// A list without types.
     pub fn new(alloc: Global) -> CheckedList {

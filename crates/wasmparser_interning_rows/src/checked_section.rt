@@ -4,11 +4,11 @@ use crate::module_group::module_group;
 use crate::type_space::TypeSpace;
 use std::alloc::Global;
 use std::marker::Model;
-use wasm_core_base::features::WasmFeatures;
+use wasm_core_types::features::WasmFeatures;
 use wasmparser_error::error::Error;
-use wasmparser_interning::type_identifier::TypeIdentifier;
-use wasmparser_interning::type_list::TypeList;
 use wasmparser_rec_groups::intern::InternRecGroup;
+use wasmparser_type_list::type_identifier::TypeIdentifier;
+use wasmparser_type_list::type_list::TypeList;
 use wasmparser_types::index::CoreTypeId;
 use wasmparser_types::sub_type::RecGroup;
 
@@ -23,7 +23,7 @@ pub struct CheckedSection {
 }
 
 impl Model for CheckedSection {
-    ghost use Rattle.wasmparser_interning.specs.TypeTables.{TypeTables};
+    ghost use Rattle.wasmparser_type_list.specs.TypeTables.{TypeTables};
     ghost use Rattle.wasmparser_interning_rows.specs.CheckedSections.{IsChecked};
 
     ghost Value = { TypeTables };

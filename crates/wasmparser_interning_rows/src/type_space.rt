@@ -1,7 +1,7 @@
 //! The types of a module, by type index.
 
 use std::alloc::{AllocError, Global};
-use wasm_core_base::features::WasmFeatures;
+use wasm_core_types::features::WasmFeatures;
 use wasmparser_rec_groups::intern::InternRecGroup;
 use wasmparser_types::index::CoreTypeId;
 
@@ -28,7 +28,7 @@ impl TypeSpace {
 
 impl InternRecGroup for TypeSpace {
     ghost use Rattle.std.specs.Prelude.{◌-◌, length, vec_capacity};
-    ghost use Rattle.wasm_core_base.specs.Features.{feature_set};
+    ghost use Rattle.wasm_core_types.specs.Features.{feature_set};
 
     ghost ids = { λ space. space.ids.items };
 

@@ -1,7 +1,7 @@
 //! Types whose references a list of types allows: places in their own group, and ids of earlier types.
 
 ghost use Rattle.std.specs.Prelude.{[], ◌∷◌, IfSome};
-ghost use Rattle.wasmparser_interning.specs.TypeTables.{AreWithin, final_func};
+ghost use Rattle.wasmparser_type_list.specs.TypeTables.{AreWithin, final_func};
 ghost use Rattle.wasmparser_types.specs.CompositeTypes.{func_type};
 ghost use Rattle.wasmparser_types.specs.RecGroups.{members, rec_group};
 ghost use Rattle.wasmparser_types.specs.SubTypes.{sub_type};
@@ -27,7 +27,7 @@ struct Beyond;
 
 impl RemapIndex for Within {
     ghost use Rattle.std.specs.Prelude.{⊤};
-    ghost use Rattle.wasmparser_interning.specs.TypeTables.{IsWithin};
+    ghost use Rattle.wasmparser_type_list.specs.TypeTables.{IsWithin};
 
     type Error = Beyond;
 

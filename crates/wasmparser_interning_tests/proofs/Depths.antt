@@ -7,8 +7,8 @@ use Rattle.wasm_spec.proofs.Places.{get_some}
 use Rattle.wasm_spec.specs.Groups.{Links, no_link, one_more}
 use Rattle.wasm_spec.specs.Subtyping.{Declared}
 use Rattle.wasm_spec.specs.Types.{SubType}
-use Rattle.wasmparser_chains.specs.Chains.{AreBelowEarlier, HasChain, IsBelowEarlier, IsChain, IsLinked, below, below_none, below_one, by_id, greatest}
-use Rattle.wasmparser_interning.specs.TypeTables.{TypeTables, sub_types, type_by_id}
+use Rattle.wasmparser_type_relations.specs.Chains.{AreBelowEarlier, HasChain, IsBelowEarlier, IsChain, IsLinked, below, below_none, below_one, by_id, greatest}
+use Rattle.wasmparser_type_list.specs.TypeTables.{TypeTables, sub_types, type_by_id}
 use Rattle.wasmparser_types.specs.Index.{Index, Id}
 use Rattle.wasmparser_types.specs.SubTypes.{sub_type}
 

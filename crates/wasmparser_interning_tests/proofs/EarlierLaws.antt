@@ -5,8 +5,8 @@ use Rattle.std.proofs.lemmas.List.{length-map}
 use Rattle.std.proofs.lemmas.Option.{slice_get_within}
 use Rattle.wasm_spec.specs.Subtyping.{IsOfKind, SubTypes, abstract_of}
 use Rattle.wasm_spec.specs.Types.{CompositeType, SubType}
-use Rattle.wasmparser_chains.specs.Chains.{AreBelowEarlier, IsBelowEarlier, below_one}
-use Rattle.wasmparser_interning.specs.TypeTables.{TypeTables, sub_types, type_by_id}
+use Rattle.wasmparser_type_relations.specs.Chains.{AreBelowEarlier, IsBelowEarlier, below_one}
+use Rattle.wasmparser_type_list.specs.TypeTables.{TypeTables, sub_types, type_by_id}
 use Rattle.wasmparser_interning_tests.specs.Earlier.{AreBelowEarlierTo, IsBelowEarlierAt}
 use Rattle.wasmparser_types.specs.Index.{Index, Module, RecGroup, Id, core_type_id}
 use Rattle.wasmparser_types.specs.SubTypes.{sub_type}

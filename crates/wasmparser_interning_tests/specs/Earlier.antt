@@ -2,8 +2,8 @@
 use Rattle.std.specs.Prelude.{◌≡◌, ℕ, ◌<◌, slice_get, Some}
 use Rattle.wasm_spec.specs.Types.{SubType}
 use Rattle.wasmparser_types.specs.Index.{Index}
-use Rattle.wasmparser_chains.specs.Chains.{IsBelowEarlier}
-use Rattle.wasmparser_interning.specs.TypeTables.{TypeTables, sub_types}
+use Rattle.wasmparser_type_relations.specs.Chains.{IsBelowEarlier}
+use Rattle.wasmparser_type_list.specs.TypeTables.{TypeTables, sub_types}
 
 -- the type with this id, if it is known, is so
 abbrev pub IsBelowEarlierAt : TypeTables → ℕ → Type 0

@@ -2,10 +2,10 @@
 
 use crate::earlier::are_below_earlier;
 use std::marker::Model;
-use wasmparser_chains::lookup::{Lookup, id_is_subtype_counted};
-use wasmparser_interning::read_counter::ReadCounter;
-use wasmparser_interning::type_identifier::TypeIdentifier;
-use wasmparser_interning::type_list::TypeList;
+use wasmparser_type_list::read_counter::ReadCounter;
+use wasmparser_type_list::type_identifier::TypeIdentifier;
+use wasmparser_type_list::type_list::TypeList;
+use wasmparser_type_relations::lookup::{Lookup, id_is_subtype_counted};
 use wasmparser_types::index::CoreTypeId;
 use wasmparser_types::ref_type::RefType;
 use wasmparser_types::val_type::ValType;
@@ -17,7 +17,7 @@ pub struct AskedList<'a> {
 }
 
 impl<'a> Model for AskedList<'a> {
-    ghost use Rattle.wasmparser_interning.specs.TypeTables.{CanAskSubtyping, TypeTables};
+    ghost use Rattle.wasmparser_type_list.specs.TypeTables.{CanAskSubtyping, TypeTables};
 
     ghost Value = { TypeTables };
 
@@ -28,8 +28,8 @@ impl<'a> Model for AskedList<'a> {
 
 impl<'a> AskedList<'a> {
     ghost use Rattle.std.specs.Prelude.{◌≡◌, IfSome, slice_get};
-    ghost use Rattle.wasmparser_chains.specs.Chains.{IsDepth};
-    ghost use Rattle.wasmparser_interning.specs.TypeTables.{TablesAgree, sub_types};
+    ghost use Rattle.wasmparser_type_relations.specs.Chains.{IsDepth};
+    ghost use Rattle.wasmparser_type_list.specs.TypeTables.{TablesAgree, sub_types};
 
     /// The list, if its types are so.
     pub fn new(list: &'a TypeList) -> Option<AskedList<'a>>

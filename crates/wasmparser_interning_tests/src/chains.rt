@@ -1,8 +1,8 @@
 //! Chains of types, each of which is declared below the one before.
 
 ghost use Rattle.std.specs.Prelude.{IfSome, slice_get};
-ghost use Rattle.wasmparser_chains.specs.Chains.{IsDepth};
-ghost use Rattle.wasmparser_interning.specs.TypeTables.{sub_types};
+ghost use Rattle.wasmparser_type_relations.specs.Chains.{IsDepth};
+ghost use Rattle.wasmparser_type_list.specs.TypeTables.{sub_types};
 
 use crate::asked_list::AskedList;
 use std::alloc::Global;

@@ -2,15 +2,15 @@
 
 ghost use Rattle.std.specs.Prelude.{◌≡◌, IsTrue, slice_get};
 ghost use Rattle.wasm_spec.specs.Subtyping.{IsOfKind, abstract_of};
-ghost use Rattle.wasmparser_chains.specs.Chains.{AreBelowEarlier, IsBelowEarlier};
-ghost use Rattle.wasmparser_interning.specs.TypeTables.{sub_types, type_by_id};
+ghost use Rattle.wasmparser_type_relations.specs.Chains.{AreBelowEarlier, IsBelowEarlier};
+ghost use Rattle.wasmparser_type_list.specs.TypeTables.{sub_types, type_by_id};
 ghost use Rattle.wasmparser_interning_tests.specs.Earlier.{IsBelowEarlierAt};
 ghost use Rattle.wasmparser_types.specs.CompositeTypes.{composite_type};
 ghost use Rattle.wasmparser_types.specs.SubTypes.{sub_type};
 
-use wasmparser_interning::type_identifier::TypeIdentifier;
-use wasmparser_interning::type_list::TypeList;
-use wasmparser_matching::known_types::KnownTypes;
+use wasmparser_type_list::type_identifier::TypeIdentifier;
+use wasmparser_type_list::type_list::TypeList;
+use wasmparser_type_relations::known_types::KnownTypes;
 use wasmparser_types::composite_type::CompositeType;
 use wasmparser_types::index::{CoreTypeId, PackedIndex};
 use wasmparser_types::sub_type::SubType;

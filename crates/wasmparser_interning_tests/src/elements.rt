@@ -5,10 +5,10 @@ use std::iter::{ExactSizeIterator, Iterator};
 use std::test::Fail;
 use wasm_test_rows::fields::two_fields;
 use wasm_test_rows::rows::check_rows;
-use wasmparser_interning::rec_group_elements::RecGroupElements;
 use wasmparser_interning_rows::checked_list::CheckedList;
 use wasmparser_interning_rows::new_list::on_new_list;
 use wasmparser_interning_rows::steps::steps_hold;
+use wasmparser_type_list::rec_group_elements::RecGroupElements;
 use wasmparser_type_words::types::id_of;
 use wasmparser_types::index::RecGroupId;
 

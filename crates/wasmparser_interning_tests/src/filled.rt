@@ -2,10 +2,10 @@
 
 use std::alloc::{AllocError, Global};
 use std::test::Fail;
-use wasmparser_interning::maybe_owned::MaybeOwned;
-use wasmparser_interning::type_alloc::TypeAlloc;
-use wasmparser_interning::type_identifier::TypeIdentifier;
-use wasmparser_interning::type_list::TypeList;
+use wasmparser_type_list::maybe_owned::MaybeOwned;
+use wasmparser_type_list::type_alloc::TypeAlloc;
+use wasmparser_type_list::type_identifier::TypeIdentifier;
+use wasmparser_type_list::type_list::TypeList;
 use wasmparser_types::composite_type::{CompositeType, StructType};
 use wasmparser_types::index::{CoreTypeId, RecGroupId};
 use wasmparser_types::sub_type::SubType;

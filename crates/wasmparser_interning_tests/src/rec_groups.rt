@@ -3,7 +3,7 @@
 use crate::counted_groups::counted_group;
 use std::alloc::Global;
 use std::test::Fail;
-use wasm_core_base::features::{Flags, WasmFeatures};
+use wasm_core_types::features::{Flags, WasmFeatures};
 use wasm_test_rows::fields::{two_fields, word_and_rest};
 use wasm_test_rows::rows::check_rows;
 use wasm_test_rows::values::number_of;

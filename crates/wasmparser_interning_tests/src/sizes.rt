@@ -1,7 +1,7 @@
 //! How large types count.
 
 ghost use Rattle.std.specs.Prelude.{◌<◌, ◌^◌, IsTrue};
-ghost use Rattle.wasmparser_interning.specs.TypeSizes.{size_of};
+ghost use Rattle.wasmparser_type_list.specs.TypeSizes.{size_of};
 ghost use Rattle.wasmparser_types.specs.CompositeTypes.{composite_type};
 
 use std::alloc::Global;
@@ -9,11 +9,11 @@ use std::test::Fail;
 use wasm_test_rows::fields::three_fields;
 use wasm_test_rows::rows::check_rows;
 use wasm_test_rows::values::number_of;
-use wasmparser_interning::type_data::TypeData;
-use wasmparser_interning::type_list::TypeList;
 use wasmparser_interning_rows::checked_list::CheckedList;
 use wasmparser_interning_rows::new_list::on_new_list;
 use wasmparser_interning_rows::steps::steps_hold;
+use wasmparser_type_list::type_data::TypeData;
+use wasmparser_type_list::type_list::TypeList;
 use wasmparser_type_words::types::id_of;
 use wasmparser_types::composite_type::CompositeType;
 use wasmparser_types::index::RecGroupId;

@@ -2,7 +2,7 @@
 
 use std::alloc::{AllocError, Global};
 use std::test::Fail;
-use wasmparser_snapshots::snapshot_list::SnapshotList;
+use wasmparser_type_relations::snapshot_list::SnapshotList;
 
 // Whether a list and a copy of it, which was made when it had one number, each grow by themselves.
 fn grow_apart(

@@ -10,9 +10,9 @@ use Rattle.wasm_core_read.proofs.Forms.{ltb_tells}
 use Rattle.std.proofs.lemmas.List.Folds.{list_any-append}
 use Rattle.wasm_spec.specs.Constants.{ConstantOperator, ConstantExpression}
 use Rattle.wasm_validity.specs.Context.{Context, named_by, named_in, with_functions}
-use Rattle.wasmparser_const_exprs.specs.ConstOperators.{const_operator}
-use Rattle.wasmparser_const_exprs.specs.declared.const_operator.ConstOperator.{ConstOperator}
-use Rattle.wasmparser_const_exprs.specs.declared.const_operator.ConstOperator.TheVariants as operators
+use Rattle.wasmparser_entries.specs.ConstOperators.{const_operator}
+use Rattle.wasmparser_entries.specs.declared.const_operator.ConstOperator.{ConstOperator}
+use Rattle.wasmparser_entries.specs.declared.const_operator.ConstOperator.TheVariants as operators
 use Rattle.wasmparser_error.specs.declared.error.Error.{Error}
 use Rattle.wasmparser_module_state.specs.State.{AreThere}
 

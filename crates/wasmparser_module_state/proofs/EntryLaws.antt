@@ -2,7 +2,7 @@
 use Rattle.std.proofs.Common.{◌≡◌, ◌⊎◌, inl, inr, ◌≤◌, ◌<◌, ℕ, suc, zero, ◌+◌, List, [], ◌∷◌, ◌++◌, length, Option, Some, None, refl, sym, ap, subst, ◌∙◌, arith, slice_index_or}
 use Rattle.std.proofs.lemmas.List.{append-nil}
 use Rattle.std.specs.List.{Any}
-use Rattle.wasm_core_base.specs.Limits as core
+use Rattle.wasm_core_types.specs.Limits as core
 use Rattle.wasm_core_read.specs.Input.{Input, GoesOn, IsWithin}
 use Rattle.wasm_core_read.specs.Reading.{◌>>=◌, ReadingOf, filled}
 use Rattle.wasm_core_read.specs.TypeReading.{items_at}
@@ -18,7 +18,7 @@ use Rattle.wasmparser_readers.specs.Answers.{HasLargeIndex, IsItemRefusal}
 use Rattle.wasmparser_readers.specs.Sections.{Left, left_items, IsUnread, IsEmpty, IsNextRefusal}
 use Rattle.wasmparser_readers.proofs.SectionLaws.{unread_left}
 use Rattle.wasmparser_types.specs.Index.{packable}
-use Rattle.wasmparser_module_entries.specs.EntryReading.{EntryReading}
+use Rattle.wasmparser_payloads.specs.EntryReading.{EntryReading}
 use Rattle.wasm_spec.specs.Trees.{DefType}
 use Rattle.wasmparser_module_state.specs.History.{EnterAll, EntersEntry, OneFindsNoRoom, FindsNoRoom}
 use Rattle.wasmparser_module_state.specs.Judging.{Accepts, Fills, Fronts, HasLarge, IsMadeOf, NamesEntry, NamesEntries, IsAt, IsIn}

@@ -9,8 +9,8 @@ use Rattle.wasm_spec.specs.Trees.{DefType}
 use Rattle.wasm_spec.specs.Types as spec
 use Rattle.wasm_validity.specs.Context.{Context, item_at, size_of, size_of_func, size_of_export}
 use Rattle.wasm_validity.specs.Rules.{keeps_export, may_leave}
-use Rattle.wasmparser_export_names.specs.ExportNames.{is_exported}
-use Rattle.wasmparser_items.specs.declared.type_ref.TypeRef.{TypeRef}
+use Rattle.wasmparser_names.specs.ExportNames.{is_exported}
+use Rattle.wasmparser_readers.specs.declared.type_ref.TypeRef.{TypeRef}
 use Rattle.wasmparser_module_state.proofs.NamedFunctions.{export_there}
 use Rattle.wasmparser_module_state.proofs.SegmentLaws.{mapped_item}
 use Rattle.wasmparser_module_state.specs.Exports.{CountsAs}

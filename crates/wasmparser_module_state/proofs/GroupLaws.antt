@@ -5,7 +5,7 @@ use Rattle.std.proofs.lemmas.Bool.{and_parts}
 use Rattle.std.proofs.lemmas.List.{append-nil}
 use Rattle.std.proofs.lemmas.List.Folds.{list_all-append}
 use Rattle.std.specs.List.{AllByRecursion, list_all}
-use Rattle.wasm_core_base.specs.Limits as core
+use Rattle.wasm_core_types.specs.Limits as core
 use Rattle.wasm_core_read.specs.Reading.{ReadingOf, name_at}
 use Rattle.wasm_core_read.proofs.Forms.{some_is}
 use Rattle.wasm_spec.specs.Features.{Features}
@@ -17,8 +17,8 @@ use Rattle.wasm_validity.specs.Rules.{keeps_item, keep_items, item_measures, ite
 use Rattle.wasmparser_error.specs.declared.error.Error.{Error}
 use Rattle.wasmparser_error.specs.declared.error.ErrorKind.{ErrorKind}
 use Rattle.wasmparser_error.specs.declared.error.ErrorKind.TheVariants as kinds
-use Rattle.wasmparser_imports.specs.ImportItems.{items_refs}
-use Rattle.wasmparser_items.specs.ItemTypes.{packed_refs}
+use Rattle.wasmparser_entries.specs.ImportItems.{items_refs}
+use Rattle.wasmparser_readers.specs.ItemTypes.{packed_refs}
 use Rattle.wasmparser_readers.specs.Sections.{Left, left_items, IsEmpty, IsNext, IsNextRefusal}
 use Rattle.wasmparser_readers.proofs.SectionLaws.{none_left}
 use Rattle.wasmparser_types.specs.Index.{packable}

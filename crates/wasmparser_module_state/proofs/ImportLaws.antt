@@ -4,7 +4,7 @@ use Rattle.std.specs.Prelude.{not, nat_lt, ◌&&◌, Result, Ok, Err}
 use Rattle.std.proofs.lemmas.Bool.{lt-ltb}
 use Rattle.std.proofs.lemmas.List.{append-nil}
 use Rattle.std.specs.List.{AllByRecursion, list_all}
-use Rattle.wasm_core_base.specs.Limits as core
+use Rattle.wasm_core_types.specs.Limits as core
 use Rattle.wasm_spec.specs.Features.{Features}
 use Rattle.wasm_spec.specs.Limits.{Limit, Imports as TheImports, Name, most, total_of_types}
 use Rattle.wasm_spec.specs.Syntax.{ImportEntry, imported_by}
@@ -18,10 +18,10 @@ use Rattle.wasm_validity.specs.Rules.{keeps_item, keep_items, has_small_index, s
 use Rattle.wasmparser_error.specs.declared.error.Error.{Error}
 use Rattle.wasmparser_error.specs.declared.error.ErrorKind.{ErrorKind}
 use Rattle.wasmparser_error.specs.declared.error.ErrorKind.TheVariants as kinds
-use Rattle.wasmparser_imports.specs.declared.imports.Imports.{Imports}
-use Rattle.wasmparser_imports.specs.declared.imports.Imports.TheVariants as entries
-use Rattle.wasmparser_imports.specs.ImportEntries.{IsEntryOfModule, import_entry}
-use Rattle.wasmparser_items.specs.ItemTypes.{packed_refs, type_ref}
+use Rattle.wasmparser_entries.specs.declared.imports.Imports.{Imports}
+use Rattle.wasmparser_entries.specs.declared.imports.Imports.TheVariants as entries
+use Rattle.wasmparser_entries.specs.ImportEntries.{IsEntryOfModule, import_entry}
+use Rattle.wasmparser_readers.specs.ItemTypes.{packed_refs, type_ref}
 use Rattle.wasmparser_module_state.proofs.NamedImports.{named_items, named_measures_of, named_next, named_rules}
 use Rattle.wasmparser_module_state.specs.Items.{AddsItem, NamesItem, AcceptsItems, AddsItems, AddsNamed, NamesItems, named_measures}
 use Rattle.wasmparser_module_state.specs.Judging.{Accepts, NamesEntry}

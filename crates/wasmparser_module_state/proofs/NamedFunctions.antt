@@ -14,7 +14,7 @@ use Rattle.wasmparser_constants.proofs.SeenLaws.{below_in, below_seen, constant_
 use Rattle.wasmparser_constants.specs.Scopes.{seen}
 use Rattle.wasmparser_constants.specs.Steps.{Judges}
 use Rattle.wasmparser_error.specs.declared.error.Error.{Error}
-use Rattle.wasmparser_items.specs.declared.type_ref.TypeRef.{TypeRef}
+use Rattle.wasmparser_readers.specs.declared.type_ref.TypeRef.{TypeRef}
 use Rattle.wasmparser_module_state.proofs.DeclaredLaws.{both_parts}
 use Rattle.wasmparser_module_state.specs.State.{AreThere, item}
 

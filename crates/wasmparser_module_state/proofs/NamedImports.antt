@@ -14,13 +14,13 @@ use Rattle.wasm_validity.specs.ImportedItems.{Imported, with_import, with_import
 use Rattle.wasm_validity.specs.Rules.{are_within, item_measures, items_measures, keep_items, keeps_item}
 use Rattle.wasm_validity_laws.proofs.Within.{within}
 use Rattle.wasmparser_error.specs.declared.error.Error.{Error}
-use Rattle.wasmparser_import_names.specs.ImportNames.{Kept, module_at}
+use Rattle.wasmparser_names.specs.ImportNames.{Kept, module_at}
 use Rattle.wasmparser_module_state.proofs.ReadItems.{split}
 use Rattle.wasmparser_module_state.specs.Items.{NamesImports, cut_off}
-use Rattle.wasmparser_items.specs.ItemTypes.{memory_type}
-use Rattle.wasmparser_items.specs.declared.global_type.GlobalType.{GlobalType}
-use Rattle.wasmparser_items.specs.declared.memory_type.MemoryType.{MemoryType}
-use Rattle.wasmparser_items.specs.declared.table_type.TableType.{TableType}
+use Rattle.wasmparser_readers.specs.ItemTypes.{memory_type}
+use Rattle.wasmparser_readers.specs.declared.global_type.GlobalType.{GlobalType}
+use Rattle.wasmparser_readers.specs.declared.memory_type.MemoryType.{MemoryType}
+use Rattle.wasmparser_readers.specs.declared.table_type.TableType.{TableType}
 use Rattle.wasmparser_module_state.specs.Judging.{IsLeft}
 use Rattle.wasmparser_module_state.specs.State.{global, table}
 use Rattle.wasmparser_readers.proofs.SectionLaws.{none_left}

@@ -12,7 +12,7 @@ use Rattle.wasm_validity.specs.Context.{Context}
 use Rattle.wasmparser_module_state.specs.StateResources.{items_in, named_type, no_sub_type, resources_in}
 use Rattle.wasmparser_module_types.specs.ModuleTypes.{AreKnownTypes, KnownTypes, func_type_of_index, sub_type_of_index}
 use Rattle.wasmparser_module_types.specs.WithIds.{heap_by_ids}
-use Rattle.wasmparser_resources.specs.Resources.{reference_of, sub_type_at}
+use Rattle.wasmparser_bodies.specs.Resources.{reference_of, sub_type_at}
 use Rattle.wasmparser_types.specs.CompositeTypes.{func_of}
 use Rattle.wasmparser_types.specs.HeapTypes.{Packs}
 use Rattle.wasmparser_types.specs.Index.{Index, Id, number_of, packable}

@@ -4,7 +4,7 @@ use Rattle.wasm_spec.specs.Trees.{DefType, type_at}
 use Rattle.wasm_spec.specs.TypeReferences.{external_map, global_map, global_refs, ref_map, table_map, table_refs}
 use Rattle.wasm_spec.specs.Types.{ExternalType, FuncExternal, TableExternal, MemoryExternal, GlobalExternal, TagExternal, GlobalType, RefType, TableType}
 use Rattle.wasm_validity_laws.specs.NamedTypes.{names_heap, names_value}
-use Rattle.wasmparser_items.specs.ItemTypes.{global_type, memory_type, table_type}
+use Rattle.wasmparser_readers.specs.ItemTypes.{global_type, memory_type, table_type}
 use Rattle.wasmparser_module_state.specs.declared.entity_type.EntityType.{EntityType}
 use Rattle.wasmparser_module_state.specs.declared.entity_type.EntityType.TheVariants as entities
 use Rattle.wasmparser_module_types.specs.ModuleTypes.{KnownTypes, stands_for}

@@ -1,6 +1,6 @@
 -- Judging imported items.
 use Rattle.std.specs.Prelude.{◌≡◌, ◌≤◌, ◌+◌, ⊤, ℕ, true, false, List, [], ◌∷◌, ◌++◌, length, take, Option, Some, None, Result, Ok, Err}
-use Rattle.wasm_core_base.specs.Limits as core
+use Rattle.wasm_core_types.specs.Limits as core
 use Rattle.wasm_spec.specs.Features.{Features}
 use Rattle.wasm_spec.specs.Limits.{Limit, TypeSize, most}
 use Rattle.wasm_spec.specs.Syntax.{ImportEntry, Import, imported_by}

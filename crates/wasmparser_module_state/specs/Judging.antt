@@ -3,7 +3,7 @@ use Rattle.std.specs.Prelude.{◌≡◌, ◌⊎◌, ⊤, ℕ, ◌<◌, ◌≤◌
 use Rattle.std.proofs.Common.{inl, inr}
 use Rattle.std.specs.List.{AllByRecursion}
 use Rattle.std.proofs.Math.Nat.{not-le_of_lt}
-use Rattle.wasm_core_base.specs.Limits as core
+use Rattle.wasm_core_types.specs.Limits as core
 use Rattle.wasm_core_read.specs.Input.{Input, IsWithin}
 use Rattle.wasm_core_read.specs.Reading.{ReadingOf, seen_at}
 use Rattle.wasm_core_read.specs.TypeReading.{items_at}
@@ -17,7 +17,7 @@ use Rattle.wasm_validity.specs.Rules.{Keeps, KeepRules, measures, Passes, Passes
 use Rattle.wasmparser_error.specs.declared.error.Error.{Error}
 use Rattle.wasmparser_error.specs.declared.error.ErrorKind.{ErrorKind}
 use Rattle.wasmparser_error.specs.declared.error.ErrorKind.TheVariants as kinds
-use Rattle.wasmparser_module_entries.specs.EntryReading.{EntryReading}
+use Rattle.wasmparser_payloads.specs.EntryReading.{EntryReading}
 use Rattle.wasmparser_module_state.specs.History.{EnterAll, OneFindsNoRoom, FindsNoRoom}
 use Rattle.wasmparser_readers.specs.Sections.{Left, left_items}
 use Rattle.wasmparser_types.specs.Index.{packable}

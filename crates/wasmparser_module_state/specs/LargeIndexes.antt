@@ -14,9 +14,9 @@ use Rattle.wasm_validity.specs.Entries.{OfImport, OfTable, OfGlobal, OfElement}
 use Rattle.wasm_validity.specs.Rules.{Keeps, KeepsItems, keeps_item, keep_items, has_small_index}
 use Rattle.wasm_validity.specs.TypeRules.{is_named, is_value}
 use Rattle.wasmparser_entries.specs.Entries.{refs_of_element, refs_of_global, refs_of_items, refs_of_table}
-use Rattle.wasmparser_imports.specs.ImportEntries.{entry_refs}
-use Rattle.wasmparser_imports.specs.ImportItems.{items_refs}
-use Rattle.wasmparser_items.specs.ItemTypes.{packed_refs}
+use Rattle.wasmparser_entries.specs.ImportEntries.{entry_refs}
+use Rattle.wasmparser_entries.specs.ImportItems.{items_refs}
+use Rattle.wasmparser_readers.specs.ItemTypes.{packed_refs}
 use Rattle.wasmparser_module_state.specs.Judging.{HasLarge}
 use Rattle.wasmparser_types.specs.Index.{packable}
 

@@ -6,10 +6,10 @@ use Rattle.wasm_spec.specs.Features.{Features}
 use Rattle.wasm_spec.specs.Trees.{DefType}
 use Rattle.wasm_spec.specs.TypeReferences.{func_map, ref_map, table_map, global_map, external_map}
 use Rattle.wasm_spec.specs.Types as spec
-use Rattle.wasmparser_items.specs.ItemTypes.{memory_type, table_type, global_type, type_ref}
-use Rattle.wasmparser_items.specs.declared.global_type.GlobalType.{GlobalType}
-use Rattle.wasmparser_items.specs.declared.table_type.TableType.{TableType}
-use Rattle.wasmparser_items.specs.declared.type_ref.TypeRef.{TypeRef}
+use Rattle.wasmparser_readers.specs.ItemTypes.{memory_type, table_type, global_type, type_ref}
+use Rattle.wasmparser_readers.specs.declared.global_type.GlobalType.{GlobalType}
+use Rattle.wasmparser_readers.specs.declared.table_type.TableType.{TableType}
+use Rattle.wasmparser_readers.specs.declared.type_ref.TypeRef.{TypeRef}
 use Rattle.wasmparser_types.specs.Index.{Index, number_of}
 use Rattle.wasm_validity.specs.Context.{Context, functions_in}
 use Rattle.wasm_validity.specs.DefinedTypes.{func_type_at}

@@ -5,14 +5,14 @@ use Rattle.wasm_spec.specs.Subtyping.{SubTypes}
 use Rattle.wasm_spec.specs.TypeReferences.{global_map, ref_map, table_map}
 use Rattle.wasm_spec.specs.Types.{StructComposite, SubType}
 use Rattle.wasm_validity.specs.Context.{Context, functions_in, globals_in}
-use Rattle.wasmparser_chains.specs.Chains.{by_id}
+use Rattle.wasmparser_type_relations.specs.Chains.{by_id}
 use Rattle.wasmparser_module_state.specs.State.{context}
 use Rattle.wasmparser_module_state.specs.declared.module_state.ModuleState.{ModuleState}
 use Rattle.wasmparser_module_types.specs.Greatest.{greatest_above}
 use Rattle.wasmparser_module_types.specs.ModuleTypes.{KnownTypes}
 use Rattle.wasmparser_module_types.specs.WithIds.{index_at}
-use Rattle.wasmparser_resources.specs.Resources.{Resources}
-use Rattle.wasmparser_subtype_decision.specs.Decision.{is_val_below}
+use Rattle.wasmparser_bodies.specs.Resources.{Resources}
+use Rattle.wasmparser_type_relations.specs.Decision.{is_val_below}
 use Rattle.wasmparser_types.specs.Index.{Index, Id}
 
 -- (each id of a module's types has a sub type, so this one stands for none)

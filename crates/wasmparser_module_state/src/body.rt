@@ -8,7 +8,7 @@ ghost use Rattle.wasmparser_module_state.specs.Judging.{Adds};
 ghost use Rattle.wasmparser_module_state.specs.State.{context, features_of};
 
 use crate::module_state::{ModuleState, refusal};
-use wasm_core_base::limits::{Limit, MAX_WASM_FUNCTION_SIZE};
+use wasm_core_types::limits::{Limit, MAX_WASM_FUNCTION_SIZE};
 use wasmparser_error::error::{Error, ErrorKind};
 
 impl ModuleState {

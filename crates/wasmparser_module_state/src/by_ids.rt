@@ -2,14 +2,14 @@
 
 ghost use Rattle.std.specs.Prelude.{◌≡◌, IfSome, option_map};
 ghost use Rattle.wasm_spec.specs.TypeReferences.{global_map, global_refs, ref_map, ref_refs, table_map, table_refs};
-ghost use Rattle.wasmparser_items.specs.ItemTypes.{global_type, table_type};
+ghost use Rattle.wasmparser_readers.specs.ItemTypes.{global_type, table_type};
 ghost use Rattle.wasmparser_module_state.specs.Entities.{meant_global, meant_ref, meant_table};
 ghost use Rattle.wasmparser_module_state.specs.State.{global, reference, table};
 ghost use Rattle.wasmparser_module_types.specs.ModuleTypes.{AreIds, stands_for};
 
-use wasmparser_items::global_type::GlobalType;
-use wasmparser_items::table_type::TableType;
 use wasmparser_module_types::module_types::ModuleTypes;
+use wasmparser_readers::global_type::GlobalType;
+use wasmparser_readers::table_type::TableType;
 use wasmparser_types::ref_type::RefType;
 use wasmparser_types::val_type::ValType;
 

@@ -2,15 +2,15 @@
 
 ghost use Rattle.std.specs.Prelude.{◌≡◌, ◌∷◌, [], IfErr, IfOk};
 ghost use Rattle.wasm_validity.specs.Context.{exported_function, named_in, with_functions};
-ghost use Rattle.wasmparser_const_exprs.specs.ConstExprs.{expression_of};
+ghost use Rattle.wasmparser_entries.specs.ConstExprs.{expression_of};
 ghost use Rattle.wasmparser_error.specs.declared.error.ErrorKind.TheVariants as kinds;
-ghost use Rattle.wasmparser_items.specs.Exports.{external_kind};
+ghost use Rattle.wasmparser_readers.specs.Exports.{external_kind};
 ghost use Rattle.wasmparser_module_state.specs.State.{AreThere, HasRoom, context};
 
 use crate::module_state::ModuleState;
-use wasmparser_const_exprs::const_expr::ConstExpr;
+use wasmparser_entries::const_expr::ConstExpr;
 use wasmparser_error::error::Error;
-use wasmparser_items::export::ExternalKind;
+use wasmparser_readers::export::ExternalKind;
 
 impl ModuleState {
     /// Whether a function is declared outside of bodies: by an export, an element segment or a constant expression. A body may name it as a reference then,

@@ -3,18 +3,18 @@
 ghost use Rattle.std.specs.Prelude.{◌≡◌, IfSome, option_map};
 ghost use Rattle.std.specs.Option.{option_and_then};
 ghost use Rattle.wasm_validity.specs.Context.{item_at};
-ghost use Rattle.wasmparser_items.specs.Exports.{external_kind};
+ghost use Rattle.wasmparser_readers.specs.Exports.{external_kind};
 ghost use Rattle.wasmparser_module_state.specs.Entities.{entity_refs, entity_type, meant_item};
 ghost use Rattle.wasmparser_module_state.specs.State.{context, item};
 ghost use Rattle.wasmparser_module_types.specs.ModuleTypes.{AreIds};
 
 use crate::by_ids::{global_by_ids, table_by_ids};
 use crate::module_state::ModuleState;
-use wasmparser_items::export::ExternalKind;
-use wasmparser_items::global_type::GlobalType;
-use wasmparser_items::memory_type::MemoryType;
-use wasmparser_items::table_type::TableType;
-use wasmparser_items::type_ref::TypeRef;
+use wasmparser_readers::export::ExternalKind;
+use wasmparser_readers::global_type::GlobalType;
+use wasmparser_readers::memory_type::MemoryType;
+use wasmparser_readers::table_type::TableType;
+use wasmparser_readers::type_ref::TypeRef;
 use wasmparser_types::index::CoreTypeId;
 
 /// What is imported or exported.

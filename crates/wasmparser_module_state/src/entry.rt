@@ -2,7 +2,7 @@
 
 ghost use Rattle.std.specs.Prelude.{◌≡◌, IfOk, true};
 ghost use Rattle.wasm_validity.specs.Entries.{Entry};
-ghost use Rattle.wasmparser_module_entries.specs.EntryReading.{EntryReading};
+ghost use Rattle.wasmparser_payloads.specs.EntryReading.{EntryReading};
 ghost use Rattle.wasmparser_module_state.specs.History.{EntersEntry, grows, held};
 ghost use Rattle.wasmparser_module_state.specs.Judging.{Adds, AddsEntries, IsMadeOf};
 ghost use Rattle.wasmparser_module_state.specs.State.{context, features_of};

@@ -1,13 +1,13 @@
 //! Exports (Core Specification 3.0, Validation, "Exports").
 
 ghost use Rattle.std.specs.Prelude.{◌≡◌, ◌++◌, ◌∷◌, [], Some, false, length, option_map, refl, IfErr, IfOk};
-ghost use Rattle.wasm_core_base.specs.Features.{feature_set};
+ghost use Rattle.wasm_core_types.specs.Features.{feature_set};
 ghost use Rattle.wasm_validity.specs.Context.{item_at, size_of};
 ghost use Rattle.wasm_validity.specs.Entries.{OfExport};
 ghost use Rattle.wasm_validity.specs.Rules.{may_leave};
-ghost use Rattle.wasmparser_export_names.specs.ExportNames.{is_exported};
-ghost use Rattle.wasmparser_items.specs.Exports.{export_item, external_kind};
-ghost use Rattle.wasmparser_module_entries.specs.EntryReading.{export_entry_at};
+ghost use Rattle.wasmparser_names.specs.ExportNames.{is_exported};
+ghost use Rattle.wasmparser_readers.specs.Exports.{export_item, external_kind};
+ghost use Rattle.wasmparser_payloads.specs.EntryReading.{export_entry_at};
 ghost use Rattle.wasmparser_module_state.specs.Exports.{CountsAs, IsNameRefusal};
 ghost use Rattle.wasmparser_module_state.specs.State.{context, features_of, item};
 
@@ -15,14 +15,14 @@ use crate::entry::Entry;
 use crate::item_types::may_cross;
 use crate::module_state::{ModuleState, refusal};
 use crate::names::check_name;
-use wasm_core_base::features::WasmFeatures;
-use wasm_core_base::limits::{Limit, MAX_WASM_EXPORTS};
+use wasm_core_types::features::WasmFeatures;
+use wasm_core_types::limits::{Limit, MAX_WASM_EXPORTS};
 use wasmparser_error::error::{Error, ErrorKind};
-use wasmparser_export_names::export_names::ExportNames;
-use wasmparser_items::export::{Export, ExternalKind};
-use wasmparser_items::tag_type::{TagKind, TagType};
-use wasmparser_items::type_ref::TypeRef;
+use wasmparser_names::export_names::ExportNames;
+use wasmparser_readers::export::{Export, ExternalKind};
 use wasmparser_readers::section_limited::SectionLimited;
+use wasmparser_readers::tag_type::{TagKind, TagType};
+use wasmparser_readers::type_ref::TypeRef;
 
 impl ModuleState {
     /// The exports in order.

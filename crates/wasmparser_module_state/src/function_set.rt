@@ -3,13 +3,13 @@
 ghost use Rattle.std.specs.Prelude.{◌≡◌, ◌≤◌, ◌<◌, ◌∷◌, [], IfOk, false};
 ghost use Rattle.std.specs.List.{AllByRecursion};
 ghost use Rattle.wasm_validity.specs.Context.{named_in, with_functions};
-ghost use Rattle.wasmparser_const_exprs.specs.ConstExprs.{expression_of};
+ghost use Rattle.wasmparser_entries.specs.ConstExprs.{expression_of};
 ghost use Rattle.wasmparser_module_state.specs.State.{members, room};
 
 use std::alloc::{AllocError, Global};
 use std::iter::Iterator;
-use wasmparser_const_exprs::const_expr::ConstExpr;
-use wasmparser_const_exprs::const_operator::ConstOperator;
+use wasmparser_entries::const_expr::ConstExpr;
+use wasmparser_entries::const_operator::ConstOperator;
 
 /// A set of functions: a flag for each of the first functions, up to those that there was room made for.
 #[derive(Drop)]

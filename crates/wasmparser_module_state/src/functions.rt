@@ -5,14 +5,14 @@ ghost use Rattle.std.specs.Option.{option_copied};
 ghost use Rattle.wasm_spec.specs.TypeReferences.{func_refs};
 ghost use Rattle.wasm_validity.specs.DefinedTypes.{func_type_at};
 ghost use Rattle.wasm_validity.specs.Entries.{OfFunction};
-ghost use Rattle.wasmparser_module_entries.specs.EntryReading.{function_entry_at};
+ghost use Rattle.wasmparser_payloads.specs.EntryReading.{function_entry_at};
 ghost use Rattle.wasmparser_module_state.specs.State.{IsKept, context, own_func_type};
 ghost use Rattle.wasmparser_module_types.specs.ModuleTypes.{AreIds};
 ghost use Rattle.wasmparser_types.specs.CompositeTypes.{func_type};
 
 use crate::entry::Entry;
 use crate::module_state::{ModuleState, refusal};
-use wasm_core_base::limits::{Limit, MAX_WASM_FUNCTIONS};
+use wasm_core_types::limits::{Limit, MAX_WASM_FUNCTIONS};
 use wasmparser_error::error::{Error, ErrorKind};
 use wasmparser_types::composite_type::FuncType;
 

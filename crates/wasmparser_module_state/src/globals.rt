@@ -5,17 +5,17 @@ ghost use Rattle.wasm_validity.specs.Context.{globals_in};
 ghost use Rattle.wasm_validity.specs.Entries.{OfGlobal};
 ghost use Rattle.wasmparser_entries.specs.Entries.{global_of, packed_global};
 ghost use Rattle.wasmparser_error.specs.declared.error.ErrorKind.TheVariants as kinds;
-ghost use Rattle.wasmparser_module_entries.specs.EntryReading.{global_entry_at};
+ghost use Rattle.wasmparser_payloads.specs.EntryReading.{global_entry_at};
 ghost use Rattle.wasmparser_module_state.specs.LargeIndexes.{large_global};
 ghost use Rattle.wasmparser_module_state.specs.State.{context, features_of, global};
 
 use crate::entry::Entry;
 use crate::module_state::{ModuleState, refusal};
-use wasm_core_base::limits::{Limit, MAX_WASM_GLOBALS};
+use wasm_core_types::limits::{Limit, MAX_WASM_GLOBALS};
 use wasmparser_constants::scope::item_at;
 use wasmparser_entries::global::Global;
 use wasmparser_error::error::{Error, ErrorKind};
-use wasmparser_items::global_type::GlobalType;
+use wasmparser_readers::global_type::GlobalType;
 use wasmparser_types::val_type::ValType;
 
 impl ModuleState {

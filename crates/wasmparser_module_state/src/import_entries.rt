@@ -2,18 +2,18 @@
 
 ghost use Rattle.std.specs.Prelude.{◌≡◌, ◌≤◌, ◌<◌, refl, suc, IfErr, IfOk, length, map};
 ghost use Rattle.std.specs.List.{AllByRecursion};
-ghost use Rattle.wasm_core_base.specs.declared.limits.Limit.TheVariants as limits;
+ghost use Rattle.wasm_core_types.specs.declared.limits.Limit.TheVariants as limits;
 ghost use Rattle.wasm_core_read.specs.PartReading.{import_item_at};
 ghost use Rattle.wasm_core_read.specs.Reading.{name_at};
 ghost use Rattle.wasm_validity.specs.Context.{next_import, next_imports};
 ghost use Rattle.wasm_validity.specs.Entries.{OfImport};
 ghost use Rattle.wasm_validity.specs.ImportedItems.{with_import, with_imports};
 ghost use Rattle.wasmparser_error.specs.declared.error.ErrorKind.TheVariants as kinds;
-ghost use Rattle.wasmparser_import_names.specs.ImportNames.{module_at};
-ghost use Rattle.wasmparser_imports.specs.ImportEntries.{IsEntryOfModule, import_entry};
-ghost use Rattle.wasmparser_imports.specs.ImportGroups.{AreRead, items_of};
-ghost use Rattle.wasmparser_imports.specs.ImportItems.{items_refs};
-ghost use Rattle.wasmparser_module_entries.specs.EntryReading.{import_entry_at};
+ghost use Rattle.wasmparser_names.specs.ImportNames.{module_at};
+ghost use Rattle.wasmparser_entries.specs.ImportEntries.{IsEntryOfModule, import_entry};
+ghost use Rattle.wasmparser_entries.specs.ImportGroups.{AreRead, items_of};
+ghost use Rattle.wasmparser_entries.specs.ImportItems.{items_refs};
+ghost use Rattle.wasmparser_payloads.specs.EntryReading.{import_entry_at};
 ghost use Rattle.wasmparser_module_state.specs.Items.{AddsGroup, AddsImports, AddsNamed, NamesImports};
 ghost use Rattle.wasmparser_module_state.specs.LargeIndexes.{large_import};
 ghost use Rattle.wasmparser_module_state.specs.State.{context, features_of, item, unnamed};
@@ -23,13 +23,13 @@ use crate::entry::Entry;
 use crate::imported_names::kind_of;
 use crate::module_state::{ModuleState, refusal};
 use crate::names::check_name;
-use wasm_core_base::limits::{Limit, MAX_WASM_IMPORTS};
+use wasm_core_types::limits::{Limit, MAX_WASM_IMPORTS};
+use wasmparser_entries::import_item::ImportItemCompact;
+use wasmparser_entries::imports::Imports;
 use wasmparser_error::error::{Error, ErrorKind};
-use wasmparser_import_names::imported_items::ImportedItem;
-use wasmparser_imports::import_item::ImportItemCompact;
-use wasmparser_imports::imports::Imports;
-use wasmparser_items::type_ref::TypeRef;
+use wasmparser_names::imported_items::ImportedItem;
 use wasmparser_readers::section_limited::SectionLimited;
+use wasmparser_readers::type_ref::TypeRef;
 
 impl ModuleState {
     // How many entries of import sections there are with one more.

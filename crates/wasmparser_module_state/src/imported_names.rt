@@ -5,21 +5,21 @@ ghost use Rattle.wasm_spec.specs.Types.{kind_of};
 ghost use Rattle.wasm_validity.specs.Context.{next_index};
 ghost use Rattle.wasm_validity.specs.ImportedItems.{with_import};
 ghost use Rattle.wasmparser_error.specs.declared.error.ErrorKind.TheVariants as kinds;
-ghost use Rattle.wasmparser_import_names.specs.ImportNames.{imported, module_at};
-ghost use Rattle.wasmparser_items.specs.Exports.{external_kind};
+ghost use Rattle.wasmparser_names.specs.ImportNames.{imported, module_at};
+ghost use Rattle.wasmparser_readers.specs.Exports.{external_kind};
 ghost use Rattle.wasmparser_module_state.specs.Items.{cut_off};
 ghost use Rattle.wasmparser_module_state.specs.State.{context, item, unnamed};
 
 use crate::module_state::ModuleState;
-use wasm_core_base::limits::MAX_WASM_IMPORTS;
+use wasm_core_types::limits::MAX_WASM_IMPORTS;
+use wasmparser_entries::imports::Imports;
 use wasmparser_error::error::Error;
-use wasmparser_export_names::name_hasher::NameHasher;
-use wasmparser_import_names::import_names::ImportNames;
-use wasmparser_import_names::imported_items::ImportedItem;
-use wasmparser_imports::imports::Imports;
-use wasmparser_items::export::ExternalKind;
-use wasmparser_items::type_ref::TypeRef;
+use wasmparser_names::import_names::ImportNames;
+use wasmparser_names::imported_items::ImportedItem;
+use wasmparser_names::name_hasher::NameHasher;
+use wasmparser_readers::export::ExternalKind;
 use wasmparser_readers::section_limited::SectionLimited;
+use wasmparser_readers::type_ref::TypeRef;
 
 // How many bytes an entry of the section takes at least: the lengths of two names, a kind and a byte of a type.
 const LEAST_LEN: usize = 4;

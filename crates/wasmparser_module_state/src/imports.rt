@@ -4,21 +4,21 @@ ghost use Rattle.std.specs.Prelude.{◌≡◌, ◌+◌, ◌++◌, ◌∷◌, [],
 ghost use Rattle.wasm_spec.specs.Types as spec;
 ghost use Rattle.wasm_validity.specs.DefinedTypes.{func_type_at};
 ghost use Rattle.wasmparser_error.specs.declared.error.ErrorKind.TheVariants as kinds;
-ghost use Rattle.wasm_core_base.specs.declared.limits.Limit.TheVariants as limits;
-ghost use Rattle.wasmparser_items.specs.ItemTypes.{memory_type};
+ghost use Rattle.wasm_core_types.specs.declared.limits.Limit.TheVariants as limits;
+ghost use Rattle.wasmparser_readers.specs.ItemTypes.{memory_type};
 ghost use Rattle.wasmparser_module_state.specs.Items.{AddsItem, IsSizeUpTo, IsTypeSize};
 ghost use Rattle.wasmparser_module_state.specs.State.{context, features_of, global, item, table, unnamed};
 ghost use Rattle.wasmparser_types.specs.CompositeTypes.{func_type};
 
 use crate::module_state::{ModuleState, refusal};
-use wasm_core_base::limits::{
+use wasm_core_types::limits::{
     Limit, MAX_WASM_MEMORIES, MAX_WASM_TABLES, MAX_WASM_TAGS, MAX_WASM_TYPE_SIZE,
 };
 use wasmparser_error::error::{Error, ErrorKind};
-use wasmparser_items::global_type::GlobalType;
-use wasmparser_items::memory_type::MemoryType;
-use wasmparser_items::table_type::TableType;
-use wasmparser_items::type_ref::TypeRef;
+use wasmparser_readers::global_type::GlobalType;
+use wasmparser_readers::memory_type::MemoryType;
+use wasmparser_readers::table_type::TableType;
+use wasmparser_readers::type_ref::TypeRef;
 use wasmparser_types::composite_type::FuncType;
 use wasmparser_types::val_type::ValType;
 

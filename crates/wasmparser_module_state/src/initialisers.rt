@@ -6,16 +6,16 @@ ghost use Rattle.wasm_spec.specs.TypeReferences.{val_map};
 ghost use Rattle.wasm_validity.specs.ConstantTyping.{IsConstantFor};
 ghost use Rattle.wasm_validity.specs.Context.{named_in, with_functions};
 ghost use Rattle.wasm_validity.specs.Rules.{IsBelow};
-ghost use Rattle.wasmparser_const_exprs.specs.ConstExprs.{expression_of};
+ghost use Rattle.wasmparser_entries.specs.ConstExprs.{expression_of};
 ghost use Rattle.wasmparser_constants.specs.Steps.{CanBeWanted, Judges};
 ghost use Rattle.wasmparser_module_state.specs.State.{AreThere, HasRoom, context, features_of};
 ghost use Rattle.wasmparser_types.specs.Index.{number_of};
 ghost use Rattle.wasmparser_types.specs.ValTypes.{val_type};
 
 use crate::module_state::ModuleState;
-use wasmparser_const_exprs::const_expr::ConstExpr;
 use wasmparser_constants::functions::Functions;
 use wasmparser_constants::scope::Scope;
+use wasmparser_entries::const_expr::ConstExpr;
 use wasmparser_error::error::Error;
 use wasmparser_types::val_type::ValType;
 

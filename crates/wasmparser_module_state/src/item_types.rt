@@ -1,21 +1,21 @@
 //! Whether types of items keep the rules, in the context of a module's types (Core Specification 3.0, Validation, "Types").
 
 ghost use Rattle.std.specs.Prelude.{◌≡◌, false, nat_lt, if◌then◌else◌, ◌-◌, ◌^◌};
-ghost use Rattle.wasm_core_base.specs.Features.{feature_set};
+ghost use Rattle.wasm_core_types.specs.Features.{feature_set};
 ghost use Rattle.wasm_spec.specs.TypeReferences.{ref_map, val_map};
 ghost use Rattle.wasm_spec.specs.Types.{GlobalExternal};
 ghost use Rattle.wasm_validity.specs.Rules.{keeps_item, keeps_table, may_cross};
 ghost use Rattle.wasm_validity.specs.TypeRules.{are_bounds, is_element_type, is_funcref, is_named, is_table_type, is_tag_type, is_value};
-ghost use Rattle.wasmparser_items.specs.ItemTypes.{plain_limits};
+ghost use Rattle.wasmparser_readers.specs.ItemTypes.{plain_limits};
 ghost use Rattle.wasmparser_module_state.specs.State.{context, features_of, global, table};
 ghost use Rattle.wasmparser_types.specs.Index.{number_of};
 ghost use Rattle.wasmparser_types.specs.ValTypes.{val_type};
 
 use crate::module_state::ModuleState;
-use wasm_core_base::features::WasmFeatures;
-use wasmparser_group_rules::gates::is_allowed;
-use wasmparser_items::global_type::GlobalType;
-use wasmparser_items::table_type::TableType;
+use wasm_core_types::features::WasmFeatures;
+use wasmparser_readers::global_type::GlobalType;
+use wasmparser_readers::table_type::TableType;
+use wasmparser_type_relations::gates::is_allowed;
 use wasmparser_types::index::PackedIndex;
 use wasmparser_types::ref_type::RefType;
 use wasmparser_types::val_type::ValType;

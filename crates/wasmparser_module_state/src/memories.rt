@@ -1,21 +1,21 @@
 //! Memories, and those of a module's own (Core Specification 3.0, Validation, "Memory Types" and "Memories").
 
 ghost use Rattle.std.specs.Prelude.{◌≡◌, refl, option_map, slice_get};
-ghost use Rattle.wasm_core_base.specs.Features.{feature_set};
+ghost use Rattle.wasm_core_types.specs.Features.{feature_set};
 ghost use Rattle.wasm_validity.specs.Entries.{OfMemory};
 ghost use Rattle.wasm_validity.specs.Rules.{keeps_memory};
 ghost use Rattle.wasm_validity.specs.TypeRules.{is_memory_type, most_pages};
-ghost use Rattle.wasmparser_items.specs.ItemTypes.{memory_type};
-ghost use Rattle.wasmparser_module_entries.specs.EntryReading.{memory_entry_at};
+ghost use Rattle.wasmparser_readers.specs.ItemTypes.{memory_type};
+ghost use Rattle.wasmparser_payloads.specs.EntryReading.{memory_entry_at};
 ghost use Rattle.wasmparser_module_state.specs.State.{context, features_of};
 
 use crate::entry::Entry;
 use crate::item_types::are_bounds;
 use crate::module_state::{ModuleState, refusal};
-use wasm_core_base::features::WasmFeatures;
-use wasm_core_base::limits::{Limit, MAX_WASM_MEMORIES};
+use wasm_core_types::features::WasmFeatures;
+use wasm_core_types::limits::{Limit, MAX_WASM_MEMORIES};
 use wasmparser_error::error::{Error, ErrorKind};
-use wasmparser_items::memory_type::MemoryType;
+use wasmparser_readers::memory_type::MemoryType;
 
 // The most pages of a memory, where the size of its pages is one that there is.
 fn most_pages(ty: MemoryType) -> u64

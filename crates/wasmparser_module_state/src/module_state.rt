@@ -1,7 +1,7 @@
 //! What a validator knows of a module after some of its entries.
 
 ghost use Rattle.std.specs.Prelude.{◌≡◌, ◌+◌, ◌≤◌, [], IfErr, IfOk, false, length, true};
-ghost use Rattle.wasm_core_base.specs.Features.{feature_set};
+ghost use Rattle.wasm_core_types.specs.Features.{feature_set};
 ghost use Rattle.wasm_spec.specs.Limits.{Types, most};
 ghost use Rattle.wasm_validity.specs.Context.{at_first};
 ghost use Rattle.wasmparser_module_state.specs.History.{grows, held};
@@ -11,15 +11,15 @@ use crate::element_types::ElementTypes;
 use crate::function_set::FunctionSet;
 use std::alloc::{AllocError, Global};
 use std::mem;
-use wasm_core_base::features::WasmFeatures;
+use wasm_core_types::features::WasmFeatures;
 use wasmparser_constants::operands::Operands;
 use wasmparser_error::error::{Error, ErrorKind};
-use wasmparser_export_names::export_names::ExportNames;
-use wasmparser_import_names::import_names::ImportNames;
-use wasmparser_items::global_type::GlobalType;
-use wasmparser_items::memory_type::MemoryType;
-use wasmparser_items::table_type::TableType;
 use wasmparser_module_types::module_types::ModuleTypes;
+use wasmparser_names::export_names::ExportNames;
+use wasmparser_names::import_names::ImportNames;
+use wasmparser_readers::global_type::GlobalType;
+use wasmparser_readers::memory_type::MemoryType;
+use wasmparser_readers::table_type::TableType;
 
 /// The index spaces after the entries so far.
 #[derive(Drop)]

@@ -1,12 +1,12 @@
 //! Names of imports, exports and custom sections, which are limited by their bytes.
 
 ghost use Rattle.std.specs.Prelude.{◌≡◌, ◌≤◌, ◌<◌, IfErr, IfOk, length};
-ghost use Rattle.wasm_core_base.specs.declared.limits.Limit.TheVariants as limits;
+ghost use Rattle.wasm_core_types.specs.declared.limits.Limit.TheVariants as limits;
 ghost use Rattle.wasm_spec.specs.Limits.{Name, most};
 ghost use Rattle.wasmparser_error.specs.declared.error.ErrorKind.TheVariants as kinds;
 
 use crate::module_state::refusal;
-use wasm_core_base::limits::{Limit, MAX_WASM_STRING_SIZE};
+use wasm_core_types::limits::{Limit, MAX_WASM_STRING_SIZE};
 use wasmparser_error::error::{Error, ErrorKind};
 
 // Lets a name pass that is no longer than may be.

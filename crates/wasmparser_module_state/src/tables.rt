@@ -6,17 +6,17 @@ ghost use Rattle.wasm_validity.specs.Entries.{OfTable};
 ghost use Rattle.wasm_validity.specs.Rules.{keeps_table};
 ghost use Rattle.wasmparser_constants.specs.Steps.{Judges};
 ghost use Rattle.wasmparser_entries.specs.Entries.{initialiser, packed_table, table_of};
-ghost use Rattle.wasmparser_module_entries.specs.EntryReading.{table_entry_at};
+ghost use Rattle.wasmparser_payloads.specs.EntryReading.{table_entry_at};
 ghost use Rattle.wasmparser_module_state.specs.Initialisers.{IsFilled};
 ghost use Rattle.wasmparser_module_state.specs.LargeIndexes.{large_table};
 ghost use Rattle.wasmparser_module_state.specs.State.{AreThere, HasRoom, context, features_of, table};
 
 use crate::entry::Entry;
 use crate::module_state::{ModuleState, refusal};
-use wasm_core_base::limits::{Limit, MAX_WASM_TABLES};
+use wasm_core_types::limits::{Limit, MAX_WASM_TABLES};
 use wasmparser_entries::table::{Table, TableInit};
 use wasmparser_error::error::{Error, ErrorKind};
-use wasmparser_items::table_type::TableType;
+use wasmparser_readers::table_type::TableType;
 use wasmparser_types::val_type::ValType;
 
 impl ModuleState {

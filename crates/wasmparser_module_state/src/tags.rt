@@ -2,8 +2,8 @@
 
 ghost use Rattle.std.specs.Prelude.{◌≡◌, ◌≢◌, refl, IfErr, slice_get};
 ghost use Rattle.wasm_validity.specs.Entries.{OfTag, OfTags};
-ghost use Rattle.wasmparser_items.specs.ItemTypes.{tag_type};
-ghost use Rattle.wasmparser_module_entries.specs.EntryReading.{tag_entry_at};
+ghost use Rattle.wasmparser_readers.specs.ItemTypes.{tag_type};
+ghost use Rattle.wasmparser_payloads.specs.EntryReading.{tag_entry_at};
 ghost use Rattle.wasmparser_error.specs.declared.error.ErrorKind.TheVariants as kinds;
 ghost use Rattle.wasmparser_module_state.specs.History.{held};
 ghost use Rattle.wasmparser_module_state.specs.Judging.{Adds};
@@ -11,9 +11,9 @@ ghost use Rattle.wasmparser_module_state.specs.State.{context, features_of};
 
 use crate::entry::Entry;
 use crate::module_state::{ModuleState, refusal};
-use wasm_core_base::limits::{Limit, MAX_WASM_TAGS};
+use wasm_core_types::limits::{Limit, MAX_WASM_TAGS};
 use wasmparser_error::error::{Error, ErrorKind};
-use wasmparser_items::tag_type::TagType;
+use wasmparser_readers::tag_type::TagType;
 
 impl ModuleState {
     /// The type index of a tag, if there is that tag.

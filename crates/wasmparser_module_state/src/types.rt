@@ -3,9 +3,9 @@
 ghost use Rattle.std.specs.Prelude.{refl};
 ghost use Rattle.wasm_spec.specs.TypeReferences.{group_refs};
 ghost use Rattle.wasm_validity.specs.Entries.{OfType};
-ghost use Rattle.wasmparser_module_entries.specs.EntryReading.{type_entry_at};
+ghost use Rattle.wasmparser_payloads.specs.EntryReading.{type_entry_at};
 ghost use Rattle.wasmparser_module_state.specs.Judging.{has_none};
-ghost use Rattle.wasmparser_rec_group_laws.specs.Contexts.{in_section};
+ghost use Rattle.wasmparser_rec_groups.specs.Contexts.{in_section};
 ghost use Rattle.wasmparser_types.specs.RecGroups.{rec_group};
 
 use crate::entry::Entry;

@@ -11,14 +11,14 @@ use Rattle.wasm_spec.specs.Syntax as syntax
 use Rattle.wasm_spec.specs.TypeReferences.{sub_map}
 use Rattle.wasm_spec.specs.Trees.{AreDistinct, DefType, type_at, types_after, types_of_group, unrolled}
 use Rattle.wasm_spec.specs.Types.{RecGroup, Single, Group}
-use Rattle.wasmparser_chains.specs.Chains.{AreBelowEarlier}
-use Rattle.wasmparser_group_rules.specs.Canonical.{canonical_index}
-use Rattle.wasmparser_interning.specs.TypeTables.{TablesAgree, TypeTables, committed, has_room, no_types, sub_types}
-use Rattle.wasmparser_interning_laws.proofs.IdLaws.{id_count, ids_distinct}
-use Rattle.wasmparser_interning_laws.specs.IdTypes.{AreFoundByKey, RefersToNoModule, id_types}
+use Rattle.wasmparser_type_relations.specs.Chains.{AreBelowEarlier}
+use Rattle.wasmparser_type_relations.specs.Canonical.{canonical_index}
+use Rattle.wasmparser_type_list.specs.TypeTables.{TablesAgree, TypeTables, committed, has_room, no_types, sub_types}
+use Rattle.wasmparser_type_list.proofs.IdLaws.{id_count, ids_distinct}
+use Rattle.wasmparser_type_list.specs.IdTypes.{AreFoundByKey, RefersToNoModule, id_types}
 use Rattle.wasmparser_module_types.specs.History.{Enters, HasRoom}
 use Rattle.wasmparser_module_types.specs.ModuleTypes.{AddsGroup, KnowsModule, all_groups, interned_types, known_types, module_types}
-use Rattle.wasmparser_rec_group_laws.specs.Contexts.{IsGroupOfModule, in_section}
+use Rattle.wasmparser_rec_groups.specs.Contexts.{IsGroupOfModule, in_section}
 use Rattle.wasmparser_rec_groups.proofs.CanonicalGroups.{members_mapped}
 use Rattle.wasmparser_rec_groups.specs.Interning.{AreKnown, NamesModuleTypes, canonical_members}
 use Rattle.wasmparser_types.specs.Index.{Index, number_of}

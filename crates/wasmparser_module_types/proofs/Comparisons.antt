@@ -13,9 +13,9 @@ use Rattle.wasm_spec.specs.Subtyping.{Closure, Defined, HeapTest, Link, SubTypes
 use Rattle.wasm_spec.specs.Trees.{unrolled}
 use Rattle.wasm_spec.specs.TypeReferences.{composite_map, heap_map, heap_refs, sub_map, val_map, val_refs}
 use Rattle.wasm_spec.specs.Types.{HeapType, Abstract, Concrete, CompositeType, ValType, I32, I64, F32, F64, V128, Ref}
-use Rattle.wasmparser_interning.specs.TypeTables.{TypeTables, type_by_id}
-use Rattle.wasmparser_interning_laws.proofs.IdLaws.{distinct_one_to_one, ids_closed, ids_unroll}
-use Rattle.wasmparser_interning_laws.specs.IdTypes.{type_of_index}
+use Rattle.wasmparser_type_list.specs.TypeTables.{TypeTables, type_by_id}
+use Rattle.wasmparser_type_list.proofs.IdLaws.{distinct_one_to_one, ids_closed, ids_unroll}
+use Rattle.wasmparser_type_list.specs.IdTypes.{type_of_index}
 use Rattle.wasmparser_module_types.proofs.KnownIds.{are_types}
 use Rattle.wasmparser_module_types.specs.ModuleTypes.{CanCompare, IsIdOf, KnowsModule, all_groups, interned_types}
 use Rattle.wasmparser_types.specs.Index.{Index}

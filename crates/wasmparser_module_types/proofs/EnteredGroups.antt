@@ -13,10 +13,10 @@ use Rattle.wasm_spec.specs.Syntax as syntax
 use Rattle.wasm_spec.specs.TypeReferences.{sub_map, subs_map}
 use Rattle.wasm_spec.specs.Trees.{AreDistinct, DefType, no_type, places_of, tree_of, type_at}
 use Rattle.wasm_spec.specs.Types.{RecGroup, SubType}
-use Rattle.wasmparser_interning.specs.TypeTables.{Interns, TablesAgree, TypeTables, absolute, group_ids, ids_in, range_after}
-use Rattle.wasmparser_interning_laws.proofs.IdLaws.{id_count, ids_distinct}
-use Rattle.wasmparser_interning_laws.proofs.InternedGroups.{types_more}
-use Rattle.wasmparser_interning_laws.specs.IdTypes.{AreFoundByKey, RefersToNoModule, group_after, tree_as}
+use Rattle.wasmparser_type_list.specs.TypeTables.{Interns, TablesAgree, TypeTables, absolute, group_ids, ids_in, range_after}
+use Rattle.wasmparser_type_list.proofs.IdLaws.{id_count, ids_distinct}
+use Rattle.wasmparser_type_list.proofs.InternedGroups.{types_more}
+use Rattle.wasmparser_type_list.specs.IdTypes.{AreFoundByKey, RefersToNoModule, group_after, tree_as}
 use Rattle.wasmparser_module_types.specs.History.{Enters, HasRoom, IsHeld, is_held, is_new}
 use Rattle.wasmparser_module_types.specs.ModuleTypes.{all_groups, interned_types, module_types}
 use Rattle.wasmparser_rec_groups.specs.Interning.{AreKnown}

@@ -8,8 +8,8 @@ use Rattle.wasm_spec.specs.TypeReferences.{composite_map, composite_refs, func_m
 use Rattle.wasm_spec.specs.Trees.{DefType, type_at, unrolled}
 use Rattle.wasm_spec.specs.Types.{ArrayComposite, CompositeType, ContComposite, FuncComposite, FuncType, StructComposite, SubType}
 use Rattle.wasm_validity.specs.DefinedTypes.{func_in, func_type_at, func_type_of}
-use Rattle.wasmparser_interning.specs.TypeTables.{TypeTables}
-use Rattle.wasmparser_interning_laws.specs.IdTypes.{type_of_index}
+use Rattle.wasmparser_type_list.specs.TypeTables.{TypeTables}
+use Rattle.wasmparser_type_list.specs.IdTypes.{type_of_index}
 use Rattle.wasmparser_module_types.proofs.KnownIds.{types_named}
 use Rattle.wasmparser_module_types.specs.ModuleTypes.{all_groups, interned_types, module_types}
 use Rattle.wasmparser_types.specs.CompositeTypes.{func_of, func_type}

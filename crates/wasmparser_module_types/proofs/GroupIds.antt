@@ -6,10 +6,10 @@ use Rattle.std.specs.List.{flat_map, range_with_len}
 use Rattle.std.specs.Option.{option_map, unwrap_or}
 use Rattle.std.specs.declared.ops.Range.{Range}
 use Rattle.wasm_spec.proofs.Places.{get_cases}
-use Rattle.wasmparser_interning.specs.TypeTables.{AreConsecutive, TablesAgree, TypeTables, group_ids, ids_in, numbers_from}
-use Rattle.wasmparser_interning_laws.proofs.KeptGroups.{ends}
-use Rattle.wasmparser_interning_laws.proofs.WholeGroups.{whole_groups}
-use Rattle.wasmparser_interning_laws.specs.IdTypes.{IsWholeGroup}
+use Rattle.wasmparser_type_list.specs.TypeTables.{AreConsecutive, TablesAgree, TypeTables, group_ids, ids_in, numbers_from}
+use Rattle.wasmparser_type_list.proofs.KeptGroups.{ends}
+use Rattle.wasmparser_type_list.proofs.WholeGroups.{whole_groups}
+use Rattle.wasmparser_type_list.specs.IdTypes.{IsWholeGroup}
 use Rattle.wasmparser_module_types.proofs.KnownIds.{kept_count}
 use Rattle.wasmparser_module_types.specs.ModuleTypes.{ids_in_range, interned_groups, interned_types, all_groups}
 

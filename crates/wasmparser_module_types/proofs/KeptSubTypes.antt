@@ -10,8 +10,8 @@ use Rattle.wasm_spec.specs.Features.{Features}
 use Rattle.wasm_spec.specs.Trees.{type_at, unrolled}
 use Rattle.wasm_spec.specs.TypeReferences.{sub_map, sub_refs}
 use Rattle.wasm_spec.specs.Types as spec
-use Rattle.wasmparser_chains.specs.Chains.{by_id}
-use Rattle.wasmparser_interning.specs.TypeTables.{TablesAgree, TypeTables, sub_types}
+use Rattle.wasmparser_type_relations.specs.Chains.{by_id}
+use Rattle.wasmparser_type_list.specs.TypeTables.{TablesAgree, TypeTables, sub_types}
 use Rattle.wasmparser_module_types.proofs.KnownIds.{kept_count, kept_ids, kept_unrolls}
 use Rattle.wasmparser_module_types.specs.ModuleTypes.{AreIds, AreKnownTypes, KnownTypes, KnowsModule, interned_types, known_types, stands_for}
 use Rattle.wasmparser_types.specs.Index.{Index, Module, RecGroup, Id, core_type_id, packable}

@@ -10,9 +10,9 @@ use Rattle.wasm_spec.specs.ReferenceMaps.{IsType}
 use Rattle.wasm_spec.specs.Trees.{type_at, unrolled}
 use Rattle.wasm_spec.specs.TypeReferences.{sub_map, sub_refs}
 use Rattle.wasm_spec.specs.Types.{SubType}
-use Rattle.wasmparser_interning.specs.TypeTables.{TablesAgree, TypeTables, sub_types, type_by_id}
-use Rattle.wasmparser_interning_laws.proofs.IdLaws.{id_count, ids_closed, ids_unroll}
-use Rattle.wasmparser_interning_laws.specs.IdTypes.{RefersToNoModule, type_of_index}
+use Rattle.wasmparser_type_list.specs.TypeTables.{TablesAgree, TypeTables, sub_types, type_by_id}
+use Rattle.wasmparser_type_list.proofs.IdLaws.{id_count, ids_closed, ids_unroll}
+use Rattle.wasmparser_type_list.specs.IdTypes.{RefersToNoModule, type_of_index}
 use Rattle.wasmparser_module_types.specs.ModuleTypes.{IsIdOf, all_groups, interned_types, module_types}
 use Rattle.wasmparser_rec_groups.specs.Interning.{AreKnown}
 use Rattle.wasmparser_types.specs.Index.{Index, Module, RecGroup, Id}

@@ -1,8 +1,8 @@
 -- Why a module's group is refused by a list that knows the module's types.
 use Rattle.std.proofs.Common.{◌≡◌, ℕ, ◌+◌, ◌<◌, ◌≤◌, Bool, List, length, inl, inr, refl, sym, subst, arith}
 use Rattle.std.proofs.lemmas.Bool.{leb-false}
-use Rattle.wasm_core_base.specs.Limits.{limit}
-use Rattle.wasm_core_base.specs.declared.limits.Limit.TheVariants as limits
+use Rattle.wasm_core_types.specs.Limits.{limit}
+use Rattle.wasm_core_types.specs.declared.limits.Limit.TheVariants as limits
 use Rattle.wasm_spec.specs.Features.{Features, needs_type_canonicalization}
 use Rattle.wasm_spec.specs.Groups.{KeepsGroupRules}
 use Rattle.wasm_spec.specs.Limits.{Limit, Types, most}
@@ -11,11 +11,11 @@ use Rattle.wasm_spec.specs.Types.{RecGroup}
 use Rattle.wasm_validity.specs.DefinedTypes as validity
 use Rattle.wasmparser_error.specs.declared.error.Error.{Error}
 use Rattle.wasmparser_error.specs.declared.error.ErrorKind.{ErrorKind}
-use Rattle.wasmparser_interning.specs.TypeTables.{Interns, TypeTables}
-use Rattle.wasmparser_interning_laws.proofs.IdLaws.{id_count}
+use Rattle.wasmparser_type_list.specs.TypeTables.{Interns, TypeTables}
+use Rattle.wasmparser_type_list.proofs.IdLaws.{id_count}
 use Rattle.wasmparser_module_types.proofs.AddedGroups.{after_count, canonical_count, section_count}
 use Rattle.wasmparser_module_types.specs.ModuleTypes.{IsTooMany, KnowsModule, RefusesGroup, all_groups, breaks_a_rule, finds_no_room, known_types, module_types, out_of_memory, passes_a_limit}
-use Rattle.wasmparser_rec_group_laws.specs.Contexts.{JustifiesRefusal, PassesGroupLimit, in_section, breaks_a_rule as rule_broken, passes_a_limit as limit_passed}
+use Rattle.wasmparser_rec_groups.specs.Contexts.{JustifiesRefusal, PassesGroupLimit, in_section, breaks_a_rule as rule_broken, passes_a_limit as limit_passed}
 use Rattle.wasmparser_rec_groups.specs.Interning.{CanBeInterned, Refuses, breaks_a_rule as ill_formed, canonical_members, has_no_room, is_refused, out_of_memory as no_memory}
 use Rattle.wasmparser_rec_groups.specs.Rules.{IsRefusedGroup}
 use Rattle.wasmparser_types.specs.Index.{Index}

@@ -8,8 +8,8 @@ use Rattle.wasm_spec.specs.Features.{Features}
 use Rattle.wasm_spec.specs.Trees.{no_type, type_at}
 use Rattle.wasm_spec.specs.TypeReferences.{heap_map, heap_refs, val_map, val_refs}
 use Rattle.wasm_spec.specs.Types.{HeapType, Abstract, Concrete, ValType, I32, I64, F32, F64, V128, Ref}
-use Rattle.wasmparser_interning.specs.TypeTables.{TablesAgree, TypeTables}
-use Rattle.wasmparser_interning_laws.specs.IdTypes.{type_of_index}
+use Rattle.wasmparser_type_list.specs.TypeTables.{TablesAgree, TypeTables}
+use Rattle.wasmparser_type_list.specs.IdTypes.{type_of_index}
 use Rattle.wasmparser_module_types.proofs.KnownIds.{known_id, types_named}
 use Rattle.wasmparser_module_types.specs.ModuleTypes.{AreIds, IsIdOf, KnownTypes, KnowsModule, all_groups, interned_types, known_types, module_types, stands_for}
 use Rattle.wasmparser_module_types.specs.WithIds.{heap_by_ids, names_only, names_only_heap, val_by_ids}

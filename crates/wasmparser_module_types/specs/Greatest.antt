@@ -2,7 +2,7 @@
 use Rattle.std.specs.Prelude.{Option, Some, None}
 use Rattle.wasm_spec.specs.Subtyping.{SubTypes}
 use Rattle.wasm_spec.specs.Types.{AbstractHeapType, HeapType, Abstract}
-use Rattle.wasmparser_matching.specs.Tops.{top_above}
+use Rattle.wasmparser_type_relations.specs.Tops.{top_above}
 use Rattle.wasmparser_types.specs.Index.{Index}
 
 -- an abstract type, where there is one

@@ -4,8 +4,8 @@ use Rattle.std.specs.List.{AllByRecursion}
 use Rattle.std.specs.Option.{option_and_then, unwrap_or}
 use Rattle.std.specs.declared.ops.Range.{Range}
 use Rattle.std.specs.Coded.{Coded, code_by, coded×, coded_ℕ, coded_bool, coded_list}
-use Rattle.wasm_core_base.specs.Limits.{limit}
-use Rattle.wasm_core_base.specs.declared.limits.Limit.TheVariants as limits
+use Rattle.wasm_core_types.specs.Limits.{limit}
+use Rattle.wasm_core_types.specs.declared.limits.Limit.TheVariants as limits
 use Rattle.wasm_spec.specs.Features.{Features, needs_type_canonicalization}
 use Rattle.wasm_spec.specs.Groups.{KeepsGroupRules}
 use Rattle.wasm_spec.specs.Limits.{Limit, Groups, Types, IsPassedBy, most}
@@ -13,16 +13,16 @@ use Rattle.wasm_spec.specs.Trees.{AreDistinct, DefType, type_at, types_after, ty
 use Rattle.wasm_spec.specs.TypeReferences.{func_map, sub_map, sub_refs}
 use Rattle.wasm_spec.specs.Types.{FuncType, RecGroup, SubType}
 use Rattle.wasm_validity.specs.DefinedTypes.{PassesGroupLimit, func_type_at}
-use Rattle.wasmparser_chains.specs.Chains.{AreBelowEarlier}
+use Rattle.wasmparser_type_relations.specs.Chains.{AreBelowEarlier}
 use Rattle.wasmparser_error.specs.declared.error.Error.{Error}
 use Rattle.wasmparser_error.specs.declared.error.ErrorKind.{ErrorKind}
 use Rattle.wasmparser_error.specs.declared.error.ErrorKind.TheVariants as kinds
-use Rattle.wasmparser_interning.specs.TypeTables.{TablesAgree, TypeTables, ids_in, sub_types}
-use Rattle.wasmparser_interning_laws.specs.IdTypes.{AreFoundByKey, RefersToNoModule, id_types}
+use Rattle.wasmparser_type_list.specs.TypeTables.{TablesAgree, TypeTables, ids_in, sub_types}
+use Rattle.wasmparser_type_list.specs.IdTypes.{AreFoundByKey, RefersToNoModule, id_types}
 use Rattle.wasmparser_module_types.specs.History.{Enters, HasNoRoom}
 use Rattle.wasmparser_module_types.specs.ShapeCodes.{index_code, sub_code}
 use Rattle.wasmparser_module_types.specs.TreeCodes.{def_type_code}
-use Rattle.wasmparser_rec_group_laws.specs.Contexts.{types_of}
+use Rattle.wasmparser_rec_groups.specs.Contexts.{types_of}
 use Rattle.wasmparser_rec_groups.specs.Interning.{AreKnown}
 use Rattle.wasmparser_types.specs.CompositeTypes.{func_of}
 use Rattle.wasmparser_types.specs.Index.{Index, Module, RecGroup as Place, Id, number_of, packable}

@@ -6,14 +6,14 @@ ghost use Rattle.std.specs.Option.{option_and_then, option_copied};
 ghost use Rattle.wasm_spec.specs.Trees.{type_at, unrolled};
 ghost use Rattle.wasm_spec.specs.TypeReferences.{func_map, func_refs, sub_map, sub_refs};
 ghost use Rattle.wasm_validity.specs.DefinedTypes.{func_type_at};
-ghost use Rattle.wasmparser_interning.specs.TypeTables.{TablesAgree, sub_types};
-ghost use Rattle.wasmparser_interning_laws.specs.IdTypes.{RefersToNoModule, type_of_index};
+ghost use Rattle.wasmparser_type_list.specs.TypeTables.{TablesAgree, sub_types};
+ghost use Rattle.wasmparser_type_list.specs.IdTypes.{RefersToNoModule, type_of_index};
 ghost use Rattle.wasmparser_module_types.specs.ModuleTypes.{IsIdOf, all_groups, interned_types, module_types};
 ghost use Rattle.wasmparser_rec_groups.specs.Interning.{AreKnown};
 ghost use Rattle.wasmparser_types.specs.CompositeTypes.{func_of, func_type};
 ghost use Rattle.wasmparser_types.specs.SubTypes.{sub_type};
 
-use wasmparser_interning::type_list::TypeList;
+use wasmparser_type_list::type_list::TypeList;
 use wasmparser_types::composite_type::FuncType;
 use wasmparser_types::index::CoreTypeId;
 use wasmparser_types::sub_type::SubType;

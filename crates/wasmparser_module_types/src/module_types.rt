@@ -1,34 +1,35 @@
 //! The types of a module, and the list of types that knows them and those of earlier modules.
 
 ghost use Rattle.std.specs.Prelude.{◌≡◌, ◌≤◌, ◌+◌, ℕ, suc, IfErr, IfOk, IsSome, length};
-ghost use Rattle.wasm_core_base.specs.Features.{feature_set};
+ghost use Rattle.wasm_core_types.specs.Features.{feature_set};
 ghost use Rattle.wasm_spec.specs.Groups.{IsWellFormedGroup};
 ghost use Rattle.wasm_spec.specs.Limits.{Groups, Types, most};
 ghost use Rattle.wasm_spec.specs.Trees.{types_after, types_of_group};
 ghost use Rattle.wasmparser_error.specs.declared.error.ErrorKind.TheVariants as kinds;
 ghost use Rattle.wasmparser_module_types.specs.History.{Enters};
 ghost use Rattle.wasmparser_module_types.specs.ModuleTypes.{IsTooMany, KnowsModule, RefusesGroup, interned_types, known_types, module_types};
-ghost use Rattle.wasmparser_rec_group_laws.specs.Contexts.{in_section};
+ghost use Rattle.wasmparser_rec_groups.specs.Contexts.{in_section};
 ghost use Rattle.wasmparser_rec_groups.specs.Interning.{NamesModuleTypes};
 ghost use Rattle.wasmparser_types.specs.RecGroups as spec;
 ghost use Rattle.wasmparser_types.specs.RecGroups.{members};
 
 use crate::kept_types::{func_type_in, id_at, sub_type_in};
-use crate::tops::{abstract_top, composite_top};
+use crate::tops::composite_top;
 use crate::type_space::TypeSpace;
 use crate::with_ids::{heap_with_ids, listed_ref, listed_val, ref_with_ids, val_with_ids};
 use std::alloc::{AllocError, Global};
 use std::marker::Model;
 use std::mem;
-use wasm_core_base::features::WasmFeatures;
-use wasm_core_base::limits::{Limit, MAX_WASM_REC_GROUPS, MAX_WASM_TYPES};
+use wasm_core_types::features::WasmFeatures;
+use wasm_core_types::limits::{Limit, MAX_WASM_REC_GROUPS, MAX_WASM_TYPES};
 use wasmparser_error::error::{Error, ErrorKind};
-use wasmparser_interning::rec_group_elements::RecGroupElements;
-use wasmparser_interning::type_list::TypeList;
-use wasmparser_rec_group_laws::laws::{
+use wasmparser_rec_groups::intern::InternRecGroup;
+use wasmparser_rec_groups::laws::{
     accepted_groups_are_well_formed, context_stays, refused_groups_are_ill_formed,
 };
-use wasmparser_rec_groups::intern::InternRecGroup;
+use wasmparser_type_list::rec_group_elements::RecGroupElements;
+use wasmparser_type_list::type_list::TypeList;
+use wasmparser_type_relations::subtyping::abstract_top;
 use wasmparser_types::composite_type::FuncType;
 use wasmparser_types::heap_type::{AbstractHeapType, HeapType};
 use wasmparser_types::index::{CoreTypeId, RecGroupId, UnpackedIndex};
@@ -132,7 +133,7 @@ pub struct ModuleTypes {
 
 impl Model for ModuleTypes {
     ghost use Rattle.std.specs.Prelude.{◌≤◌};
-    ghost use Rattle.wasm_core_base.specs.Features.{feature_set};
+    ghost use Rattle.wasm_core_types.specs.Features.{feature_set};
     ghost use Rattle.wasm_spec.specs.Limits.{Groups, most};
     ghost use Rattle.wasmparser_module_types.specs.ModuleTypes.{KnownTypes, KnowsModule, known_types, known_types_code};
 
@@ -149,21 +150,21 @@ impl ModuleTypes {
     ghost use Rattle.std.specs.Prelude.{◌≡◌, ◌<◌, ◌≤◌, [], IfErr, IfOk, IfSome, IsSome, IsTrue, Some, false, is_some, length, option_map, slice_get, true};
     ghost use Rattle.std.specs.List.{flat_map, range_with_len};
     ghost use Rattle.std.specs.Option.{option_copied};
-    ghost use Rattle.wasm_core_base.specs.Features.{feature_set};
+    ghost use Rattle.wasm_core_types.specs.Features.{feature_set};
     ghost use Rattle.wasm_spec.specs.Limits.{Types, most};
     ghost use Rattle.wasm_spec.specs.Subtyping.{ValBelow};
     ghost use Rattle.wasm_spec.specs.Features.{needs_type_canonicalization};
     ghost use Rattle.wasm_spec.specs.Trees.{AreDistinct, type_at, unrolled};
     ghost use Rattle.wasm_spec.specs.TypeReferences.{func_refs, heap_map, heap_refs, ref_map, sub_map, sub_refs, val_map, val_refs};
     ghost use Rattle.wasm_spec.specs.Types.{Concrete};
-    ghost use Rattle.wasmparser_chains.specs.Chains.{by_id};
-    ghost use Rattle.wasmparser_matching.specs.Tops.{top_above};
+    ghost use Rattle.wasmparser_type_relations.specs.Chains.{by_id};
+    ghost use Rattle.wasmparser_type_relations.specs.Tops.{top_above};
     ghost use Rattle.wasmparser_module_types.specs.Greatest.{greatest_above};
     ghost use Rattle.wasmparser_module_types.specs.ModuleTypes.{AddsGroup, AreIds, AreKnownTypes, CanCompare, IsFuncTypeAt, IsGroupOf, RefusesGroup, func_type_of_index, ids_of_group, stands_for, sub_type_of_index};
-    ghost use Rattle.wasmparser_subtype_decision.specs.Decision.{is_val_below};
-    ghost use Rattle.wasmparser_interning_laws.specs.IdTypes.{IsWholeGroup};
+    ghost use Rattle.wasmparser_type_relations.specs.Decision.{is_val_below};
+    ghost use Rattle.wasmparser_type_list.specs.IdTypes.{IsWholeGroup};
     ghost use Rattle.wasmparser_module_types.specs.WithIds.{heap_by_ids, index_at, names_only, names_only_heap, ref_by_ids, val_by_ids};
-    ghost use Rattle.wasmparser_rec_group_laws.specs.Contexts.{in_section};
+    ghost use Rattle.wasmparser_rec_groups.specs.Contexts.{in_section};
     ghost use Rattle.wasmparser_rec_groups.specs.Interning.{NamesModuleTypes};
     ghost use Rattle.wasmparser_types.specs.CompositeTypes.{func_type};
     ghost use Rattle.wasmparser_types.specs.HeapTypes.{abstract_heap_type, heap_type};

@@ -2,30 +2,12 @@
 
 ghost use Rattle.std.specs.Prelude.{◌≡◌};
 ghost use Rattle.wasm_spec.specs.Subtyping.{abstract_of};
-ghost use Rattle.wasmparser_matching.specs.Tops.{top_of};
+ghost use Rattle.wasmparser_type_relations.specs.Tops.{top_of};
 ghost use Rattle.wasmparser_types.specs.CompositeTypes.{composite_type};
 ghost use Rattle.wasmparser_types.specs.HeapTypes.{abstract_heap_type};
 
 use wasmparser_types::composite_type::CompositeType;
 use wasmparser_types::heap_type::AbstractHeapType;
-
-// The greatest type above an abstract one.
-pub(crate) fn abstract_top(it: AbstractHeapType) -> AbstractHeapType
-    ensures { abstract_heap_type result ≡ top_of (abstract_heap_type it) }
-{
-    match it {
-        AbstractHeapType::Func | AbstractHeapType::NoFunc => AbstractHeapType::Func,
-        AbstractHeapType::Extern | AbstractHeapType::NoExtern => AbstractHeapType::Extern,
-        AbstractHeapType::Exn | AbstractHeapType::NoExn => AbstractHeapType::Exn,
-        AbstractHeapType::Cont | AbstractHeapType::NoCont => AbstractHeapType::Cont,
-        AbstractHeapType::Any
-        | AbstractHeapType::Eq
-        | AbstractHeapType::I31
-        | AbstractHeapType::Struct
-        | AbstractHeapType::Array
-        | AbstractHeapType::None => AbstractHeapType::Any,
-    }
-}
 
 // The greatest type above all types of a kind.
 pub(crate) fn composite_top(it: &CompositeType) -> AbstractHeapType

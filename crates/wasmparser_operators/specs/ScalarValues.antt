@@ -2,8 +2,8 @@
 use Rattle.std.specs.Prelude.{ℕ, [], Option, Some, None}
 use Rattle.wasm_bodies.specs.OperatorRows.{Byte, Prefixed, Int32, ScalarRow}
 use Rattle.wasmparser_operators.specs.CodeTables.{row_of}
-use Rattle.wasmparser_operators.specs.declared.scalar_operator.ScalarOperator.{ScalarOperator}
-use Rattle.wasmparser_operators.specs.declared.scalar_operator.ScalarOperator.TheVariants as scalars
+use Rattle.wasm_core_types.specs.declared.scalar_operator.ScalarOperator.{ScalarOperator}
+use Rattle.wasm_core_types.specs.declared.scalar_operator.ScalarOperator.TheVariants as scalars
 
 -- the row, or else one that is in no table
 abbrev pub row_or_none : Option ScalarRow → ScalarRow

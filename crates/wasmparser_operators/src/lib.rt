@@ -11,7 +11,6 @@ pub mod operator;
 mod operator_codes;
 pub mod operators_reader;
 mod other_codes;
-pub mod scalar_operator;
 mod scalars;
 mod second_codes;
 pub mod select_types;

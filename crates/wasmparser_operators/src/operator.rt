@@ -2,8 +2,8 @@
 
 use crate::br_table::BrTable;
 use crate::immediates::{BlockType, MemArg};
-use crate::scalar_operator::ScalarOperator;
 use crate::select_types::SelectTypes;
+use wasm_core_types::scalar_operator::ScalarOperator;
 use wasmparser_types::heap_type::HeapType;
 use wasmparser_types::val_type::ValType;
 

@@ -6,7 +6,7 @@ ghost use Rattle.wasm_bodies.specs.OperatorRows.{Byte};
 ghost use Rattle.wasmparser_operators.specs.CodeTables.{row_of};
 ghost use Rattle.wasmparser_operators.specs.ScalarValues.{scalar_row};
 
-use crate::scalar_operator::ScalarOperator;
+use wasm_core_types::scalar_operator::ScalarOperator;
 
 // The operator on numbers alone of a byte, if it is the code of one.
 #[inline(always)]

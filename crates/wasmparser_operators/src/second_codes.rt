@@ -10,9 +10,9 @@ ghost use Rattle.wasmparser_operators.specs.OperatorValues.{IsWhole, operator};
 
 use crate::immediates::{read_sixteen, read_two};
 use crate::operator::Operator;
-use crate::scalar_operator::ScalarOperator;
 use wasm_core_read::binary_reader::BinaryReader;
 use wasm_core_read::malformed::Malformed;
+use wasm_core_types::scalar_operator::ScalarOperator;
 
 // What a reader answers after a code that no operator has.
 pub(crate) fn no_operator(reader: &BinaryReader<'_>) -> Malformed

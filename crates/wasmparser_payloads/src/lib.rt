@@ -1,7 +1,8 @@
-//! A module as its payloads: a part of `wasmparser`.
+//! A module as its payloads, and the entries in each: a part of `wasmparser`.
 #![tactic(auto)]
 
 pub mod custom_section;
+pub mod entry_laws;
 pub mod function_body;
 pub mod laws;
 mod locals;

@@ -1,14 +1,14 @@
 //! Parsers of modules.
 
 ghost use Rattle.std.specs.Prelude.{◌≡◌, ◌+◌, ◌<◌, ◌^◌, length};
-ghost use Rattle.wasm_core_base.specs.Features.{feature_set};
+ghost use Rattle.wasm_core_types.specs.Features.{feature_set};
 ghost use Rattle.wasm_spec.specs.Features.{default_features};
 ghost use Rattle.wasmparser_payloads.specs.Parsing.{whole_module};
 
 use crate::payloads::Payloads;
 use std::marker::Model;
-use wasm_core_base::features::WasmFeatures;
 use wasm_core_read::binary_reader::BinaryReader;
+use wasm_core_types::features::WasmFeatures;
 
 /// A parser of modules. Contracts see it as the place of the module in its input, and the features under which it is
 /// read.
@@ -19,7 +19,7 @@ pub struct Parser {
 }
 
 impl Model for Parser {
-    ghost use Rattle.wasm_core_base.specs.Features.{feature_set};
+    ghost use Rattle.wasm_core_types.specs.Features.{feature_set};
     ghost use Rattle.wasmparser_payloads.specs.Parsing.{Settings};
 
     ghost Value = { Settings };

@@ -6,12 +6,12 @@ use std::ops::Range;
 use wasmparser_entries::data::Data;
 use wasmparser_entries::element::Element;
 use wasmparser_entries::global::Global;
+use wasmparser_entries::imports::Imports;
 use wasmparser_entries::table::Table;
-use wasmparser_imports::imports::Imports;
-use wasmparser_items::export::Export;
-use wasmparser_items::memory_type::MemoryType;
-use wasmparser_items::tag_type::TagType;
+use wasmparser_readers::export::Export;
+use wasmparser_readers::memory_type::MemoryType;
 use wasmparser_readers::section_limited::SectionLimited;
+use wasmparser_readers::tag_type::TagType;
 use wasmparser_types::sub_type::RecGroup;
 
 /// A piece of a module: its header, what stands first in a section, the body of a function, or the module's end. Items

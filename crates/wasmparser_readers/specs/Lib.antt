@@ -1,5 +1,8 @@
 pub mod Answers
+pub mod Exports
+pub mod ItemTypes
 pub mod ModuleIndexes
+pub mod PackedItems
 pub mod PackedReading
 pub mod Passing
 pub mod Sections

@@ -11,9 +11,9 @@ use std::alloc::{AllocError, Global};
 use std::iter::Iterator;
 use std::marker::{Model, PhantomData};
 use std::ops::Range;
-use wasm_core_base::features::WasmFeatures;
 use wasm_core_read::binary_reader::BinaryReader;
 use wasm_core_read::malformed::Malformed;
+use wasm_core_types::features::WasmFeatures;
 use wasmparser_error::error::{Error, ErrorKind};
 
 /// A section of items of one kind, which are read one by one. Contracts see it as where its content begins, and what

@@ -7,7 +7,7 @@ use wasm_test_rows::fields::two_fields;
 use wasm_test_rows::rows::check_rows;
 use wasm_test_rows::shown::debugs;
 use wasm_test_rows::values::bytes_of;
-use wasmparser_const_exprs::const_operator::ConstOperator;
+use wasmparser_entries::const_operator::ConstOperator;
 use wasmparser_readers::from_reader::FromReader;
 
 // The bytes, all of which are an operator, and its `Debug`, or the kind of the refusal.

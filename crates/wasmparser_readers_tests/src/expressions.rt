@@ -2,13 +2,13 @@
 
 use std::alloc::Global;
 use std::test::Fail;
-use wasm_core_base::features::WasmFeatures;
 use wasm_core_read::binary_reader::BinaryReader;
+use wasm_core_types::features::WasmFeatures;
 use wasm_test_rows::fields::three_fields;
 use wasm_test_rows::rows::check_rows;
 use wasm_test_rows::shown::debugs;
 use wasm_test_rows::values::{bytes_of, number_of};
-use wasmparser_const_exprs::const_expr::{ConstExpr, read_const_expr};
+use wasmparser_entries::const_expr::{ConstExpr, read_const_expr};
 use wasmparser_readers::from_reader::FromReader;
 
 // Where the bytes begin in the input.

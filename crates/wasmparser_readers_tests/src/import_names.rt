@@ -4,10 +4,10 @@ use std::alloc::{AllocError, Global};
 use std::test::Fail;
 use wasm_test_rows::fields::two_fields;
 use wasm_test_rows::rows::check_rows;
-use wasmparser_export_names::name_hasher::NameHasher;
-use wasmparser_import_names::import_names::ImportNames;
-use wasmparser_import_names::imported_items::ImportedItem;
-use wasmparser_items::export::ExternalKind;
+use wasmparser_names::import_names::ImportNames;
+use wasmparser_names::imported_items::ImportedItem;
+use wasmparser_names::name_hasher::NameHasher;
+use wasmparser_readers::export::ExternalKind;
 
 // Imports as they are pushed, and as they are shown. Each is the module, the name, and the kind and the index of the item.
 const SHOWN: &str = "

@@ -3,14 +3,14 @@
 use std::alloc::Global;
 use std::fmt::Debug;
 use std::test::Fail;
-use wasm_core_base::features::{Flags, WasmFeatures};
 use wasm_core_read::binary_reader::BinaryReader;
+use wasm_core_types::features::{Flags, WasmFeatures};
 use wasm_test_rows::fields::three_fields;
 use wasm_test_rows::rows::check_rows;
 use wasm_test_rows::shown::debugs;
 use wasm_test_rows::values::bytes_of;
+use wasmparser_entries::imports::Imports;
 use wasmparser_error::error::{Error, ErrorKind};
-use wasmparser_imports::imports::Imports;
 use wasmparser_readers::from_reader::FromReader;
 use wasmparser_readers::section_limited::SectionLimited;
 

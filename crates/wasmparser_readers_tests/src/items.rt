@@ -8,13 +8,13 @@ use wasm_test_rows::fields::three_fields;
 use wasm_test_rows::rows::check_rows;
 use wasm_test_rows::shown::debugs;
 use wasm_test_rows::values::bytes_of;
-use wasmparser_items::export::Export;
-use wasmparser_items::global_type::GlobalType;
-use wasmparser_items::memory_type::MemoryType;
-use wasmparser_items::table_type::TableType;
-use wasmparser_items::tag_type::TagType;
-use wasmparser_items::type_ref::TypeRef;
+use wasmparser_readers::export::Export;
 use wasmparser_readers::from_reader::FromReader;
+use wasmparser_readers::global_type::GlobalType;
+use wasmparser_readers::memory_type::MemoryType;
+use wasmparser_readers::table_type::TableType;
+use wasmparser_readers::tag_type::TagType;
+use wasmparser_readers::type_ref::TypeRef;
 
 // Which item is read, the bytes, and the item's `Debug`, or the kind of the refusal.
 const ITEMS: &str = r#"

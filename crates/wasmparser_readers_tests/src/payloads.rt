@@ -3,16 +3,16 @@
 use crate::shown::is_shown;
 use std::alloc::Global;
 use std::test::Fail;
-use wasm_core_base::features::WasmFeatures;
 use wasm_core_read::binary_reader::BinaryReader;
+use wasm_core_types::features::WasmFeatures;
 use wasm_test_rows::fields::{three_fields, two_fields};
 use wasm_test_rows::rows::check_rows;
 use wasm_test_rows::shown::debugs_same;
 use wasm_test_rows::values::bytes_of;
-use wasmparser_items::memory_type::MemoryType;
 use wasmparser_payloads::parser::Parser;
 use wasmparser_payloads::payload::Payload;
 use wasmparser_payloads::payloads::Payloads;
+use wasmparser_readers::memory_type::MemoryType;
 use wasmparser_readers::section_limited::SectionLimited;
 
 const HEADER: &str = "00 61 73 6d 01 00 00 00";

@@ -7,7 +7,7 @@ use wasm_core_read::binary_reader::BinaryReader;
 use wasm_test_rows::fields::four_fields;
 use wasm_test_rows::rows::check_rows;
 use wasm_test_rows::values::{are_bytes, bytes_of, number_of};
-use wasmparser_const_exprs::const_expr::ConstExpr;
+use wasmparser_entries::const_expr::ConstExpr;
 use wasmparser_entries::data::{Data, DataKind};
 use wasmparser_entries::element::{Element, ElementItems, ElementKind};
 use wasmparser_readers::from_reader::FromReader;

@@ -6,8 +6,8 @@ use Rattle.wasm_spec.specs.Gates.{is_allowed_group}
 use Rattle.wasm_spec.specs.TypeReferences.{group_map, group_refs}
 use Rattle.wasm_spec.specs.Types.{SubType, RecGroup}
 use Rattle.wasmparser_error.specs.declared.error.Error.{Error}
-use Rattle.wasmparser_group_rules.specs.Canonical.{HaveEarlierSupertypes, IsBelow, IsNotCanonical, canonical_index, index_bound}
-use Rattle.wasmparser_interning.specs.TypeTables.{Interns, IsNoIntern, TypeTables, has_room}
+use Rattle.wasmparser_type_relations.specs.Canonical.{HaveEarlierSupertypes, IsBelow, IsNotCanonical, canonical_index, index_bound}
+use Rattle.wasmparser_type_list.specs.TypeTables.{Interns, IsNoIntern, TypeTables, has_room}
 use Rattle.wasmparser_rec_groups.specs.Interning.{CanBeInterned, Refuses, canonical_members, has_no_room, out_of_memory}
 use Rattle.wasmparser_rec_groups.specs.Kinds.{HaveSupertypesOfKind, earlier_or_own}
 use Rattle.wasmparser_types.specs.Index.{Index}

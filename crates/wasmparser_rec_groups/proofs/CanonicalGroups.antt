@@ -11,9 +11,9 @@ use Rattle.wasm_spec.specs.Features.{Features, Gc, has}
 use Rattle.wasm_spec.specs.Subtyping.{IsOfKind, abstract_of}
 use Rattle.wasm_spec.specs.TypeReferences.{composite_map, group_map, group_refs, sub_map, sub_refs, subs_map, subs_refs}
 use Rattle.wasm_spec.specs.Types.{CompositeType, FuncComposite, StructComposite, ArrayComposite, ContComposite, SubType, RecGroup, Single, Group}
-use Rattle.wasmparser_chains.specs.Chains.{AreBelowEarlier, IsBelowEarlier, below_none, below_one}
-use Rattle.wasmparser_group_rules.specs.Canonical.{HasEarlierSupertype, HaveEarlierSupertypes, IsBelow, canonical_index, id_or_place, index_bound}
-use Rattle.wasmparser_interning.specs.TypeTables.{AreWithin, Interns, IsWithin, TypeTables, absolute, sub_types}
+use Rattle.wasmparser_type_relations.specs.Chains.{AreBelowEarlier, IsBelowEarlier, below_none, below_one}
+use Rattle.wasmparser_type_relations.specs.Canonical.{HasEarlierSupertype, HaveEarlierSupertypes, IsBelow, canonical_index, id_or_place, index_bound}
+use Rattle.wasmparser_type_list.specs.TypeTables.{AreWithin, Interns, IsWithin, TypeTables, absolute, sub_types}
 use Rattle.wasmparser_rec_groups.specs.Interning.{AreKnown, CanBeInterned, IsModuleIndex, NamesModuleTypes, canonical_members}
 use Rattle.wasmparser_rec_groups.specs.Kinds.{HasSupertypesOfKind, earlier_or_own}
 use Rattle.wasmparser_types.specs.Index.{Index, Module, RecGroup as Place, Id}

@@ -2,8 +2,8 @@
 use Rattle.std.proofs.Common.{◌≡◌, ℕ, ◌+◌, ◌<◌, ◌≤◌, Some, slice_get, length, subst, sym, refl, arith, nat_lt, Bool, true, false, ◌⊎◌, inl, inr}
 use Rattle.std.proofs.lemmas.Bool.{ltb-false, ltb-true}
 use Rattle.std.specs.declared.ops.Range.{Range}
-use Rattle.wasmparser_interning.specs.TypeTables.{TablesAgree, TypeTables}
-use Rattle.wasmparser_interning.proofs.Agreement.{group_within}
+use Rattle.wasmparser_type_list.specs.TypeTables.{TablesAgree, TypeTables}
+use Rattle.wasmparser_type_list.proofs.Agreement.{group_within}
 use Rattle.wasmparser_rec_groups.specs.Rules.{IsIn, KeepsRules, KeepsRulesAndLimits, PassesNoLimit}
 
 -- the ids from the first number up to the second one have a property

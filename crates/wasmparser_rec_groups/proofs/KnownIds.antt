@@ -8,10 +8,10 @@ use Rattle.wasm_spec.specs.Features.{Features, needs_type_canonicalization}
 use Rattle.wasm_spec.specs.TypeReferences.{sub_map}
 use Rattle.wasm_spec.specs.Types.{SubType, RecGroup}
 use Rattle.wasmparser_error.specs.declared.error.Error.{Error}
-use Rattle.wasmparser_group_rules.specs.Canonical.{canonical_index}
-use Rattle.wasmparser_interning.proofs.Agreement.{group_within, now_at, range_of}
+use Rattle.wasmparser_type_relations.specs.Canonical.{canonical_index}
+use Rattle.wasmparser_type_list.proofs.Agreement.{group_within, now_at, range_of}
 use Rattle.std.proofs.lemmas.List.FromFn.{length-range_with_len}
-use Rattle.wasmparser_interning.specs.TypeTables.{Interns, IsGroupAt, TablesAgree, TypeTables, group_ids, ids_in, known_group}
+use Rattle.wasmparser_type_list.specs.TypeTables.{Interns, IsGroupAt, TablesAgree, TypeTables, group_ids, ids_in, known_group}
 use Rattle.wasmparser_rec_groups.proofs.CanonicalGroups.{members_mapped, within}
 use Rattle.wasmparser_rec_groups.specs.Interning.{AreKnown, CanBeInterned, NamesModuleTypes, Refuses, breaks_a_rule, canonical_members, has_no_room, is_refused, out_of_memory}
 use Rattle.wasmparser_types.specs.Index.{Index}

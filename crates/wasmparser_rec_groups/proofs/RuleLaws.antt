@@ -3,7 +3,7 @@ use Rattle.std.proofs.Common.{◌≡◌, ◌↔◌, ◌≤◌, arith, ℕ, Bool,
 use Rattle.wasm_spec.specs.Groups.{ContinuesFunc, ExtendsSupertypes, Links, PassesLimit, items_in, many_items, many_links}
 use Rattle.wasm_spec.specs.Limits.{Limit, IsPassedBy}
 use Rattle.wasm_spec.specs.Types.{SubType}
-use Rattle.wasmparser_interning.specs.TypeTables.{IdMatches, TypeTables, sub_types, type_by_id}
+use Rattle.wasmparser_type_list.specs.TypeTables.{IdMatches, TypeTables, sub_types, type_by_id}
 use Rattle.wasmparser_rec_groups.specs.Rules.{IdExtends, IsOpen, KeepsRules, PassesNoLimit}
 use Rattle.wasmparser_types.specs.Index.{Index, Id}
 

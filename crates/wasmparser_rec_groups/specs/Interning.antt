@@ -8,8 +8,8 @@ use Rattle.wasm_spec.specs.Types.{SubType, RecGroup}
 use Rattle.wasmparser_error.specs.declared.error.Error.{Error}
 use Rattle.wasmparser_error.specs.declared.error.ErrorKind.{ErrorKind}
 use Rattle.wasmparser_error.specs.declared.error.ErrorKind.TheVariants.{Invalid, Memory, Total}
-use Rattle.wasmparser_group_rules.specs.Canonical.{HaveEarlierSupertypes, IsBelow, canonical_index, index_bound}
-use Rattle.wasmparser_interning.specs.TypeTables.{Interns, TypeTables, group_ids, has_room}
+use Rattle.wasmparser_type_relations.specs.Canonical.{HaveEarlierSupertypes, IsBelow, canonical_index, index_bound}
+use Rattle.wasmparser_type_list.specs.TypeTables.{Interns, TypeTables, group_ids, has_room}
 use Rattle.wasmparser_rec_groups.specs.Kinds.{HaveSupertypesOfKind, earlier_or_own}
 use Rattle.wasmparser_rec_groups.specs.Rules.{IsRefusedGroup, KeepsRulesAndLimits}
 use Rattle.wasmparser_types.specs.Index.{Index, Module, RecGroup as Place, Id}

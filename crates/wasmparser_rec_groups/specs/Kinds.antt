@@ -4,7 +4,7 @@ use Rattle.std.specs.Prelude.{List, None, slice_get}
 use Rattle.std.specs.List.{AllByRecursion}
 use Rattle.wasm_spec.specs.Subtyping.{IsOfKind, SubTypes, abstract_of}
 use Rattle.wasm_spec.specs.Types.{SubType}
-use Rattle.wasmparser_interning.specs.TypeTables.{TypeTables, sub_types}
+use Rattle.wasmparser_type_list.specs.TypeTables.{TypeTables, sub_types}
 use Rattle.wasmparser_types.specs.Index.{Index, Module, RecGroup, Id}
 
 -- the sub types that indexes in a group in canonical form stand for: ids for earlier types, and places for the group's own

@@ -1,3 +1,4 @@
+pub mod Contexts
 pub mod Interning
 pub mod KindTests
 pub mod Kinds

@@ -1,13 +1,13 @@
 -- Rules on the types that ids stand for (Core Specification 3.0, Validation, Types, "Recursive Types").
 use Rattle.std.specs.Prelude.{◌≡◌, ◌<◌, ◌≤◌, ℕ, false, Some, slice_get}
 use Rattle.std.specs.declared.ops.Range.{Range}
-use Rattle.wasm_core_base.specs.Limits.{limit}
+use Rattle.wasm_core_types.specs.Limits.{limit}
 use Rattle.wasm_spec.specs.Groups.{ContinuesFunc, Extends, ExtendsSupertypes, PassesLimit}
 use Rattle.wasm_spec.specs.Limits.{Limit}
 use Rattle.wasm_spec.specs.Types.{SubType}
 use Rattle.wasmparser_error.specs.declared.error.ErrorKind.{ErrorKind}
 use Rattle.wasmparser_error.specs.declared.error.ErrorKind.TheVariants as kinds
-use Rattle.wasmparser_interning.specs.TypeTables.{TypeTables, sub_types, type_by_id}
+use Rattle.wasmparser_type_list.specs.TypeTables.{TypeTables, sub_types, type_by_id}
 use Rattle.wasmparser_types.specs.Index.{Index, Id}
 
 -- types may be declared below what an id stands for

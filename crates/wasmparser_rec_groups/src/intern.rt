@@ -2,23 +2,23 @@
 
 ghost use Rattle.std.specs.Prelude.{◌≡◌, ◌+◌, ◌++◌, ◌<◌, ◌≤◌, ◌^◌, IfErr, IfOk, IsSome, length, slice_get};
 ghost use Rattle.wasm_spec.specs.TypeReferences.{group_map};
-ghost use Rattle.wasmparser_chains.specs.Chains.{AreBelowEarlier};
+ghost use Rattle.wasmparser_type_relations.specs.Chains.{AreBelowEarlier};
 ghost use Rattle.wasmparser_error.specs.declared.error.ErrorKind.TheVariants as kinds;
-ghost use Rattle.wasmparser_group_rules.specs.Canonical.{canonical_index};
-ghost use Rattle.wasmparser_interning.specs.TypeTables.{TablesAgree, group_ids, sub_types};
+ghost use Rattle.wasmparser_type_relations.specs.Canonical.{canonical_index};
+ghost use Rattle.wasmparser_type_list.specs.TypeTables.{TablesAgree, group_ids, sub_types};
 ghost use Rattle.wasmparser_rec_groups.specs.Interning.{Accepts, AreKnown, CanBeInterned, InternsValid, NamesModuleTypes, Refuses};
 ghost use Rattle.wasmparser_types.specs.RecGroups as spec;
 ghost use Rattle.wasmparser_types.specs.RecGroups.{members};
-ghost use Rattle.wasm_core_base.specs.Features.{feature_set};
+ghost use Rattle.wasm_core_types.specs.Features.{feature_set};
 
 use crate::kinds::have_supertypes_of_kind;
 use crate::rules::check_rec_group;
 use std::alloc::AllocError;
-use wasm_core_base::features::WasmFeatures;
+use wasm_core_types::features::WasmFeatures;
 use wasmparser_error::error::{Error, ErrorKind};
-use wasmparser_group_rules::canonical::canonicalize_rec_group;
-use wasmparser_group_rules::gates::is_allowed_group;
-use wasmparser_interning::type_list::TypeList;
+use wasmparser_type_list::type_list::TypeList;
+use wasmparser_type_relations::canonical::canonicalize_rec_group;
+use wasmparser_type_relations::gates::is_allowed_group;
 use wasmparser_types::index::{CoreTypeId, RecGroupId};
 use wasmparser_types::sub_type::RecGroup;
 
@@ -26,10 +26,10 @@ use wasmparser_types::sub_type::RecGroup;
 /// else such a thing holds, so it had better hold these alone.
 pub trait InternRecGroup {
     ghost use Rattle.std.specs.Prelude.{◌≡◌, ◌+◌, ◌≤◌, ◌<◌, ◌^◌, ◌∷◌, ◌++◌, [], suc, ℕ, List, IfErr, IfOk, IsSome, length, slice_get};
-    ghost use Rattle.wasm_core_base.specs.Features.{feature_set};
+    ghost use Rattle.wasm_core_types.specs.Features.{feature_set};
     ghost use Rattle.wasm_spec.specs.Features.{Features};
-    ghost use Rattle.wasmparser_chains.specs.Chains.{AreBelowEarlier};
-    ghost use Rattle.wasmparser_interning.specs.TypeTables.{TablesAgree, group_ids, sub_types};
+    ghost use Rattle.wasmparser_type_relations.specs.Chains.{AreBelowEarlier};
+    ghost use Rattle.wasmparser_type_list.specs.TypeTables.{TablesAgree, group_ids, sub_types};
     ghost use Rattle.wasmparser_rec_groups.specs.Interning.{Accepts, AreKnown, NamesModuleTypes, Refuses};
     ghost use Rattle.wasmparser_types.specs.RecGroups as spec;
     ghost use Rattle.wasmparser_types.specs.RecGroups.{members};

@@ -9,7 +9,7 @@ ghost use Rattle.wasmparser_rec_groups.specs.Kinds.{HaveSupertypesOfKind};
 ghost use Rattle.wasmparser_types.specs.CompositeTypes.{composite_type};
 ghost use Rattle.wasmparser_types.specs.SubTypes.{sub_type};
 
-use wasmparser_interning::type_list::TypeList;
+use wasmparser_type_list::type_list::TypeList;
 use wasmparser_types::composite_type::CompositeType;
 use wasmparser_types::index::{PackedIndex, UnpackedIndex};
 use wasmparser_types::sub_type::SubType;

@@ -3,4 +3,5 @@
 
 pub mod intern;
 mod kinds;
+pub mod laws;
 pub mod rules;

@@ -2,17 +2,17 @@
 
 ghost use Rattle.std.specs.Prelude.{◌≡◌, ◌↔◌, ◌<◌, IfErr, IfOk, IsTrue, Some, length, slice_get};
 ghost use Rattle.wasm_spec.specs.Groups.{ContinuesFunc, ExtendsSupertypes};
-ghost use Rattle.wasmparser_chains.specs.Chains.{AreBelowEarlier};
-ghost use Rattle.wasmparser_interning.specs.TypeTables.{TablesAgree, sub_types, type_by_id};
+ghost use Rattle.wasmparser_type_relations.specs.Chains.{AreBelowEarlier};
+ghost use Rattle.wasmparser_type_list.specs.TypeTables.{TablesAgree, sub_types, type_by_id};
 ghost use Rattle.wasmparser_rec_groups.specs.Rules.{IdExtends, IsOpen, IsRefused, IsRefusedGroup, KeepsRules, KeepsRulesAndLimits, PassesNoLimit};
 ghost use Rattle.wasmparser_types.specs.CompositeTypes.{composite_type};
 ghost use Rattle.wasmparser_types.specs.SubTypes.{sub_type};
 
-use wasm_core_base::limits::Limit;
+use wasm_core_types::limits::Limit;
 use wasmparser_error::error::ErrorKind;
-use wasmparser_group_rules::limits::passed_limit;
-use wasmparser_interning::type_list::TypeList;
-use wasmparser_matching::known_types::KnownTypes;
+use wasmparser_type_list::type_list::TypeList;
+use wasmparser_type_relations::known_types::KnownTypes;
+use wasmparser_type_relations::limits::passed_limit;
 use wasmparser_types::composite_type::CompositeType;
 use wasmparser_types::index::{CoreTypeId, PackedIndex, RecGroupId};
 use wasmparser_types::sub_type::SubType;

@@ -1,6 +1,6 @@
 //! Sub types and recursive groups (Core Specification 3.0, Structure, "Recursive Types").
 
-use crate::composite_type::{ArrayType, CompositeType, ContType, FuncType, StructType};
+use crate::composite_type::{CompositeType, FuncType};
 use crate::index::PackedIndex;
 use std::alloc::{AllocError, Global};
 use std::slice;
@@ -19,8 +19,7 @@ pub struct SubType {
 impl SubType {
     ghost use Rattle.std.specs.Prelude.{◌≡◌, [], true, Some, IsSome};
     ghost use Rattle.wasm_spec.specs.Types as spec;
-    ghost use Rattle.wasmparser_types.specs.ValTypes.{field_type};
-    ghost use Rattle.wasmparser_types.specs.CompositeTypes.{func_type, struct_fields, composite_type, func_of, array_of, struct_of, cont_of};
+    ghost use Rattle.wasmparser_types.specs.CompositeTypes.{func_type, composite_type, func_of};
     ghost use Rattle.wasmparser_types.specs.SubTypes.{sub_type};
 
     /// The final sub type of no other type that a function type by itself stands for.
@@ -40,30 +39,6 @@ impl SubType {
         ensures { Some (func_type result.now) ≡ func_of (composite_type self.now.composite_type) }
     {
         self.composite_type.as_func().unwrap()
-    }
-
-    /// The array type that it is made of.
-    pub fn unwrap_array(&self) -> &ArrayType
-        requires { IsSome (array_of (composite_type self.now.composite_type)) }
-        ensures { Some (field_type result.now.0) ≡ array_of (composite_type self.now.composite_type) }
-    {
-        self.composite_type.as_array().unwrap()
-    }
-
-    /// The structure type that it is made of.
-    pub fn unwrap_struct(&self) -> &StructType
-        requires { IsSome (struct_of (composite_type self.now.composite_type)) }
-        ensures { Some (struct_fields result.now) ≡ struct_of (composite_type self.now.composite_type) }
-    {
-        self.composite_type.as_struct().unwrap()
-    }
-
-    /// The continuation type that it is made of.
-    pub fn unwrap_cont(&self) -> &ContType
-        requires { IsSome (cont_of (composite_type self.now.composite_type)) }
-        ensures { Some (result.now.0) ≡ cont_of (composite_type self.now.composite_type) }
-    {
-        self.composite_type.as_cont().unwrap()
     }
 }
 

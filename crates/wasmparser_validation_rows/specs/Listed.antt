@@ -4,8 +4,8 @@ use Rattle.std.specs.Option.{unwrap_or}
 use Rattle.wasm_bodies.specs.BodyContext.{ModuleItems, NamedType}
 use Rattle.wasm_spec.specs.Subtyping.{abstract_of, bottom_of, is_abstract_below}
 use Rattle.wasm_spec.specs.Types as spec
-use Rattle.wasmparser_items.specs.ItemTypes.{global_type, memory_type, table_type}
-use Rattle.wasmparser_resources.specs.Resources.{Resources}
+use Rattle.wasmparser_readers.specs.ItemTypes.{global_type, memory_type, table_type}
+use Rattle.wasmparser_bodies.specs.Resources.{Resources}
 use Rattle.wasmparser_validation_rows.specs.declared.listed_resources.ListedResources.{ListedResources}
 use Rattle.wasmparser_validation_rows.specs.declared.listed_types.ListedTypes.{ListedTypes}
 use Rattle.wasmparser_types.specs.Index.{Index, Id, number_of}

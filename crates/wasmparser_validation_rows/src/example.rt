@@ -3,9 +3,9 @@
 use crate::listed_resources::ListedResources;
 use crate::listed_types::ListedTypes;
 use std::alloc::Global;
-use wasmparser_items::global_type::GlobalType;
-use wasmparser_items::memory_type::MemoryType;
-use wasmparser_items::table_type::TableType;
+use wasmparser_readers::global_type::GlobalType;
+use wasmparser_readers::memory_type::MemoryType;
+use wasmparser_readers::table_type::TableType;
 use wasmparser_type_words::types::{sub_type_of, sub_types_of};
 use wasmparser_types::composite_type::{CompositeType, StructType};
 use wasmparser_types::ref_type::RefType;

@@ -1,9 +1,9 @@
 //! Validators that have failed.
 
+use wasmparser_bodies::module_resources::WasmModuleResources;
 use wasmparser_error::error::{Error, ErrorKind};
 use wasmparser_func_validator::func_validator::FuncValidator;
 use wasmparser_operators::operator::Operator;
-use wasmparser_resources::module_resources::WasmModuleResources;
 use wasmparser_types::val_type::ValType;
 
 /// Whether this is a refusal after another one.

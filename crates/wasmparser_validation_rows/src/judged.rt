@@ -2,24 +2,24 @@
 
 use std::alloc::Global;
 use std::marker::Model;
-use wasm_core_base::features::WasmFeatures;
 use wasm_core_read::binary_reader::BinaryReader;
+use wasm_core_types::features::WasmFeatures;
 use wasm_test_rows::fields::word_and_rest;
 use wasm_test_rows::values::{bytes_of, number_of};
 use wasmparser_entries::data::Data;
 use wasmparser_entries::element::Element;
 use wasmparser_entries::global as globals;
+use wasmparser_entries::imports::Imports;
 use wasmparser_entries::table::Table;
 use wasmparser_error::error::Error;
-use wasmparser_imports::imports::Imports;
-use wasmparser_items::export::Export;
-use wasmparser_items::memory_type::MemoryType;
-use wasmparser_items::tag_type::TagType;
-use wasmparser_items::type_ref::TypeRef;
 use wasmparser_module_state::entry::{Entry, add_entries};
 use wasmparser_module_state::module_state::ModuleState;
+use wasmparser_readers::export::Export;
 use wasmparser_readers::from_reader::FromReader;
+use wasmparser_readers::memory_type::MemoryType;
 use wasmparser_readers::section_limited::SectionLimited;
+use wasmparser_readers::tag_type::TagType;
+use wasmparser_readers::type_ref::TypeRef;
 use wasmparser_types::sub_type::RecGroup;
 
 /// The place of each section's content.

@@ -10,11 +10,11 @@ ghost use Rattle.wasmparser_types.specs.HeapTypes.{Packs, heap_type};
 ghost use Rattle.wasmparser_types.specs.Index.{number_of};
 
 use crate::listed_types::ListedTypes;
+use wasmparser_bodies::module_resources::WasmModuleResources;
 use wasmparser_error::error::{Error, ErrorKind};
-use wasmparser_items::global_type::GlobalType;
-use wasmparser_items::memory_type::MemoryType;
-use wasmparser_items::table_type::TableType;
-use wasmparser_resources::module_resources::WasmModuleResources;
+use wasmparser_readers::global_type::GlobalType;
+use wasmparser_readers::memory_type::MemoryType;
+use wasmparser_readers::table_type::TableType;
 use wasmparser_types::composite_type::FuncType;
 use wasmparser_types::heap_type::HeapType;
 use wasmparser_types::index::{CoreTypeId, UnpackedIndex};

@@ -1,11 +1,11 @@
 //! Operators from bytes, one after the other.
 
-use wasm_core_base::features::WasmFeatures;
 use wasm_core_read::binary_reader::BinaryReader;
+use wasm_core_types::features::WasmFeatures;
+use wasmparser_bodies::module_resources::WasmModuleResources;
 use wasmparser_error::error::Error;
 use wasmparser_func_validator::func_validator::FuncValidator;
 use wasmparser_operators::operators_reader::OperatorsReader;
-use wasmparser_resources::module_resources::WasmModuleResources;
 
 fn operators_of(bytes: &[u8], offset: u32, features: WasmFeatures) -> OperatorsReader<'_> {
     let mut reader = BinaryReader::new(bytes, u64::from(offset));

@@ -3,12 +3,12 @@
 ghost use Rattle.std.specs.Prelude.{◌≡◌, is_some};
 ghost use Rattle.wasm_bodies.specs.BodyContext.{func_at};
 
-use wasm_core_base::features::WasmFeatures;
+use wasm_core_types::features::WasmFeatures;
+use wasmparser_bodies::module_resources::WasmModuleResources;
 use wasmparser_error::error::Error;
 use wasmparser_func_validator::func_to_validate::{FuncToValidate, FuncValidatorAllocations};
 use wasmparser_func_validator::func_validator::FuncValidator;
 use wasmparser_readers::val_type::val_is_of_module;
-use wasmparser_resources::module_resources::WasmModuleResources;
 use wasmparser_types::val_type::ValType;
 
 /// The index of the functions whose bodies are validated.

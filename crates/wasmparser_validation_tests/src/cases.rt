@@ -2,11 +2,11 @@
 
 use crate::states::{are_operands, is_state, state_of};
 use std::alloc::Global;
-use wasm_core_base::features::{Flags, WasmFeatures};
+use wasm_core_types::features::{Flags, WasmFeatures};
+use wasmparser_bodies::module_resources::WasmModuleResources;
 use wasmparser_error::error::{Error, ErrorKind};
 use wasmparser_func_validator::func_to_validate::FuncValidatorAllocations;
 use wasmparser_func_validator::func_validator::FuncValidator;
-use wasmparser_resources::module_resources::WasmModuleResources;
 use wasmparser_types::ref_type::RefType;
 use wasmparser_types::val_type::ValType;
 use wasmparser_validation_rows::failures::has_failed;

@@ -3,8 +3,8 @@
 use crate::cases::validator_of;
 use std::alloc::Global;
 use std::test::Fail;
-use wasm_core_base::features::WasmFeatures;
 use wasm_core_read::binary_reader::BinaryReader;
+use wasm_core_types::features::WasmFeatures;
 use wasm_test_rows::fields::{two_fields, word_and_rest};
 use wasm_test_rows::rows::check_rows;
 use wasm_test_rows::values::bytes_of;

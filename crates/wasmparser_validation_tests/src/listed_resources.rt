@@ -3,13 +3,13 @@
 use std::alloc::Global;
 use std::rc::Rc;
 use std::test::Fail;
-use wasm_core_base::features::{Flags, WasmFeatures};
+use wasm_core_types::features::{Flags, WasmFeatures};
 use wasm_test_rows::fields::{three_fields, two_fields, word_and_rest};
 use wasm_test_rows::rows::check_rows;
 use wasm_test_rows::values::bool_of;
+use wasmparser_bodies::module_resources::WasmModuleResources;
 use wasmparser_error::error::{Error, ErrorKind};
 use wasmparser_readers::val_type::val_is_of_module;
-use wasmparser_resources::module_resources::WasmModuleResources;
 use wasmparser_type_words::types::{id_of, sub_type_of, val_type_of};
 use wasmparser_types::index::CoreTypeId;
 use wasmparser_types::val_type::ValType;

@@ -4,7 +4,7 @@ use std::alloc::Global;
 use std::test::Fail;
 use wasm_test_rows::fields::{four_fields, word_and_rest};
 use wasm_test_rows::rows::check_rows;
-use wasmparser_stacks::locals::{Local, Locals, LocalsError};
+use wasmparser_bodies::locals::{Local, Locals, LocalsError};
 use wasmparser_types::ref_type::RefType;
 use wasmparser_types::val_type::ValType;
 

@@ -2,9 +2,9 @@
 
 use crate::cases::{declare, validator_of};
 use std::alloc::Global;
-use wasm_core_base::features::{Flags, WasmFeatures};
+use wasm_core_types::features::{Flags, WasmFeatures};
+use wasmparser_bodies::module_resources::WasmModuleResources;
 use wasmparser_func_validator::func_validator::FuncValidator;
-use wasmparser_resources::module_resources::WasmModuleResources;
 use wasmparser_validation_rows::listed_resources::ListedResources;
 use wasmparser_validation_rows::running::run;
 

@@ -6,7 +6,7 @@ use crate::letters::bytes_of_letters;
 use crate::more_features::stays_accepted_with_more;
 use std::alloc::Global;
 use std::test::Fail;
-use wasm_core_base::features::{Flags, WasmFeatures};
+use wasm_core_types::features::{Flags, WasmFeatures};
 use wasm_test_rows::fields::four_fields;
 use wasm_test_rows::rows::check_rows;
 use wasm_test_rows::values::bytes_of;

@@ -2,12 +2,12 @@
 
 use std::alloc::Global;
 use std::test::Fail;
-use wasm_core_base::features::WasmFeatures;
+use wasm_core_types::features::WasmFeatures;
 use wasm_test_rows::fields::{three_fields, word_and_rest};
 use wasm_test_rows::rows::check_rows;
 use wasm_test_rows::values::number_of;
+use wasmparser_bodies::module_resources::WasmModuleResources;
 use wasmparser_module_state::module_state::ModuleState;
-use wasmparser_resources::module_resources::WasmModuleResources;
 use wasmparser_types::index::{CoreTypeId, PackedIndex};
 use wasmparser_types::ref_type::RefType;
 use wasmparser_types::val_type::ValType;

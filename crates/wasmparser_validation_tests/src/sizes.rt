@@ -3,14 +3,14 @@
 use crate::cases::validator_of;
 use std::alloc::Global;
 use std::test::Fail;
-use wasm_core_base::features::WasmFeatures;
-use wasm_core_base::limits::Limit;
+use wasm_core_types::features::WasmFeatures;
+use wasm_core_types::limits::Limit;
 use wasm_test_rows::rows::check_rows;
 use wasm_test_rows::values::bytes_of;
+use wasmparser_bodies::module_resources::WasmModuleResources;
 use wasmparser_error::error::{Error, ErrorKind};
 use wasmparser_func_validator::func_to_validate::FuncValidatorAllocations;
 use wasmparser_func_validator::func_validator::FuncValidator;
-use wasmparser_resources::module_resources::WasmModuleResources;
 use wasmparser_types::composite_type::FuncType;
 use wasmparser_types::sub_type::SubType;
 use wasmparser_types::val_type::ValType;

@@ -1,10 +1,10 @@
 //! Calls on stacks as letters, and what the stacks hold as text.
 
 use std::alloc::AllocError;
+use wasmparser_bodies::frame::{Frame, FrameKind};
+use wasmparser_bodies::operand::Operand;
+use wasmparser_bodies::stacks::Stacks;
 use wasmparser_operators::immediates::BlockType;
-use wasmparser_stacks::frame::{Frame, FrameKind};
-use wasmparser_stacks::operand::Operand;
-use wasmparser_stacks::stacks::Stacks;
 use wasmparser_types::val_type::ValType;
 
 // A local past those that the places are first made for.

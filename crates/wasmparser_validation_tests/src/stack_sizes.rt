@@ -1,10 +1,10 @@
 //! Many operands, blocks and locals.
 
 use std::alloc::{AllocError, Global};
+use wasmparser_bodies::frame::FrameKind;
+use wasmparser_bodies::locals::Locals;
+use wasmparser_bodies::stacks::Stacks;
 use wasmparser_operators::immediates::BlockType;
-use wasmparser_stacks::frame::FrameKind;
-use wasmparser_stacks::locals::Locals;
-use wasmparser_stacks::stacks::Stacks;
 use wasmparser_types::ref_type::RefType;
 use wasmparser_types::val_type::ValType;
 

@@ -5,7 +5,7 @@ use std::alloc::Global;
 use std::test::Fail;
 use wasm_test_rows::fields::{three_fields, word_and_rest};
 use wasm_test_rows::rows::check_rows;
-use wasmparser_stacks::stacks::Stacks;
+use wasmparser_bodies::stacks::Stacks;
 use wasmparser_types::val_type::ValType;
 
 // What is asked, calls, and the answer: of `state` the operands, the open blocks and the assigned locals afterwards.

@@ -3,10 +3,10 @@
 use crate::letters::letter_of;
 use crate::stack_calls::kind_of;
 use std::alloc::Global;
+use wasmparser_bodies::frame::Frame;
+use wasmparser_bodies::module_resources::WasmModuleResources;
 use wasmparser_func_validator::func_validator::FuncValidator;
 use wasmparser_operators::immediates::BlockType;
-use wasmparser_resources::module_resources::WasmModuleResources;
-use wasmparser_stacks::frame::Frame;
 
 // The known operands, the last one last.
 fn push_operands<R: WasmModuleResources>(

@@ -8,7 +8,7 @@ use Rattle.wasm_spec.specs.Features.{Features, CompactImports, has}
 use Rattle.wasm_spec.specs.Grammar.{IsModule}
 use Rattle.wasm_spec.specs.Syntax.{Section, functions_of, bodies_of, data_of, data_counts_of}
 use Rattle.wasm_validity.specs.Context.{Context}
-use Rattle.wasmparser_module_entries.proofs.ModuleFronts.{all_alike, module_is_whole, whole_is_module}
+use Rattle.wasmparser_payloads.proofs.ModuleFronts.{all_alike, module_is_whole, whole_is_module}
 use Rattle.wasmparser_error.specs.declared.error.ErrorKind.TheVariants as kinds
 use Rattle.wasm_spec.specs.Trees.{DefType}
 use Rattle.wasmparser_module_state.specs.History.{grows, held}

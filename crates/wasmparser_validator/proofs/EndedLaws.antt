@@ -8,15 +8,15 @@ use Rattle.wasm_spec.specs.Syntax.{Section, types_of, functions_of}
 use Rattle.wasm_spec.specs.Trees.{DefType}
 use Rattle.wasm_spec.specs.TypeReferences.{func_map}
 use Rattle.wasm_spec.specs.Types.{FuncType, SubType}
-use Rattle.wasm_valid_modules.specs.ModuleBodies.{func_type_in}
+use Rattle.wasm_validity.specs.ModuleBodies.{func_type_in}
 use Rattle.wasm_validity.specs.Context.{Context, at_first}
 use Rattle.wasm_validity.specs.Entries.{entries_of}
 use Rattle.wasm_validity.specs.Rules.{KeepRules}
 use Rattle.wasm_validity.specs.Validity.{context_of}
-use Rattle.wasmparser_body_reading.specs.BodyAnswers.{IsBodyValidated}
+use Rattle.wasmparser_bodies.specs.BodyAnswers.{IsBodyValidated}
 use Rattle.wasmparser_error.specs.declared.error.Error.{Error}
-use Rattle.wasmparser_module_bodies.specs.BodyVerdicts.{IsBodyJudged}
-use Rattle.wasmparser_module_bodies.specs.TypesById.{AreKnown, index_at, items_by_ids}
+use Rattle.wasmparser_validator.specs.BodyVerdicts.{IsBodyJudged}
+use Rattle.wasmparser_validator.specs.TypesById.{AreKnown, index_at, items_by_ids}
 use Rattle.wasmparser_module_state.specs.History.{held}
 use Rattle.wasmparser_module_state.specs.State.{context, features_of}
 use Rattle.wasmparser_module_state.specs.StateResources.{state_resources}

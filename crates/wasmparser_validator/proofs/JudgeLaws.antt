@@ -6,7 +6,7 @@ use Rattle.wasm_spec.specs.Trees.{DefType}
 use Rattle.wasm_spec.specs.Features.{Features}
 use Rattle.wasm_validity.specs.Context.{Context, after_all}
 use Rattle.wasm_validity.specs.Entries.{OfBody}
-use Rattle.wasmparser_module_entries.specs.PieceEntries.{entries_said, items_of, said_first}
+use Rattle.wasmparser_payloads.specs.PieceEntries.{entries_said, items_of, said_first}
 use Rattle.wasmparser_error.specs.declared.error.Error.{Error}
 use Rattle.wasmparser_error.specs.declared.error.ErrorKind.{ErrorKind}
 use Rattle.wasmparser_error.specs.declared.error.ErrorKind.TheVariants as kinds

@@ -6,16 +6,16 @@ use Rattle.wasm_bodies.specs.BodyContext.{Local, ModuleItems, func_at}
 use Rattle.wasm_bodies.specs.Operators.{Indexed}
 use Rattle.wasm_bodies.specs.Signatures.{from_to}
 use Rattle.wasm_bodies_laws.specs.Machine.{Machine, at_start, frame_type}
-use Rattle.wasm_core_base.specs.Features.{feature_set}
-use Rattle.wasm_core_base.specs.declared.features.WasmFeatures.{WasmFeatures}
-use Rattle.wasm_core_base.specs.declared.limits.Limit as core
-use Rattle.wasm_core_base.specs.declared.limits.Limit.TheVariants as limits
+use Rattle.wasm_core_types.specs.Features.{feature_set}
+use Rattle.wasm_core_types.specs.declared.features.WasmFeatures.{WasmFeatures}
+use Rattle.wasm_core_types.specs.declared.limits.Limit as core
+use Rattle.wasm_core_types.specs.declared.limits.Limit.TheVariants as limits
 use Rattle.wasm_core_read.specs.Input.{Input}
 use Rattle.wasm_spec.specs.Features.{Features}
 use Rattle.wasm_spec.specs.Types.{FuncType}
 use Rattle.wasm_validity.specs.Context.{Context}
-use Rattle.wasmparser_body_reading.specs.BodyAnswers.{IsBodyValidated}
-use Rattle.wasmparser_body_reading.specs.BodyStates.{IsAtStart}
+use Rattle.wasmparser_bodies.specs.BodyAnswers.{IsBodyValidated}
+use Rattle.wasmparser_bodies.specs.BodyStates.{IsAtStart}
 use Rattle.wasmparser_error.specs.declared.error.Error.{Error}
 use Rattle.wasmparser_error.specs.declared.error.ErrorKind.{ErrorKind}
 use Rattle.wasmparser_error.specs.declared.error.ErrorKind.TheVariants as kinds

@@ -7,8 +7,8 @@ use Rattle.wasm_core_read.specs.TypeReading.{items_at, rec_group_at, limits_at, 
 use Rattle.wasm_core_read.proofs.Forms.{bind_some, some_is}
 use Rattle.wasm_spec.specs.Features.{Features, CompactImports, has}
 use Rattle.wasm_validity.specs.Entries.{Entry, OfCustom, OfType, OfImport, OfFunction, OfTable, OfMemory, OfTags, OfTag, OfGlobal, OfExport, OfStart, OfElement, OfDataCount, OfBody, OfData}
-use Rattle.wasmparser_module_entries.specs.EntryReading.{EntryReading}
-use Rattle.wasmparser_module_entries.specs.PieceEntries.{items_of, said_first, with_items, entries_said}
+use Rattle.wasmparser_payloads.specs.EntryReading.{EntryReading}
+use Rattle.wasmparser_payloads.specs.PieceEntries.{items_of, said_first, with_items, entries_said}
 use Rattle.wasmparser_payloads.specs.Pieces.{Piece, Version, Types, Imports, Functions, Tables, Memories, Tags, Globals, Exports, Start, Elements, DataCount, CodeStart, Body, Segments, Custom, Unknown, End}
 use Rattle.wasmparser_readers.specs.Sections.{Left, left_items}
 use Rattle.wasmparser_validator.specs.PieceJudging.{body_in, count_in}

@@ -7,8 +7,8 @@ use Rattle.wasm_core_read.specs.Reading.{◌>>=◌, bytes_at, name_at, unsigned_
 use Rattle.wasm_core_read.proofs.BytesLaws.{bytes_length}
 use Rattle.wasm_core_read.proofs.Forms.{bind_some, some_is}
 use Rattle.wasm_core_read.proofs.ModuleForms.{number_shorter}
-use Rattle.wasmparser_module_entries.specs.PieceEntries.{items_of}
-use Rattle.wasmparser_module_entries.proofs.Steps.{IsStep, is_header, is_body, is_section, is_end, step_of}
+use Rattle.wasmparser_payloads.specs.PieceEntries.{items_of}
+use Rattle.wasmparser_payloads.proofs.Steps.{IsStep, is_header, is_body, is_section, is_end, step_of}
 use Rattle.wasmparser_payloads.specs.Parsing.{IsBetween, LieBetween}
 use Rattle.wasmparser_payloads.specs.Pieces.{Piece, Place, Version, Types, Imports, Functions, Tables, Memories, Tags, Globals, Exports, Start, Elements, DataCount, Body, Segments, Custom, Unknown, End, Named, Remains, whole_of, input_before, framed, frame_of, named_of, code_start, piece_of, next_piece}
 use Rattle.wasmparser_payloads.proofs.Progress.{frame_smaller}

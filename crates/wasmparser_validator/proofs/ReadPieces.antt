@@ -2,7 +2,7 @@
 use Rattle.std.proofs.Common.{◌≡◌, ◌≤◌, ◌<◌, ℕ, List, [], ◌∷◌, ◌++◌, length, Option, Some, None, refl, sym, ap, ap₂, subst, ◌∙◌, append-nil, arith, Err}
 use Rattle.std.proofs.lemmas.Grind.{flat_map-append}
 use Rattle.std.proofs.lemmas.List.{map-append}
-use Rattle.wasm_core_base.specs.Limits as core
+use Rattle.wasm_core_types.specs.Limits as core
 use Rattle.wasm_core_read.specs.Input.{Input}
 use Rattle.wasm_spec.specs.Bytes.{AreBytes}
 use Rattle.wasm_spec.specs.Features.{Features, CompactImports, has}
@@ -13,11 +13,11 @@ use Rattle.wasm_validity.specs.Rules.{KeepRules, KeepLimits, PassLimit}
 use Rattle.wasmparser_error.specs.declared.error.Error.{Error}
 use Rattle.wasmparser_error.specs.declared.error.ErrorKind.{ErrorKind}
 use Rattle.wasmparser_error.specs.declared.error.ErrorKind.TheVariants as kinds
-use Rattle.wasmparser_module_entries.specs.PieceEntries.{Reaches, Begun, Further, no_piece, no_items, ReachesEnd, items_of, said_first, entries_said}
-use Rattle.wasmparser_module_entries.proofs.BeginLaws.{front_is_begun, said_is_begun}
-use Rattle.wasmparser_module_entries.proofs.EndLaws.{ended_is_whole}
-use Rattle.wasmparser_module_entries.proofs.Steps.{is_going}
-use Rattle.wasmparser_module_entries.proofs.UnreadLaws.{unread_is_none}
+use Rattle.wasmparser_payloads.specs.PieceEntries.{Reaches, Begun, Further, no_piece, no_items, ReachesEnd, items_of, said_first, entries_said}
+use Rattle.wasmparser_payloads.proofs.BeginLaws.{front_is_begun, said_is_begun}
+use Rattle.wasmparser_payloads.proofs.EndLaws.{ended_is_whole}
+use Rattle.wasmparser_payloads.proofs.Steps.{is_going}
+use Rattle.wasmparser_payloads.proofs.UnreadLaws.{unread_is_none}
 use Rattle.wasmparser_payloads.proofs.Places.{stays, whole_lies, place_lies}
 use Rattle.wasmparser_payloads.specs.declared.payloads.Stage.{Stage}
 use Rattle.wasmparser_payloads.specs.declared.payloads.Stage.TheVariants.{Done}

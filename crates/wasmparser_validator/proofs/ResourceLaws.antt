@@ -13,16 +13,16 @@ use Rattle.wasm_spec.specs.TypeReferences.{composite_map, func_map, global_map, 
 use Rattle.wasm_spec.specs.Types.{CompositeType, FuncComposite, StructComposite, ArrayComposite, ContComposite, FuncType, SubType}
 use Rattle.wasm_validity.specs.Context.{Context, functions_in, globals_in}
 use Rattle.wasm_validity.specs.DefinedTypes as defined
-use Rattle.wasmparser_chains.specs.Chains.{by_id}
-use Rattle.wasmparser_module_bodies.specs.TypesById as by_ids
-use Rattle.wasmparser_module_bodies.specs.TypesById.{AreKnown, IsIdBelow, items_by_ids, named_by_id}
+use Rattle.wasmparser_type_relations.specs.Chains.{by_id}
+use Rattle.wasmparser_validator.specs.TypesById as by_ids
+use Rattle.wasmparser_validator.specs.TypesById.{AreKnown, IsIdBelow, items_by_ids, named_by_id}
 use Rattle.wasmparser_module_state.specs.State.{context, features_of}
 use Rattle.wasmparser_module_state.specs.StateResources.{named_type, no_sub_type, state_resources}
 use Rattle.wasmparser_module_state.specs.declared.module_state.ModuleState.{ModuleState}
 use Rattle.wasmparser_module_types.specs.ModuleTypes.{AreKnownTypes, IsIdOf, KnownTypes, stands_for}
 use Rattle.wasmparser_module_types.specs.WithIds as with_ids
-use Rattle.wasmparser_resources.specs.Resources.{Resources}
-use Rattle.wasmparser_subtype_decision.specs.Decision.{is_val_below}
+use Rattle.wasmparser_bodies.specs.Resources.{Resources}
+use Rattle.wasmparser_type_relations.specs.Decision.{is_val_below}
 use Rattle.wasmparser_types.specs.Index.{Index, Module, RecGroup, Id, packable}
 use Rattle.wasmparser_validator.specs.Functions.{TellsModule, resources_of}
 use Rattle.wasmparser_validator.specs.KnownSpaces.{IsReached, KnownModule}

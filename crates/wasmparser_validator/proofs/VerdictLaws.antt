@@ -1,9 +1,9 @@
 -- The whole promise: from what sections and bodies are judged to what is answered.
 use Rattle.std.proofs.Common.{◌≡◌, ◌≢◌, ◌⊎◌, inl, inr, ◌↔◌, ℕ, zero, suc, ◌<◌, ◌≤◌, Bool, true, false, List, [], ◌∷◌, ◌++◌, map, length, Some, is_some, Result, Ok, Err, option_map, refl, sym, ap, subst, ◌∙◌, arith, slice_get}
 use Rattle.std.proofs.lemmas.Option.{slice_get-map}
-use Rattle.wasm_core_base.specs.declared.limits.Limit.TheVariants as limits
-use Rattle.wasm_core_base.specs.Limits as views
-use Rattle.wasm_core_base.specs.declared.limits.Limit as core
+use Rattle.wasm_core_types.specs.declared.limits.Limit.TheVariants as limits
+use Rattle.wasm_core_types.specs.Limits as views
+use Rattle.wasm_core_types.specs.declared.limits.Limit as core
 use Rattle.wasm_core_read.specs.Input.{Input, end}
 use Rattle.wasm_core_read.proofs.ReadingLaws.{module_one, some_is}
 use Rattle.wasm_spec.specs.Features.{Features, CompactImports, has}
@@ -18,8 +18,8 @@ use Rattle.wasm_validity.specs.Entries.{Entry, entries_of}
 use Rattle.wasm_validity.specs.Fronts.{BeginsWith}
 use Rattle.wasm_validity.specs.IndexSpaces.{spaces_in}
 use Rattle.wasm_validity.specs.Rules.{KeepLimits, KeepRules, PassLimit}
-use Rattle.wasm_valid_modules.specs.ModuleBodies.{BodyAt, func_type_in}
-use Rattle.wasm_valid_modules.specs.Validity.{IsTypedBody, IsBodyPast, IsOtherBody, IsBrokenBody, HasBody}
+use Rattle.wasm_validity.specs.ModuleBodies.{BodyAt, func_type_in}
+use Rattle.wasm_validity.specs.Modules.{IsTypedBody, IsBodyPast, IsOtherBody, IsBrokenBody, HasBody}
 use Rattle.wasm_validity.specs.Validity.{context_of}
 use Rattle.wasmparser_error.specs.declared.error.Error.{Error}
 use Rattle.wasmparser_error.specs.declared.error.ErrorKind.{ErrorKind}
@@ -29,7 +29,7 @@ use Rattle.wasmparser_module_state.specs.State.{context}
 use Rattle.wasmparser_module_types.specs.ModuleTypes.{KnownTypes}
 use Rattle.wasmparser_validator.specs.Sections.{AreAccepted, EndBy, NamesSections}
 use Rattle.wasmparser_validator.specs.declared.sections.ValidSections.{ValidSections}
-use Rattle.wasmparser_module_bodies.specs.BodyVerdicts.{IsBodyJudged}
+use Rattle.wasmparser_validator.specs.BodyVerdicts.{IsBodyJudged}
 use Rattle.wasmparser_validator.specs.Bodies.{AreNamed}
 use Rattle.wasmparser_validator.specs.Judges.{GoesOn, GoesOnAfter, EndsInBody}
 use Rattle.wasmparser_validator.specs.KnownSpaces.{KnownModule}

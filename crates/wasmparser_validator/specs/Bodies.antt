@@ -6,7 +6,7 @@ use Rattle.wasm_spec.specs.Features.{Features}
 use Rattle.wasm_spec.specs.Types.{FuncType}
 use Rattle.wasm_validity.specs.Context.{Context}
 use Rattle.wasm_validity.specs.DefinedTypes.{func_type_at}
-use Rattle.wasmparser_body_reading.specs.BodyAnswers.{IsBodyValidated}
+use Rattle.wasmparser_bodies.specs.BodyAnswers.{IsBodyValidated}
 use Rattle.wasmparser_error.specs.declared.error.Error.{Error}
 use Rattle.wasmparser_types.specs.Index.{Index}
 

@@ -1,16 +1,16 @@
 -- Functions whose bodies are validated one by one.
 use Rattle.std.specs.Prelude.{◌≡◌, ◌+◌, ◌≤◌, ℕ, true, List, length, Some, IsSome, is_some, slice_get}
 use Rattle.wasm_bodies.specs.BodyContext.{func_at}
-use Rattle.wasm_core_base.specs.Features.{feature_set}
+use Rattle.wasm_core_types.specs.Features.{feature_set}
 use Rattle.wasm_spec.specs.Features.{Features}
 use Rattle.wasm_spec.specs.Trees.{DefType}
 use Rattle.wasm_spec.specs.Types.{SubType}
 use Rattle.wasm_validity.specs.Context.{Context}
 use Rattle.wasm_validity.specs.DefinedTypes.{func_type_at}
 use Rattle.wasmparser_func_validator.specs.declared.func_to_validate.FuncToValidate.{FuncToValidate}
-use Rattle.wasmparser_module_bodies.specs.TypesById.{AreKnown, items_by_ids}
+use Rattle.wasmparser_validator.specs.TypesById.{AreKnown, items_by_ids}
 use Rattle.wasmparser_module_state.specs.StateResources.{state_resources}
-use Rattle.wasmparser_resources.specs.Resources.{Resources}
+use Rattle.wasmparser_bodies.specs.Resources.{Resources}
 use Rattle.wasmparser_types.specs.Index.{Index, packable}
 use Rattle.wasmparser_validator.specs.declared.resources.ValidatorResources.{ValidatorResources}
 

@@ -1,6 +1,6 @@
 -- Validators that are handed a module piece by piece: what they wait for, and what their calls answer.
 use Rattle.std.specs.Prelude.{◌≡◌, ◌⊎◌, ◌+◌, ◌==◌, ◌&&◌, ⊤, ℕ, Bool, true, false, [], length, nat_lt, Option, Some, None, IsSome, List, Result, Ok, Err, IfOk, IsErrAnd, if◌then◌else◌}
-use Rattle.wasm_core_base.specs.declared.limits.Limit.TheVariants as limits
+use Rattle.wasm_core_types.specs.declared.limits.Limit.TheVariants as limits
 use Rattle.wasm_core_read.specs.Input.{Input}
 use Rattle.wasm_spec.specs.Features.{Features, CompactImports, has}
 use Rattle.wasm_spec.specs.Grammar.{IsModule}
@@ -11,7 +11,7 @@ use Rattle.wasm_validity.specs.Entries.{entries_of}
 use Rattle.wasmparser_error.specs.declared.error.Error.{Error}
 use Rattle.wasmparser_error.specs.declared.error.ErrorKind.{ErrorKind}
 use Rattle.wasmparser_error.specs.declared.error.ErrorKind.TheVariants as kinds
-use Rattle.wasmparser_module_entries.specs.PieceEntries.{entries_said, items_of}
+use Rattle.wasmparser_payloads.specs.PieceEntries.{entries_said, items_of}
 use Rattle.wasmparser_module_state.specs.History.{EnterAll, held}
 use Rattle.wasmparser_module_state.specs.State.{context, features_of}
 use Rattle.wasmparser_payloads.specs.Pieces.{Piece, Version, Types, Imports, Functions, Tables, Memories, Tags, Globals, Exports, Start, Elements, DataCount, CodeStart, Body, Segments, Custom, Unknown, End}

@@ -1,10 +1,14 @@
 pub mod Bodies
+pub mod BodyVerdicts
+pub mod Examples
+pub mod Functions
+pub mod Judges
 pub mod KnownSpaces
+pub mod LaterEntries
+pub mod Modules
 pub mod PieceJudging
 pub mod Sections
 pub mod Shown
 pub mod ShownImports
+pub mod TypesById
 pub mod Validation
-pub mod Judges
-pub mod Functions
-pub mod Modules

@@ -1,6 +1,6 @@
 -- Judging the pieces of a module.
 use Rattle.std.specs.Prelude.{◌≡◌, ◌⊎◌, ℕ, List, [], ◌∷◌, ◌++◌, Option, Some, None, IsSome, Result, Ok, Err}
-use Rattle.wasm_core_base.specs.Limits as core
+use Rattle.wasm_core_types.specs.Limits as core
 use Rattle.wasm_core_read.specs.Input.{Input, IsWithin}
 use Rattle.wasm_spec.specs.Features.{Features}
 use Rattle.wasm_spec.specs.Trees.{DefType}
@@ -10,7 +10,7 @@ use Rattle.wasm_validity.specs.Rules.{KeepRules, KeepLimits, PassLimit}
 use Rattle.wasmparser_error.specs.declared.error.Error.{Error}
 use Rattle.wasmparser_error.specs.declared.error.ErrorKind.{ErrorKind}
 use Rattle.wasmparser_error.specs.declared.error.ErrorKind.TheVariants as kinds
-use Rattle.wasmparser_module_entries.specs.PieceEntries.{Items, items_of, said_first, entries_said, HasFront}
+use Rattle.wasmparser_payloads.specs.PieceEntries.{Items, items_of, said_first, entries_said, HasFront}
 use Rattle.wasmparser_module_state.specs.History.{EnterAll, OneFindsNoRoom}
 use Rattle.wasmparser_payloads.specs.Pieces.{Piece, Version, Types, Imports, Functions, Tables, Memories, Tags, Globals, Exports, Start, Elements, DataCount, CodeStart, Body, Segments, Custom, Unknown, End}
 

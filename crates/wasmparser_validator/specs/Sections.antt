@@ -1,7 +1,7 @@
 -- Judging the sections of a module, but for what is in its bodies.
 use Rattle.std.specs.Prelude.{◌≡◌, ◌≤◌, ⊤, ℕ, true, List, map, length, Result, Ok, Err}
 use Rattle.std.specs.List.{AllByRecursion}
-use Rattle.wasm_core_base.specs.Limits as core
+use Rattle.wasm_core_types.specs.Limits as core
 use Rattle.wasm_core_read.specs.Input.{Input, end}
 use Rattle.wasm_spec.specs.Features.{Features, CompactImports, has}
 use Rattle.wasm_spec.specs.Grammar.{IsModule}
@@ -14,7 +14,7 @@ use Rattle.wasm_validity.specs.Validity.{AreFine, BeginsInvalid, BeginsPast, con
 use Rattle.wasmparser_error.specs.declared.error.Error.{Error}
 use Rattle.wasmparser_error.specs.declared.error.ErrorKind.{ErrorKind}
 use Rattle.wasmparser_error.specs.declared.error.ErrorKind.TheVariants as kinds
-use Rattle.wasmparser_module_entries.specs.PieceEntries.{HasAllSections}
+use Rattle.wasmparser_payloads.specs.PieceEntries.{HasAllSections}
 use Rattle.wasmparser_module_state.specs.History.{EnterAll, OneFindsNoRoom, grows, held}
 use Rattle.wasmparser_module_state.specs.State.{context, features_of}
 use Rattle.wasmparser_validator.specs.declared.sections.ValidSections.{ValidSections}

@@ -6,8 +6,8 @@ use Rattle.wasm_spec.specs.TypeReferences.{sub_map, sub_refs}
 use Rattle.wasm_spec.specs.Types.{ExternalType, SubType}
 use Rattle.wasm_validity.specs.Context.{item_at}
 use Rattle.wasm_validity.specs.IndexSpaces.{Spaces, spaces_in}
-use Rattle.wasmparser_items.specs.declared.type_ref.TypeRef.{TypeRef}
-use Rattle.wasmparser_items.specs.declared.type_ref.TypeRef.TheVariants as refs
+use Rattle.wasmparser_readers.specs.declared.type_ref.TypeRef.{TypeRef}
+use Rattle.wasmparser_readers.specs.declared.type_ref.TypeRef.TheVariants as refs
 use Rattle.wasmparser_module_state.specs.State.{context}
 use Rattle.wasmparser_module_state.specs.declared.entity_type.EntityType.{EntityType}
 use Rattle.wasmparser_module_state.specs.declared.entity_type.EntityType.TheVariants as entities

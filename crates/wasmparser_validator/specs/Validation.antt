@@ -1,8 +1,8 @@
 -- What a validator answers to any bytes.
 use Rattle.std.specs.Prelude.{◌≡◌, ◌≢◌, ◌≤◌, ◌⊎◌, ⊤, ℕ, false, List, [], length, Result, IfOk, IfErr}
-use Rattle.wasm_core_base.specs.declared.limits.Limit.TheVariants as limits
-use Rattle.wasm_core_base.specs.Limits as core
-use Rattle.wasm_core_base.specs.declared.limits.Limit.{Limit}
+use Rattle.wasm_core_types.specs.declared.limits.Limit.TheVariants as limits
+use Rattle.wasm_core_types.specs.Limits as core
+use Rattle.wasm_core_types.specs.declared.limits.Limit.{Limit}
 use Rattle.wasm_spec.specs.Features.{Features, CompactImports, has}
 use Rattle.wasm_spec.specs.Grammar.{IsModule}
 use Rattle.wasm_spec.specs.Syntax.{Section}
@@ -10,7 +10,7 @@ use Rattle.wasm_spec.specs.Trees.{DefType}
 use Rattle.wasm_validity.specs.Context.{at_first}
 use Rattle.wasm_validity.specs.Entries.{entries_of}
 use Rattle.wasm_validity.specs.IndexSpaces.{spaces_of}
-use Rattle.wasm_valid_modules.specs.Validity.{IsValid, HasBody, IsBodyPast, IsOtherBody, IsBrokenBody}
+use Rattle.wasm_validity.specs.Modules.{IsValid, HasBody, IsBodyPast, IsOtherBody, IsBrokenBody}
 use Rattle.wasm_validity.specs.Validity.{BeginsPast, BeginsInvalid}
 use Rattle.wasmparser_error.specs.declared.error.Error.{Error}
 use Rattle.wasmparser_error.specs.declared.error.ErrorKind.{ErrorKind}

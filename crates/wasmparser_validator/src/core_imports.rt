@@ -7,8 +7,8 @@ use crate::types::TypesRef;
 use std::alloc::AllocError;
 use std::iter::Iterator;
 use std::marker::Model;
-use wasmparser_import_names::named_import::NamedImports;
 use wasmparser_module_state::entity_type::EntityType;
+use wasmparser_names::named_import::NamedImports;
 
 /// The imports of a module that are still to come: the name of the module that each comes from, its own name, and what it is. Imports of the same two names
 /// stand together, where the first of them stands.

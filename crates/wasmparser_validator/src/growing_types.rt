@@ -1,7 +1,7 @@
 //! What a validator knows of a module so far, and its list of types, which goes on from module to module.
 
 ghost use Rattle.std.specs.Prelude.{◌≡◌, [], IfErr, IfOk, true};
-ghost use Rattle.wasm_core_base.specs.Features.{feature_set};
+ghost use Rattle.wasm_core_types.specs.Features.{feature_set};
 ghost use Rattle.wasm_validity.specs.Context.{at_first};
 ghost use Rattle.wasmparser_module_state.specs.History.{grows, held};
 ghost use Rattle.wasmparser_module_state.specs.State.{context, features_of};
@@ -20,7 +20,7 @@ use std::alloc::{AllocError, Global};
 use std::marker::Model;
 use std::mem;
 use std::rc::Rc;
-use wasm_core_base::features::WasmFeatures;
+use wasm_core_types::features::WasmFeatures;
 use wasmparser_error::error::Error;
 use wasmparser_module_state::module_state::ModuleState;
 use wasmparser_module_types::module_types::ModuleTypes;

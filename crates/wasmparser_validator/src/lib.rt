@@ -2,7 +2,9 @@
 #![tactic(auto)]
 
 pub mod core_imports;
+pub mod examples;
 mod growing_types;
+pub mod laws;
 mod modules;
 mod payload;
 pub mod resources;

@@ -15,6 +15,7 @@ ghost use Rattle.wasmparser_validator.specs.Sections.{AreAccepted};
 ghost use Rattle.wasmparser_validator.specs.Validation.{IsValidated};
 
 use crate::growing_types::GrowingTypes;
+use crate::laws::bodies;
 use crate::sections::{ValidSections, validate_sections};
 use crate::types::Types;
 use crate::valid_state::ValidState;
@@ -23,10 +24,9 @@ use std::alloc::Global;
 use wasm_validity_laws::laws::{entries_in_turn, known_spaces, named_functions};
 use wasmparser_error::error::Error;
 use wasmparser_func_validator::func_to_validate::{FuncToValidate, FuncValidatorAllocations};
-use wasmparser_module_bodies::laws::bodies;
-use wasmparser_module_entries::laws::fronts_of_modules;
 use wasmparser_module_state::laws::first_modules_find_room;
 use wasmparser_module_state::module_state::ModuleState;
+use wasmparser_payloads::entry_laws::fronts_of_modules;
 use wasmparser_payloads::function_body::FunctionBody;
 
 // Why a module is refused, and whether in a body, where all else is fine.

@@ -1,7 +1,7 @@
 //! Judging the payloads of a module.
 
 ghost use Rattle.std.specs.Prelude.{◌≡◌, true};
-ghost use Rattle.wasmparser_module_entries.specs.EntryReading.{export_entry_at, import_entry_at};
+ghost use Rattle.wasmparser_payloads.specs.EntryReading.{export_entry_at, import_entry_at};
 ghost use Rattle.wasmparser_module_state.specs.History.{grows, held};
 ghost use Rattle.wasmparser_module_state.specs.Judging.{AddsEntries};
 ghost use Rattle.wasmparser_module_state.specs.State.{context, features_of};
@@ -11,15 +11,15 @@ ghost use Rattle.wasmparser_validator.specs.PieceJudging.{AddsPiece};
 
 use crate::unknown::refuse;
 use std::alloc::Global;
+use wasmparser_entries::imports::Imports;
 use wasmparser_error::error::Error;
-use wasmparser_imports::imports::Imports;
-use wasmparser_items::export::Export;
-use wasmparser_items::tag_type::TagType;
 use wasmparser_module_state::entry::{Entry, add_entries};
 use wasmparser_module_state::module_state::ModuleState;
 use wasmparser_payloads::payload::Payload;
+use wasmparser_readers::export::Export;
 use wasmparser_readers::from_reader::FromReader;
 use wasmparser_readers::section_limited::SectionLimited;
+use wasmparser_readers::tag_type::TagType;
 
 // A section of items of any kind, which can be read again.
 fn add_section<'a, T: FromReader<'a> + Entry>(

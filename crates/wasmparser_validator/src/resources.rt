@@ -5,12 +5,12 @@ ghost use Rattle.wasmparser_module_state.specs.StateResources.{state_resources};
 
 use std::fmt;
 use std::rc::Rc;
+use wasmparser_bodies::module_resources::WasmModuleResources;
 use wasmparser_error::error::Error;
-use wasmparser_items::global_type::GlobalType;
-use wasmparser_items::memory_type::MemoryType;
-use wasmparser_items::table_type::TableType;
 use wasmparser_module_state::module_state::ModuleState;
-use wasmparser_resources::module_resources::WasmModuleResources;
+use wasmparser_readers::global_type::GlobalType;
+use wasmparser_readers::memory_type::MemoryType;
+use wasmparser_readers::table_type::TableType;
 use wasmparser_types::composite_type::FuncType;
 use wasmparser_types::heap_type::HeapType;
 use wasmparser_types::index::CoreTypeId;

@@ -2,9 +2,9 @@
 
 ghost use Rattle.std.specs.Iterator.{YieldsFirstBy, item_count};
 ghost use Rattle.std.specs.Prelude.{◌≡◌, [], ◌<◌, ◌^◌, IfErr, IfOk, IsSomeAnd, length, true};
-ghost use Rattle.wasm_core_base.specs.Features.{feature_set};
+ghost use Rattle.wasm_core_types.specs.Features.{feature_set};
 ghost use Rattle.wasm_validity.specs.Context.{at_first};
-ghost use Rattle.wasmparser_items.specs.Exports.{export_item};
+ghost use Rattle.wasmparser_readers.specs.Exports.{export_item};
 ghost use Rattle.wasmparser_module_state.specs.History.{grows, held};
 ghost use Rattle.wasmparser_module_state.specs.State.{context, features_of};
 ghost use Rattle.wasmparser_module_state.specs.StateResources.{state_resources};
@@ -19,13 +19,13 @@ use crate::valid_state::ValidState;
 use crate::validator_id::ValidatorId;
 use std::alloc::{AllocError, Global};
 use std::marker::Model;
-use wasm_core_base::features::WasmFeatures;
+use wasm_core_types::features::WasmFeatures;
 use wasmparser_error::error::Error;
-use wasmparser_export_names::export_names::ExportNames;
-use wasmparser_items::export::Export;
 use wasmparser_module_state::module_state::ModuleState;
 use wasmparser_module_types::module_types::ModuleTypes;
+use wasmparser_names::export_names::ExportNames;
 use wasmparser_payloads::payload::Payload;
+use wasmparser_readers::export::Export;
 
 /// The index spaces of a valid module. Contracts see who made them, and what is known of the module.
 #[derive(Drop)]

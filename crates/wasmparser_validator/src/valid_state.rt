@@ -1,7 +1,7 @@
 //! What is known of a module after entries that keep all rules and limits.
 
 ghost use Rattle.std.specs.Prelude.{◌≡◌, [], IfErr, IfOk, false, true};
-ghost use Rattle.wasm_core_base.specs.Features.{feature_set};
+ghost use Rattle.wasm_core_types.specs.Features.{feature_set};
 ghost use Rattle.wasm_validity.specs.Context.{at_first};
 ghost use Rattle.wasmparser_module_state.specs.History.{grows, held};
 ghost use Rattle.wasmparser_module_state.specs.State.{context, features_of};
@@ -16,7 +16,7 @@ use crate::payload::add_payload;
 use std::alloc::{AllocError, Global};
 use std::marker::Model;
 use std::mem;
-use wasm_core_base::features::WasmFeatures;
+use wasm_core_types::features::WasmFeatures;
 use wasm_validity_laws::laws::{known_imports, named_functions, named_types};
 use wasmparser_error::error::Error;
 use wasmparser_module_state::module_state::ModuleState;

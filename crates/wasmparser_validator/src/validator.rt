@@ -1,7 +1,7 @@
 //! Validators, which are handed a module piece by piece.
 
 ghost use Rattle.std.specs.Prelude.{◌≡◌, ◌<◌, ◌==◌, ◌&&◌, [], IfErr, IfOk, IfSome, None, is_ok, is_some, length, true};
-ghost use Rattle.wasm_core_base.specs.Features.{feature_set};
+ghost use Rattle.wasm_core_types.specs.Features.{feature_set};
 ghost use Rattle.wasm_spec.specs.Features.{default_features};
 ghost use Rattle.wasm_validity.specs.Context.{at_first};
 ghost use Rattle.wasmparser_payloads.specs.Parsing.{piece};
@@ -23,20 +23,20 @@ use std::alloc::{AllocError, Global};
 use std::mem;
 use std::ops::Range;
 use thiserror::Error as ThisError;
-use wasm_core_base::features::WasmFeatures;
+use wasm_core_types::features::WasmFeatures;
 use wasmparser_entries::data::Data;
 use wasmparser_entries::element::Element;
 use wasmparser_entries::global::Global as GlobalItem;
+use wasmparser_entries::imports::Imports;
 use wasmparser_entries::table::Table;
 use wasmparser_error::error::{Error, ErrorKind};
 use wasmparser_func_validator::func_to_validate::FuncToValidate;
-use wasmparser_imports::imports::Imports;
-use wasmparser_items::export::Export;
-use wasmparser_items::memory_type::MemoryType;
-use wasmparser_items::tag_type::TagType;
 use wasmparser_payloads::function_body::FunctionBody;
 use wasmparser_payloads::payload::Payload;
+use wasmparser_readers::export::Export;
+use wasmparser_readers::memory_type::MemoryType;
 use wasmparser_readers::section_limited::SectionLimited;
+use wasmparser_readers::tag_type::TagType;
 use wasmparser_types::sub_type::RecGroup;
 
 // What a validator waits for.

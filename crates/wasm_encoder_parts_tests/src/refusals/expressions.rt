@@ -4,8 +4,8 @@ use crate::refusals::refused::is_written;
 use std::alloc::Global;
 use wasm_core_types::types::ValType;
 use wasm_core_write::encode_error::EncodeError;
-use wasm_encoder_expressions::const_expr::ConstExpr;
-use wasm_encoder_functions::function::Function;
+use wasm_encoder_bodies::const_expr::ConstExpr;
+use wasm_encoder_bodies::function::Function;
 use wasm_encoder_instructions::instruction::Instruction;
 
 fn body(alloc: Global) -> Result<Function, EncodeError> {

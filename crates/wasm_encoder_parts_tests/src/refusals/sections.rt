@@ -3,12 +3,12 @@
 use crate::refusals::refused::{is_sound, is_written};
 use std::alloc::Global;
 use wasm_core_types::types::{AbstractHeapType, HeapType, RefType, ValType};
+use wasm_encoder_bodies::const_expr::ConstExpr;
 use wasm_encoder_expression_sections::data_section::DataSection;
 use wasm_encoder_expression_sections::element_section::ElementSection;
 use wasm_encoder_expression_sections::element_segment::Elements;
 use wasm_encoder_expression_sections::global_section::GlobalSection;
 use wasm_encoder_expression_sections::table_section::TableSection;
-use wasm_encoder_expressions::const_expr::ConstExpr;
 use wasm_encoder_sections::entity_type::{GlobalType, TableType};
 
 const FUNCREF: RefType = RefType {

@@ -1,7 +1,7 @@
 //! Lists of which copies are kept.
 
 use std::alloc::Global;
-use wasmparser_snapshots::snapshot_list::SnapshotList;
+use wasmparser_type_relations::snapshot_list::SnapshotList;
 
 // Whether a list has the numbers from 0 on, as many as it says.
 fn counts_to(list: &SnapshotList<usize>, len: usize) -> bool {

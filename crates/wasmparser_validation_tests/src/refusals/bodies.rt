@@ -1,14 +1,14 @@
 //! A body, whose validator is refused an allocation.
 
 use std::alloc::Global;
-use wasm_core_base::features::WasmFeatures;
 use wasm_core_read::binary_reader::BinaryReader;
+use wasm_core_types::features::WasmFeatures;
 use wasm_test_rows::values::bytes_of;
+use wasmparser_bodies::module_resources::WasmModuleResources;
 use wasmparser_error::error::{Error, ErrorKind};
 use wasmparser_func_validator::func_to_validate::FuncValidatorAllocations;
 use wasmparser_func_validator::func_validator::FuncValidator;
 use wasmparser_operators::operators_reader::OperatorsReader;
-use wasmparser_resources::module_resources::WasmModuleResources;
 use wasmparser_types::ref_type::RefType;
 use wasmparser_types::val_type::ValType;
 use wasmparser_validation_rows::failures::has_failed;

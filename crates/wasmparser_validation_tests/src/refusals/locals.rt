@@ -1,7 +1,7 @@
 //! Locals of a body.
 
 use std::alloc::Global;
-use wasmparser_stacks::locals::{Locals, LocalsError};
+use wasmparser_bodies::locals::{Locals, LocalsError};
 use wasmparser_types::val_type::ValType;
 
 const PARAMS: [ValType; 3] = [ValType::I32, ValType::I64, ValType::F32];

@@ -2,12 +2,12 @@
 
 use std::alloc::Global;
 use std::test::Fail;
-use wasm_core_base::features::{Flags, WasmFeatures};
+use wasm_core_types::features::{Flags, WasmFeatures};
 use wasm_test_rows::fields::three_fields;
 use wasm_test_rows::rows::check_rows;
 use wasmparser_error::error::{Error, ErrorKind};
-use wasmparser_import_names::named_import::NamedImports;
 use wasmparser_module_state::module_state::ModuleState;
+use wasmparser_names::named_import::NamedImports;
 use wasmparser_validation_rows::judged::{JudgedState, answer, on_new_state};
 
 // Sections, all of which are accepted.

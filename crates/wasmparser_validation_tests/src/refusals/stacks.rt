@@ -1,10 +1,10 @@
 //! Operands, open blocks and assigned locals.
 
 use std::alloc::{AllocError, Global};
+use wasmparser_bodies::frame::FrameKind;
+use wasmparser_bodies::operand::Operand;
+use wasmparser_bodies::stacks::Stacks;
 use wasmparser_operators::immediates::BlockType;
-use wasmparser_stacks::frame::FrameKind;
-use wasmparser_stacks::operand::Operand;
-use wasmparser_stacks::stacks::Stacks;
 use wasmparser_types::val_type::ValType;
 
 const TYPES: [ValType; 3] = [ValType::I32, ValType::I64, ValType::F32];

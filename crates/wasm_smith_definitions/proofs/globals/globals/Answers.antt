@@ -1,8 +1,8 @@
 use Rattle.std.proofs.Common.{ap, map, refl, ◌∙◌, arith}
 use Rattle.std.proofs.lemmas.List.{map_push}
-use Rattle.wasm_smith_items.specs.Items as items
-use Rattle.wasm_smith_items.proofs.SpaceLaws.{one_more_global}
-use Rattle.wasm_smith_items.proofs.StepLaws.{grow_goes_on, grow_ends}
+use Rattle.wasm_smith_definitions.specs.Items as items
+use Rattle.wasm_smith_definitions.proofs.SpaceLaws.{one_more_global}
+use Rattle.wasm_smith_definitions.proofs.StepLaws.{grow_goes_on, grow_ends}
 use Rattle.wasm_smith_definitions.proofs.globals.globals.Goals as goal
 
 pub grow-preserved : goal.grow-preserved

@@ -1,7 +1,7 @@
 use Rattle.std.proofs.Common.{ap, map, refl, ◌∙◌, length-append, arith}
 use Rattle.std.proofs.lemmas.List.{map_push}
 use Rattle.wasm_encoder_sections.specs.CoreItems.{memory_type}
-use Rattle.wasm_smith_items.proofs.StepLaws.{grow_goes_on, grow_ends}
+use Rattle.wasm_smith_definitions.proofs.StepLaws.{grow_goes_on, grow_ends}
 use Rattle.wasm_smith_definitions.proofs.OfferedLaws.{memory_allowed}
 use Rattle.wasm_smith_definitions.proofs.memories.memories.Goals as goal
 

@@ -1,8 +1,8 @@
 use Rattle.std.proofs.Common.{◌-◌, length, map, ◌≤◌}
 use Rattle.wasm_encoder_sections.specs.CoreItems.{memory_type}
 use Rattle.wasm_smith_definitions.specs.Offered.{IsOfferedMemory}
-use Rattle.wasm_smith_items.specs.Kinds.{of_memory, wanted_memories}
-use Rattle.wasm_smith_items.proofs.StepLaws.{IsGrowing}
+use Rattle.wasm_smith_definitions.specs.Kinds.{of_memory, wanted_memories}
+use Rattle.wasm_smith_definitions.proofs.StepLaws.{IsGrowing}
 use Rattle.wasm_smith_definitions.proofs.memories.memories.Given as goal
 
 abbrev pub invariant-grow : goal.invariant-grow

@@ -1,7 +1,7 @@
 use Rattle.std.proofs.Common.{ap, map, refl, ◌∙◌, length-append, arith}
 use Rattle.std.proofs.lemmas.List.{map_push}
-use Rattle.wasm_smith_items.specs.Items as items
-use Rattle.wasm_smith_items.proofs.StepLaws.{grow_goes_on, grow_ends}
+use Rattle.wasm_smith_definitions.specs.Items as items
+use Rattle.wasm_smith_definitions.proofs.StepLaws.{grow_goes_on, grow_ends}
 use Rattle.wasm_smith_definitions.proofs.tables.tables.Goals as goal
 
 pub grow-preserved : goal.grow-preserved

@@ -1,8 +1,8 @@
 use Rattle.std.proofs.Common.{◌≡◌, ◌-◌, [], length, map, ◌≤◌}
 use Rattle.wasm_smith_definitions.specs.Bounds.{IsBoundedTable}
-use Rattle.wasm_smith_items.specs.Items as items
-use Rattle.wasm_smith_items.specs.Kinds.{of_table, wanted_tables}
-use Rattle.wasm_smith_items.proofs.StepLaws.{IsGrowing}
+use Rattle.wasm_smith_definitions.specs.Items as items
+use Rattle.wasm_smith_definitions.specs.Kinds.{of_table, wanted_tables}
+use Rattle.wasm_smith_definitions.proofs.StepLaws.{IsGrowing}
 use Rattle.wasm_smith_types.specs.ValidGroups.{AllKeepTypeRules}
 use Rattle.wasm_smith_definitions.proofs.tables.tables.Given as goal
 

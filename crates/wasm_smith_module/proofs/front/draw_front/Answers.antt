@@ -1,6 +1,6 @@
 use Rattle.std.proofs.Common.{◌≡◌, length, refl, ap, ◌∙◌, arith}
-use Rattle.wasm_smith_exports.specs.Wanted.{of_tag}
-use Rattle.wasm_smith_items.proofs.FrameLaws.{kept_by}
+use Rattle.wasm_smith_externs.specs.Wanted.{of_tag}
+use Rattle.wasm_smith_definitions.proofs.FrameLaws.{kept_by}
 use Rattle.wasm_smith_validity.specs.Spaces.{Spaces}
 use Rattle.wasm_smith_module.proofs.GoodLaws.{byte_limits, imports_fine}
 use Rattle.wasm_smith_module.proofs.ImportedLaws.{imports_later}

@@ -1,6 +1,6 @@
 use Rattle.std.proofs.Common.{map}
 use Rattle.std.proofs.lemmas.Result.{IfOk-weaker}
-use Rattle.wasm_smith_items.specs.Items as items
+use Rattle.wasm_smith_definitions.specs.Items as items
 use Rattle.wasm_smith_sections.proofs.FilledParts.{added_items}
 use Rattle.wasm_smith_sections.proofs.filling.add_exports.Goals as goal
 use Rattle.wasm_spec.specs.Syntax as spec

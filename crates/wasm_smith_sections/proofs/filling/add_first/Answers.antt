@@ -2,7 +2,7 @@ use Rattle.std.proofs.Common.{map, arith}
 use Rattle.std.proofs.lemmas.Result.{IfOk-weaker, IfErr-weaker, err_from_is_err_and}
 use Rattle.wasm_core_types.specs.SubTypes.{sub_type}
 use Rattle.wasm_encoder_sections.specs.CoreItems.{memory_type}
-use Rattle.wasm_smith_items.specs.Items as items
+use Rattle.wasm_smith_definitions.specs.Items as items
 use Rattle.wasm_smith_sections.specs.ModuleItems.{made_of}
 use Rattle.wasm_smith_sections.proofs.FilledParts.{five_added, many_mapped, many_types, many_imports, many_functions, many_tables, many_memories}
 use Rattle.wasm_smith_sections.proofs.TypeGroups.{many_groups}

@@ -1,6 +1,6 @@
 use Rattle.std.proofs.Common.{map, refl}
 use Rattle.std.proofs.lemmas.Result.{IfOk-weaker}
-use Rattle.wasm_smith_items.specs.Items as items
+use Rattle.wasm_smith_definitions.specs.Items as items
 use Rattle.wasm_smith_sections.specs.Contents.{global_bytes}
 use Rattle.wasm_smith_sections.proofs.FilledParts.{added_bytes}
 use Rattle.wasm_smith_sections.proofs.filling.add_globals.Goals as goal

@@ -1,7 +1,7 @@
 use Rattle.std.proofs.Common.{map, refl}
 use Rattle.std.proofs.lemmas.Result.{IfOk-weaker, IfErr-weaker, err_from_is_err_and}
 use Rattle.wasm_core_types.specs.CoreTypes.{val_type}
-use Rattle.wasm_smith_items.specs.Items as items
+use Rattle.wasm_smith_definitions.specs.Items as items
 use Rattle.wasm_smith_sections.specs.ModuleItems.{made_of}
 use Rattle.wasm_smith_sections.proofs.FilledParts.{long_code, many_data, many_mapped, three_added}
 use Rattle.wasm_smith_sections.proofs.filling.add_last.Goals as goal

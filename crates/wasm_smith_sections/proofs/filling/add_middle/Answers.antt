@@ -1,5 +1,5 @@
 use Rattle.std.proofs.lemmas.Result.{IfOk-weaker, IfErr-weaker, err_from_is_err_and}
-use Rattle.wasm_smith_items.specs.Items as items
+use Rattle.wasm_smith_definitions.specs.Items as items
 use Rattle.wasm_smith_sections.specs.ModuleItems.{made_of}
 use Rattle.wasm_smith_sections.proofs.FilledParts.{five_added, many_mapped, many_tags, many_globals, many_exports, many_elements}
 use Rattle.wasm_smith_sections.proofs.filling.add_middle.Goals as goal

@@ -1,5 +1,5 @@
 use Rattle.std.proofs.Common.{◌≡◌, ◌++◌, map, drop}
-use Rattle.wasm_smith_items.specs.Items as items
+use Rattle.wasm_smith_definitions.specs.Items as items
 use Rattle.wasm_smith_sections.proofs.imports.import_section.Given as goal
 
 abbrev pub invariant-loop-entry : goal.invariant-loop-entry

@@ -1,6 +1,6 @@
 use Rattle.std.proofs.Common.{◌≡◌, ◌++◌, map, drop}
 use Rattle.wasm_encoder_sections.specs.CoreImports.{lent_item}
-use Rattle.wasm_smith_items.specs.Items as items
+use Rattle.wasm_smith_definitions.specs.Items as items
 use Rattle.wasm_smith_sections.proofs.imports.lent_items.Given as goal
 
 abbrev pub invariant-loop-item : goal.invariant-loop-item

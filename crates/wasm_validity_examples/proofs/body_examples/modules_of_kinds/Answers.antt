@@ -8,7 +8,7 @@ use Rattle.wasm_spec.specs.TypeGrammar.{IsRecGroup, IsValType}
 use Rattle.wasm_spec.specs.Types.{FuncType, RecGroup, Single}
 use Rattle.wasm_spec.proofs.Encodings.{small, section, none, one, function_section}
 use Rattle.wasm_spec_examples.specs.TypeExamples.{empty_function, final_type, takes}
-use Rattle.wasm_valid_modules.specs.Validity.{HasBody, IsBodyPast, IsBrokenBody, IsOtherBody}
+use Rattle.wasm_validity.specs.Modules.{HasBody, IsBodyPast, IsBrokenBody, IsOtherBody}
 use Rattle.wasm_validity.specs.Context.{at_first}
 use Rattle.wasm_validity.specs.Entries.{OfBody}
 use Rattle.wasm_validity.specs.Rules.{are_within, measures}

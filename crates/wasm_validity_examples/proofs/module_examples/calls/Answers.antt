@@ -9,8 +9,8 @@ use Rattle.wasm_spec.specs.Syntax.{CodeSection, FunctionSection, Import, ImportS
 use Rattle.wasm_spec.specs.Types.{FuncExternal, I32}
 use Rattle.wasm_spec_examples.proofs.SmallOperators.{of_byte, small_s32}
 use Rattle.wasm_spec_examples.specs.TypeExamples.{gives, takes}
-use Rattle.wasm_valid_modules.specs.ModuleBodies.{BodyAt, items_in}
-use Rattle.wasm_valid_modules.specs.Validity.{IsTypedBody}
+use Rattle.wasm_validity.specs.ModuleBodies.{BodyAt, items_in}
+use Rattle.wasm_validity.specs.Modules.{IsTypedBody}
 use Rattle.wasm_validity.specs.Validity.{context_of}
 use Rattle.wasm_validity_examples.proofs.ReadBodies.{call_first, only_end}
 use Rattle.wasm_validity_examples.proofs.SmallBodies.{IsRest, body_of, end_is, ended, just_end}

@@ -8,8 +8,8 @@ use Rattle.wasm_spec.specs.Syntax.{CodeSection, DataCountSection, DataSection, F
 use Rattle.wasm_spec_examples.proofs.SmallOperators.{of_prefix}
 use Rattle.wasm_spec_examples.specs.Examples.{at_least}
 use Rattle.wasm_spec_examples.specs.TypeExamples.{takes}
-use Rattle.wasm_valid_modules.specs.ModuleBodies.{BodyAt, items_in}
-use Rattle.wasm_valid_modules.specs.Validity.{IsTypedBody}
+use Rattle.wasm_validity.specs.ModuleBodies.{BodyAt, items_in}
+use Rattle.wasm_validity.specs.Modules.{IsTypedBody}
 use Rattle.wasm_validity.specs.Validity.{context_of}
 use Rattle.wasm_validity_examples.proofs.ReadBodies.{memory_init_first, unreachable_first}
 use Rattle.wasm_validity_examples.proofs.SmallBodies.{IsRest, body_of, just_end, none_given, stepped, unreachable_is}

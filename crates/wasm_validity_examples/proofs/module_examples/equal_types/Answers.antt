@@ -13,8 +13,8 @@ use Rattle.wasm_spec.specs.Types.{Concrete, FuncComposite, FuncType, I32, Ref, S
 use Rattle.wasm_spec_examples.proofs.SmallOperators.{of_prefix}
 use Rattle.wasm_spec_examples.proofs.TypeKinds.{none_above}
 use Rattle.wasm_spec_examples.specs.TypeExamples.{const_field, empty_structure, final_type, gives}
-use Rattle.wasm_valid_modules.specs.ModuleBodies.{BodyAt, items_in}
-use Rattle.wasm_valid_modules.specs.Validity.{IsTypedBody}
+use Rattle.wasm_validity.specs.ModuleBodies.{BodyAt, items_in}
+use Rattle.wasm_validity.specs.Modules.{IsTypedBody}
 use Rattle.wasm_validity.specs.DefinedTypes.{PassesGroupLimit}
 use Rattle.wasm_validity.specs.Validity.{context_of}
 use Rattle.wasm_validity_examples.proofs.ReadBodies.{only_end, struct_new_default_first}

@@ -8,8 +8,8 @@ use Rattle.wasm_spec.specs.Syntax.{CodeSection, FunctionSection, Import, ImportS
 use Rattle.wasm_spec.specs.Types.{GlobalExternal, I32}
 use Rattle.wasm_spec_examples.proofs.SmallOperators.{of_byte}
 use Rattle.wasm_spec_examples.specs.TypeExamples.{gives}
-use Rattle.wasm_valid_modules.specs.ModuleBodies.{BodyAt}
-use Rattle.wasm_valid_modules.specs.Validity.{IsTypedBody}
+use Rattle.wasm_validity.specs.ModuleBodies.{BodyAt}
+use Rattle.wasm_validity.specs.Modules.{IsTypedBody}
 use Rattle.wasm_validity_examples.proofs.ReadBodies.{global_get_first}
 use Rattle.wasm_validity_examples.proofs.SmallBodies.{body_of, just_end}
 use Rattle.wasm_validity_examples.proofs.SmallModules.{a_number_kept, a_number_passes_none, at_one, begins, first_read, number_told}

@@ -2,8 +2,8 @@ use Rattle.std.proofs.Common.{List, [], ◌∷◌, refl}
 use Rattle.wasm_spec.specs.Syntax.{CodeSection, DataSection, FunctionSection, ImportSection, MemorySection, Section, StartSection, TableSection, TagSection, TypeSection}
 use Rattle.wasm_spec_examples.specs.Examples.{at_least}
 use Rattle.wasm_spec_examples.specs.TypeExamples.{takes}
-use Rattle.wasm_valid_modules.specs.ModuleBodies.{BodyAt}
-use Rattle.wasm_valid_modules.specs.Validity.{IsTypedBody}
+use Rattle.wasm_validity.specs.ModuleBodies.{BodyAt}
+use Rattle.wasm_validity.specs.Modules.{IsTypedBody}
 use Rattle.wasm_validity_examples.proofs.SmallBodies.{empty_body}
 use Rattle.wasm_validity_examples.proofs.SmallModules.{at_one, no_result_kept, no_result_passes_none}
 use Rattle.wasm_validity_examples.specs.ModuleExamples.{no_result}

@@ -4,8 +4,8 @@ use Rattle.wasm_bodies.specs.Operands.{fresh}
 use Rattle.wasm_spec.specs.Syntax.{Section, types_of}
 use Rattle.wasm_spec.specs.Types.{I32}
 use Rattle.wasm_spec_examples.specs.TypeExamples.{gives, takes}
-use Rattle.wasm_valid_modules.specs.ModuleBodies.{BodyAt, items_in}
-use Rattle.wasm_valid_modules.specs.Validity.{IsTypedBody}
+use Rattle.wasm_validity.specs.ModuleBodies.{BodyAt, items_in}
+use Rattle.wasm_validity.specs.Modules.{IsTypedBody}
 use Rattle.wasm_validity.specs.Validity.{context_of}
 use Rattle.wasm_validity_examples.proofs.ReadBodies.{no_operators, only_end}
 use Rattle.wasm_validity_examples.proofs.SmallBodies.{IsRest, empty_body, ended, some_operator, unreachable_body}

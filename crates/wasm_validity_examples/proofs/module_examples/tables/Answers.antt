@@ -7,8 +7,8 @@ use Rattle.wasm_spec.specs.Features.{Features}
 use Rattle.wasm_spec.specs.Syntax.{CodeSection, ElementSection, FunctionItems, FunctionSection, PassiveElement, Section, TableSection, TypeSection}
 use Rattle.wasm_spec_examples.proofs.SmallOperators.{of_byte, of_prefix}
 use Rattle.wasm_spec_examples.specs.TypeExamples.{takes}
-use Rattle.wasm_valid_modules.specs.ModuleBodies.{BodyAt}
-use Rattle.wasm_valid_modules.specs.Validity.{IsTypedBody}
+use Rattle.wasm_validity.specs.ModuleBodies.{BodyAt}
+use Rattle.wasm_validity.specs.Modules.{IsTypedBody}
 use Rattle.wasm_validity_examples.proofs.ReadBodies.{elem_drop_first, table_size_first}
 use Rattle.wasm_validity_examples.proofs.SmallBodies.{body_of, just_end, none_given}
 use Rattle.wasm_validity_examples.proofs.SmallModules.{at_one, begins, first_read, first_told, no_result_kept, no_result_passes_none}

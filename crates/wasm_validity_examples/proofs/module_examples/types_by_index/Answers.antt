@@ -4,8 +4,8 @@ use Rattle.wasm_bodies.specs.Operands.{fresh}
 use Rattle.wasm_spec.specs.Syntax.{CodeSection, FunctionSection, Section, TypeSection, types_of}
 use Rattle.wasm_spec.specs.Types.{I32}
 use Rattle.wasm_spec_examples.specs.TypeExamples.{gives, takes}
-use Rattle.wasm_valid_modules.specs.ModuleBodies.{BodyAt, items_in}
-use Rattle.wasm_valid_modules.specs.Validity.{IsTypedBody}
+use Rattle.wasm_validity.specs.ModuleBodies.{BodyAt, items_in}
+use Rattle.wasm_validity.specs.Modules.{IsTypedBody}
 use Rattle.wasm_validity.specs.Validity.{context_of}
 use Rattle.wasm_validity_examples.proofs.ReadBodies.{only_end}
 use Rattle.wasm_validity_examples.proofs.SmallBodies.{IsRest, empty_body, ended, unreachable_body}

@@ -10,8 +10,8 @@ use Rattle.wasm_spec.specs.Trees.{DefType, tree_of}
 use Rattle.wasm_spec.specs.Types.{Concrete, FuncComposite, Group, Ref}
 use Rattle.wasm_spec_examples.proofs.SmallOperators.{of_byte}
 use Rattle.wasm_spec_examples.specs.TypeExamples.{empty_function, empty_structure, final_type, takes}
-use Rattle.wasm_valid_modules.specs.ModuleBodies.{BodyAt}
-use Rattle.wasm_valid_modules.specs.Validity.{IsTypedBody}
+use Rattle.wasm_validity.specs.ModuleBodies.{BodyAt}
+use Rattle.wasm_validity.specs.Modules.{IsTypedBody}
 use Rattle.wasm_validity_examples.proofs.SmallBodies.{body_of, empty_body, just_end}
 use Rattle.wasm_validity_examples.proofs.SmallModules.{at_one, few_fields, few_values, pair_group}
 use Rattle.wasm_validity_examples.proofs.SmallSections.{lone_passes_none}

@@ -1,6 +1,6 @@
 use Rattle.std.proofs.Common.{IfSome, ◌∙◌, subst, slice_get}
-use Rattle.wasmparser_chains.specs.Chains.{IsDepth}
-use Rattle.wasmparser_interning.specs.TypeTables.{TypeTables, sub_types}
+use Rattle.wasmparser_type_relations.specs.Chains.{IsDepth}
+use Rattle.wasmparser_type_list.specs.TypeTables.{TypeTables, sub_types}
 use Rattle.wasmparser_interning_tests.proofs.chains.depth.Goals as goal
 
 pub returns-in-Some : goal.returns-in-Some

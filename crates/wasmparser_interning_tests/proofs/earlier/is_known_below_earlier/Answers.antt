@@ -1,7 +1,7 @@
 use Rattle.std.proofs.Common.{sym, ap, subst, ◌∙◌}
 use Rattle.std.specs.Option.{option_copied}
 use Rattle.wasmparser_types.specs.SubTypes.{sub_type}
-use Rattle.wasmparser_interning.proofs.TableLaws.{stands_for}
+use Rattle.wasmparser_type_list.proofs.TableLaws.{stands_for}
 use Rattle.wasmparser_interning_tests.specs.Earlier.{IsBelowEarlierAt}
 use Rattle.wasmparser_interning_tests.proofs.EarlierLaws.{at_id}
 use Rattle.wasmparser_interning_tests.proofs.earlier.is_known_below_earlier.Goals as goal

@@ -1,6 +1,6 @@
 use Rattle.std.proofs.Common.{sym, ap, ◌∙◌, slice_get}
 use Rattle.std.specs.Option.{option_and_then}
-use Rattle.wasmparser_interning.specs.TypeTables.{sub_types}
+use Rattle.wasmparser_type_list.specs.TypeTables.{sub_types}
 use Rattle.wasmparser_module_types.proofs.FuncTypes.{func_ids, known_index}
 use Rattle.wasmparser_module_types.proofs.KnownIds.{known_id}
 use Rattle.wasmparser_module_types.specs.ModuleTypes.{IsIdOf, interned_types}

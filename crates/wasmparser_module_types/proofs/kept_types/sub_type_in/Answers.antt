@@ -1,7 +1,7 @@
 use Rattle.std.proofs.Common.{◌≡◌, Some, ap, ◌∙◌, slice_get, arith, sym}
 use Rattle.std.proofs.lemmas.Option.{slice_get-map}
 use Rattle.std.specs.Option.{option_map}
-use Rattle.wasmparser_interning.specs.TypeTables.{sub_types}
+use Rattle.wasmparser_type_list.specs.TypeTables.{sub_types}
 use Rattle.wasmparser_module_types.proofs.KnownIds.{kept_count, kept_ids, kept_unrolls}
 use Rattle.wasmparser_types.specs.SubTypes.{sub_type}
 use Rattle.wasmparser_module_types.proofs.kept_types.sub_type_in.Goals as goal

@@ -1,16 +1,16 @@
 use Rattle.std.proofs.Common.{◌≡◌, true, refl}
 use Rattle.std.proofs.lemmas.Result.{IfErr-weaker, on_ok_weaker}
-use Rattle.wasm_core_base.specs.Features.{feature_set}
+use Rattle.wasm_core_types.specs.Features.{feature_set}
 use Rattle.wasm_spec.specs.Features.{needs_type_canonicalization}
 use Rattle.wasm_spec.proofs.GroupTrees.{length-places_of}
 use Rattle.wasm_spec.specs.Syntax.{members}
 use Rattle.wasm_spec.specs.Trees.{tree_of, types_of_group}
-use Rattle.wasmparser_interning_laws.specs.IdTypes.{AreFoundByKey}
+use Rattle.wasmparser_type_list.specs.IdTypes.{AreFoundByKey}
 use Rattle.wasmparser_module_types.proofs.AddedGroups.{has_room_for, of_module, still_knows}
 use Rattle.wasmparser_module_types.proofs.EnteredGroups.{enters}
 use Rattle.wasmparser_module_types.proofs.Refusals.{refuses}
 use Rattle.wasmparser_module_types.specs.ModuleTypes.{all_groups, module_types}
-use Rattle.wasmparser_rec_group_laws.specs.Contexts.{in_section}
+use Rattle.wasmparser_rec_groups.specs.Contexts.{in_section}
 use Rattle.wasmparser_rec_groups.specs.Interning.{canonical_members}
 use Rattle.wasmparser_types.specs.RecGroups.{rec_group}
 use Rattle.wasmparser_module_types.proofs.module_types.intern.Goals as goal

@@ -1,6 +1,6 @@
 use Rattle.std.proofs.Common.{◌≡◌, sym, ◌∙◌, true, map}
 use Rattle.std.proofs.lemmas.Result.{err_from_is_err_and}
-use Rattle.wasm_core_base.specs.Features.{feature_set}
+use Rattle.wasm_core_types.specs.Features.{feature_set}
 use Rattle.wasm_spec.specs.Gates.{is_allowed_group}
 use Rattle.wasmparser_types.specs.RecGroups.{rec_group}
 use Rattle.wasmparser_types.specs.SubTypes.{sub_type}

@@ -1,9 +1,9 @@
 use Rattle.std.proofs.Common.{◌∙◌, ap, sym, subst, length, refl, slice_get}
 use Rattle.std.proofs.lemmas.Result.{err_from_is_err_and}
-use Rattle.wasm_core_base.specs.Features.{feature_set}
+use Rattle.wasm_core_types.specs.Features.{feature_set}
 use Rattle.wasmparser_types.specs.RecGroups.{members, rec_group}
-use Rattle.wasmparser_chains.specs.Chains.{AreBelowEarlier}
-use Rattle.wasmparser_interning.specs.TypeTables.{AreWithin, has_room, sub_types}
+use Rattle.wasmparser_type_relations.specs.Chains.{AreBelowEarlier}
+use Rattle.wasmparser_type_list.specs.TypeTables.{AreWithin, has_room, sub_types}
 use Rattle.wasmparser_rec_groups.proofs.BeforeInterning.{interns_members, no_intern}
 use Rattle.wasmparser_rec_groups.specs.Interning.{Refuses, breaks_a_rule, is_refused}
 use Rattle.wasmparser_rec_groups.proofs.CanonicalGroups.{still_earlier, within}

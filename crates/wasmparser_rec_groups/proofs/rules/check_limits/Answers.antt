@@ -1,7 +1,7 @@
 use Rattle.std.proofs.Common.{refl, sym, Some}
-use Rattle.wasm_core_base.specs.Limits.{limit}
+use Rattle.wasm_core_types.specs.Limits.{limit}
 use Rattle.wasmparser_types.specs.SubTypes.{sub_type}
-use Rattle.wasmparser_interning.proofs.TableLaws.{stands_for}
+use Rattle.wasmparser_type_list.proofs.TableLaws.{stands_for}
 use Rattle.wasmparser_rec_groups.specs.Rules.{passes_a_limit}
 use Rattle.wasmparser_rec_groups.proofs.RuleLaws.{many, passes_none}
 use Rattle.wasmparser_rec_groups.proofs.rules.check_limits.Goals as goal

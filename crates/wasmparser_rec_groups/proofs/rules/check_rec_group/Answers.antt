@@ -1,6 +1,6 @@
 use Rattle.std.proofs.Common.{◌<◌, arith, subst, sym}
 use Rattle.wasmparser_rec_groups.specs.Rules.{KeepsRules, PassesNoLimit}
-use Rattle.wasmparser_interning.proofs.Agreement.{range_of}
+use Rattle.wasmparser_type_list.proofs.Agreement.{range_of}
 use Rattle.wasmparser_rec_groups.proofs.GroupLaws.{whole_group, known_id, one_more, whole}
 use Rattle.wasmparser_rec_groups.proofs.rules.check_rec_group.Goals as goal
 

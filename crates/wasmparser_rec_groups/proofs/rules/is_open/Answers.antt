@@ -1,7 +1,7 @@
 use Rattle.std.proofs.Common.{◌∙◌, ap, sym}
 use Rattle.std.specs.Option.{option_copied}
 use Rattle.wasmparser_types.specs.SubTypes.{sub_type}
-use Rattle.wasmparser_interning.proofs.TableLaws.{stands_for}
+use Rattle.wasmparser_type_list.proofs.TableLaws.{stands_for}
 use Rattle.wasmparser_rec_groups.proofs.RuleLaws.{not_open, open_by}
 use Rattle.wasmparser_rec_groups.proofs.rules.is_open.Goals as goal
 

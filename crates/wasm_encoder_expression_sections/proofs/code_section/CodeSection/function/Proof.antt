@@ -2,7 +2,7 @@ use Rattle.wasm_encoder_expression_sections.proofs.code_section.CodeSection.func
 use Rattle.wasm_encoder_expression_sections.proofs.code_section.CodeSection.function.Code as code
 use Rattle.wasm_encoder_expression_sections.proofs.code_section.CodeSection.push.Met.{met}
 use Rattle.wasm_encoder_expression_sections.specs.contracts.code_section.CodeSection.{the_row as R}
-use Rattle.wasm_encoder_functions.specs.contracts.function.Function.{the_row as Function}
+use Rattle.wasm_encoder_bodies.specs.contracts.function.Function.{the_row as Function}
 use Rattle.wasm_core_write.proofs.ChainArguments.{by_ref, first, same_full}
 use Rattle.wasm_core_write.proofs.ChainsOfOne.{chains}
 

@@ -2,7 +2,7 @@ use Rattle.wasm_encoder_expression_sections.proofs.data_section.DataSection.acti
 use Rattle.wasm_encoder_expression_sections.proofs.data_section.DataSection.active.Code as code
 use Rattle.wasm_encoder_expression_sections.proofs.data_section.DataSection.push_active.Met.{met}
 use Rattle.wasm_encoder_expression_sections.specs.contracts.data_section.DataSection.{the_row as R}
-use Rattle.wasm_encoder_expressions.specs.contracts.const_expr.ConstExpr.{the_row as ConstExpr}
+use Rattle.wasm_encoder_bodies.specs.contracts.const_expr.ConstExpr.{the_row as ConstExpr}
 use denote.Builtin.{u8}
 use Rattle.wasm_core_write.proofs.ChainArguments.{by_u32, by_slice, by_ref, first, second, same_full}
 use Rattle.wasm_core_write.proofs.ChainsOfThree.{chains}

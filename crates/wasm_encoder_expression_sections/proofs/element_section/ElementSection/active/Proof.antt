@@ -2,7 +2,7 @@ use Rattle.wasm_encoder_expression_sections.proofs.element_section.ElementSectio
 use Rattle.wasm_encoder_expression_sections.proofs.element_section.ElementSection.active.Code as code
 use Rattle.wasm_encoder_expression_sections.proofs.element_section.ElementSection.push_active.Met.{met}
 use Rattle.wasm_encoder_expression_sections.specs.contracts.element_section.ElementSection.{the_row as R}
-use Rattle.wasm_encoder_expressions.specs.contracts.const_expr.ConstExpr.{the_row as ConstExpr}
+use Rattle.wasm_encoder_bodies.specs.contracts.const_expr.ConstExpr.{the_row as ConstExpr}
 use Rattle.wasm_encoder_expression_sections.proofs.element_segment.Elements.TheLaws.{the_row_laws as laws}
 use Rattle.std.proofs.Common.{refl}
 use Rattle.wasm_core_write.proofs.ChainArguments.{by_ref, by_lent, by_optional_u32, first, second, same_full}

@@ -3,7 +3,7 @@ use Rattle.wasm_encoder_expression_sections.proofs.table_section.TableSection.ta
 use Rattle.wasm_encoder_expression_sections.proofs.table_section.TableSection.push_with_init.Met.{met}
 use Rattle.wasm_encoder_expression_sections.specs.contracts.table_section.TableSection.{the_row as R}
 use Rattle.wasm_encoder_sections.proofs.entity_type.TableType.TheLaws.{the_row_laws as laws}
-use Rattle.wasm_encoder_expressions.specs.contracts.const_expr.ConstExpr.{the_row as ConstExpr}
+use Rattle.wasm_encoder_bodies.specs.contracts.const_expr.ConstExpr.{the_row as ConstExpr}
 use Rattle.wasm_core_write.proofs.ChainArguments.{by_ref, by_value, first, same_full}
 use Rattle.wasm_core_write.proofs.ChainsOfTwo.{chains}
 

@@ -1,5 +1,5 @@
 use Rattle.std.proofs.Common.{◌≡◌, drop}
-use Rattle.wasm_core_base.specs.Features.{feature_set}
+use Rattle.wasm_core_types.specs.Features.{feature_set}
 use Rattle.wasm_smith_config.proofs.UnionLaws.{grown_by}
 use Rattle.wasm_smith_config.specs.Rows.{rows_of}
 use Rattle.wasm_smith_config.proofs.config.Config.features.Given as goal

@@ -1,8 +1,8 @@
 use Rattle.std.proofs.Common.{◌≡◌, true, rules}
 use Rattle.wasm_spec.specs.Features.{ReferenceTypes, has}
 use Rattle.wasm_spec.specs.Types as spec
-use Rattle.wasmparser_const_exprs.specs.ConstExprs.{expression_of}
-use Rattle.wasmparser_const_exprs.specs.ConstOperators.{const_operator}
+use Rattle.wasmparser_entries.specs.ConstExprs.{expression_of}
+use Rattle.wasmparser_entries.specs.ConstOperators.{const_operator}
 use Rattle.wasmparser_constants.proofs.FunctionLaws.{function_alone}
 use Rattle.wasmparser_types.specs.ValTypes.{val_type}
 use Rattle.wasmparser_constants.proofs.functions.Functions.function_named.Goals as goal

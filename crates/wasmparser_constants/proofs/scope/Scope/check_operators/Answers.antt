@@ -1,7 +1,7 @@
 use Rattle.std.proofs.Common.{rules, subst}
 use Rattle.wasm_spec.specs.Constants.{ConstantExpression}
-use Rattle.wasmparser_const_exprs.specs.ConstExprs.{expression_of}
-use Rattle.wasmparser_const_exprs.specs.ConstOperators.{const_operator}
+use Rattle.wasmparser_entries.specs.ConstExprs.{expression_of}
+use Rattle.wasmparser_entries.specs.ConstOperators.{const_operator}
 use Rattle.wasmparser_constants.proofs.StepLaws.{IsAsGood, good_step, good_stuck}
 use Rattle.wasmparser_constants.proofs.TakingLaws.{refuses_on}
 use Rattle.wasmparser_constants.specs.Operands.{meant_type}

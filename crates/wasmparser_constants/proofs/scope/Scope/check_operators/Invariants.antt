@@ -1,5 +1,5 @@
 use Rattle.std.proofs.Common.{length}
-use Rattle.wasmparser_const_exprs.specs.ConstExprs.{expression_of}
+use Rattle.wasmparser_entries.specs.ConstExprs.{expression_of}
 use Rattle.wasmparser_constants.proofs.StepLaws.{IsAsGood}
 use Rattle.wasmparser_constants.specs.Operands.{meant_type}
 use Rattle.wasmparser_constants.specs.Scopes.{context, features_of, known}

@@ -3,7 +3,7 @@ use Rattle.std.proofs.lemmas.Option.{slice_get-get_or}
 use Rattle.wasm_bodies.specs.Operands.{fits}
 use Rattle.wasm_spec.specs.Types.{I32}
 use Rattle.wasmparser_types.specs.ValTypes.{val_type}
-use Rattle.wasmparser_stacks.specs.StackViews.{operand}
+use Rattle.wasmparser_bodies.specs.StackViews.{operand}
 use Rattle.wasmparser_func_validator.proofs.Taking.{goes_on, stops, past_known, none_below, unfit_below}
 use Rattle.wasmparser_func_validator.proofs.body.Body.accepts.Goals as goal
 

@@ -1,6 +1,6 @@
 use Rattle.std.proofs.Common.{◌≡◌, ◌≤◌, ◌+◌, ◌-◌, take, length}
 use Rattle.wasm_bodies.specs.Operands.{all_taken}
-use Rattle.wasmparser_stacks.specs.StackChanges.{lowered}
+use Rattle.wasmparser_bodies.specs.StackChanges.{lowered}
 use Rattle.wasmparser_func_validator.proofs.body.Body.accepts.Given as goal
 
 -- what is left to be tested leads where the whole leads

@@ -3,7 +3,7 @@ use Rattle.std.specs.Prelude.{slice_get}
 use Rattle.std.proofs.lemmas.Iterator.Search.{all_from_yields_List}
 use Rattle.wasm_bodies.specs.Effects.{accepts}
 use Rattle.wasm_bodies_laws.specs.Machine.{labels_of}
-use Rattle.wasmparser_stacks.specs.StackChanges.{lowered}
+use Rattle.wasmparser_bodies.specs.StackChanges.{lowered}
 use Rattle.wasmparser_func_validator.proofs.BranchLaws.{labels_yield}
 use Rattle.wasmparser_func_validator.proofs.body.Body.accepts_labels.Goals as goal
 

@@ -1,7 +1,7 @@
 use Rattle.std.proofs.Common.{◌<◌, Some, length, true, refl, sym, ap, arith}
 use Rattle.wasm_bodies.specs.Operators.{Unreachable, Nop, Else, End, Return, Drop, Select}
 use Rattle.wasm_bodies_laws.specs.Machine.{Machine}
-use Rattle.wasm_core_base.specs.Features.{feature_set}
+use Rattle.wasm_core_types.specs.Features.{feature_set}
 use Rattle.wasmparser_types.specs.Index.{Index}
 use Rattle.wasmparser_operators.specs.OperatorReading.{Bare, shape_of}
 use Rattle.wasmparser_func_validator.specs.Plain.{IsCoded}

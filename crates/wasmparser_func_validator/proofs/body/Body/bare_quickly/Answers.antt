@@ -1,7 +1,7 @@
 use Rattle.std.proofs.Common.{Some, true, refl, sym, ap}
 use Rattle.wasm_bodies.specs.Operators.{Unreachable, Drop}
 use Rattle.wasm_bodies_laws.specs.Machine.{Machine}
-use Rattle.wasm_core_base.specs.Features.{feature_set}
+use Rattle.wasm_core_types.specs.Features.{feature_set}
 use Rattle.wasmparser_types.specs.Index.{Index}
 use Rattle.wasmparser_func_validator.specs.Steps.{context_of}
 use Rattle.wasmparser_func_validator.proofs.PlainCodes.{drop_coded, unreachable_coded}

@@ -3,8 +3,8 @@ use Rattle.std.proofs.lemmas.List.{nil_from_length}
 use Rattle.std.specs.Option.{option_map}
 use Rattle.std.specs.Prelude.{slice_get}
 use Rattle.wasm_bodies.specs.Operators.{Empty}
-use Rattle.wasm_core_base.specs.Features.{feature_set}
-use Rattle.wasmparser_stacks.specs.StackViews.{block_seen, block_with_ids, frame_kind}
+use Rattle.wasm_core_types.specs.Features.{feature_set}
+use Rattle.wasmparser_bodies.specs.StackViews.{block_seen, block_with_ids, frame_kind}
 use Rattle.wasmparser_func_validator.specs.Steps.{context_of}
 use Rattle.wasmparser_func_validator.proofs.EmptyBlocks.{empty_closed}
 use Rattle.wasmparser_func_validator.proofs.body.Body.close_empty.Goals as goal

@@ -3,7 +3,7 @@ use Rattle.std.specs.Option.{option_map}
 use Rattle.std.proofs.lemmas.List.{length-map}
 use Rattle.wasm_bodies.specs.Operands.{Known, given}
 use Rattle.wasm_bodies_laws.specs.Machine.{Machine}
-use Rattle.wasmparser_stacks.specs.StackChanges.{lowered}
+use Rattle.wasmparser_bodies.specs.StackChanges.{lowered}
 use Rattle.wasmparser_types.specs.Index.{Index}
 use Rattle.wasmparser_types.specs.ValTypes.{val_type}
 use Rattle.wasmparser_func_validator.proofs.PlainLaws.{all_known}

@@ -1,6 +1,6 @@
 use Rattle.std.proofs.Common.{refl}
 use Rattle.wasm_bodies.specs.OperatorRows.{Int32}
-use Rattle.wasm_core_base.specs.Features.{feature_set}
+use Rattle.wasm_core_types.specs.Features.{feature_set}
 use Rattle.wasmparser_func_validator.specs.Steps.{context_of}
 use Rattle.wasmparser_func_validator.proofs.PlainLaws.{jump_tried}
 use Rattle.wasmparser_func_validator.proofs.body.Body.jump_quickly_if.Goals as goal

@@ -1,6 +1,6 @@
 use Rattle.std.proofs.Common.{◌≡◌, ◌-◌, drop, length, take, Some, sym, subst, arith}
 use Rattle.std.specs.Prelude.{slice_index_or}
-use Rattle.wasm_core_base.specs.Features.{feature_set}
+use Rattle.wasm_core_types.specs.Features.{feature_set}
 use Rattle.wasm_core_read.specs.Reading.{unsigned_at}
 use Rattle.wasmparser_operators.specs.OperatorReading.{memory_argument_at, offset_bits}
 use Rattle.wasmparser_func_validator.proofs.PlainNumbers.{front_is, memory_reads}

@@ -1,10 +1,10 @@
 use Rattle.std.proofs.Common.{arith, ◌≡◌, ◌+◌, ◌∙◌, Some, ap, sym, subst, length, map}
 use Rattle.std.proofs.lemmas.List.{length-map}
 use Rattle.wasm_bodies.specs.Operands.{all_taken}
-use Rattle.wasm_core_base.specs.Features.{feature_set}
+use Rattle.wasm_core_types.specs.Features.{feature_set}
 use Rattle.wasmparser_operators.specs.OperatorValues.{block_type}
-use Rattle.wasmparser_stacks.specs.StackChanges.{lowered}
-use Rattle.wasmparser_stacks.specs.StackViews.{block_with_ids, frame_kind}
+use Rattle.wasmparser_bodies.specs.StackChanges.{lowered}
+use Rattle.wasmparser_bodies.specs.StackViews.{block_with_ids, frame_kind}
 use Rattle.wasmparser_types.specs.ValTypes.{val_type}
 use Rattle.wasmparser_func_validator.specs.Steps.{context_of}
 use Rattle.wasmparser_func_validator.proofs.BlockLaws.{opened}

@@ -2,7 +2,7 @@ use Rattle.std.proofs.Common.{Ok, refl}
 use Rattle.wasm_bodies.specs.Operators.{Empty, Block, Loop}
 use Rattle.wasm_bodies.specs.OperatorRows.{Int32}
 use Rattle.wasm_bodies_laws.specs.Machine.{BlockFrame, LoopFrame}
-use Rattle.wasm_core_base.specs.Features.{feature_set}
+use Rattle.wasm_core_types.specs.Features.{feature_set}
 use Rattle.wasmparser_func_validator.specs.Steps.{context_of}
 use Rattle.wasmparser_func_validator.proofs.EmptyBlocks.{empty_if_opened, empty_opened}
 use Rattle.wasmparser_func_validator.proofs.PlainCodes.{block_coded, loop_coded}

@@ -1,11 +1,11 @@
 use Rattle.std.proofs.Common.{◌+◌, ◌∙◌, Some, ap, sym, length, map}
 use Rattle.wasm_bodies.specs.Operands.{taken}
 use Rattle.wasm_bodies_laws.specs.Machine.{IfFrame}
-use Rattle.wasm_core_base.specs.Features.{feature_set}
+use Rattle.wasm_core_types.specs.Features.{feature_set}
 use Rattle.wasm_spec.specs.Types.{I32}
 use Rattle.wasmparser_operators.specs.OperatorValues.{block_type}
-use Rattle.wasmparser_stacks.specs.StackChanges.{lowered}
-use Rattle.wasmparser_stacks.specs.StackViews.{block_with_ids}
+use Rattle.wasmparser_bodies.specs.StackChanges.{lowered}
+use Rattle.wasmparser_bodies.specs.StackViews.{block_with_ids}
 use Rattle.wasmparser_types.specs.ValTypes.{val_type}
 use Rattle.wasmparser_func_validator.specs.Steps.{context_of}
 use Rattle.wasmparser_func_validator.proofs.BlockLaws.{opened_after}

@@ -2,7 +2,7 @@ use Rattle.std.proofs.Common.{◌≡◌, true, ap, refl, sym}
 use Rattle.std.specs.List.{list_all}
 use Rattle.wasm_bodies.specs.OperatorGates.{block_gate}
 use Rattle.wasm_bodies.specs.Operators.{Block, Loop, If}
-use Rattle.wasm_core_base.specs.Features.{feature_set}
+use Rattle.wasm_core_types.specs.Features.{feature_set}
 use Rattle.wasm_spec.specs.Features.{has}
 use Rattle.wasmparser_operators.specs.OperatorValues.{block_type}
 use Rattle.wasmparser_func_validator.specs.Steps.{context_of}

@@ -1,5 +1,5 @@
 use Rattle.std.proofs.Common.{◌≡◌, ◌-◌, drop, length, take, Some, sym, subst}
-use Rattle.wasm_core_base.specs.Features.{feature_set}
+use Rattle.wasm_core_types.specs.Features.{feature_set}
 use Rattle.wasmparser_operators.specs.OperatorReading.{All, block_type_at}
 use Rattle.wasmparser_operators.specs.OperatorValues.{block_type}
 use Rattle.wasmparser_func_validator.specs.Steps.{context_of}

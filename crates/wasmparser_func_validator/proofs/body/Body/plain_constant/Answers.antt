@@ -1,6 +1,6 @@
 use Rattle.std.proofs.Common.{refl}
 use Rattle.wasm_bodies.specs.Operators.{I32Const, I64Const}
-use Rattle.wasm_core_base.specs.Features.{feature_set}
+use Rattle.wasm_core_types.specs.Features.{feature_set}
 use Rattle.wasm_spec.specs.Types.{I32, I64}
 use Rattle.wasmparser_func_validator.specs.Steps.{context_of}
 use Rattle.wasmparser_func_validator.proofs.PlainLaws.{constant_step, int32_coded, int64_coded}

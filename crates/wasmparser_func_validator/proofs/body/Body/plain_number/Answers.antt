@@ -1,4 +1,4 @@
-use Rattle.wasm_core_base.specs.Features.{feature_set}
+use Rattle.wasm_core_types.specs.Features.{feature_set}
 use Rattle.wasmparser_func_validator.specs.Steps.{context_of}
 use Rattle.wasmparser_func_validator.proofs.PlainLaws.{number_step}
 use Rattle.wasmparser_func_validator.proofs.body.Body.plain_number.Goals as goal

@@ -1,6 +1,6 @@
 use Rattle.std.proofs.Common.{◌≡◌, ◌-◌, ◌∷◌, Some, drop, length, take, sym, subst}
 use Rattle.wasm_bodies.specs.Operators.{Empty}
-use Rattle.wasm_core_base.specs.Features.{feature_set}
+use Rattle.wasm_core_types.specs.Features.{feature_set}
 use Rattle.wasmparser_operators.specs.OperatorReading.{All, block_type_at}
 use Rattle.wasmparser_func_validator.specs.Steps.{context_of}
 use Rattle.wasmparser_func_validator.proofs.EmptyBlocks.{empty_reads}

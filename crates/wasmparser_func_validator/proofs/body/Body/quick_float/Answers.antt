@@ -1,6 +1,6 @@
 use Rattle.std.proofs.Common.{◌≡◌, true, refl, sym}
 use Rattle.wasm_bodies.specs.Operators.{F32Const, F64Const}
-use Rattle.wasm_core_base.specs.Features.{feature_set}
+use Rattle.wasm_core_types.specs.Features.{feature_set}
 use Rattle.wasm_spec.specs.Features.{Floats, has}
 use Rattle.wasm_spec.specs.Types.{F32, F64}
 use Rattle.wasmparser_func_validator.specs.Steps.{context_of}

@@ -4,7 +4,7 @@ use Rattle.wasm_bodies.specs.Operands.{applied}
 use Rattle.wasm_bodies.specs.OperatorGates.{float_gate}
 use Rattle.wasm_bodies.specs.OperatorRows.{Int32, access}
 use Rattle.wasm_bodies.specs.Signatures.{from_to}
-use Rattle.wasm_core_base.specs.Features.{feature_set}
+use Rattle.wasm_core_types.specs.Features.{feature_set}
 use Rattle.wasm_spec.specs.Features.{has}
 use Rattle.wasmparser_operators.specs.OperatorValues.{memory_argument}
 use Rattle.wasmparser_types.specs.ValTypes.{val_type}

@@ -1,7 +1,7 @@
 use Rattle.std.proofs.Common.{sym, subst}
-use Rattle.wasm_core_base.specs.Features.{feature_set}
-use Rattle.wasmparser_body_reading.specs.Runs.{LeadsOn}
-use Rattle.wasmparser_body_reading.proofs.Runs.{leads_nowhere}
+use Rattle.wasm_core_types.specs.Features.{feature_set}
+use Rattle.wasmparser_bodies.specs.Runs.{LeadsOn}
+use Rattle.wasmparser_bodies.proofs.Runs.{leads_nowhere}
 use Rattle.wasmparser_func_validator.specs.Steps.{context_of}
 use Rattle.wasmparser_func_validator.proofs.PlainLaws.{gets_shorter, steps_further}
 use Rattle.wasmparser_func_validator.proofs.body.Body.run_quickly.Goals as goal

@@ -1,6 +1,6 @@
 use Rattle.std.proofs.Common.{length}
-use Rattle.wasm_core_base.specs.Features.{feature_set}
-use Rattle.wasmparser_body_reading.specs.Runs.{LeadsOn}
+use Rattle.wasm_core_types.specs.Features.{feature_set}
+use Rattle.wasmparser_bodies.specs.Runs.{LeadsOn}
 use Rattle.wasmparser_func_validator.specs.Steps.{context_of}
 use Rattle.wasmparser_func_validator.proofs.body.Body.run_quickly.Given as goal
 

@@ -1,7 +1,7 @@
 use Rattle.std.proofs.Common.{◌≡◌, true, refl, sym, subst}
 use Rattle.wasm_bodies.specs.OperatorGates.{is_on}
 use Rattle.wasm_bodies_laws.specs.Machine.{stepped}
-use Rattle.wasm_core_base.specs.Features.{feature_set}
+use Rattle.wasm_core_types.specs.Features.{feature_set}
 use Rattle.wasmparser_operators.specs.OperatorValues.{block_type, operator}
 use Rattle.wasmparser_func_validator.specs.Steps.{Steps, context_of}
 use Rattle.wasmparser_func_validator.proofs.Stepping.{in_block, in_if, in_loop, in_plain, is_plain, not_allowed}

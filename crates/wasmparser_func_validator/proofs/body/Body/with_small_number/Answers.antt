@@ -1,6 +1,6 @@
 use Rattle.std.proofs.Common.{refl}
 use Rattle.wasm_bodies.specs.Operators.{Br, BrIf, LocalGet, LocalSet, LocalTee, GlobalGet, GlobalSet}
-use Rattle.wasm_core_base.specs.Features.{feature_set}
+use Rattle.wasm_core_types.specs.Features.{feature_set}
 use Rattle.wasmparser_func_validator.specs.Steps.{context_of}
 use Rattle.wasmparser_func_validator.proofs.PlainCodes.{br_coded, br_if_coded, local_get_coded, set_local_coded, tee_local_coded, global_get_coded, global_set_coded}
 use Rattle.wasmparser_func_validator.proofs.PlainLaws.{number_tried}

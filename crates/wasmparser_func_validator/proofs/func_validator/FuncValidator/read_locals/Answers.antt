@@ -1,5 +1,5 @@
 use Rattle.std.proofs.Common.{sym, ◌∙◌}
-use Rattle.wasm_core_base.specs.Features.{feature_set}
+use Rattle.wasm_core_types.specs.Features.{feature_set}
 use Rattle.wasmparser_func_validator.specs.FromBytes.{state_of}
 use Rattle.wasmparser_func_validator.proofs.ReadBodies.{reads_declared, refused_anywhere}
 use Rattle.wasmparser_func_validator.proofs.func_validator.FuncValidator.read_locals.Goals as goal

@@ -1,8 +1,8 @@
 use Rattle.std.proofs.Common.{ap, subst, ◌∙◌}
-use Rattle.wasm_core_base.specs.Features.{feature_set}
+use Rattle.wasm_core_types.specs.Features.{feature_set}
 use Rattle.wasm_core_read.specs.Input.{Input}
-use Rattle.wasmparser_body_reading.specs.BodyAnswers.{AnswersOutcome}
-use Rattle.wasmparser_body_reading.specs.BodyStates.{rest_outcome}
+use Rattle.wasmparser_bodies.specs.BodyAnswers.{AnswersOutcome}
+use Rattle.wasmparser_bodies.specs.BodyStates.{rest_outcome}
 use Rattle.wasmparser_func_validator.specs.FromBytes.{state_of}
 use Rattle.wasmparser_func_validator.proofs.ReadBodies.{answered, validated}
 use Rattle.wasmparser_func_validator.proofs.func_validator.FuncValidator.validate.Goals as goal

@@ -1,6 +1,6 @@
 use Rattle.std.proofs.Common.{◌≡◌, sym, subst, ◌∙◌, slice_get, refl, arith}
-use Rattle.wasmparser_chains.specs.Chains.{HasChain}
-use Rattle.wasmparser_interning.specs.TypeTables.{TypeTables, sub_types}
+use Rattle.wasmparser_type_relations.specs.Chains.{HasChain}
+use Rattle.wasmparser_type_list.specs.TypeTables.{TypeTables, sub_types}
 use Rattle.wasmparser_interning_tests.proofs.asked_list.AskedList.counted.Goals as goal
 
 pub id_is_subtype_counted-answer-requires : goal.id_is_subtype_counted-answer-requires

@@ -1,6 +1,6 @@
 use Rattle.std.proofs.Common.{◌<◌, ap, subst, length, slice_get, arith}
-use Rattle.wasmparser_chains.specs.Chains.{IsDepth}
-use Rattle.wasmparser_interning.specs.TypeTables.{TypeTables, sub_types}
+use Rattle.wasmparser_type_relations.specs.Chains.{IsDepth}
+use Rattle.wasmparser_type_list.specs.TypeTables.{TypeTables, sub_types}
 use Rattle.wasmparser_interning_tests.proofs.Depths.{known_has_chain}
 use Rattle.wasmparser_interning_tests.proofs.asked_list.AskedList.depth.Goals as goal
 

@@ -1,8 +1,8 @@
 use Rattle.std.proofs.Common.{◌≡◌, ◌∙◌, ap, refl, subst, sym}
 use Rattle.wasm_spec.specs.Constants.{ConstantExpression}
 use Rattle.wasm_validity.specs.Context.{named_by, named_in, with_functions}
-use Rattle.wasmparser_const_exprs.specs.ConstExprs.{expression_of}
-use Rattle.wasmparser_const_exprs.specs.ConstOperators.{const_operator}
+use Rattle.wasmparser_entries.specs.ConstExprs.{expression_of}
+use Rattle.wasmparser_entries.specs.ConstOperators.{const_operator}
 use Rattle.wasmparser_module_state.proofs.DeclaredLaws.{operator_read, other_names_none}
 use Rattle.wasmparser_module_state.specs.State.{members, room}
 use Rattle.wasmparser_module_state.proofs.function_set.FunctionSet.insert_all.Goals as goal

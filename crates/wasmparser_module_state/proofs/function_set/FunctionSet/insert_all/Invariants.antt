@@ -1,5 +1,5 @@
 use Rattle.std.proofs.Common.{length}
-use Rattle.wasmparser_const_exprs.specs.ConstExprs.{expression_of}
+use Rattle.wasmparser_entries.specs.ConstExprs.{expression_of}
 use Rattle.wasmparser_module_state.proofs.DeclaredLaws.{IsDeclaring}
 use Rattle.wasmparser_module_state.specs.State.{members, room}
 use Rattle.wasmparser_module_state.proofs.function_set.FunctionSet.insert_all.Given as goal

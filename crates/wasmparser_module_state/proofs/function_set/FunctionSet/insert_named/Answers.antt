@@ -1,7 +1,7 @@
 use Rattle.std.proofs.Common.{◌∙◌, ap, refl, sym}
 use Rattle.wasm_validity.specs.Context.{with_functions}
-use Rattle.wasmparser_const_exprs.specs.ConstExprs.{expression_of}
-use Rattle.wasmparser_const_exprs.specs.ConstOperators.{const_operator}
+use Rattle.wasmparser_entries.specs.ConstExprs.{expression_of}
+use Rattle.wasmparser_entries.specs.ConstOperators.{const_operator}
 use Rattle.wasmparser_module_state.proofs.DeclaredLaws.{named_alone, other_names_none}
 use Rattle.wasmparser_module_state.specs.State.{members}
 use Rattle.wasmparser_module_state.proofs.function_set.FunctionSet.insert_named.Goals as goal

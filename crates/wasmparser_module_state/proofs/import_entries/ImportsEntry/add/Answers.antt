@@ -1,5 +1,5 @@
 use Rattle.std.proofs.lemmas.Result.{err_from_is_err_and}
-use Rattle.wasmparser_imports.specs.ImportEntries.{import_entry}
+use Rattle.wasmparser_entries.specs.ImportEntries.{import_entry}
 use Rattle.wasmparser_module_state.proofs.ImportLaws.{accepted_entry, refused_entry}
 use Rattle.wasmparser_module_state.proofs.NamedImports.{left_named}
 use Rattle.wasmparser_module_state.specs.History.{held}

@@ -1,5 +1,5 @@
-use Rattle.wasmparser_const_exprs.specs.ConstExprs.{expression_of}
-use Rattle.wasmparser_items.specs.ItemTypes.{memory_type}
+use Rattle.wasmparser_entries.specs.ConstExprs.{expression_of}
+use Rattle.wasmparser_readers.specs.ItemTypes.{memory_type}
 use Rattle.wasmparser_module_state.proofs.SegmentLaws.{fits_memory}
 use Rattle.wasmparser_module_state.specs.State.{context, features_of}
 use Rattle.wasmparser_module_state.proofs.module_state.ModuleState.add_address.Goals as goal

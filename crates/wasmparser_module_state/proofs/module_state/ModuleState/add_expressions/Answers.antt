@@ -5,7 +5,7 @@ use Rattle.wasm_core_read.specs.ConstantReading.{expression_at}
 use Rattle.wasm_spec.specs.TypeReferences.{val_map}
 use Rattle.wasm_validity.specs.ConstantTyping.{IsConstantFor}
 use Rattle.wasm_validity.specs.Context.{Context, named_in}
-use Rattle.wasmparser_const_exprs.specs.ConstExprs.{expression_of}
+use Rattle.wasmparser_entries.specs.ConstExprs.{expression_of}
 use Rattle.wasmparser_constants.proofs.TakingLaws.{refuses_on}
 use Rattle.wasmparser_entries.specs.Lists.{expressions_of}
 use Rattle.wasmparser_module_types.specs.ModuleTypes.{KnownTypes}

@@ -1,5 +1,5 @@
 use Rattle.std.proofs.Common.{refl, rules, tests}
-use Rattle.wasmparser_const_exprs.specs.ConstExprs.{expression_of}
+use Rattle.wasmparser_entries.specs.ConstExprs.{expression_of}
 use Rattle.wasmparser_module_state.proofs.SegmentLaws.{fits_no_table, fits_table}
 use Rattle.wasmparser_module_state.specs.State.{context, features_of, table}
 use Rattle.wasmparser_module_state.proofs.module_state.ModuleState.add_index.Goals as goal

@@ -1,6 +1,6 @@
 use Rattle.std.proofs.Common.{rules}
 use Rattle.wasm_spec.specs.TypeReferences.{val_map}
-use Rattle.wasmparser_const_exprs.specs.ConstExprs.{expression_of}
+use Rattle.wasmparser_entries.specs.ConstExprs.{expression_of}
 use Rattle.wasmparser_module_state.proofs.NamedFunctions.{named_there}
 use Rattle.wasmparser_module_state.specs.State.{context, features_of}
 use Rattle.wasmparser_types.specs.Index.{number_of}

@@ -1,6 +1,6 @@
 use Rattle.std.proofs.Common.{[], ◌∷◌, refl, subst, ◌∙◌}
 use Rattle.std.proofs.lemmas.Result.{err_from_is_err_and}
-use Rattle.wasmparser_imports.specs.ImportItems.{import_item}
+use Rattle.wasmparser_entries.specs.ImportItems.{import_item}
 use Rattle.wasmparser_module_state.specs.Items.{AcceptsItems, NamesItems, named_measures}
 use Rattle.wasmparser_module_types.specs.ModuleTypes.{KnownTypes}
 use Rattle.wasmparser_module_state.specs.State.{item, unnamed}

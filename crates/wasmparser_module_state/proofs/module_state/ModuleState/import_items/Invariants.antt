@@ -1,8 +1,8 @@
 use Rattle.std.proofs.Common.{◌≡◌}
 use Rattle.wasm_core_read.specs.PartReading.{import_item_at}
-use Rattle.wasmparser_import_names.specs.ImportNames.{module_at}
-use Rattle.wasmparser_imports.specs.ImportGroups.{items_of}
-use Rattle.wasmparser_items.specs.ItemTypes.{packed_refs}
+use Rattle.wasmparser_names.specs.ImportNames.{module_at}
+use Rattle.wasmparser_entries.specs.ImportGroups.{items_of}
+use Rattle.wasmparser_readers.specs.ItemTypes.{packed_refs}
 use Rattle.wasmparser_module_state.proofs.GroupLaws.{Standing}
 use Rattle.wasmparser_module_state.proofs.NamedImports.{NamesStand}
 use Rattle.wasmparser_module_state.specs.State.{features_of, unnamed}

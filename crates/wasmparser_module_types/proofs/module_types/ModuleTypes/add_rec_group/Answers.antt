@@ -1,11 +1,11 @@
 use Rattle.std.proofs.Common.{◌+◌, ap, arith, length, subst}
 use Rattle.std.proofs.lemmas.List.{length-map}
 use Rattle.std.proofs.lemmas.Result.{err_from_is_err_and}
-use Rattle.wasm_core_base.specs.Features.{feature_set}
+use Rattle.wasm_core_types.specs.Features.{feature_set}
 use Rattle.wasmparser_module_types.proofs.AddedGroups.{adds_group}
 use Rattle.wasmparser_module_types.proofs.Refusals.{too_many}
 use Rattle.wasmparser_module_types.specs.ModuleTypes.{AddsGroup, RefusesGroup, known_types}
-use Rattle.wasmparser_rec_group_laws.specs.Contexts.{in_section}
+use Rattle.wasmparser_rec_groups.specs.Contexts.{in_section}
 use Rattle.wasmparser_types.specs.RecGroups.{rec_group}
 use Rattle.wasmparser_types.specs.SubTypes.{sub_type}
 use Rattle.wasmparser_module_types.proofs.module_types.ModuleTypes.add_rec_group.Goals as goal

@@ -1,5 +1,5 @@
 use Rattle.std.proofs.Common.{subst}
-use Rattle.wasm_core_base.specs.Features.{feature_set}
+use Rattle.wasm_core_types.specs.Features.{feature_set}
 use Rattle.wasmparser_module_types.proofs.KeptSubTypes.{are_known}
 use Rattle.wasmparser_module_types.specs.ModuleTypes.{AreKnownTypes}
 use Rattle.wasmparser_module_types.proofs.module_types.ModuleTypes.are_known.Goals as goal

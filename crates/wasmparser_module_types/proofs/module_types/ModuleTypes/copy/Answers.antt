@@ -1,4 +1,4 @@
-use Rattle.wasm_core_base.specs.Features.{feature_set}
+use Rattle.wasm_core_types.specs.Features.{feature_set}
 use Rattle.wasmparser_module_types.proofs.AddedGroups.{committed_knows}
 use Rattle.wasmparser_module_types.proofs.module_types.ModuleTypes.copy.Goals as goal
 

@@ -1,7 +1,7 @@
 use Rattle.std.proofs.Common.{ap, ◌∙◌, arith}
 use Rattle.std.proofs.lemmas.Result.{err_from_is_err_and}
-use Rattle.wasm_core_base.specs.Features.{feature_set}
-use Rattle.wasmparser_interning.specs.TypeTables.{TypeTables}
+use Rattle.wasm_core_types.specs.Features.{feature_set}
+use Rattle.wasmparser_type_list.specs.TypeTables.{TypeTables}
 use Rattle.wasmparser_module_types.proofs.AddedGroups.{committed_knows, without_module}
 use Rattle.wasmparser_module_types.specs.ModuleTypes.{known_types}
 use Rattle.wasmparser_module_types.proofs.module_types.ModuleTypes.end_module.Goals as goal

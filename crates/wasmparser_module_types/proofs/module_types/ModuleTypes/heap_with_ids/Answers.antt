@@ -1,5 +1,5 @@
 use Rattle.std.proofs.Common.{◌≡◌, ap, option_map, subst, ◌∙◌}
-use Rattle.wasm_core_base.specs.Features.{feature_set}
+use Rattle.wasm_core_types.specs.Features.{feature_set}
 use Rattle.wasmparser_module_types.proofs.ReplacedIndexes.{HeapAnswer, heap_answered}
 use Rattle.wasmparser_module_types.specs.ModuleTypes.{KnownTypes}
 use Rattle.wasmparser_module_types.specs.WithIds.{heap_by_ids}

@@ -1,16 +1,16 @@
 use Rattle.std.proofs.Common.{◌≡◌, IsTrue, slice_get, subst}
 use Rattle.std.proofs.lemmas.Bool.Decides.{same_from_decides}
-use Rattle.wasm_core_base.specs.Features.{feature_set}
+use Rattle.wasm_core_types.specs.Features.{feature_set}
 use Rattle.wasm_spec.specs.Subtyping.{ValBelow}
 use Rattle.wasm_spec.specs.Trees.{unrolled}
 use Rattle.wasm_spec.specs.TypeReferences.{val_map, val_refs}
-use Rattle.wasmparser_chains.specs.Chains.{by_id}
-use Rattle.wasmparser_interning.specs.TypeTables.{sub_types, type_by_id}
+use Rattle.wasmparser_type_relations.specs.Chains.{by_id}
+use Rattle.wasmparser_type_list.specs.TypeTables.{sub_types, type_by_id}
 use Rattle.wasmparser_module_types.proofs.Comparisons.{below, below_back}
 use Rattle.wasmparser_module_types.specs.ModuleTypes.{AreIds, CanCompare, KnownTypes, stands_for}
-use Rattle.wasmparser_subtype_decision.proofs.Deciding.{val_decided}
-use Rattle.wasmparser_subtype_decision.proofs.Ids.{ids_rank}
-use Rattle.wasmparser_subtype_decision.specs.Decision.{by_number, is_val_below}
+use Rattle.wasmparser_type_relations.proofs.Deciding.{val_decided}
+use Rattle.wasmparser_type_relations.proofs.Ids.{ids_rank}
+use Rattle.wasmparser_type_relations.specs.Decision.{by_number, is_val_below}
 use Rattle.wasmparser_types.specs.ValTypes.{val_type}
 use Rattle.wasmparser_module_types.proofs.module_types.ModuleTypes.is_subtype.Goals as goal
 

@@ -1,6 +1,6 @@
 use Rattle.std.proofs.Common.{ℕ, List, ◌≡◌, ◌∙◌, ◌<◌, length, subst, sym}
 use Rattle.std.specs.List.{flat_map, range_with_len}
-use Rattle.wasmparser_interning_laws.specs.IdTypes.{IsWholeGroup}
+use Rattle.wasmparser_type_list.specs.IdTypes.{IsWholeGroup}
 use Rattle.wasmparser_module_types.proofs.GroupIds.{are_parts, are_shown, is_whole}
 use Rattle.wasmparser_module_types.specs.ModuleTypes.{KnownTypes, ids_of_group, interned_types}
 use Rattle.wasmparser_module_types.proofs.module_types.ModuleTypes.rec_group_elements.Goals as goal

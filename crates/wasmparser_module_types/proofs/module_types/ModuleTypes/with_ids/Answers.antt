@@ -1,5 +1,5 @@
 use Rattle.std.proofs.Common.{◌≡◌, ap, option_map, subst, ◌∙◌}
-use Rattle.wasm_core_base.specs.Features.{feature_set}
+use Rattle.wasm_core_types.specs.Features.{feature_set}
 use Rattle.wasmparser_module_types.proofs.ReplacedIndexes.{ValAnswer, val_answered}
 use Rattle.wasmparser_module_types.specs.ModuleTypes.{KnownTypes}
 use Rattle.wasmparser_module_types.specs.WithIds.{val_by_ids}

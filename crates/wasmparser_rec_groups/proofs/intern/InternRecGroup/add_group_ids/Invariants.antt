@@ -1,5 +1,5 @@
 use Rattle.std.proofs.Common.{◌≡◌, ◌+◌, ◌++◌, ◌≤◌, length}
-use Rattle.wasmparser_interning.specs.TypeTables.{group_ids}
+use Rattle.wasmparser_type_list.specs.TypeTables.{group_ids}
 use Rattle.wasmparser_rec_groups.proofs.intern.InternRecGroup.add_group_ids.Given as goal
 
 abbrev pub invariant-loop-id : goal.invariant-loop-id

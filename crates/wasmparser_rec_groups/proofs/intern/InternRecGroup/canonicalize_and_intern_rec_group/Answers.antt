@@ -1,10 +1,10 @@
 use Rattle.std.proofs.Common.{sym, ap, ◌∙◌, ◌++◌, subst, length, refl, arith}
 use Rattle.std.proofs.lemmas.List.{length-map}
 use Rattle.std.proofs.lemmas.Result.{err_from_is_err_and}
-use Rattle.wasm_core_base.specs.Features.{feature_set}
+use Rattle.wasm_core_types.specs.Features.{feature_set}
 use Rattle.wasmparser_types.specs.RecGroups.{rec_group}
 use Rattle.wasmparser_types.specs.SubTypes.{sub_type}
-use Rattle.wasmparser_interning.specs.TypeTables.{group_ids}
+use Rattle.wasmparser_type_list.specs.TypeTables.{group_ids}
 use Rattle.wasmparser_rec_groups.specs.Interning.{AreKnown, out_of_memory}
 use Rattle.wasmparser_rec_groups.proofs.KnownIds.{group_count, known_after, known_after_refusal}
 use Rattle.wasmparser_rec_groups.proofs.intern.InternRecGroup.canonicalize_and_intern_rec_group.Goals as goal

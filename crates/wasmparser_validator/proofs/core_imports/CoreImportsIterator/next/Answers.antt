@@ -1,5 +1,5 @@
 use Rattle.std.proofs.Common.{◌≡◌, ◌∙◌, ap, option_map, refl, subst, sym}
-use Rattle.wasmparser_import_names.specs.ImportNames.{named_import}
+use Rattle.wasmparser_names.specs.ImportNames.{named_import}
 use Rattle.wasmparser_module_state.specs.Entities.{entity_type}
 use Rattle.wasmparser_validator.specs.ShownImports.{ImportsLeft, IsImport}
 use Rattle.wasmparser_validator.proofs.core_imports.CoreImportsIterator.next.Goals as goal

@@ -3,7 +3,7 @@ use Rattle.wasmparser_module_state.specs.History.{grows}
 use Rattle.wasmparser_module_state.specs.State.{context, features_of}
 use Rattle.wasmparser_module_state.specs.StateResources.{state_resources}
 use Rattle.wasmparser_module_state.specs.declared.module_state.ModuleState.{ModuleState}
-use Rattle.wasmparser_resources.specs.Resources.{Resources}
+use Rattle.wasmparser_bodies.specs.Resources.{Resources}
 use Rattle.wasmparser_validator.specs.Functions.{TellsModule}
 use Rattle.wasmparser_validator.specs.KnownSpaces.{KnownModule}
 use Rattle.wasmparser_validator.proofs.ResourceLaws.{Tells, shared_tells}

@@ -2,7 +2,7 @@ use Rattle.std.proofs.Common.{◌≡◌, IfSome, option_map, subst}
 use Rattle.wasm_spec.specs.Trees.{type_at}
 use Rattle.wasm_spec.specs.TypeReferences.{external_map}
 use Rattle.wasm_validity.specs.Context.{item_at}
-use Rattle.wasmparser_items.specs.Exports.{external_kind}
+use Rattle.wasmparser_readers.specs.Exports.{external_kind}
 use Rattle.wasmparser_module_state.specs.Entities.{entity_refs, entity_type}
 use Rattle.wasmparser_module_state.specs.State.{context}
 use Rattle.wasmparser_module_types.specs.ModuleTypes.{AreIds}

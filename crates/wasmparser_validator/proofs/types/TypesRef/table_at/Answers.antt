@@ -2,7 +2,7 @@ use Rattle.std.proofs.Common.{◌≡◌, true, subst, sym}
 use Rattle.wasm_spec.specs.Trees.{type_at}
 use Rattle.wasm_spec.specs.TypeReferences.{table_map}
 use Rattle.wasm_validity_laws.specs.NamedTypes.{Each, names_heap}
-use Rattle.wasmparser_items.specs.ItemTypes.{table_type}
+use Rattle.wasmparser_readers.specs.ItemTypes.{table_type}
 use Rattle.wasmparser_module_state.specs.State.{context, table}
 use Rattle.wasmparser_module_types.specs.ModuleTypes.{KnownTypes, stands_for}
 use Rattle.wasmparser_validator.proofs.SpaceLaws.{is_meant, no_one}

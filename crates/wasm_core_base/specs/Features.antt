@@ -1,7 +1,0 @@
--- The feature sets of the code as those of the specification.
-use Rattle.wasm_spec.specs.Features.{Features}
-use Rattle.wasm_core_base.specs.declared.features.WasmFeatures.{WasmFeatures}
-
--- the set that a value of the code is
-abbrev pub feature_set : WasmFeatures → Features
-feature_set features = features.0

@@ -1,2 +1,0 @@
-pub mod Features
-pub mod Limits

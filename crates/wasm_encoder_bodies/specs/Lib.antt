@@ -1,0 +1,4 @@
+pub mod CoreLocals
+pub mod Expressions
+pub mod Locals
+pub mod Sinks

@@ -1,3 +1,0 @@
-mod EncodingLists
-mod FunctionFronts
-mod VectorCode

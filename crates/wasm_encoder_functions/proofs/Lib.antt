@@ -1,5 +1,0 @@
-mod LocalLists
-mod TypeRuns
-mod LastRuns
-mod Taken
-mod ShorterRuns

@@ -1,5 +1,0 @@
-use Rattle.wasm_encoder_functions.proofs.ShorterRuns.{more_pass}
-use Rattle.wasm_encoder_functions.proofs.laws.more_types_pass.Goals as goal
-
-pub returns : goal.returns
-returns c = more_pass

@@ -1,5 +1,0 @@
-use Rattle.wasm_gen.proofs.AcceptedLaws.{memory_alone, resources_alone}
-use Rattle.wasm_gen.proofs.laws.generated_is_accepted.Goals as goal
-
-pub returns : goal.returns
-returns c = record { any = resources_alone; first = memory_alone }

@@ -1,5 +1,0 @@
-use Rattle.wasm_gen.proofs.ListsLaws.{all_shown}
-use Rattle.wasm_gen.proofs.laws.lists_are_shown.Goals as goal
-
-pub returns : goal.returns
-returns c = all_shown c.bare_modules.ensures.shown

@@ -1,5 +1,0 @@
-use Rattle.wasm_gen_laws.proofs.BareModules.{no_length, no_limit, spaces_are}
-use Rattle.wasm_gen_laws.proofs.laws.bare_modules.Goals as goal
-
-pub returns : goal.returns
-returns c = record { limits = no_limit c.within.ensures; lengths = no_length; shown = spaces_are }

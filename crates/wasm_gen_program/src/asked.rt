@@ -1,0 +1,104 @@
+//! What a command line asks for.
+
+ghost use Rattle.std.specs.Prelude.{◌≡◌, ◌≢◌, ◌⊎◌, IfOk, IfErr, Err, map, option_map};
+ghost use Rattle.std.specs.String.{string_bytes};
+ghost use Rattle.clap.specs.Words.{kind_of, subcommand_rows_of};
+ghost use Rattle.wasm_gen_program.specs.Asked.{AreRefused, AskFor, Asks, IsHelp, files_of, seed_of};
+
+use crate::command::matches_of;
+use clap::error::ErrorKind;
+use clap::{ArgMatches, Error};
+use std::alloc::{AllocError, Global};
+
+/// What the program is asked to do.
+#[derive(Debug, Drop)]
+pub enum Asked<'a> {
+    /// To make the module of the seed in the file of this name.
+    Generate(&'a str),
+    /// To validate the files of these names.
+    Check(Vec<&'a str>),
+    /// To show this text.
+    Help(String),
+}
+
+/// Why the words ask for nothing.
+#[derive(Debug, Drop)]
+pub enum WordsError {
+    /// They are wrong, as this text says.
+    Wrong(String),
+    /// Memory ran out.
+    Memory,
+}
+
+impl From<AllocError> for WordsError {
+    ghost use Rattle.wasm_gen_program.specs.declared.asked.WordsError.TheVariants.{Memory};
+
+    ghost from_gives = { λ _ e. e ≡ Memory };
+
+    fn from(_error: AllocError) -> WordsError {
+        WordsError::Memory
+    }
+}
+
+// The file that the seed is in, where a module is to be made.
+fn seed_name<'a>(matches: &ArgMatches<'a>) -> Option<&'a str>
+    ensures { option_map (λ name. name.now) result ≡ seed_of (subcommand_rows_of matches.now) }
+{
+    matches.subcommand_matches("generate")?.get_str("SEED")
+}
+
+// The files that are to be validated.
+fn file_names<'a>(alloc: Global, matches: &ArgMatches<'a>) -> Result<Vec<&'a str>, AllocError>
+    ensures { IfOk result (λ names. map (λ name. name.now) names.items ≡ files_of (subcommand_rows_of matches.now)) }
+{
+    let Some(found) = matches.subcommand_matches("check") else {
+        return Ok(Vec::new(alloc));
+    };
+    match found.get_strs("FILE") {
+        Some(names) => Vec::from_slice(alloc, names),
+        None => Ok(Vec::new(alloc)),
+    }
+}
+
+// What is asked for by words in which nothing is wrong.
+fn asked_by<'a>(alloc: Global, matches: &ArgMatches<'a>) -> Result<Asked<'a>, WordsError>
+    ensures asked { IfOk result (Asks (subcommand_rows_of matches.now)) }
+    ensures memory { IfErr result (λ e. e ≡ WordsError.Memory) }
+{
+    match seed_name(matches) {
+        Some(name) => Ok(Asked::Generate(name)),
+        None => Ok(Asked::Check(file_names(alloc, matches)?)),
+    }
+}
+
+// Help where that was asked for, and else what is wrong with the words, or that memory ran out.
+fn text_of<'a>(alloc: Global, error: &Error) -> Result<Asked<'a>, WordsError>
+    ensures help { IfOk result (λ asked. IsHelp asked × ((kind_of error.now ≡ ErrorKind.DisplayHelp) ⊎ (kind_of error.now ≡ ErrorKind.DisplayVersion))) }
+    ensures wrong { IfErr result (λ e. e ≢ WordsError.Memory
+        → (kind_of error.now ≢ ErrorKind.DisplayHelp) × (kind_of error.now ≢ ErrorKind.DisplayVersion)) }
+    ensures memory { kind_of error.now ≡ ErrorKind.OutOfMemory → result ≡ Err WordsError.Memory }
+{
+    if error.kind() == ErrorKind::OutOfMemory {
+        return Err(WordsError::Memory);
+    }
+    let text = format!(in alloc; "{error}")?;
+    if error.use_stderr() {
+        Err(WordsError::Wrong(text))
+    } else {
+        Ok(Asked::Help(text))
+    }
+}
+
+/// What the words of a command line ask for, the program's name being the first.
+///
+/// # Errors
+/// `Wrong` where something is wrong with the words, `Memory` where memory runs out. No clause sees the texts of `Wrong` and `Help`, nor that memory did run out.
+pub fn read_words<'a>(alloc: Global, words: &'a [String]) -> Result<Asked<'a>, WordsError>
+    ensures asked { IfOk result (AskFor (map string_bytes words.now)) }
+    ensures refused { IfErr result (AreRefused (map string_bytes words.now)) }
+{
+    match matches_of(alloc, words) {
+        Ok(matches) => asked_by(alloc, &matches),
+        Err(error) => text_of(alloc, &error),
+    }
+}

@@ -1,0 +1,90 @@
+//! The command line that the program takes.
+
+ghost use Rattle.std.specs.Prelude.{◌≡◌, IfOk, IsOkAnd, false, map, true};
+ghost use Rattle.std.specs.String.{string_bytes};
+ghost use Rattle.clap.specs.Words.{FailsBy, HasMatchesOf, app_of, fault_of, rule_of, with_subcommand};
+ghost use Rattle.wasm_gen_program.specs.CommandLine as line;
+
+use clap::{Arg, ArgAction, ArgMatches, Command, Error};
+use std::alloc::{AllocError, Global};
+
+// The files that `check` validates.
+fn files<'a>(alloc: Global) -> Arg<'a>
+    ensures rule { rule_of result ≡ line.files }
+    ensures own { result.global ≡ false }
+{
+    Arg::new(alloc, "FILE")
+        .help("Files with modules")
+        .required(true)
+        .num_args(1..)
+        .action(ArgAction::Append)
+}
+
+// The file that `generate` takes its seed from.
+fn seed<'a>(alloc: Global) -> Arg<'a>
+    ensures rule { rule_of result ≡ line.seed }
+    ensures own { result.global ≡ false }
+{
+    Arg::new(alloc, "SEED")
+        .help("A file with any bytes")
+        .required(true)
+}
+
+// The command that validates modules.
+fn check<'a>(alloc: Global) -> Result<Command<'a>, AllocError>
+    ensures { IfOk result (λ c. app_of c ≡ line.check) }
+{
+    Command::new(alloc, "check")
+        .about("Says of each file whether it holds a valid module")
+        .arg(files(alloc))
+}
+
+// The command that makes a module.
+fn generate<'a>(alloc: Global) -> Result<Command<'a>, AllocError>
+    ensures { IfOk result (λ c. app_of c ≡ line.generate) }
+{
+    Command::new(alloc, "generate")
+        .about("Generates the module of a seed and writes it to standard output")
+        .arg(seed(alloc))
+}
+
+// The program with one more command, where that could be made.
+fn add<'a>(
+    program: Command<'a>,
+    command: Result<Command<'a>, AllocError>,
+) -> Result<Command<'a>, AllocError>
+    ensures { IfOk result (λ c. IsOkAnd command.entry (λ added. (app_of added).top.is_plain ≡ true → app_of c ≡ with_subcommand (app_of program.entry) (app_of added).top)) }
+{
+    program.subcommand(command?)
+}
+
+// The program without its commands.
+fn program<'a>(alloc: Global) -> Result<Command<'a>, AllocError>
+    ensures { IfOk result (λ c. app_of c ≡ line.alone) }
+{
+    Command::new(alloc, "wasm_gen")
+        .about("Makes and validates WebAssembly modules")
+        .subcommand_required(true)
+        .arg_required_else_help(true)
+        .bin_name("wasm_gen")
+}
+
+// The whole command line.
+fn command<'a>(alloc: Global) -> Result<Command<'a>, AllocError>
+    ensures { IfOk result (λ c. app_of c ≡ line.program) }
+{
+    let with_generate = add(program(alloc)?, generate(alloc))?;
+    add(with_generate, check(alloc))
+}
+
+/// What clap finds in the words, the program's name being the first.
+///
+/// # Errors
+/// Where something is wrong with the words, where they ask for help, and where memory runs out.
+pub fn matches_of<'a>(alloc: Global, words: &'a [String]) -> Result<ArgMatches<'a>, Error>
+    ensures found { IfOk result (λ m. HasMatchesOf line.program (map string_bytes words.now) m) }
+    ensures refused { FailsBy (fault_of line.program (map string_bytes words.now)) result }
+{
+    let program = command(alloc)?;
+    program.try_get_matches_from(words)
+}

@@ -1,0 +1,14 @@
+mod AcceptedLaws
+mod AskedLaws
+mod BareModules
+mod BodyEncodings
+mod Forms
+mod GenerateLaws
+mod GeneratedLaws
+mod ListsLaws
+mod Numbers
+mod RunEncodings
+mod SmallModules
+mod SmallTypes
+mod TypeLengths
+mod Values

@@ -1,0 +1,6 @@
+pub mod Asked
+pub mod Generate
+pub mod History
+pub mod Lists
+pub mod Session
+pub mod Written

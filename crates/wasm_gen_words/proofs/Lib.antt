@@ -1,4 +1,0 @@
-pub mod Examples
-pub mod Faults
-pub mod Found
-pub mod Plain

@@ -1,4 +1,0 @@
-pub mod ExportLaws
-pub mod FittingLaws
-pub mod GrowLaws
-pub mod TypeLaws

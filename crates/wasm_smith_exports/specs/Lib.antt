@@ -1,4 +1,0 @@
-pub mod Exports
-pub mod Fitting
-pub mod Sizes
-pub mod Wanted

@@ -1,0 +1,17 @@
+use Rattle.std.proofs.Common.{◌≡◌, map, ◌≤◌, length}
+use Rattle.wasm_smith_definitions.specs.Items.{import_entry}
+use Rattle.wasm_smith_externs.specs.Added.{AreMadeSoFar, IsImporterFor}
+use Rattle.wasm_smith_externs.proofs.ImportLaws.{HasBegun}
+use Rattle.wasm_smith_externs.proofs.imports.imports.Given as goal
+
+abbrev pub invariant-grow : goal.invariant-grow
+invariant-grow l = record {
+  importer : IsImporterFor l.spaces.types l.importer;
+  config : l.importer.config ≡ l.config;
+  made : AreMadeSoFar l.config l.fn.duplicates l.fn.spaces l.spaces l.progress (map import_entry l.entries.items);
+  taken : length l.unstructured ≤ length l.fn.unstructured;
+  begun : HasBegun l.config l.fn.spaces l.fn.unstructured l.progress l.spaces l.unstructured (map import_entry l.entries.items);
+}
+
+abbrev pub decreases-grow : goal.decreases-grow
+decreases-grow l = l.progress.left

@@ -1,0 +1,9 @@
+pub mod Added
+pub mod Candidates
+pub mod Exports
+pub mod Fitting
+pub mod Imports
+pub mod Named
+pub mod Names
+pub mod Sizes
+pub mod Wanted

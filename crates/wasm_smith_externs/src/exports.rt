@@ -1,0 +1,83 @@
+//! The exports of a module.
+
+ghost use Rattle.std.specs.Prelude.{◌≡◌, ◌⊎◌, ◌-◌, ◌<◌, ◌≤◌, ◌^◌, [], true, IfOk, IfErr, length};
+ghost use Rattle.wasm_encoder_sections.specs.CoreItems.{export_kind};
+ghost use Rattle.wasm_smith_definitions.specs.Items.{export};
+ghost use Rattle.wasm_smith_definitions.specs.Kinds.{of_export};
+ghost use Rattle.wasm_smith_definitions.specs.Steps.{IsGrown};
+ghost use Rattle.wasm_smith_validity.specs.Spaces.{functions_of};
+ghost use Rattle.wasm_smith_externs.specs.Exports.{AreCandidates, HasShortName, IsAddedName, IsTaken, any_fits, wanted_exports};
+ghost use Rattle.wasm_smith_externs.specs.Sizes.{exports_size};
+ghost use Rattle.wasm_smith_externs.specs.Wanted.{AreTooFew};
+
+use crate::candidates::Candidates;
+use std::alloc::{AllocError, Global};
+use wasm_smith_config::config::Config;
+use wasm_smith_config::error::Error;
+use wasm_smith_definitions::growing::grows_if;
+use wasm_smith_definitions::index_spaces::IndexSpaces;
+use wasm_smith_definitions::items::Export;
+use wasm_smith_unstructured::names::UniqueNames;
+use wasm_smith_unstructured::text::unique_string;
+use wasm_smith_unstructured::unstructured::Unstructured;
+
+// The most bytes of a drawn name, a number at its end aside.
+const MAX_NAME: usize = 1000;
+
+// Draws an export of one of the candidates, with a name that is new.
+fn draw_export(
+    alloc: Global,
+    unstructured: &mut Unstructured<'_>,
+    spaces: &IndexSpaces<'_>,
+    candidates: &mut Candidates,
+    names: &mut UniqueNames,
+) -> Result<Export, AllocError>
+    requires candidates { AreCandidates spaces.now.types (functions_of spaces.now) spaces.now.tags candidates.old }
+    requires some { any_fits spaces.now candidates.old.left ≡ true }
+    ensures item { IfOk result (λ drawn. IsTaken spaces.now candidates.old candidates.new (export drawn).kind (export drawn).index) }
+    ensures name { IfOk result (λ drawn. IsAddedName names.old names.new (export drawn).name) }
+    ensures taken { length unstructured.new ≤ length unstructured.old }
+{
+    let (kind, index) = candidates.draw(unstructured, spaces);
+    let name = unique_string(alloc, unstructured, MAX_NAME, names)?;
+    Ok(Export { name, kind, index })
+}
+
+/// Draws exports of items whose types fit into what is left: `max_type_size` bounds the sizes of the types of all imports and exports together, and
+/// `imports_size` is that of the imports.
+///
+/// # Errors
+/// `IncorrectFormat` where there are fewer exports than the minimum and no item fits any more, and `Memory`. Some of the source's bytes may be taken by then.
+pub fn exports(
+    alloc: Global,
+    unstructured: &mut Unstructured<'_>,
+    config: &Config,
+    imports_size: usize,
+    spaces: &mut IndexSpaces<'_>,
+) -> Result<(), Error>
+    requires first { spaces.old.exports ≡ [] }
+    requires few_functions { length (functions_of spaces.old) < 2 ^ 32 }
+    requires few_tags { length spaces.old.tags < 2 ^ 32 }
+    ensures grown { IfOk result (λ _. IsGrown config.now (wanted_exports config.now imports_size) of_export (λ export. HasShortName export.name) spaces.old unstructured.old spaces.new unstructured.new spaces.new.exports) }
+    ensures size { IfOk result (λ _. exports_size spaces.new ≤ config.now.max_type_size - imports_size) }
+    ensures taken { length unstructured.new ≤ length unstructured.old }
+    ensures refused { IfErr result (λ e. (e ≡ Error.Memory) ⊎ ((e ≡ Error.IncorrectFormat) × AreTooFew (wanted_exports config.now imports_size) spaces.new)) }
+{
+    let left = (config.max_type_size as usize).saturating_sub(imports_size);
+    let mut candidates = Candidates::new(alloc, spaces, left)?;
+    let mut names = UniqueNames::new(alloc);
+    'grow: while grows_if(
+        unstructured,
+        candidates.any_fits(spaces),
+        spaces.exports().len(),
+        config.min_exports as usize,
+        config.max_exports as usize,
+    ) {
+        let export = draw_export(alloc, unstructured, spaces, &mut candidates, &mut names)?;
+        spaces.push_export(export)?;
+    }
+    if spaces.exports().len() < config.min_exports as usize {
+        return Err(Error::IncorrectFormat);
+    }
+    Ok(())
+}

@@ -1,0 +1,90 @@
+//! The step of imports.
+
+ghost use Rattle.std.specs.Prelude.{◌≡◌, ◌≤◌, ◌<◌, ◌^◌, ◌⊎◌, IfOk, IfErr, IsTrue, false, true, length, map};
+ghost use Rattle.wasm_smith_definitions.specs.Offered.{HasByteLimits, HasFewTables};
+ghost use Rattle.wasm_smith_externs.specs.Added.{IsImporterFor};
+ghost use Rattle.wasm_smith_externs.specs.Candidates.{can_import_some, type_sizes};
+ghost use Rattle.wasm_smith_externs.specs.Imports.{AreGrownImports, LackImports, asked_imports};
+ghost use Rattle.wasm_smith_externs.specs.Named.{all_named, types_of};
+ghost use Rattle.wasm_smith_definitions.specs.Items.{import_entry};
+ghost use Rattle.wasm_smith_unstructured.specs.Draws.{IsDrawn};
+
+use crate::entries::{entry, push_some};
+use crate::importer::Importer;
+use crate::names::DuplicateImportsBehavior;
+use crate::progress::Progress;
+use std::alloc::Global;
+use wasm_smith_config::config::Config;
+use wasm_smith_config::error::Error;
+use wasm_smith_definitions::imports::ImportEntry;
+use wasm_smith_definitions::index_spaces::IndexSpaces;
+use wasm_smith_unstructured::unstructured::Unstructured;
+
+/// The imports of a module.
+#[derive(Debug, Drop)]
+pub struct MadeImports {
+    /// Their entries.
+    pub entries: Vec<ImportEntry>,
+    /// The size of all their types together.
+    pub type_size: u32,
+}
+
+// Returns true if another entry is drawn: where an item of some kind can be imported, as long as imports are owed, and then as long as there
+// is room for one and the next bool is true.
+#[tactic(auto, unfolding(wasm_smith_types::specs::Growing::grows_at, wasm_smith_types::specs::Growing::grows_from))]
+fn has_another(
+    unstructured: &mut Unstructured<'_>,
+    importer: &Importer<'_>,
+    spaces: &IndexSpaces<'_>,
+    progress: &Progress,
+) -> bool
+    requires { IsImporterFor spaces.now.types importer.now }
+    ensures left { IsTrue result → 0 < progress.now.left }
+    ensures can { IsTrue result → can_import_some importer.now.config spaces.now ≡ true }
+    ensures ended { result ≡ false → progress.now.count < importer.now.config.min_imports → (progress.now.left ≡ 0) ⊎ (can_import_some importer.now.config spaces.now ≡ false) }
+    ensures first { progress.now.count ≡ 0 → progress.now.left ≡ importer.now.config.max_imports → IsDrawn (λ b. b) result unstructured.new (asked_imports importer.now.config spaces.now unstructured.old) }
+    ensures taken { length unstructured.new ≤ length unstructured.old }
+{
+    if progress.left() == 0 {
+        return false;
+    }
+    if !importer.can_import_some(spaces) {
+        return false;
+    }
+    progress.count() < importer.config().min_imports || unstructured.bool()
+}
+
+/// Draws the imports of a module, and adds their items to the index spaces.
+///
+/// # Errors
+/// [`IncorrectFormat`](Error::IncorrectFormat) where imports are owed that can't be made, and else [`Memory`](Error::Memory). Some of the
+/// source's bytes may be taken by then.
+pub fn imports<'a>(
+    alloc: Global,
+    unstructured: &mut Unstructured<'_>,
+    config: &Config,
+    duplicates: DuplicateImportsBehavior,
+    spaces: &mut IndexSpaces<'a>,
+) -> Result<MadeImports, Error>
+    requires few { length spaces.old.types ≤ 2 ^ 31 }
+    requires ordered { config.now.min_imports ≤ config.now.max_imports }
+    requires limits { HasByteLimits config.now }
+    requires tables { HasFewTables config.now }
+    ensures grown { IfOk result (λ v. AreGrownImports config.now duplicates spaces.old unstructured.old spaces.new unstructured.new (map import_entry v.entries.items)) }
+    ensures size { IfOk result (λ v. v.type_size ≡ type_sizes spaces.old.types (types_of (all_named (map import_entry v.entries.items)))) }
+    ensures taken { length unstructured.new ≤ length unstructured.old }
+    ensures refused { IfErr result (λ e. (e ≡ Error.Memory) ⊎ ((e ≡ Error.IncorrectFormat) × LackImports config.now spaces.old spaces.new)) }
+{
+    let importer = Importer::new(alloc, config, spaces.types())?;
+    let mut progress = Progress::new(alloc, config, duplicates);
+    let mut entries = Vec::new(alloc);
+    'grow: while has_another(unstructured, &importer, spaces, &progress) {
+        let next = entry(alloc, unstructured, &importer, spaces, &mut progress)?;
+        push_some(&mut entries, next)?;
+    }
+    if progress.count() < config.min_imports {
+        return Err(Error::IncorrectFormat);
+    }
+    let type_size = config.max_type_size - progress.size_left();
+    Ok(MadeImports { entries, type_size })
+}

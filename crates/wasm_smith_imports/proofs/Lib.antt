@@ -1,4 +1,0 @@
-pub mod AddedLaws
-pub mod CandidateLaws
-pub mod ImportLaws
-pub mod NamedLaws

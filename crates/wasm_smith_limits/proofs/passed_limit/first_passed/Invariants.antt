@@ -1,8 +1,0 @@
-use Rattle.wasm_smith_limits.proofs.PassedLaws.{IsSoFar}
-use Rattle.wasm_smith_limits.proofs.passed_limit.first_passed.Given as goal
-use Rattle.wasm_smith_limits.specs.Measured.{measured}
-
-abbrev pub invariant-loop-measure : goal.invariant-loop-measure
-invariant-loop-measure l = record {
-  so_far : IsSoFar measured l.measures l.measure-index;
-}

@@ -1,0 +1,103 @@
+//! The test of all limits that a made module can pass.
+
+ghost use Rattle.std.specs.Prelude.{◌≡◌, ℕ, List, IfOk, IfSome, IfNone, MatchOption, length, map, true};
+ghost use Rattle.wasm_core_types.specs.Limits.{limit};
+ghost use Rattle.wasm_smith_definitions.specs.Items.{element_items, element_segment};
+ghost use Rattle.wasm_smith_module.specs.Measured.{AreShort, HasNoOwn, HasShortNames, measured};
+ghost use Rattle.wasm_smith_module.specs.Measures.{counts_of, imported_items, numbers_of, segment_measures};
+ghost use Rattle.wasm_smith_sections.specs.ModuleItems.{made_of};
+ghost use Rattle.wasm_smith_types.specs.Drawing.{total};
+ghost use Rattle.wasm_smith_types.specs.ValidGroups.{types_of};
+ghost use Rattle.wasm_smith_validity.specs.Spaces.{spaces_of_types, with_items};
+ghost use Rattle.wasm_validity.specs.Rules.{Passes, are_within, count_of};
+
+use crate::counts::{count_of, exports_size};
+use crate::imported::imported_spaces;
+use crate::sizes::imports_size;
+use std::alloc::{AllocError, Global};
+use wasm_core_types::limits::Limit;
+use wasm_encoder_sections::entity_type::ExportKind;
+use wasm_smith_definitions::index_spaces::IndexSpaces;
+use wasm_smith_definitions::segments::{ElementItems, ElementSegment};
+use wasm_smith_sections::module_items::ModuleItems;
+
+// Returns the first limit that its number passes.
+fn first_passed(measures: &[(Limit, u64)]) -> Option<Limit>
+    ensures passed { IfSome result (λ l. Passes (limit l) (map measured measures.now)) }
+    ensures within { IfNone result (are_within (map measured measures.now) ≡ true) }
+{
+    for measure in measures {
+        if measure.1 > measure.0.max() {
+            return Some(measure.0);
+        }
+    }
+    None
+}
+
+// Returns a limit that a count of the module, or the size of the types of its imports and exports, passes. These are the spaces of
+// what it imports.
+fn passed_count(spaces: &IndexSpaces<'_>, items: &ModuleItems<'_>) -> Option<Limit>
+    requires whole { total items.now.sizes.now ≡ length items.now.types.now }
+    requires exact { spaces.now ≡ with_items (spaces_of_types (types_of (made_of items.now).groups)) (imported_items (made_of items.now)) }
+    requires alone { HasNoOwn spaces.now }
+    ensures { MatchOption result (are_within (counts_of (made_of items.now)) ≡ true) (λ l. Passes (limit l) (counts_of (made_of items.now))) }
+{
+    let imported = imports_size(items.types, items.imports);
+    let exported = exports_size(spaces, items);
+    let size = imported.saturating_add(exported);
+    first_passed(&[
+        (Limit::Types, items.types.len() as u64),
+        (Limit::Groups, items.sizes.len() as u64),
+        (Limit::Imports, items.imports.len() as u64),
+        (Limit::Functions, count_of(spaces, items, ExportKind::Func)),
+        (Limit::Tables, count_of(spaces, items, ExportKind::Table)),
+        (Limit::Memories, count_of(spaces, items, ExportKind::Memory)),
+        (Limit::Tags, count_of(spaces, items, ExportKind::Tag)),
+        (Limit::Globals, count_of(spaces, items, ExportKind::Global)),
+        (Limit::Exports, items.exports.len() as u64),
+        (Limit::ElementSegments, items.elems.len() as u64),
+        (Limit::DataSegments, items.data_segments.len() as u64),
+        (Limit::TypeSize, size.saturating_add(1)),
+    ])
+}
+
+// Returns the number of items of a segment.
+fn item_count(segment: &ElementSegment) -> usize
+    ensures { result ≡ count_of (element_items segment.now.items) }
+{
+    match &segment.items {
+        ElementItems::Functions(functions) => functions.len(),
+        ElementItems::Expressions(_, expressions) => expressions.len(),
+    }
+}
+
+// Returns a limit that the number of items of a segment passes.
+fn passed_segment(segments: &[ElementSegment]) -> Option<Limit>
+    ensures passed { IfSome result (λ l. Passes (limit l) (segment_measures (map element_segment segments.now))) }
+    ensures within { IfNone result (are_within (segment_measures (map element_segment segments.now)) ≡ true) }
+{
+    for segment in segments {
+        if item_count(segment) as u64 > Limit::SegmentEntries.max() {
+            return Some(Limit::SegmentEntries);
+        }
+    }
+    None
+}
+
+/// Returns a limit that a module of these items passes, if it passes one. Names and bodies aren't looked at: those that are drawn
+/// are far shorter than they may be.
+///
+/// # Errors
+/// Where memory runs out.
+pub fn passed_limit(alloc: Global, items: &ModuleItems<'_>) -> Result<Option<Limit>, AllocError>
+    requires whole { total items.now.sizes.now ≡ length items.now.types.now }
+    ensures passed { IfOk result (λ found. IfSome found (λ l. (bodies : List (List ℕ)) → Passes (limit l) (numbers_of bodies (made_of items.now)))) }
+    ensures within { IfOk result (λ found. IfNone found ((bodies : List (List ℕ)) → HasShortNames (made_of items.now) → AreShort bodies
+        → are_within (numbers_of bodies (made_of items.now)) ≡ true)) }
+{
+    let spaces = imported_spaces(alloc, items.types, items.imports)?;
+    if let Some(limit) = passed_count(&spaces, items) {
+        return Ok(Some(limit));
+    }
+    Ok(passed_segment(items.elems))
+}

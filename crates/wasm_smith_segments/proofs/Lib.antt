@@ -1,3 +1,0 @@
-pub mod DataLaws
-pub mod DrawLaws
-pub mod ElementLaws

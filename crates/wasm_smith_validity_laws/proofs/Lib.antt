@@ -1,5 +1,0 @@
-mod FunctionTypes
-mod LocalRuns
-mod SectionItems
-mod TypedBodies
-pub mod ValidModules

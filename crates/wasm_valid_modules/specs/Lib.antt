@@ -1,2 +1,0 @@
-pub mod ModuleBodies
-pub mod Validity

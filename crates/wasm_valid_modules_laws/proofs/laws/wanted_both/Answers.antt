@@ -1,5 +1,0 @@
-use Rattle.wasm_valid_modules_laws.proofs.WantedBoth.{both_functions, both_wanted}
-use Rattle.wasm_valid_modules_laws.proofs.laws.wanted_both.Goals as goal
-
-pub returns : goal.returns
-returns c start = record { items = both_wanted; functions = both_functions }

@@ -1,4 +1,0 @@
-pub mod ShapeCodes
-pub mod TreeCodes
-pub mod WantedTypes
-pub mod Written

@@ -1,0 +1,18 @@
+use Rattle.std.proofs.Common.{◌≡◌, length}
+use Rattle.wasm_core_read.specs.Input.{GoesOn}
+use Rattle.wasmparser_bodies.specs.BodyStates.{context_in, with_machine_in}
+use Rattle.wasmparser_bodies.specs.CodeReading.{code_outcome}
+use Rattle.wasmparser_bodies.proofs.read_body.read_code.Given as goal
+
+-- what is judged of the operators that are left is what all are judged as
+abbrev pub invariant-operators : goal.invariant-operators
+invariant-operators g l = record {
+  so_far : code_outcome (context_in (g.B.JudgeBody.state l.fn.body)) (g.B.JudgeBody.state l.body).machine l.reader.input.rest
+      ≡ code_outcome (context_in (g.B.JudgeBody.state l.fn.body)) (g.B.JudgeBody.state l.fn.body).machine l.fn.reader.input.rest;
+  same : g.B.JudgeBody.state l.body ≡ with_machine_in (g.B.JudgeBody.state l.body).machine (g.B.JudgeBody.state l.fn.body);
+  goes_on : GoesOn l.fn.reader.input l.reader.input;
+  kept : g.B.JudgeBody.kept l.body ≡ g.B.JudgeBody.kept l.fn.body;
+}
+
+abbrev pub decreases-operators : goal.decreases-operators
+decreases-operators g l = length l.reader.input.rest

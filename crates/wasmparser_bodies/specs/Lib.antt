@@ -1,0 +1,10 @@
+pub mod BodyAnswers
+pub mod BodyStates
+pub mod CodeReading
+pub mod LocalRuns
+pub mod LocalsAnswers
+pub mod LocalsReading
+pub mod Resources
+pub mod Runs
+pub mod StackChanges
+pub mod StackViews

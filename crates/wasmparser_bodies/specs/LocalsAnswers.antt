@@ -1,0 +1,65 @@
+-- What is answered where the locals of a body are read.
+use Rattle.std.specs.Prelude.{◌≡◌, ◌⊎◌, ◌++◌, ◌+◌, ⊤, ℕ, true, List, length, replicate, Option, Some, None, is_some, Result, Ok, Err}
+use Rattle.wasm_bodies.specs.Bodies.{declared_local}
+use Rattle.wasm_bodies.specs.BodyContext.{Local}
+use Rattle.wasm_core_types.specs.declared.limits.Limit.TheVariants as core
+use Rattle.wasm_core_read.specs.Input.{Input, GoesOn}
+use Rattle.wasm_core_read.specs.TypeReading.{val_type_at}
+use Rattle.wasm_spec.specs.Limits as limits
+use Rattle.wasm_spec.specs.TypeReferences.{val_refs}
+use Rattle.wasm_spec.specs.Types.{ValType}
+use Rattle.wasmparser_error.specs.declared.error.Error.{Error}
+use Rattle.wasmparser_error.specs.declared.error.ErrorKind.{ErrorKind}
+use Rattle.wasmparser_error.specs.declared.error.ErrorKind.TheVariants as kinds
+use Rattle.wasmparser_types.specs.Index.{Index}
+use Rattle.wasmparser_types.specs.declared.val_type.ValType as code
+use Rattle.wasmparser_readers.specs.Answers.{HasLargeIndex}
+use Rattle.wasmparser_operators.specs.OperatorValues.{IsOfModule, module_type}
+use Rattle.wasmparser_bodies.specs.BodyAnswers.{IsPlacedIn}
+use Rattle.wasmparser_bodies.specs.BodyStates.{BodyState, with_locals_in}
+use Rattle.wasmparser_bodies.specs.LocalsReading.{LocalsOutcome, Locals, TooMany, NoLocals, run_at, with_run, locals_outcome}
+
+-- ---- one run
+
+-- what is wrong with a run: its type stands for nothing, there are too many locals, or memory ran out
+abbrev pub IsRefusedRun : ErrorKind → ℕ → ℕ → ℕ → Option (ValType Index) → Type 0
+IsRefusedRun kinds.Body at offset total type = (type ≡ None) × (at ≡ offset)
+IsRefusedRun (kinds.Limit core.Locals) at offset total type = (is_some type ≡ true) × limits.IsPassedBy limits.Locals total × (at ≡ offset)
+IsRefusedRun kinds.Memory at offset total type = at ≡ 0
+IsRefusedRun _ at offset total type = ⊥
+
+-- so many locals more of what a type stands for, within the limit
+abbrev pub DefinesRun : ℕ → ℕ → Option (ValType Index) → BodyState → BodyState → Result (Unit {0}) Error → Type 0
+DefinesRun offset count type old new (Ok x) =
+    ((t : ValType Index) × (type ≡ Some t) × (new ≡ with_locals_in (old.locals ++ replicate count (declared_local t)) old)) × ¬ (limits.IsPassedBy limits.Locals (length old.locals + count))
+DefinesRun offset count type old new (Err e) = IsRefusedRun e.kind e.offset offset (length old.locals + count) type
+
+-- what reads as the type of a run, if one does with an index that can be packed
+abbrev pub ReadsLocalType : Input → Input → Option code.ValType → Type 0
+ReadsLocalType old new (Some type) = (val_type_at old.rest ≡ Some (module_type type, new.rest)) × IsOfModule type × GoesOn old new
+ReadsLocalType old new None = (val_type_at old.rest ≡ None) ⊎ HasLargeIndex val_refs (val_type_at old.rest)
+
+-- ---- what is judged
+
+-- what a refusal names
+abbrev pub NamesLocalsFault : ErrorKind → LocalsOutcome Index → Type 0
+NamesLocalsFault kinds.Body outcome = outcome ≡ NoLocals
+NamesLocalsFault (kinds.Limit core.Locals) outcome = outcome ≡ TooMany
+NamesLocalsFault kinds.Memory outcome = ⊤
+NamesLocalsFault _ outcome = ⊥
+
+abbrev pub Others : Type 0
+Others = List (Local Index) → List ℕ → LocalsOutcome Index
+
+abbrev pub run_outcome : BodyState → List ℕ → Others → LocalsOutcome Index
+run_outcome state bytes others = with_run state.features state.items state.locals (run_at bytes) others
+
+-- What a call returned that reads a run: whatever is judged of the rest, it is judged with the run as without it, or the run is refused.
+abbrev pub ReadsRun : BodyState → BodyState → Input → Input → Result (Unit {0}) Error → Type 0
+ReadsRun old new from to (Ok x) = ((others : Others) → run_outcome old from.rest others ≡ others new.locals to.rest) × (new ≡ with_locals_in new.locals old) × GoesOn from to
+ReadsRun old new from to (Err e) = ((others : Others) → NamesLocalsFault e.kind (run_outcome old from.rest others)) × IsPlacedIn e.kind from e.offset
+
+-- What a call returned that reads all runs.
+abbrev pub ReadsLocals : BodyState → BodyState → Input → Input → Result (Unit {0}) Error → Type 0
+ReadsLocals old new from to (Ok x) = (locals_outcome old.features old.items old.locals from.rest ≡ Locals new.locals to.rest) × (new ≡ with_locals_in new.locals old) × GoesOn from to
+ReadsLocals old new from to (Err e) = NamesLocalsFault e.kind (locals_outcome old.features old.items old.locals from.rest) × IsPlacedIn e.kind from e.offset

@@ -1,0 +1,66 @@
+//! What judges a body, as a reader of bodies sees it.
+
+ghost use Rattle.std.specs.Prelude.{◌≡◌, ◌≢◌, ◌↔◌, [], IsTrue, true};
+ghost use Rattle.wasm_bodies.specs.BodyContext.{written};
+ghost use Rattle.wasmparser_bodies.specs.BodyStates.{BodyState, JudgesOperator};
+ghost use Rattle.wasmparser_bodies.specs.LocalsAnswers.{DefinesRun};
+ghost use Rattle.wasmparser_bodies.specs.Runs.{RunsOn};
+ghost use Rattle.wasmparser_error.specs.declared.error.ErrorKind.TheVariants as kinds;
+ghost use Rattle.wasmparser_operators.specs.OperatorValues.{IsOfModule, IsWhole, module_type, operator};
+
+use wasmparser_error::error::{Error, ErrorKind};
+use wasmparser_operators::operator::Operator;
+use wasmparser_types::val_type::ValType;
+
+/// Judges a body: first its locals, run by run, and then its operators. After a refusal it is done with.
+pub trait JudgeBody {
+    // What the body is judged in, and what was judged of it.
+    ghost state: { Self → BodyState };
+
+    // What stays the same, whatever is answered.
+    ghost Kept: { Type 0 };
+
+    ghost kept: { Self → Kept };
+
+    /// Adds so many locals of a type, whose type index, if it has one, is one of the module.
+    ///
+    /// # Errors
+    /// `Body` at the offset, where the type is not allowed or there is no such type; `Limit` at the offset, where there would be too
+    /// many locals; or `Memory`.
+    fn define_locals(&mut self, offset: u64, count: u32, ty: ValType) -> Result<(), Error>
+        requires of_module { IsOfModule ty }
+        requires ready { (state self.old).is_ready ≡ true }
+        ensures defined { DefinesRun offset count (written (state self.old).features (state self.old).items (module_type ty)) (state self.old) (state self.new) result }
+        ensures kept { kept self.new ≡ kept self.old };
+
+    /// Judges the next operator, which is as a reader gives it.
+    ///
+    /// # Errors
+    /// `Body` at the offset, where it may not stand there; or `Memory`.
+    fn op(&mut self, offset: u64, it: &Operator<'_>) -> Result<(), Error>
+        requires whole { IsWhole it.now }
+        requires ready { (state self.old).is_ready ≡ true }
+        ensures judged { JudgesOperator offset (operator it.now) (state self.old) (state self.new) result }
+        ensures kept { kept self.new ≡ kept self.old };
+
+    /// Judges operators at the front of the bytes, as many as it likes, up to the body's last one, and gives the bytes that are left. What it would
+    /// refuse it leaves.
+    fn run<'a>(&mut self, code: &'a [u8]) -> &'a [u8]
+        requires ready { (state self.old).is_ready ≡ true }
+        requires open { (state self.old).machine.frames ≢ [] }
+        ensures runs { RunsOn (state self.old) (state self.new) code.now result.now }
+        ensures kept { kept self.new ≡ kept self.old };
+
+    /// Whether all blocks have ended, the body too.
+    fn is_closed(&self) -> bool
+        ensures { IsTrue result ↔ ((state self.now).machine.frames ≡ []) };
+}
+
+pub(crate) fn broken(offset: u64) -> Error
+    ensures { result ≡ record { offset = offset; kind = kinds.Body } }
+{
+    Error {
+        offset,
+        kind: ErrorKind::Body,
+    }
+}

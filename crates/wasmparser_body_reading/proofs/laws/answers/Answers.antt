@@ -1,5 +1,0 @@
-use Rattle.wasmparser_body_reading.proofs.BodyLaws.{validated}
-use Rattle.wasmparser_body_reading.proofs.laws.answers.Goals as goal
-
-pub returns : goal.returns
-returns c start = λ features items index type body answer named are. validated features items index type named body answer are

@@ -1,5 +1,0 @@
-use Rattle.wasmparser_body_reading.proofs.BodySteps.{from_start}
-use Rattle.wasmparser_body_reading.proofs.laws.starts.Goals as goal
-
-pub returns : goal.returns
-returns c = λ state bytes at. from_start state bytes at

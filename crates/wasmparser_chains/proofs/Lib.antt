@@ -1,2 +1,0 @@
-pub mod ChainLaws
-mod KeptChains

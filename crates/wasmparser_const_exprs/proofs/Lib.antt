@@ -1,3 +1,0 @@
-pub mod ExpressionLaws
-mod OperatorLaws
-mod ShortLaws

@@ -1,2 +1,0 @@
-pub mod ConstExprs
-pub mod ConstOperators

@@ -1,6 +1,0 @@
-use Rattle.std.proofs.Common.{◌≡◌, ◌++◌, map, take}
-use Rattle.wasmparser_group_keys.specs.GroupKeys.{index_number}
-use Rattle.wasmparser_group_keys.proofs.group_key.put_supertypes.Given as goal
-
-abbrev pub invariant-loop-it : goal.invariant-loop-it
-invariant-loop-it l = l.key.items ≡ l.fn.key.items ++ map index_number (take l.it-index l.supertypes)

@@ -1,6 +1,0 @@
-use Rattle.std.proofs.Common.{sym, ◌∙◌}
-use Rattle.wasmparser_group_keys.proofs.KeyLookups.{found_is}
-use Rattle.wasmparser_group_keys.proofs.group_map.GroupMap.get.Goals as goal
-
-pub returns : goal.returns
-returns c = rw (sym c.self.view_is) (c.copied.ensures ∙ c.get.ensures.value ∙ sym (found_is c.self.inside.map.entries c.args.key.now))

@@ -1,2 +1,0 @@
-pub mod GroupKeys
-pub mod GroupMaps

@@ -1,8 +1,0 @@
-//! What holds of all groups.
-
-ghost use Rattle.wasmparser_group_keys.specs.GroupKeys.{TellsApart, group_key};
-
-/// Groups with the same numbers are the same.
-pub fn group_keys()
-    ensures { TellsApart group_key }
-{}

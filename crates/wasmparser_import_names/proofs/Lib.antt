@@ -1,4 +1,0 @@
-mod Keys
-mod KeptImports
-mod ModuleNames
-mod Names

@@ -1,5 +1,0 @@
-pub mod ImportNames
-pub mod ImportedItems
-pub mod KeptImports
-pub mod KeptName
-pub mod ModuleNames

@@ -1,4 +1,0 @@
-mod CheckLaws
-mod EntryLaws
-mod GroupLaws
-mod ItemLaws

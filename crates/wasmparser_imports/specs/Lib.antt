@@ -1,3 +1,0 @@
-pub mod ImportEntries
-pub mod ImportGroups
-pub mod ImportItems

@@ -1,6 +1,0 @@
-pub mod CountedReads
-pub mod HeldValues
-pub mod Lending
-pub mod LentValues
-pub mod TypeSizes
-pub mod TypeTables

@@ -1,9 +1,0 @@
-use Rattle.wasmparser_interning_laws.proofs.InternedGroups.{interned_found, still_found, types_more}
-use Rattle.wasmparser_interning_laws.proofs.laws.interned_groups.Goals as goal
-
-pub returns : goal.returns
-returns c = record {
-  types = λ canonical old new group number agree adds. types_more old new group number agree adds canonical;
-  found = interned_found;
-  still_found = still_found;
-}

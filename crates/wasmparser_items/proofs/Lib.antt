@@ -1,3 +1,0 @@
-pub mod ItemSteps
-pub mod PackedItemLaws
-mod PackedSteps

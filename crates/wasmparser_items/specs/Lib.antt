@@ -1,3 +1,0 @@
-pub mod Exports
-pub mod ItemTypes
-pub mod PackedItems

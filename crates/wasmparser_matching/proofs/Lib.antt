@@ -1,3 +1,0 @@
-mod Fronts
-mod HeapLaws
-mod TopLaws

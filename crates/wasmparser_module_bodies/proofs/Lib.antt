@@ -1,9 +1,0 @@
-pub mod Agreement
-pub mod BelowById
-pub mod BodiesById
-pub mod FunctionTypes
-pub mod Ids
-pub mod ItemsById
-pub mod LaterEntries
-pub mod NumberExpressions
-pub mod OneToOne

@@ -1,5 +1,0 @@
-use Rattle.wasmparser_module_bodies.proofs.Agreement.{agrees}
-use Rattle.wasmparser_module_bodies.proofs.laws.agreement.Goals as goal
-
-pub returns : goal.returns
-returns c = λ features cx written ids interned sub_types test known tells. agrees features cx ids interned sub_types known test tells written

@@ -1,5 +1,0 @@
-use Rattle.wasmparser_module_bodies.proofs.BodiesById.{answer_by_ids}
-use Rattle.wasmparser_module_bodies.proofs.laws.answers.Goals as goal
-
-pub returns : goal.returns
-returns c = answer_by_ids

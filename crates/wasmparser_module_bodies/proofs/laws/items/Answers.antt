@@ -1,5 +1,0 @@
-use Rattle.wasmparser_module_bodies.proofs.ItemsById.{items_are}
-use Rattle.wasmparser_module_bodies.proofs.laws.items.Goals as goal
-
-pub returns : goal.returns
-returns c = λ features cx written ids interned sub_types test are known. items_are features cx written ids interned sub_types are known test

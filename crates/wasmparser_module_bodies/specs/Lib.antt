@@ -1,4 +1,0 @@
-pub mod BodyVerdicts
-pub mod Examples
-pub mod LaterEntries
-pub mod TypesById

@@ -1,2 +1,0 @@
-pub mod EntryReading
-pub mod PieceEntries

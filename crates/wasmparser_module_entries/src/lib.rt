@@ -1,4 +1,0 @@
-//! What the pieces of a module say, entry by entry, and laws that tie that to the grammar: a part of `wasmparser`.
-#![tactic(auto)]
-
-pub mod laws;

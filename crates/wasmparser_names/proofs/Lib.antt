@@ -1,0 +1,5 @@
+mod KeptExports
+mod KeptImports
+mod Keys
+mod ModuleNames
+mod Names

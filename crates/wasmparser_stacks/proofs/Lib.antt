@@ -1,5 +1,0 @@
-mod LocalLaws
-mod Places
-mod Stacked
-mod TailLaws
-mod Taking

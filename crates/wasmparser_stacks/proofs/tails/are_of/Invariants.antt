@@ -1,5 +1,0 @@
-use Rattle.wasmparser_stacks.proofs.TailLaws.{AreOf}
-use Rattle.wasmparser_stacks.proofs.tails.are_of.Given as goal
-
-abbrev pub invariant-loop-index : goal.invariant-loop-index
-invariant-loop-index l = AreOf l.operands l.types l.index

@@ -1,4 +1,0 @@
-mod CompositeKinds
-pub mod Deciding
-pub mod Ids
-pub mod Mapped

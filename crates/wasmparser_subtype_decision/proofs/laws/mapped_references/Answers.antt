@@ -1,5 +1,0 @@
-use Rattle.wasmparser_subtype_decision.proofs.Mapped.{val_along, val_mapped}
-use Rattle.wasmparser_subtype_decision.proofs.laws.mapped_references.Goals as goal
-
-pub returns : goal.returns
-returns c start = record { along = val_along; val_types = val_mapped }

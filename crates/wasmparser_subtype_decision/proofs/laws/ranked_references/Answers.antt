@@ -1,9 +1,0 @@
-use Rattle.wasmparser_subtype_decision.proofs.Deciding.{heap_decided, ref_decided, val_decided}
-use Rattle.wasmparser_subtype_decision.proofs.laws.ranked_references.Goals as goal
-
-pub returns : goal.returns
-returns c start = record {
-  heap_types = heap_decided;
-  ref_types = ref_decided;
-  val_types = val_decided;
-}

@@ -1,3 +1,0 @@
-pub mod Decision
-pub mod Examples
-pub mod Ranked

@@ -1,0 +1,10 @@
+pub mod Canonical
+pub mod Chains
+pub mod Decision
+pub mod Examples
+pub mod GroupKeys
+pub mod GroupMaps
+pub mod Ranked
+pub mod Snapshots
+pub mod Tops
+pub mod WithRecGroups

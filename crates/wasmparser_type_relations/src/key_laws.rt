@@ -1,0 +1,8 @@
+//! What holds of all groups.
+
+ghost use Rattle.wasmparser_type_relations.specs.GroupKeys.{TellsApart, group_key};
+
+/// Groups with the same numbers are the same.
+pub fn group_keys()
+    ensures { TellsApart group_key }
+{}

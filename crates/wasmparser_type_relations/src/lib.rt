@@ -1,0 +1,18 @@
+//! Types and recursive groups beside each other: keys that equal groups share, chains of supertypes, matching, and the rules of groups: a part of `wasmparser`.
+#![tactic(auto)]
+
+pub mod canonical;
+pub mod chain;
+pub mod decision_laws;
+pub mod examples;
+pub mod gates;
+pub mod group_key;
+pub mod group_map;
+pub mod key_laws;
+pub mod known_types;
+pub mod limits;
+pub mod lookup;
+pub mod matches;
+pub mod snapshot_list;
+pub mod subtyping;
+pub mod with_rec_group;

@@ -1,4 +1,4 @@
-//! Laws of the definitions.
+//! Laws of the typing and the codes of operators.
 
 ghost use Rattle.std.specs.Prelude.{◌≡◌, ◌++◌, ℕ, List, true};
 ghost use Rattle.wasm_bodies.specs.Bodies.{Code, IsFunctionBody, Judged};

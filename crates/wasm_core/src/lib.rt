@@ -1,6 +1,5 @@
-//! What the encoder, the parser and the generator stand on: features, limits, types, and reading and writing the
-//! binary format, in one place. The parts are `wasm_core_types`,
-//! `wasm_core_write` and `wasm_core_read`.
+//! What the encoder, the parser and the generator stand on: features, limits, types, and reading and writing the binary format, in one place, and
+//! laws that tie them together. The parts are `wasm_core_types`, `wasm_core_write` and `wasm_core_read`.
 #![tactic(auto)]
 
 pub mod laws;

@@ -91,7 +91,7 @@ impl<'a> BinaryReader<'a> {
         self.rest
     }
 
-    /// Whether no bytes are left.
+    /// Checks that no bytes are left.
     pub fn eof(&self) -> bool
         ensures { IsTrue result ↔ (length self.now.rest ≡ 0) }
     {

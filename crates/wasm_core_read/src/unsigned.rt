@@ -4,7 +4,7 @@ ghost use Rattle.std.specs.Prelude.{◌≡◌, ◌<◌, ◌≤◌, ◌^◌, nat_
 ghost use Rattle.std.specs.Option.{option_map};
 ghost use Rattle.wasm_core_read.specs.Reading.{unsigned_at};
 
-/// Whether a byte has so few bits.
+/// Checks that a byte has so few bits.
 #[inline(always)]
 pub fn has_bits(byte: u8, bits: u32) -> bool
     requires { byte < 128 }

@@ -37,7 +37,7 @@ const PRINTED: &str = "
     Length | Length | 4294967295
 ";
 
-// Whether an error prints this.
+// Checks that an error prints this.
 fn is_printed(alloc: Global, name: &str, text: &str) -> bool {
     match name {
         "EncodeError::Memory" => displays(alloc, &EncodeError::Memory, text),

@@ -43,7 +43,7 @@ fn header_alone(rt: HostRuntime) {
 
 // For `rt try --test --fail-alloc N`, which refuses an allocation: the module is as it was, and takes the same call again.
 
-// Whether the section goes in, at the second call where the first is refused.
+// Checks that the section goes in, at the second call where the first is refused.
 fn is_taken(module: &mut Module, types: &TypeSection) -> bool {
     match module.section(types).err() {
         Some(refusal) => refusal == EncodeError::Memory && module.section(types).is_ok(),
@@ -51,7 +51,7 @@ fn is_taken(module: &mut Module, types: &TypeSection) -> bool {
     }
 }
 
-// Whether 40 sections without entries go in.
+// Checks that 40 sections without entries go in.
 fn are_taken(module: &mut Module, types: &TypeSection) -> bool {
     for _ in 0..40_u32 {
         if !is_taken(module, types) {

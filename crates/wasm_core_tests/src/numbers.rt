@@ -9,7 +9,7 @@ use wasm_test_rows::fields::three_fields;
 use wasm_test_rows::rows::check_rows;
 use wasm_test_rows::values::bytes_of;
 
-// Whether these bytes are the number at a width, are as long as it is said to be, and are all that is read. Past 33 bits a number is written at 33
+// Checks that these bytes are the number at a width, are as long as it is said to be, and are all that is read. Past 33 bits a number is written at 33
 // bits, and isn't read.
 fn is_kept(width: &str, number: i128, bytes: &[u8]) -> bool {
     let mut reader = BinaryReader::new(bytes, 0);
@@ -43,7 +43,7 @@ fn fills_its_room(alloc: Global, widths: &str, number: i128) -> Option<bool> {
     }
 }
 
-// Whether these bytes are written of the number at each of the widths, and are kept.
+// Checks that these bytes are written of the number at each of the widths, and are kept.
 fn is_written(alloc: Global, widths: &str, number: i128, bytes: &[u8]) -> bool {
     for width in widths.split_whitespace() {
         let is_same = written(alloc, width, number).as_deref() == Some(bytes);
@@ -114,7 +114,7 @@ fn numbers_are_written(rt: HostRuntime) -> Result<(), Fail> {
     Ok(check_rows(rt.alloc(), WRITTEN, 41, holds)?)
 }
 
-// Whether what is written of the number is read back.
+// Checks that what is written of the number is read back.
 fn is_read_at(alloc: Global, width: &str, number: i128) -> bool {
     match written(alloc, width, number) {
         Some(bytes) => is_kept(width, number, &bytes),
@@ -122,7 +122,7 @@ fn is_read_at(alloc: Global, width: &str, number: i128) -> bool {
     }
 }
 
-// Whether the number is read back at each width that it fits.
+// Checks that the number is read back at each width that it fits.
 fn is_read_back(alloc: Global, number: i128) -> bool {
     for width in "u32 u64 s32 s33 s64".split(' ') {
         if length(width, number).is_some() && !is_read_at(alloc, width, number) {
@@ -132,7 +132,7 @@ fn is_read_back(alloc: Global, number: i128) -> bool {
     true
 }
 
-// Whether drawn numbers of each length are, without a sign and with one.
+// Checks that drawn numbers of each length are, without a sign and with one.
 fn drawn_are_read_back(alloc: Global) -> bool {
     let mut drawn: u64 = 1;
     for turn in 0..10_000_u32 {
@@ -148,7 +148,7 @@ fn drawn_are_read_back(alloc: Global) -> bool {
     true
 }
 
-// Whether all numbers of one byte are.
+// Checks that all numbers of one byte are.
 fn small_are_read_back(alloc: Global) -> bool {
     for number in -128..256_i64 {
         if !is_read_back(alloc, i128::from(number)) {

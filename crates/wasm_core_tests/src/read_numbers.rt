@@ -146,7 +146,7 @@ fn answer(reader: &mut BinaryReader<'_>, kind: &str, expected: &str) -> Result<b
     }
 }
 
-// Whether it is, or is refused where the reader stands and stays.
+// Checks that it is, or is refused where the reader stands and stays.
 fn is_next(reader: &mut BinaryReader<'_>, value: &str) -> bool {
     let (kind, expected) = word_and_rest(value);
     let place = reader.original_position();
@@ -160,7 +160,7 @@ fn is_next(reader: &mut BinaryReader<'_>, value: &str) -> bool {
     }
 }
 
-// Whether these values are read, and so many bytes are left.
+// Checks that these values are read, and so many bytes are left.
 fn reads(values: &str, bytes: &[u8], left: usize) -> bool {
     let mut reader = BinaryReader::new(bytes, PLACE);
     for value in values.split(',') {

@@ -85,7 +85,7 @@ fn content_len(section: &TypeSection) -> Option<u64> {
     Some(content)
 }
 
-// Whether the lengths of a section that writes so many bytes say so.
+// Checks that the lengths of a section that writes so many bytes say so.
 fn says_its_lengths(section: &TypeSection, len: u64) -> bool {
     let Some(content) = content_len(section) else {
         return false;
@@ -108,7 +108,7 @@ fn written(alloc: Global, section: &TypeSection) -> Option<Vec<u8>> {
     }
 }
 
-// Whether a section has entries of these lengths.
+// Checks that a section has entries of these lengths.
 fn has_lengths(section: &TypeSection, lengths: &[u32]) -> bool {
     let mut count = 0u32;
     for length in lengths {
@@ -127,7 +127,7 @@ fn module_of(alloc: Global, section: &TypeSection) -> Option<Vec<u8>> {
     Some(module.finish())
 }
 
-// Whether a section writes these bytes, and a module has just them after its header and the section's number.
+// Checks that a section writes these bytes, and a module has just them after its header and the section's number.
 fn writes(alloc: Global, section: &TypeSection, bytes: &[u8]) -> bool {
     match (written(alloc, section), module_of(alloc, section)) {
         (Some(found), Some(module)) => {
@@ -201,7 +201,7 @@ fn add_in_turn(
     section.rec(none).is_ok()
 }
 
-// Whether these bytes are written of a section that is made in this way.
+// Checks that these bytes are written of a section that is made in this way.
 fn writes_in_turn(alloc: Global, bytes: &[u8]) -> bool {
     let (Some(group), Some(ty)) = (sub_types_of(alloc, "struct"), sub_type_of(alloc, "struct"))
     else {
@@ -238,7 +238,7 @@ fn appends_after_what_stands_there(rt: HostRuntime) {
 // For `rt try --test --fail-alloc N`, which refuses an allocation: what refuses is as it was, and takes the same call
 // again.
 
-// Whether one function more goes in after so many, at the second call where the first is refused.
+// Checks that one function more goes in after so many, at the second call where the first is refused.
 fn takes_a_function(alloc: Global, section: &mut TypeSection, count: u32) -> bool {
     if section.len() != count {
         return false;
@@ -251,7 +251,7 @@ fn takes_a_function(alloc: Global, section: &mut TypeSection, count: u32) -> boo
     refusal == Some(EncodeError::Memory) && is_kept && section.func(no_results(alloc)).is_ok()
 }
 
-// Whether the section is written, at the second call where the first is refused.
+// Checks that the section is written, at the second call where the first is refused.
 fn is_written(section: &TypeSection, sink: &mut Vec<u8>) -> bool {
     let refusal = section.encode(sink).err();
     if refusal.is_none() {

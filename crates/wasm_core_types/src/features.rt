@@ -86,161 +86,161 @@ impl WasmFeatures {
     ghost use Rattle.wasm_core_types.specs.Features.{feature_set};
     ghost use Rattle.wasm_spec.specs.Features.{has, needs_type_canonicalization, MutableGlobal, SaturatingFloatToInt, SignExtension, ReferenceTypes, MultiValue, BulkMemory, Simd, RelaxedSimd, Threads, TailCall, Floats, MultiMemory, Exceptions, Memory64, ExtendedConst, FunctionReferences, Gc, GcTypes, CustomPageSizes, CompactImports, WideArithmetic, StackSwitching};
 
-    /// Whether [`MUTABLE_GLOBAL`](WasmFeatures::MUTABLE_GLOBAL) is on.
+    /// Checks that [`MUTABLE_GLOBAL`](WasmFeatures::MUTABLE_GLOBAL) is on.
     pub fn mutable_global(&self) -> bool
         ensures { result ≡ has (feature_set self.now) MutableGlobal }
     {
         self.contains(WasmFeatures::MUTABLE_GLOBAL)
     }
 
-    /// Whether [`SATURATING_FLOAT_TO_INT`](WasmFeatures::SATURATING_FLOAT_TO_INT) is on.
+    /// Checks that [`SATURATING_FLOAT_TO_INT`](WasmFeatures::SATURATING_FLOAT_TO_INT) is on.
     pub fn saturating_float_to_int(&self) -> bool
         ensures { result ≡ has (feature_set self.now) SaturatingFloatToInt }
     {
         self.contains(WasmFeatures::SATURATING_FLOAT_TO_INT)
     }
 
-    /// Whether [`SIGN_EXTENSION`](WasmFeatures::SIGN_EXTENSION) is on.
+    /// Checks that [`SIGN_EXTENSION`](WasmFeatures::SIGN_EXTENSION) is on.
     pub fn sign_extension(&self) -> bool
         ensures { result ≡ has (feature_set self.now) SignExtension }
     {
         self.contains(WasmFeatures::SIGN_EXTENSION)
     }
 
-    /// Whether [`REFERENCE_TYPES`](WasmFeatures::REFERENCE_TYPES) is on.
+    /// Checks that [`REFERENCE_TYPES`](WasmFeatures::REFERENCE_TYPES) is on.
     pub fn reference_types(&self) -> bool
         ensures { result ≡ has (feature_set self.now) ReferenceTypes }
     {
         self.contains(WasmFeatures::REFERENCE_TYPES)
     }
 
-    /// Whether [`MULTI_VALUE`](WasmFeatures::MULTI_VALUE) is on.
+    /// Checks that [`MULTI_VALUE`](WasmFeatures::MULTI_VALUE) is on.
     pub fn multi_value(&self) -> bool
         ensures { result ≡ has (feature_set self.now) MultiValue }
     {
         self.contains(WasmFeatures::MULTI_VALUE)
     }
 
-    /// Whether [`BULK_MEMORY`](WasmFeatures::BULK_MEMORY) is on.
+    /// Checks that [`BULK_MEMORY`](WasmFeatures::BULK_MEMORY) is on.
     pub fn bulk_memory(&self) -> bool
         ensures { result ≡ has (feature_set self.now) BulkMemory }
     {
         self.contains(WasmFeatures::BULK_MEMORY)
     }
 
-    /// Whether [`SIMD`](WasmFeatures::SIMD) is on.
+    /// Checks that [`SIMD`](WasmFeatures::SIMD) is on.
     pub fn simd(&self) -> bool
         ensures { result ≡ has (feature_set self.now) Simd }
     {
         self.contains(WasmFeatures::SIMD)
     }
 
-    /// Whether [`RELAXED_SIMD`](WasmFeatures::RELAXED_SIMD) is on.
+    /// Checks that [`RELAXED_SIMD`](WasmFeatures::RELAXED_SIMD) is on.
     pub fn relaxed_simd(&self) -> bool
         ensures { result ≡ has (feature_set self.now) RelaxedSimd }
     {
         self.contains(WasmFeatures::RELAXED_SIMD)
     }
 
-    /// Whether [`THREADS`](WasmFeatures::THREADS) is on.
+    /// Checks that [`THREADS`](WasmFeatures::THREADS) is on.
     pub fn threads(&self) -> bool
         ensures { result ≡ has (feature_set self.now) Threads }
     {
         self.contains(WasmFeatures::THREADS)
     }
 
-    /// Whether [`TAIL_CALL`](WasmFeatures::TAIL_CALL) is on.
+    /// Checks that [`TAIL_CALL`](WasmFeatures::TAIL_CALL) is on.
     pub fn tail_call(&self) -> bool
         ensures { result ≡ has (feature_set self.now) TailCall }
     {
         self.contains(WasmFeatures::TAIL_CALL)
     }
 
-    /// Whether [`FLOATS`](WasmFeatures::FLOATS) is on.
+    /// Checks that [`FLOATS`](WasmFeatures::FLOATS) is on.
     pub fn floats(&self) -> bool
         ensures { result ≡ has (feature_set self.now) Floats }
     {
         self.contains(WasmFeatures::FLOATS)
     }
 
-    /// Whether [`MULTI_MEMORY`](WasmFeatures::MULTI_MEMORY) is on.
+    /// Checks that [`MULTI_MEMORY`](WasmFeatures::MULTI_MEMORY) is on.
     pub fn multi_memory(&self) -> bool
         ensures { result ≡ has (feature_set self.now) MultiMemory }
     {
         self.contains(WasmFeatures::MULTI_MEMORY)
     }
 
-    /// Whether [`EXCEPTIONS`](WasmFeatures::EXCEPTIONS) is on.
+    /// Checks that [`EXCEPTIONS`](WasmFeatures::EXCEPTIONS) is on.
     pub fn exceptions(&self) -> bool
         ensures { result ≡ has (feature_set self.now) Exceptions }
     {
         self.contains(WasmFeatures::EXCEPTIONS)
     }
 
-    /// Whether [`MEMORY64`](WasmFeatures::MEMORY64) is on.
+    /// Checks that [`MEMORY64`](WasmFeatures::MEMORY64) is on.
     pub fn memory64(&self) -> bool
         ensures { result ≡ has (feature_set self.now) Memory64 }
     {
         self.contains(WasmFeatures::MEMORY64)
     }
 
-    /// Whether [`EXTENDED_CONST`](WasmFeatures::EXTENDED_CONST) is on.
+    /// Checks that [`EXTENDED_CONST`](WasmFeatures::EXTENDED_CONST) is on.
     pub fn extended_const(&self) -> bool
         ensures { result ≡ has (feature_set self.now) ExtendedConst }
     {
         self.contains(WasmFeatures::EXTENDED_CONST)
     }
 
-    /// Whether [`FUNCTION_REFERENCES`](WasmFeatures::FUNCTION_REFERENCES) is on.
+    /// Checks that [`FUNCTION_REFERENCES`](WasmFeatures::FUNCTION_REFERENCES) is on.
     pub fn function_references(&self) -> bool
         ensures { result ≡ has (feature_set self.now) FunctionReferences }
     {
         self.contains(WasmFeatures::FUNCTION_REFERENCES)
     }
 
-    /// Whether [`GC`](WasmFeatures::GC) is on.
+    /// Checks that [`GC`](WasmFeatures::GC) is on.
     pub fn gc(&self) -> bool
         ensures { result ≡ has (feature_set self.now) Gc }
     {
         self.contains(WasmFeatures::GC)
     }
 
-    /// Whether [`GC_TYPES`](WasmFeatures::GC_TYPES) is on.
+    /// Checks that [`GC_TYPES`](WasmFeatures::GC_TYPES) is on.
     pub fn gc_types(&self) -> bool
         ensures { result ≡ has (feature_set self.now) GcTypes }
     {
         self.contains(WasmFeatures::GC_TYPES)
     }
 
-    /// Whether [`CUSTOM_PAGE_SIZES`](WasmFeatures::CUSTOM_PAGE_SIZES) is on.
+    /// Checks that [`CUSTOM_PAGE_SIZES`](WasmFeatures::CUSTOM_PAGE_SIZES) is on.
     pub fn custom_page_sizes(&self) -> bool
         ensures { result ≡ has (feature_set self.now) CustomPageSizes }
     {
         self.contains(WasmFeatures::CUSTOM_PAGE_SIZES)
     }
 
-    /// Whether [`COMPACT_IMPORTS`](WasmFeatures::COMPACT_IMPORTS) is on.
+    /// Checks that [`COMPACT_IMPORTS`](WasmFeatures::COMPACT_IMPORTS) is on.
     pub fn compact_imports(&self) -> bool
         ensures { result ≡ has (feature_set self.now) CompactImports }
     {
         self.contains(WasmFeatures::COMPACT_IMPORTS)
     }
 
-    /// Whether [`WIDE_ARITHMETIC`](WasmFeatures::WIDE_ARITHMETIC) is on.
+    /// Checks that [`WIDE_ARITHMETIC`](WasmFeatures::WIDE_ARITHMETIC) is on.
     pub fn wide_arithmetic(&self) -> bool
         ensures { result ≡ has (feature_set self.now) WideArithmetic }
     {
         self.contains(WasmFeatures::WIDE_ARITHMETIC)
     }
 
-    /// Whether [`STACK_SWITCHING`](WasmFeatures::STACK_SWITCHING) is on.
+    /// Checks that [`STACK_SWITCHING`](WasmFeatures::STACK_SWITCHING) is on.
     pub fn stack_switching(&self) -> bool
         ensures { result ≡ has (feature_set self.now) StackSwitching }
     {
         self.contains(WasmFeatures::STACK_SWITCHING)
     }
 
-    /// Whether types are canonicalised under these features: two equal definitions are then one type.
+    /// Checks that types are canonicalised under these features: two equal definitions are then one type.
     pub fn needs_type_canonicalization(&self) -> bool
         ensures { result ≡ needs_type_canonicalization (feature_set self.now) }
     {

@@ -1,4 +1,4 @@
--- What the proof of a chaining call gives its lemma in `ChainsOf..`: the arguments, and how its last clause follows from that of the call that it makes.
+-- Arguments of the lemmas in `ChainsOf..`: those of the chaining call, and how its last clause follows from that of the call that it makes.
 --     Argument n       an argument of a type with one machine value, at the `n` lifetimes after the builder's
 --     At n             the place of one of these lifetimes:  first, second
 --     by_u32, by_i32, .., by_str a, by_slice a X, by_ref a X, by_lent_ref a b X       a number, `&str`, `&[X]`, `&X`, `&X<'b>`

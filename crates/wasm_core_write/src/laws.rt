@@ -1,4 +1,4 @@
-//! Laws of the encodings that are written. The functions do nothing: their contracts are theorems.
+//! Laws of the encodings of numbers, types and sections. The functions do nothing: their contracts are theorems.
 
 ghost use Rattle.std.specs.Prelude.{◌≡◌, ◌+◌, ℕ, List, length};
 ghost use Rattle.std.specs.List.{sum_by};

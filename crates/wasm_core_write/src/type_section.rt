@@ -93,7 +93,7 @@ impl TypeSection {
         self.entries.len() as u32
     }
 
-    /// Whether there are no entries.
+    /// Checks that there are no entries.
     pub fn is_empty(&self) -> bool
         ensures { IsTrue result ↔ (self.now ≡ []) }
     {

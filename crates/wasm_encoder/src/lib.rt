@@ -1,5 +1,4 @@
-//! The encoder of WebAssembly modules, in one place. The parts are the crates whose names begin with this one's; what modules and type sections are written by
-//! is shown too.
+//! The encoder of WebAssembly modules, in one place. The parts are the crates that are shown here.
 #![tactic(auto)]
 
 pub use wasm_core_types::{scalar_operator, types};

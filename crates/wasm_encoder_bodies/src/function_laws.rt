@@ -1,4 +1,4 @@
-//! Laws of bodies. The functions do nothing: their contracts are theorems.
+//! Laws of runs of locals. The functions do nothing: their contracts are theorems.
 
 ghost use Rattle.std.specs.Prelude.{◌≡◌, ◌++◌, ℕ, List};
 ghost use Rattle.wasm_core_types.specs.declared.types.ValType.{ValType};

@@ -114,7 +114,7 @@ impl BranchHints {
         self.functions.len()
     }
 
-    /// Whether no function has hints.
+    /// Checks that no function has hints.
     #[tactic(auto, using(wasm_encoder_sections::proofs::ItemLists::nothing))]
     pub fn is_empty(&self) -> bool
         ensures { IsTrue result ↔ (self.now ≡ []) }

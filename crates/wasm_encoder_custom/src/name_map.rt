@@ -64,7 +64,7 @@ impl NameMap {
         }
     }
 
-    /// Whether there are no names.
+    /// Checks that there are no names.
     #[tactic(auto, using(wasm_encoder_sections::proofs::ItemLists::nothing))]
     pub fn is_empty(&self) -> bool
         ensures { IsTrue result ↔ (self.now ≡ []) }

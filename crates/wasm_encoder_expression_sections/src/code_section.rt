@@ -60,7 +60,7 @@ impl CodeSection {
         self.bodies.len()
     }
 
-    /// Whether there are no bodies.
+    /// Checks that there are no bodies.
     pub fn is_empty(&self) -> bool
         ensures { IsTrue result ↔ (self.now ≡ []) }
     {

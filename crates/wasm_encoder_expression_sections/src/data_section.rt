@@ -180,7 +180,7 @@ impl DataSection {
         self.segments.len()
     }
 
-    /// Whether there are no segments.
+    /// Checks that there are no segments.
     pub fn is_empty(&self) -> bool
         ensures { IsTrue result ↔ (self.now ≡ []) }
     {

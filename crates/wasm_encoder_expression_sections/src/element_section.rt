@@ -98,7 +98,7 @@ impl ElementSection {
         self.segments.len()
     }
 
-    /// Whether there are no segments.
+    /// Checks that there are no segments.
     pub fn is_empty(&self) -> bool
         ensures { IsTrue result ↔ (self.now ≡ []) }
     {

@@ -102,7 +102,7 @@ impl GlobalSection {
         self.globals.len()
     }
 
-    /// Whether there are no globals.
+    /// Checks that there are no globals.
     pub fn is_empty(&self) -> bool
         ensures { IsTrue result ↔ (self.now ≡ []) }
     {

@@ -102,7 +102,7 @@ impl TableSection {
         self.tables.len()
     }
 
-    /// Whether there are no tables.
+    /// Checks that there are no tables.
     pub fn is_empty(&self) -> bool
         ensures { IsTrue result ↔ (self.now ≡ []) }
     {

@@ -24,7 +24,7 @@ fn add_modules(section: &mut CoreDumpModulesSection) -> bool {
     }
 }
 
-// Whether the section has two modules, and is written so, also as a custom section.
+// Checks that the section has two modules, and is written so, also as a custom section.
 fn has_modules(alloc: Global, section: &CoreDumpModulesSection) -> bool {
     let is_told = section.len() == 2
         && section.item_len(0) == Some(3)
@@ -57,7 +57,7 @@ fn add_instances(section: &mut CoreDumpInstancesSection) -> bool {
     }
 }
 
-// Whether the section has two instances, and is written so, also as a custom section.
+// Checks that the section has two instances, and is written so, also as a custom section.
 fn has_instances(alloc: Global, section: &CoreDumpInstancesSection) -> bool {
     let is_told = section.len() == 2
         && section.item_len(1) == Some(6)

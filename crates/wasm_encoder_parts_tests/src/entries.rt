@@ -85,7 +85,7 @@ pub trait Rows: Entries {
     fn add(&mut self, alloc: Global, entry: &str) -> Option<()>;
 }
 
-// Whether a section has entries of these lengths, and no others.
+// Checks that a section has entries of these lengths, and no others.
 fn has_lengths<S: Entries>(section: &S, lengths: &[u32]) -> bool {
     let mut count = 0u32;
     for length in lengths {

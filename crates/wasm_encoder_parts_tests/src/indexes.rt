@@ -116,7 +116,7 @@ fn data_count_sections(rt: HostRuntime) -> Result<(), Fail> {
 
 // For `rt try --test --fail-alloc N`, which refuses an allocation: the section is as it was, and takes the same call again.
 
-// Whether a function goes in, at the second call where the first is refused.
+// Checks that a function goes in, at the second call where the first is refused.
 fn is_taken(section: &mut FunctionSection) -> bool {
     let before = section.len();
     match section.function(7).err() {

@@ -81,7 +81,7 @@ fn is_taken(section: &mut TableSection, ty: TableType, init: &ConstExpr) -> bool
     }
 }
 
-// Whether six tables go in.
+// Checks that six tables go in.
 fn are_taken(section: &mut TableSection, ty: TableType, init: &ConstExpr) -> bool {
     for _ in 0..6_u32 {
         if !is_taken(section, ty, init) {

@@ -7,7 +7,7 @@ use wasm_encoder_custom::name_section::NameSection;
 
 const MODULE: &str = "00 09 04 6e 61 6d 65 00 02 01 6d";
 
-// Whether the section is written so, also as a custom section.
+// Checks that the section is written so, also as a custom section.
 fn is_written(alloc: Global, section: &NameSection) -> bool {
     match section.as_custom() {
         Ok(custom) => writes(alloc, section, MODULE) && writes(alloc, &custom, MODULE),

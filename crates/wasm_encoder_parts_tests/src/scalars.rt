@@ -159,7 +159,7 @@ const SCALARS: &[ScalarOperator] = &[
     ScalarOperator::I64TruncSatF64U,
 ];
 
-// Whether bytes are the code of this number: a byte, and past the last of these a second code.
+// Checks that bytes are the code of this number: a byte, and past the last of these a second code.
 fn are_code(bytes: &[u8], number: u8) -> bool {
     if number < 0xc5 {
         return bytes == [number].as_slice();

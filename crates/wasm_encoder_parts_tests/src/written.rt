@@ -17,7 +17,7 @@ pub fn written<S: Section>(alloc: Global, section: &S) -> Option<Vec<u8>> {
     }
 }
 
-/// Whether a section, with its id, is the bytes of a field.
+/// Checks that a section, with its id, is the bytes of a field.
 pub fn writes<S: Section>(alloc: Global, section: &S, bytes: &str) -> bool {
     match written(alloc, section) {
         Some(found) => are_bytes(alloc, bytes, &found),
@@ -37,7 +37,7 @@ fn encoded<E: Encode>(alloc: Global, value: &E) -> Option<Vec<u8>> {
     }
 }
 
-/// Whether a value is written as the bytes of a field.
+/// Checks that a value is written as the bytes of a field.
 pub fn encodes<E: Encode>(alloc: Global, value: &E, bytes: &str) -> bool {
     match encoded(alloc, value) {
         Some(found) => are_bytes(alloc, bytes, &found),

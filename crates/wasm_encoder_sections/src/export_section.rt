@@ -84,7 +84,7 @@ impl ExportSection {
         self.exports.len()
     }
 
-    /// Whether there are no exports.
+    /// Checks that there are no exports.
     #[tactic(auto, using(crate::proofs::ItemLists::nothing))]
     pub fn is_empty(&self) -> bool
         ensures { IsTrue result ↔ (self.now ≡ []) }

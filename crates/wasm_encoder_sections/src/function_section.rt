@@ -51,7 +51,7 @@ impl FunctionSection {
         self.functions.len()
     }
 
-    /// Whether there are no functions.
+    /// Checks that there are no functions.
     pub fn is_empty(&self) -> bool
         ensures { IsTrue result ↔ (self.now ≡ []) }
     {

@@ -62,7 +62,7 @@ impl ImportSection {
         self.entries.len()
     }
 
-    /// Whether there are no entries.
+    /// Checks that there are no entries.
     #[tactic(auto, using(crate::proofs::ItemLists::nothing))]
     pub fn is_empty(&self) -> bool
         ensures { IsTrue result ↔ (self.now ≡ []) }

@@ -49,7 +49,7 @@ impl<T: Encoding + Drop> KeptList<T> {
         self.items.len() as u32
     }
 
-    /// Whether there are no items.
+    /// Checks that there are no items.
     pub fn is_empty(&self) -> bool
         ensures { IsTrue result ↔ (self.now ≡ []) }
     {

@@ -1,4 +1,5 @@
-//! The sections of a module that keep their items until they are written.
+//! Sections of items without expressions (imports, functions, memories, tags, exports, start, data count), and the list in which sections keep their items: a part of
+//! `wasm_encoder`.
 #![tactic(auto)]
 
 pub mod data_count_section;

@@ -57,7 +57,7 @@ impl MemorySection {
         self.memories.len()
     }
 
-    /// Whether there are no memories.
+    /// Checks that there are no memories.
     #[tactic(auto, using(crate::proofs::ItemLists::nothing))]
     pub fn is_empty(&self) -> bool
         ensures { IsTrue result ↔ (self.now ≡ []) }

@@ -55,7 +55,7 @@ impl TagSection {
         self.tags.len()
     }
 
-    /// Whether there are no tags.
+    /// Checks that there are no tags.
     #[tactic(auto, using(crate::proofs::ItemLists::nothing))]
     pub fn is_empty(&self) -> bool
         ensures { IsTrue result ↔ (self.now ≡ []) }

@@ -44,7 +44,7 @@ fn count_named(imports: &mut CoreImports<'_>, letter: u8, most: u32) -> u32 {
     most
 }
 
-// Whether all functions are shown, and as imports those of each name together.
+// Checks that all functions are shown, and as imports those of each name together.
 fn has_all_functions(_alloc: Global, view: TypesRef<'_>, _row: &str) -> bool {
     let Ok(Some(mut imports)) = view.core_imports() else {
         return false;

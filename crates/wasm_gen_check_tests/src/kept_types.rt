@@ -222,7 +222,7 @@ fn types_have_their_ids_in_each_order_of_modules(rt: HostRuntime) -> Result<(), 
     Ok(check_rows(rt.alloc(), FUNCTIONS, 6, each_definition_has_an_id)?)
 }
 
-// Whether a session answers so on modules of function types that are all kept.
+// Checks that a session answers so on modules of function types that are all kept.
 fn is_full(alloc: Global, session: &mut Session, types: &str, expected: &str) -> bool {
     match parts_of(alloc, types) {
         Some(bytes) => answers(alloc, session, &bytes, expected),
@@ -267,7 +267,7 @@ fn known_groups_find_no_room_either(rt: HostRuntime) {
     assert!(rt; holds == Some(true));
 }
 
-// Whether the types of a module are what they were, and know no id of a later one.
+// Checks that the types of a module are what they were, and know no id of a later one.
 fn stay(first: TypesRef<'_>, second: TypesRef<'_>) -> bool {
     if first.core_type_count_in_module() != 1 || second.core_type_count_in_module() != 2 {
         return false;

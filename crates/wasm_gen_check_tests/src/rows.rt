@@ -50,7 +50,7 @@ fn asks_for(alloc: Global, bytes: &[u8], asked: &str) -> Option<bool> {
     Some(holds)
 }
 
-// Whether a number is among those of the field.
+// Checks that a number is among those of the field.
 fn has_number(field: &str, number: usize) -> bool {
     for word in field.split_whitespace() {
         if number_of(word) == Some(number as u64) {
@@ -69,7 +69,7 @@ fn expected_at(field: &str, place: usize) -> &'static str {
     }
 }
 
-// Whether the bytes are a module up to each of these ends, and malformed up to any other place.
+// Checks that the bytes are a module up to each of these ends, and malformed up to any other place.
 fn is_cut_at(alloc: Global, bytes: &[u8], ends: &str) -> bool {
     let mut holds = true;
     for end in 0..=bytes.len() {

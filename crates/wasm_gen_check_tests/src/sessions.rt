@@ -100,7 +100,7 @@ fn handed_features() -> WasmFeatures {
     WasmFeatures::GC.union(WasmFeatures::THREADS)
 }
 
-// Whether the session has the features that it was handed, and the id of this number.
+// Checks that the session has the features that it was handed, and the id of this number.
 fn has(session: &Session, id: usize) -> bool {
     session.features() == handed_features() && session.id() == ValidatorId::new(id)
 }

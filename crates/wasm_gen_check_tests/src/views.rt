@@ -8,7 +8,7 @@ use wasm_gen_rows::modules::module_of;
 use wasm_gen_rows::new_session::{on_types, renew};
 use wasm_test_rows::fields::three_fields;
 
-// Whether the session writes the line.
+// Checks that the session writes the line.
 fn writes(alloc: Global, session: &mut Session, bytes: &[u8], line: &str) -> bool {
     let mut reader = bytes;
     let mut written = Vec::new(alloc);
@@ -24,7 +24,7 @@ fn export_count(view: TypesRef<'_>) -> usize {
     }
 }
 
-// Whether this is the next export: its name, its kind and its index.
+// Checks that this is the next export: its name, its kind and its index.
 fn is_next(alloc: Global, exports: &mut CoreExports<'_>, expected: &str) -> bool {
     let Some(export) = exports.next() else {
         return false;
@@ -35,7 +35,7 @@ fn is_next(alloc: Global, exports: &mut CoreExports<'_>, expected: &str) -> bool
     }
 }
 
-// Whether these are a view's exports, in order.
+// Checks that these are a view's exports, in order.
 fn are_exported(alloc: Global, view: TypesRef<'_>, expected: &str) -> bool {
     let Some(mut exports) = view.core_exports() else {
         return false;
@@ -56,7 +56,7 @@ pub fn has_exports(alloc: Global, session: &mut Session, row: &str) -> Option<bo
     Some(matches!(answer, Ok(true)))
 }
 
-// Whether a view counts what the line says.
+// Checks that a view counts what the line says.
 fn is_line_of(alloc: Global, view: TypesRef<'_>, line: &str) -> bool {
     let types = view.core_type_count_in_module();
     let functions = view.function_count();
@@ -75,7 +75,7 @@ fn is_line_of(alloc: Global, view: TypesRef<'_>, line: &str) -> bool {
     }
 }
 
-// Whether the view of a module counts what the line says, or the module is refused so.
+// Checks that the view of a module counts what the line says, or the module is refused so.
 fn is_shown(alloc: Global, session: &mut Session, bytes: &[u8], line: &str) -> bool {
     match on_types(alloc, session, bytes, line, is_line_of) {
         Ok(holds) => holds,

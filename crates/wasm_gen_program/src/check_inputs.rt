@@ -45,7 +45,7 @@ pub fn outcome_of(answer: Result<bool, RunError>) -> Outcome
     }
 }
 
-// Whether the run ends by this answer: a failed write ends it, and no other fault.
+// Checks that the run ends by this answer: a failed write ends it, and no other fault.
 fn ends_run(answer: Result<bool, RunError>) -> bool
     ensures { result ≡ ends_run answer }
 {

@@ -26,7 +26,7 @@ pub fn refusal_of(session: &mut Session, bytes: &[u8]) -> Option<Error>
     refusal
 }
 
-/// Whether the session gives an answer of the field: `yes`, or the kind of a refusal as `Debug` writes it.
+/// Checks that the session gives an answer of the field: `yes`, or the kind of a refusal as `Debug` writes it.
 pub fn answers(alloc: Global, session: &mut Session, bytes: &[u8], expected: &str) -> bool {
     match refusal_of(session, bytes) {
         None => has_word(expected, "yes"),
@@ -37,7 +37,7 @@ pub fn answers(alloc: Global, session: &mut Session, bytes: &[u8], expected: &st
     }
 }
 
-/// Whether a new session with these features gives the answer.
+/// Checks that a new session with these features gives the answer.
 pub fn answers_under(alloc: Global, features: WasmFeatures, bytes: &[u8], expected: &str) -> bool {
     let mut session = Session::new(alloc, features, ValidatorId::new(0));
     let holds = answers(alloc, &mut session, bytes, expected);

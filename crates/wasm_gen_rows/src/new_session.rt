@@ -31,7 +31,7 @@ pub fn renew(alloc: Global, session: &mut Session)
     drop(mem::replace(session, next));
 }
 
-/// Whether a row holds of what a session shows of a module, or why the module is refused.
+/// Checks that a row holds of what a session shows of a module, or why the module is refused.
 pub fn on_types<F: Fn(Global, TypesRef<'_>, &str) -> bool>(
     alloc: Global,
     session: &mut Session,
@@ -69,7 +69,7 @@ pub fn on_types_after<S, F: Fn(&mut S, TypesRef<'_>, &str) -> bool>(
     found
 }
 
-/// Whether something holds of what a session shows of two modules, which it checks one after the other.
+/// Checks that something holds of what a session shows of two modules, which it checks one after the other.
 pub fn on_types_of_both<F: Fn(TypesRef<'_>, TypesRef<'_>) -> bool>(
     session: &mut Session,
     first: &[u8],

@@ -40,7 +40,7 @@ use Rattle.wasm_gen_sessions.specs.declared.error.GenerateError.TheVariants.{Con
 abbrev Front : Type 0
 Front = (List (RecGroup ℕ) × List ℕ) × List ℕ
 
--- ---- laws of the crates below
+-- ---- laws that these rest on
 
 -- from the spelling of a list it is drawn, and nothing else is owed
 pub record Reach : Type 0 where

@@ -1,4 +1,4 @@
--- What is promised of a module that is generated, and why none is.
+-- Promises on a module that is generated, and on refusals.
 use Rattle.std.specs.Prelude.{◌≡◌, ◌⊎◌, ⊤, ℕ, List, [], IfSome}
 use Rattle.wasm_core.specs.LimitCases as limits
 use Rattle.wasm_core.specs.Limits.{limit}

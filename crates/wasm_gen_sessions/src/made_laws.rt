@@ -1,4 +1,4 @@
-//! Laws of made modules. The functions do nothing: their contracts are theorems, on which what `generate` promises rests.
+//! Laws that made modules within bounds and limits are valid and read back. The functions do nothing: their contracts are theorems.
 
 ghost use Rattle.std.specs.Prelude.{◌≡◌, ◌≤◌, ℕ, Bool, List, [], length};
 ghost use Rattle.wasm_gen_sessions.specs.Written.{CanBeStated, IsGenerated, PassesNoLimit};

@@ -81,7 +81,7 @@ impl Session {
         self.has_failed = false;
     }
 
-    /// Whether the validator has failed, and validates no more.
+    /// Checks that the validator has failed, and validates no more.
     pub fn has_failed(&self) -> bool
         ensures { result ≡ self.now.has_failed }
     {

@@ -1,6 +1,6 @@
 //! What runs are to write.
 
-/// Whether these bytes are the first of a whole, and so many.
+/// Checks that these bytes are the first of a whole, and so many.
 pub fn is_front(written: &[u8], whole: &[u8], len: usize) -> bool {
     whole.starts_with(written) && written.len() == len
 }

@@ -31,7 +31,7 @@ const ROWS: &[(RunError, &str)] = &[
     (RunError::Generate(GenerateError::Memory), "out of memory"),
 ];
 
-// Whether the error shows this text.
+// Checks that the error shows this text.
 fn shows(alloc: Global, error: RunError, text: &str) -> bool {
     match error.to_string(alloc) {
         Ok(shown) => shown.as_str() == text,

@@ -16,7 +16,7 @@ const CUT_HEADER: &[u8] = b"\0asm\x01\0\0";
 const YES: &str =
     "yes types=0 functions=0 tables=0 memories=0 globals=0 tags=0 elements=0 exports=0\n";
 
-// Whether so many of these inputs are a yes in one session, which writes these lines.
+// Checks that so many of these inputs are a yes in one session, which writes these lines.
 fn writes(alloc: Global, session: &mut Session, inputs: &[&[u8]], count: u32, lines: &str) -> bool {
     let mut written = Vec::new(alloc);
     let mut found = 0u32;
@@ -47,7 +47,7 @@ fn writes_a_line_for_each_answer(rt: HostRuntime) {
     assert!(rt; lines == Some(true));
 }
 
-// Whether a writer of this room takes as much of the line of a yes, and the run is refused where that is not all.
+// Checks that a writer of this room takes as much of the line of a yes, and the run is refused where that is not all.
 fn fills(alloc: Global, session: &mut Session, room: usize, when_full: WhenFull) -> bool {
     let mut reader = HEADER;
     let mut writer = NarrowWriter::new(alloc, room, when_full);

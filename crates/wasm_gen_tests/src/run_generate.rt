@@ -19,7 +19,7 @@ const MODULE: &[u8] = &[
     0x01, 0x00, 0x0a, 0x05, 0x01, 0x03, 0x00, 0x00, 0x0b,
 ];
 
-// Whether exactly the module is made of the seed.
+// Checks that exactly the module is made of the seed.
 fn makes_the_module(alloc: Global) -> bool {
     let mut reader = SEED;
     let mut written = Vec::new(alloc);
@@ -32,7 +32,7 @@ fn writes_the_module_of_a_seed(rt: HostRuntime) {
     assert!(rt; makes_the_module(rt.alloc()));
 }
 
-// Whether a writer of this room takes as much of the module, and the run is refused where that is not all.
+// Checks that a writer of this room takes as much of the module, and the run is refused where that is not all.
 fn fills(alloc: Global, room: usize) -> bool {
     let mut reader = SEED;
     let mut writer = NarrowWriter::new(alloc, room, WhenFull::Fails);
@@ -52,7 +52,7 @@ fn writes_as_much_as_there_is_room(rt: HostRuntime) {
     }
 }
 
-// Whether a run is refused so, and writes nothing.
+// Checks that a run is refused so, and writes nothing.
 fn is_refused_for<R: Source + Drop>(
     alloc: Global,
     config: &Config,

@@ -13,7 +13,7 @@ use wasm_test_rows::values::number_of;
 
 const TEXT: &[u8] = b"yes types=0\n";
 
-// Whether a slice is read whole, and nothing is left of it.
+// Checks that a slice is read whole, and nothing is left of it.
 fn is_read_whole(alloc: Global, input: &[u8]) -> bool {
     let mut reader = input;
     match read_whole(alloc, &mut reader, input.len(), 5) {
@@ -77,7 +77,7 @@ fn reads_up_to_the_end_or_a_failure(rt: HostRuntime) -> Result<(), Fail> {
     Ok(check_rows(rt.alloc(), SCRIPTS, 14, holds)?)
 }
 
-// Whether the text is read where so many bytes are allowed, and refused where it is longer.
+// Checks that the text is read where so many bytes are allowed, and refused where it is longer.
 fn is_read_within(alloc: Global, most: usize) -> bool {
     let mut reader = TEXT;
     match read_whole(alloc, &mut reader, most, MAX_TURNS) {
@@ -93,7 +93,7 @@ fn reads_no_more_than_is_allowed(rt: HostRuntime) {
     }
 }
 
-// Whether a read of the text, which may fail in this way where two bytes are left, asks so often.
+// Checks that a read of the text, which may fail in this way where two bytes are left, asks so often.
 fn asks(alloc: Global, fails_with: Option<usize>, kind: ErrorKind, told: Told) -> bool {
     let mut reader = TellingReader {
         rest: TEXT,
@@ -123,7 +123,7 @@ fn stops_at_the_first_end_or_failure(rt: HostRuntime) {
     assert!(rt; asks(alloc, last, ErrorKind::Interrupted, counts(20, 0, 0)));
 }
 
-// Whether a vector takes the text whole.
+// Checks that a vector takes the text whole.
 fn fills_a_vector(alloc: Global) -> bool {
     let mut all = Vec::new(alloc);
     write_whole(&mut all, TEXT) == Ok(()) && all.as_slice() == TEXT
@@ -134,7 +134,7 @@ fn writes_bytes_into_a_vector(rt: HostRuntime) {
     assert!(rt; fills_a_vector(rt.alloc()));
 }
 
-// Whether a writer of this room takes as much of the text, and fails once where that is not all. Nothing more asks for no more room.
+// Checks that a writer of this room takes as much of the text, and fails once where that is not all. Nothing more asks for no more room.
 fn fills(alloc: Global, room: usize, when_full: WhenFull) -> bool {
     let mut writer = NarrowWriter::new(alloc, room, when_full);
     let answer = write_whole(&mut writer, TEXT);

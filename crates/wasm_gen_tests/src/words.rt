@@ -44,7 +44,7 @@ fn words_of(alloc: Global, field: &str) -> Result<Vec<String>, AllocError> {
     Ok(all)
 }
 
-// Whether clap finds this to be wrong with the words.
+// Checks that clap finds this to be wrong with the words.
 fn is_found(alloc: Global, found: &Result<ArgMatches<'_>, Error>, expected: &str) -> bool {
     match found {
         Ok(_) => expected == "none",
@@ -63,7 +63,7 @@ fn is_refused(alloc: Global, words: &[String], expected: &str) -> bool {
     holds
 }
 
-// Whether the files are just those, in order.
+// Checks that the files are just those, in order.
 fn are(names: &[&str], files: &str) -> bool {
     let mut left = names.iter();
     for file in files.split_whitespace() {
@@ -75,7 +75,7 @@ fn are(names: &[&str], files: &str) -> bool {
     left.next().is_none()
 }
 
-// Whether this is what is asked for.
+// Checks that this is what is asked for.
 fn is_asked(asked: &Result<Asked<'_>, WordsError>, way: &str, expected: &str) -> bool {
     match asked {
         Ok(Asked::Check(names)) => way == "check" && are(names.as_slice(), expected),

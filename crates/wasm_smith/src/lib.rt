@@ -1,6 +1,6 @@
 //! The generator of WebAssembly modules and what it stands on, in one place, and a law that ties them together. The parts are
-//! `wasm_smith_unstructured`, `wasm_smith_config`, `wasm_smith_types`, `wasm_smith_definitions`, `wasm_smith_externs`,
-//! `wasm_smith_module` and `wasm_smith_witness`.
+//! `wasm_smith_unstructured`, `wasm_smith_config`, `wasm_smith_types`, `wasm_smith_validity`, `wasm_smith_definitions`,
+//! `wasm_smith_externs`, `wasm_smith_sections`, `wasm_smith_module` and `wasm_smith_witness`.
 #![tactic(auto)]
 
 pub mod reach;

@@ -1,4 +1,4 @@
--- What may be imported keeps its rule.
+-- Offered imports keep their rule.
 use Rattle.std.proofs.Common.{◌≡◌, ℕ, ◌<◌, true, List, length, nat_lt, is_some, ◌∙◌, arith}
 use Rattle.std.proofs.lemmas.Bool.{and_from, and_parts}
 use Rattle.wasm_spec.specs.Features.{Features, Exceptions}

@@ -1,4 +1,4 @@
--- What the parts of the step of imports add.
+-- Imports that the parts of their step add.
 use Rattle.std.specs.Prelude.{◌≡◌, ◌⊎◌, ℕ, ◌+◌, ◌^◌, ◌<◌, ◌≤◌, true, List, length, map, max}
 use Rattle.std.specs.List.{AllByRecursion}
 use Rattle.wasm_core_types.specs.SubTypes.{sub_type}

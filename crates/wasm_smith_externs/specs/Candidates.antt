@@ -1,4 +1,4 @@
--- What may be imported under a configuration.
+-- Imports that a configuration offers.
 use Rattle.std.specs.Prelude.{◌≡◌, ℕ, ◌<◌, Bool, true, ◌&&◌, ◌||◌, List, length, nat_lt, is_some}
 use Rattle.std.specs.List.{sum_by}
 use Rattle.wasm_spec.specs.Types.{SubType, ExternalType, FuncExternal, TableExternal, MemoryExternal, GlobalExternal, TagExternal, ExternalKind, FuncKind, TableKind, MemoryKind, GlobalKind, TagKind}

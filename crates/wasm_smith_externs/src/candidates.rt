@@ -1,4 +1,4 @@
-//! What may still be exported.
+//! Items that can still be exported.
 
 ghost use Rattle.std.specs.Prelude.{◌≡◌, ◌-◌, ◌<◌, ◌≤◌, ◌^◌, ◌&&◌, List, ℕ, true, IfOk, length, nat_lt};
 ghost use Rattle.wasm_encoder_sections.specs.CoreItems.{export_kind};

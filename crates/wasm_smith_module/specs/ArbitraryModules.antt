@@ -1,4 +1,4 @@
--- What is promised of a module that is made for a configuration that is drawn first, and why none is made.
+-- Promises on a module that is made for a configuration that is drawn first, and on refusals.
 use Rattle.std.specs.Prelude.{◌≡◌, ℕ, List, IfSome}
 use Rattle.wasm_smith_config.specs.Arbitrary.{IsArbitrary}
 use Rattle.wasm_smith_config.specs.declared.config.Config.{Config}

@@ -1,4 +1,4 @@
--- What a configuration promises of the modules that are made for it.
+-- Bounds that a configuration sets to the modules made for it.
 use Rattle.std.specs.Prelude.{◌≤◌, ◌+◌, [], length}
 use Rattle.std.specs.List.{AllByRecursion}
 use Rattle.wasm_smith_config.specs.declared.config.Config.{Config}

@@ -1,4 +1,4 @@
--- What drawing a module gives, whatever the configuration is.
+-- Drawn modules, whatever the configuration is.
 use Rattle.std.specs.Prelude.{◌≡◌, ⊤, ℕ, ◌-◌, ◌<◌, ◌≤◌, List, Option, length, IfSome}
 use Rattle.std.specs.Option.{option_to_list}
 use Rattle.wasm_spec.specs.Features.{Features}

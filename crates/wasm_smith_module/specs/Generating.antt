@@ -1,4 +1,4 @@
--- What is drawn first of a module: its types, then, where no import and no tag is made, its functions; and the bytes that are left then.
+-- The first draws of a module: its types, then, where no import and no tag is made, its functions; and the bytes that are left then.
 use Rattle.std.specs.Prelude.{◌≡◌, ℕ, ◌+◌, Bool, List, [], map, Option, Some, None, option_map, if◌then◌else◌}
 use Rattle.std.specs.Option.{option_and_then}
 use Rattle.wasm_spec.specs.Types.{RecGroup}

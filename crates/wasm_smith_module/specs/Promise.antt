@@ -1,4 +1,4 @@
--- What is promised of a module that is made, and why none is made.
+-- Promises on a module that is made, and on refusals.
 use Rattle.std.specs.Prelude.{◌≡◌, ⊤, ℕ, ◌+◌, ◌<◌, ◌≤◌, List, length}
 use Rattle.wasm_spec.specs.Features.{Features}
 use Rattle.wasm_smith_config.specs.Config.{AreFeaturesOf, IsGood, IsBadField}
@@ -27,7 +27,7 @@ HasDrawnData old new m = total_size m.data_segments + length new ≤ length old
 abbrev pub owed : Config → ℕ
 owed c = c.min_imports + c.min_tags + c.min_funcs + c.min_exports + c.min_element_segments + c.min_data_segments
 
--- Items are owed of which there may be none to make.
+-- A minimum asks for items that perhaps can't be made.
 pub record IsOwed (c : Config) : Type 0 where
   pub good : IsGood c
   pub some : 0 < owed c

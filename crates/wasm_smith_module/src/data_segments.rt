@@ -78,7 +78,7 @@ fn draw_segment(
     Ok(DataSegment { mode, data })
 }
 
-/// Draws the data segments. Their contents are bytes of the source, each of which is in at most one of them.
+/// Draws the data segments, whose contents are taken from the source.
 ///
 /// # Errors
 /// `IncorrectFormat` if segments are asked for and none can be made, and otherwise `Memory`. Some of the source's bytes may be taken by then.

@@ -1,4 +1,4 @@
-//! Laws of made modules. The functions do nothing: their contracts are theorems.
+//! Laws of the encoding of a made module, of which there is one. The functions do nothing: their contracts are theorems.
 
 ghost use Rattle.std.specs.Prelude.{◌≡◌, ℕ, Bool, List};
 ghost use Rattle.wasm_smith_sections.specs.ModuleEncoding.{IsModuleEncoding};

@@ -1,4 +1,4 @@
-//! The module generator: segments, the limits that a made module can pass, and the steps together.
+//! The module generator: all steps together, those of segments and locals among them, and the limits that a made module can pass.
 #![tactic(auto)]
 
 pub mod choices;

@@ -1,4 +1,4 @@
-//! What a module does with its items: exports, the start function, and segments.
+//! Exports, the start function, and segments.
 
 ghost use Rattle.std.specs.Prelude.{◌≡◌, ◌≤◌, ◌<◌, ◌^◌, [], IfOk, IfErr, length, map, ◌+◌};
 ghost use Rattle.wasm_smith_config.specs.Config.{IsGood};

@@ -8,7 +8,7 @@ use wasm_smith_config_rows::settings::config_of;
 use wasm_test_rows::fields::two_fields;
 use wasm_test_rows::rows::check_rows;
 
-// Whether the answer is `allowed`, or names this field.
+// Checks that the answer is `allowed`, or names this field.
 fn is_answer(answer: Result<(), Error>, expected: &str) -> bool {
     match answer {
         Ok(()) => expected == "allowed",

@@ -12,7 +12,7 @@ use wasm_smith_config_rows::settings::config_of;
 use wasm_test_rows::fields::two_fields;
 use wasm_test_rows::rows::check_rows;
 
-// Whether the counts of the configuration are those of the default.
+// Checks that the counts of the configuration are those of the default.
 fn has_default_counts(config: &Config) -> bool {
     config.min_types == 0
         && config.max_types == 100
@@ -131,7 +131,7 @@ const KINDS: [InstructionKind; 12] = [
     InstructionKind::Aggregate,
 ];
 
-// Whether the set has those kinds for which a `1` stands.
+// Checks that the set has those kinds for which a `1` stands.
 fn has_exactly(set: InstructionKinds, marks: &str) -> bool {
     for (kind, mark) in KINDS.iter().zip(marks.as_bytes()) {
         if set.contains(*kind) != (*mark == b'1') {

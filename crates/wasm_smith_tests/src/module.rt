@@ -40,13 +40,13 @@ fn has_types(alloc: Global, module: &Module, types: &str) -> bool {
     holds
 }
 
-// Whether a module has this configuration, these types, and these functions and locals.
+// Checks that a module has this configuration, these types, and these functions and locals.
 fn has_parts(alloc: Global, module: &Module, config: Config, types: &str, rest: &str) -> bool {
     let parts = (module.funcs(), module.locals());
     module.config() == &config && has_types(alloc, module, types) && debugs(alloc, &parts, rest)
 }
 
-// Whether what is expected is made of the bytes, or the cause of the refusal is.
+// Checks that what is expected is made of the bytes, or the cause of the refusal is.
 fn makes(alloc: Global, config: Config, bytes: &[u8], types: &str, rest: &str) -> bool {
     let made = Module::new(alloc, config, &mut Unstructured::new(bytes));
     let holds = match &made {

@@ -70,7 +70,7 @@ fn number_in_range(unstructured: &mut Unstructured<'_>, range: &str) -> Option<u
     Some(unstructured.int_in_range(u64::from(first)..=u64::from(first) + u64::from(more)))
 }
 
-// Whether so many bytes are these, or aren't there.
+// Checks that so many bytes are these, or aren't there.
 fn has_bytes(unstructured: &mut Unstructured<'_>, call: &str, expected: &str) -> bool {
     let (name, digits) = word_and_rest(call);
     let Ok(len) = digits.parse() else {
@@ -90,7 +90,7 @@ fn has_bytes(unstructured: &mut Unstructured<'_>, call: &str, expected: &str) ->
     }
 }
 
-// Whether the next call gives what is expected.
+// Checks that the next call gives what is expected.
 fn gives(unstructured: &mut Unstructured<'_>, call: &str, expected: &str) -> bool {
     match number(unstructured, call) {
         Some(number) => expected.parse().ok() == Some(number),
@@ -98,7 +98,7 @@ fn gives(unstructured: &mut Unstructured<'_>, call: &str, expected: &str) -> boo
     }
 }
 
-// Whether each call gives what stands after its `=`.
+// Checks that each call gives what stands after its `=`.
 fn draws(bytes: &[u8], calls: &str) -> bool {
     let mut unstructured = Unstructured::new(bytes);
     for step in calls.split(',') {
@@ -122,7 +122,7 @@ fn values_are_drawn_of_bytes(rt: HostRuntime) -> Result<(), Fail> {
     Ok(check_rows(rt.alloc(), DRAWN, 27, holds)?)
 }
 
-// Whether of none, of three, of one and of two that one is chosen which the bytes say.
+// Checks that of none, of three, of one and of two that one is chosen which the bytes say.
 fn chooses_by_bytes(unstructured: &mut Unstructured<'_>) -> bool {
     let none: &[char] = &[];
     unstructured.choose(none) == Err(EmptyChoose)

@@ -1,4 +1,4 @@
--- Among one name more than there are, with different numbers at their ends, one is new; what is tried stays so where a name is added.
+-- One of more texts than there are names is new. Numbers that were tried needn't be tried again once a name is added.
 use Rattle.std.specs.Prelude.{bytes_eq, cond}
 use Rattle.std.proofs.Common.{◌≡◌, ℕ, zero, suc, ◌+◌, ◌^◌, ◌<◌, ◌≤◌, Bool, true, false, ◌||◌, List, [], ◌∷◌, ◌++◌, length, length-append, map, Option, Some, is_some, unwrap_or, refl, ap, sym, ◌∙◌, inl, inr, subst, arith}
 use Rattle.std.specs.BTreeMap.{BTreeMap, btree_map_len, get_by_text}

@@ -1,4 +1,4 @@
--- Names, each with a number: how far its forms with numbers at their ends are known to be names as well.
+-- Names, each with the first number that is still to be tried at its end: with those before it, from the number of names on, it is a name as well.
 use Rattle.std.specs.Prelude.{◌≡◌, ℕ, ◌+◌, Bool, bytes_eq, ◌||◌, List, length, map}
 use Rattle.std.specs.BTreeMap.{BTreeMap, get_by_text}
 use Rattle.std.specs.List.{list_any}

@@ -107,7 +107,7 @@ fn add_numbered(
 /// Contracts see the names as a list, in the order of their bytes.
 #[derive(Debug, Drop)]
 pub struct UniqueNames {
-    // by name: the numbers from the count of names on, and below this one, make names at its end
+    // by name: the first number that is still to be tried at its end
     numbers: BTreeMap<String, usize>,
 }
 

@@ -38,7 +38,7 @@ pub fn limited_str<'a>(unstructured: &mut Unstructured<'a>, max: usize) -> &'a s
 /// them gets a number at its end. Adds the name to them.
 ///
 /// # Errors
-/// Where memory runs out. Nothing is added then.
+/// Where memory runs out. Nothing is added then, but the text's bytes are taken.
 pub fn unique_string(
     alloc: Global,
     unstructured: &mut Unstructured<'_>,

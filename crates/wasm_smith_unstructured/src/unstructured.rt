@@ -37,7 +37,7 @@ impl<'a> Unstructured<'a> {
         Unstructured { rest: bytes }
     }
 
-    /// Whether no bytes are left.
+    /// Checks that no bytes are left.
     pub fn is_empty(&self) -> bool
         ensures { IsTrue result ↔ (length self.now ≡ 0) }
     {
@@ -135,7 +135,7 @@ impl<'a> Unstructured<'a> {
         Ok(&things[index as usize])
     }
 
-    /// Whether a number drawn from 1 to `denominator` is at most `numerator`.
+    /// Checks that a number drawn from 1 to `denominator` is at most `numerator`.
     pub fn ratio(&mut self, numerator: u64, denominator: u64) -> bool
         requires some { 0 < numerator }
         requires at_most_all { numerator ≤ denominator }

@@ -136,7 +136,7 @@ starts spaces (Some index) = is_unit (func_type_at spaces.types index)
 
 -- ---- entries
 
--- An import entry has at least one import, which the standard doesn't ask for.
+-- The rule on an entry. Beyond the standard's, an import entry has at least one import.
 abbrev pub KeepsRule : Features → Spaces → Entry → Type 0
 KeepsRule features spaces (OfCustom name) = ⊤
 KeepsRule features spaces (OfType group) = IsValidGroup features spaces.types group

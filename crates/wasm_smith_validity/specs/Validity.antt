@@ -1,6 +1,6 @@
 -- Validity by index of a module made by the generator: the rules of validation over plain lists. It knows no bytes and no trees, so two equal types are
--- two here, and a few modules are refused that the standard accepts. Limits are asked elsewhere, and so is whether the module can be written. Core
--- Specification 3.0, Validation, "Types" and "Modules".
+-- two here, and it knows fewer constants and no empty import entries: some modules are refused that the standard accepts. Limits but that on the depth of
+-- types are asked elsewhere, and so is whether the module can be written. Core Specification 3.0, Validation, "Types" and "Modules".
 use Rattle.std.specs.Prelude.{◌≡◌, true, false, List, [], length}
 use Rattle.std.specs.List.{AllByRecursion}
 use Rattle.wasm_spec.specs.Features.{Features}

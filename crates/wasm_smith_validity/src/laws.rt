@@ -1,4 +1,4 @@
-//! Laws of made modules. The functions do nothing: their contracts are theorems.
+//! Laws that made modules which are valid by index keep the rules on sections. The functions do nothing: their contracts are theorems.
 
 ghost use Rattle.std.specs.Prelude.{◌≡◌, ◌≤◌, ℕ, Bool, true, List, length};
 ghost use Rattle.wasm_smith_types.specs.ValidGroups.{types_of};

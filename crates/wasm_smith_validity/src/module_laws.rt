@@ -1,4 +1,4 @@
-//! Laws of whole made modules. The functions do nothing: their contracts are theorems.
+//! Laws that made modules which are valid by index are valid, with bodies `unreachable`. The functions do nothing: their contracts are theorems.
 
 ghost use Rattle.std.specs.List.{AllByRecursion};
 ghost use Rattle.std.specs.Prelude.{◌≤◌, ℕ, Bool, List, length};

@@ -1,4 +1,4 @@
-//! The specification: which bytes are a module, which modules are valid, and what a module shows.
+//! The specification up to modules as bytes: types, the binary format, subtyping, features and limits. Valid modules are those of `wasm_validity`.
 //!
 //! Everything that this crate says stands in `specs/`. The functions of the modules below do nothing: their
 //! contracts are theorems on the definitions.

@@ -252,7 +252,7 @@ pub fn aggregates()
     ensures outside_already { GivesNot [] (null_external ∷ ExternConvertAny ∷ Drop ∷ []) }
 {}
 
-/// What parts and ends blocks stands in no list.
+/// `else` and `end` stand in no list.
 pub fn no_operators()
     ensures parted { GivesNot [] (Else ∷ []) }
     ensures ended { GivesNot [] (End ∷ []) }

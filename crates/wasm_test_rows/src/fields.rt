@@ -1,6 +1,6 @@
 //! The rows of a table, and their fields.
 
-/// Whether a line of a table is a row.
+/// Checks that a line of a table is a row.
 pub fn is_row(line: &str) -> bool {
     let row = line.trim_start();
     !row.is_empty() && !row.starts_with("//")
@@ -11,7 +11,7 @@ pub fn count_of_rows(table: &str) -> usize {
     table.lines().filter(|line| is_row(line)).count()
 }
 
-/// Whether a word is among those of a field.
+/// Checks that a word is among those of a field.
 pub fn has_word(field: &str, word: &str) -> bool {
     field.split_whitespace().any(|it| it == word)
 }

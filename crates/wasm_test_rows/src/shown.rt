@@ -3,7 +3,7 @@
 use std::alloc::Global;
 use std::fmt::{Debug, Display};
 
-/// Whether a value displays this.
+/// Checks that a value displays this.
 pub fn displays<T: Display>(alloc: Global, value: &T, expected: &str) -> bool {
     match format!(in alloc; "{value}") {
         Ok(shown) => shown.as_str() == expected,
@@ -11,7 +11,7 @@ pub fn displays<T: Display>(alloc: Global, value: &T, expected: &str) -> bool {
     }
 }
 
-/// Whether a value's `Debug` is this.
+/// Checks that a value's `Debug` is this.
 pub fn debugs<T: Debug>(alloc: Global, value: &T, expected: &str) -> bool {
     match format!(in alloc; "{value:?}") {
         Ok(shown) => shown.as_str() == expected,
@@ -19,7 +19,7 @@ pub fn debugs<T: Debug>(alloc: Global, value: &T, expected: &str) -> bool {
     }
 }
 
-/// Whether two values have the same `Debug`.
+/// Checks that two values have the same `Debug`.
 pub fn debugs_same<T: Debug, U: Debug>(alloc: Global, value: &T, other: &U) -> bool {
     match format!(in alloc; "{other:?}") {
         Ok(shown) => debugs(alloc, value, &shown),

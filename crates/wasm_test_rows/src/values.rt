@@ -23,7 +23,7 @@ pub fn bytes_of(alloc: Global, field: &str) -> Option<Vec<u8>> {
     Some(bytes)
 }
 
-/// Whether the bytes of a field are these.
+/// Checks that the bytes of a field are these.
 pub fn are_bytes(alloc: Global, field: &str, bytes: &[u8]) -> bool {
     match bytes_of(alloc, field) {
         Some(found) => found.as_slice() == bytes,

@@ -1,4 +1,4 @@
--- What is below what among the types that worked examples of subtyping share.
+-- Subtypes among the types that worked examples of subtyping share.
 use Rattle.std.proofs.Common.{◌≡◌, ℕ, [], length, option_map, refl, ap, arith}
 use Rattle.std.specs.Option.{option_and_then, unwrap_or}
 use Rattle.wasm_spec.specs.Subtyping.{Defined, HeapBelow, Link, abstract_of, same, step}

@@ -1,4 +1,4 @@
--- What zeros read as: memories of no pages, as many as there may be.
+-- Zeros read as memories of no pages, as many as there may be.
 use Rattle.std.proofs.Common.{◌≡◌, ℕ, zero, suc, Bool, true, false, List, [], ◌∷◌, ◌++◌, length, map, drop, replicate, nat_eq, ◌||◌, Option, Some, None, refl, inl, inr, sym, subst, ap, ◌∙◌, arith, append-nil}
 use Rattle.std.proofs.lemmas.List.{length-replicate}
 use Rattle.std.specs.List.{AllByRecursion}

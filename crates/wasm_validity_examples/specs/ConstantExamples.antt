@@ -1,4 +1,4 @@
--- What worked examples of constant expressions say.
+-- Worked examples of constant expressions.
 use Rattle.std.specs.Prelude.{◌≡◌, ℕ, pos, Bool, true, false, List, [], ◌∷◌, Option, Some, None}
 use Rattle.std.specs.List.{list_all}
 use Rattle.wasm_spec.specs.Constants.{ConstantOperator, I32Const, I64Const, RefNull, ConstantExpression}

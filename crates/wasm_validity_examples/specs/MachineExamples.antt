@@ -1,4 +1,4 @@
--- What worked examples say of bodies, operator by operator. They stand in the module of `BodyExamples`, whose types are named by their indexes.
+-- Worked examples of bodies, operator by operator. They stand in the module of `BodyExamples`, whose types are named by their indexes.
 use Rattle.std.specs.Prelude.{◌≡◌, ℕ, true, List, [], Some, None, unwrap_or}
 use Rattle.wasm_bodies.specs.Bodies.{Run}
 use Rattle.wasm_bodies.specs.BodyContext.{BodyContext, func_at}

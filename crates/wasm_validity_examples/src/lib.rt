@@ -1,7 +1,6 @@
 //! Worked examples of the rules on sections, of bodies operator by operator, and of valid modules.
 //!
-//! The functions do nothing: their contracts evaluate definitions of `wasm_validity`, `wasm_bodies_laws` and `wasm_validity` on given
-//! values.
+//! The functions do nothing: their contracts evaluate definitions of `wasm_validity` and of `wasm_bodies_laws` (`Machine`) on given values.
 #![tactic(auto)]
 
 pub mod body_examples;

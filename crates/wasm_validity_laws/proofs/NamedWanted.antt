@@ -75,7 +75,7 @@ module _ (n : ℕ) where
   number_named Float32 = refl
   number_named Float64 = refl
 
--- types of items, as another crate says it
+-- types of items, as `NamedTypes` says it
 same_heap : (types : List DefType) (heap : HeapType ℕ) → names_heap types heap ≡ true → is_heap_below (length types) heap ≡ true
 same_heap types (Abstract heap) e = refl
 same_heap types (Concrete index) e = e

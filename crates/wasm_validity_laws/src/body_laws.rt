@@ -1,4 +1,4 @@
-//! Laws of what the bodies of a module are judged in. The functions do nothing: their contracts are theorems.
+//! Laws of subtyping in a module, as its bodies ask it. The functions do nothing: their contracts are theorems.
 
 ghost use Rattle.std.specs.Prelude.{◌≡◌, ◌↔◌, ℕ, Bool, List, [], Some, false, length, slice_get};
 ghost use Rattle.wasm_bodies.specs.Bodies.{HasManyLocals, HasOtherOperator, IsFunctionBody};

@@ -1,5 +1,4 @@
-//! The parser and the validator of WebAssembly modules, in one place. The parts are the crates whose names begin with
-//! this one's.
+//! The parser and the validator of WebAssembly modules, in one place. The parts are the crates that are shown here.
 #![tactic(auto)]
 
 pub use wasm_core_types::scalar_operator;

@@ -51,7 +51,7 @@ pub trait JudgeBody {
         ensures runs { RunsOn (state self.old) (state self.new) code.now result.now }
         ensures kept { kept self.new ≡ kept self.old };
 
-    /// Whether all blocks have ended, the body too.
+    /// Checks that all blocks have ended, the body too.
     fn is_closed(&self) -> bool
         ensures { IsTrue result ↔ ((state self.now).machine.frames ≡ []) };
 }

@@ -75,7 +75,7 @@ pub trait WasmModuleResources {
     fn element_type_at(&self, at: u32) -> Option<RefType>
         ensures { result ≡ slice_get (resources self.now).items.elements at };
 
-    /// Whether the first type is below the second.
+    /// Checks that the first type is below the second.
     fn is_subtype(&self, a: ValType, b: ValType) -> bool
         ensures { result ≡ (resources self.now).items.is_below (val_type a) (val_type b) };
 
@@ -139,11 +139,11 @@ pub trait WasmModuleResources {
     fn data_count(&self) -> Option<u32>
         ensures { result ≡ (resources self.now).items.data_count };
 
-    /// Whether an export, an element segment or a constant expression names the function.
+    /// Checks that an export, an element segment or a constant expression names the function.
     fn is_function_referenced(&self, index: u32) -> bool
         ensures { result ≡ (resources self.now).items.declared index };
 
-    /// Whether the function's type is known exactly: it is not imported.
+    /// Checks that the function's type is known exactly: it is not imported.
     fn has_function_exact_type(&self, index: u32) -> bool
         ensures { result ≡ has_exact_type (resources self.now) index };
 }

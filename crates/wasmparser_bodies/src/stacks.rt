@@ -56,7 +56,7 @@ fn base(frames: &[Frame]) -> usize
     }
 }
 
-// Whether the innermost list is open.
+// Checks that the innermost list is open.
 #[inline(always)]
 fn is_open(frames: &[Frame]) -> bool
     ensures { result ≡ is_open_of (reverse frames.now) }
@@ -198,7 +198,7 @@ impl Stacks {
         true
     }
 
-    /// Whether the operands below so many others of the innermost list are known and of exactly these types, that of the
+    /// Checks that the operands below so many others of the innermost list are known and of exactly these types, that of the
     /// last type on top.
     #[inline(always)]
     pub fn are_known(&self, depth: usize, types: &[ValType]) -> bool
@@ -419,7 +419,7 @@ impl Stacks {
         None
     }
 
-    /// Whether no block is open, as after the end of a body.
+    /// Checks that no block is open, as after the end of a body.
     #[inline(always)]
     pub fn is_closed(&self) -> bool
         ensures { IsTrue result ↔ (self.now.frames ≡ []) }
@@ -466,7 +466,7 @@ impl Stacks {
         }
     }
 
-    /// Whether a local without a value at the start was assigned.
+    /// Checks that a local without a value at the start was assigned.
     #[inline(always)]
     pub fn is_assigned(&self, local: u32) -> bool
         ensures { result ≡ is_among self.now.now.assigned local }

@@ -56,7 +56,7 @@ pub(crate) fn replace_tail_with(
     Ok(())
 }
 
-// Whether an operand is known and of this type.
+// Checks that an operand is known and of this type.
 #[inline(always)]
 fn is_of(x: &Operand, value_type: &ValType) -> bool
     ensures { IsTrue result ↔ (operand x.now ≡ Known (val_type value_type.now)) }
@@ -68,7 +68,7 @@ fn is_of(x: &Operand, value_type: &ValType) -> bool
     }
 }
 
-// Whether operands are known and of these types, one by one.
+// Checks that operands are known and of these types, one by one.
 #[inline(always)]
 pub(crate) fn are_of(operands: &[Operand], types: &[ValType]) -> bool
     requires { length operands.now ≡ length types.now }

@@ -123,7 +123,7 @@ impl<'a> Scope<'a> {
     }
 }
 
-// Whether each field has a value if none is given.
+// Checks that each field has a value if none is given.
 fn are_defaultable(fields: &[FieldType]) -> bool
     ensures { result ≡ list_all is_defaultable (field_values fields.now) }
 {

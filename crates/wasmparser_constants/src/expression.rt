@@ -114,7 +114,7 @@ impl<'a> Scope<'a> {
         }
     }
 
-    // Whether a type is below another that all can be compared with, with a fast way for numbers.
+    // Checks that a type is below another that all can be compared with, with a fast way for numbers.
     #[inline(always)]
     fn is_below_wanted(&self, ty: &ValType, wanted: &ValType) -> bool
         requires ids { AreIds (known self.now) (val_refs (val_type ty.now)) }

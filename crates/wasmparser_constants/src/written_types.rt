@@ -38,7 +38,7 @@ impl<'a> Scope<'a> {
         self.check_constant(operands, expression, &ty)
     }
 
-    /// Whether the first of two types is below the second, which both name types by their indexes in the module.
+    /// Checks that the first of two types is below the second, which both name types by their indexes in the module.
     pub fn is_below(&self, a: &ValType, b: &ValType) -> bool
         requires wanted { CanBeWanted (features_of self.now) (val_type a.now) }
         ensures { IsTrue result ↔ IsBelow (context self.now) (val_map number_of (val_type a.now)) (val_map number_of (val_type b.now)) }

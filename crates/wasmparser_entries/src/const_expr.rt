@@ -54,7 +54,7 @@ fn passes_end(reader: &mut BinaryReader<'_>) -> Result<bool, Malformed>
     }
 }
 
-// Whether a number stands after a code, and nothing else: that of a global or of a function, or a constant.
+// Checks that a number stands after a code, and nothing else: that of a global or of a function, or a constant.
 #[inline(always)]
 fn takes_number(code: u8) -> bool
     ensures { result ≡ takes_number code }
@@ -255,7 +255,7 @@ impl<'a> Model for ConstOperators<'a> {
 impl<'a> ConstOperators<'a> {
     ghost use Rattle.wasmparser_entries.specs.ConstExprs.{are_none};
 
-    /// Whether no operator is left.
+    /// Checks that no operator is left.
     #[inline(always)]
     #[tactic(auto, using(crate::proofs::ExpressionLaws::last_steps))]
     pub fn is_empty(&self) -> bool

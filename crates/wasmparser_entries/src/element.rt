@@ -215,7 +215,7 @@ fn read_packed<'a>(reader: &mut BinaryReader<'a>) -> Result<Element<'a>, Malform
     read_element_from(number, reader)
 }
 
-// Whether the type index of the items' type, if it has one, is a place in the module.
+// Checks that the type index of the items' type, if it has one, is a place in the module.
 fn items_are_of_module(items: &ElementItems<'_>) -> bool
     ensures { IsTrue result ↔ AllByRecursion IsModuleIndex (packed_refs_of_items (packed_items items.now)) }
 {

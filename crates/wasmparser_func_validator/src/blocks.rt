@@ -23,7 +23,7 @@ use wasmparser_operators::immediates::BlockType;
 use wasmparser_types::val_type::ValType;
 
 impl<R: WasmModuleResources> Body<R> {
-    // Whether the innermost list ends with exactly these types.
+    // Checks that the innermost list ends with exactly these types.
     #[tactic(auto, using(crate::proofs::TypeLaws::ends))]
     fn has_given(&self, stacks: &Stacks, results: &[ValType]) -> bool
         ensures { result ≡ is_exactly (R.resources self.now.resources).items (map val_type results.now) stacks.now.now }
@@ -37,7 +37,7 @@ impl<R: WasmModuleResources> Body<R> {
         true
     }
 
-    // Whether a list that begins with the parameters, and has nothing else, may end with the results.
+    // Checks that a list that begins with the parameters, and has nothing else, may end with the results.
     #[tactic(auto, using(crate::proofs::TypeLaws::serves))]
     fn serves(&self, params: &[ValType], results: &[ValType]) -> bool
         ensures { (assigned : List ℕ) → result ≡ is_exactly (R.resources self.now.resources).items (map val_type results.now) (fresh (map val_type params.now) assigned) }
@@ -129,7 +129,7 @@ impl<R: WasmModuleResources> Body<R> {
         }
     }
 
-    // Whether a block may end without a second list.
+    // Checks that a block may end without a second list.
     fn may_end(&self, kind: FrameKind, block_type: &BlockType) -> bool
         ensures { (below : State Index) → result ≡ may_end (R.resources self.now.resources).items (frame_kind kind) (frame_of (frame_kind kind) (block_with_ids block_type.now) below) }
     {

@@ -31,7 +31,7 @@ pub struct Body<R> {
 }
 
 impl<R: WasmModuleResources> Body<R> {
-    // Whether an operand may stand where one of the type is wanted.
+    // Checks that an operand may stand where one of the type is wanted.
     fn fits(&self, wanted: ValType, x: &Operand) -> bool
         ensures { result ≡ fits (R.resources self.now.resources).items (val_type wanted) (operand x.now) }
     {
@@ -42,7 +42,7 @@ impl<R: WasmModuleResources> Body<R> {
         }
     }
 
-    // Whether operands of these types are there, below the last one or from the last one on.
+    // Checks that operands of these types are there, below the last one or from the last one on.
     pub(crate) fn accepts<L: TypeList>(&self, stacks: &Stacks, above: usize, types: &L) -> bool
         requires { above ≤ 1 }
         ensures { all_taken (R.resources self.now.resources).items (L.types types.now) (lowered above stacks.now.now) ≡ provided result (Some (lowered (above + length (L.types types.now)) stacks.now.now)) }
@@ -81,7 +81,7 @@ impl<R: WasmModuleResources> Body<R> {
         Ok(())
     }
 
-    // Whether an operand of a type is there, and others below it.
+    // Checks that an operand of a type is there, and others below it.
     pub(crate) fn accepts_with_last(
         &self,
         stacks: &Stacks,

@@ -73,7 +73,7 @@ impl<R: WasmModuleResources> Body<R> {
         self.apply_with_last(stacks, types, &ValType::I32, types)
     }
 
-    // Whether a label takes so many operands, and these may be those below the last one.
+    // Checks that a label takes so many operands, and these may be those below the last one.
     fn accepts_label(&self, stacks: &Stacks, arity: usize, label: u32) -> bool
         ensures { result ≡ accepts (R.resources self.now.resources).items arity (lowered 1 stacks.now.now) (slice_get (labels_of (R.resources self.now.resources).items stacks.now.frames) label) }
     {
@@ -84,7 +84,7 @@ impl<R: WasmModuleResources> Body<R> {
         types.len() == arity && self.accepts(stacks, 1, &Types(types))
     }
 
-    // Whether jumps to two labels take the same, as far as that shows without a look at types.
+    // Checks that jumps to two labels take the same, as far as that shows without a look at types.
     fn are_alike(&self, stacks: &Stacks, one: u32, other: u32) -> bool
         ensures { IsTrue result → slice_get (labels_of (R.resources self.now.resources).items stacks.now.frames) one ≡ slice_get (labels_of (R.resources self.now.resources).items stacks.now.frames) other }
     {
@@ -117,7 +117,7 @@ impl<R: WasmModuleResources> Body<R> {
         self.accepts_label(stacks, arity, label)
     }
 
-    // Whether each of several labels accepts the operands, where it is known of the default one.
+    // Checks that each of several labels accepts the operands, where it is known of the default one.
     fn accepts_labels(
         &self,
         stacks: &Stacks,
@@ -133,7 +133,7 @@ impl<R: WasmModuleResources> Body<R> {
         })
     }
 
-    // Whether each label of a table accepts the operands below the last one.
+    // Checks that each label of a table accepts the operands below the last one.
     #[tactic(auto, using(crate::proofs::BranchLaws::tables))]
     fn accepts_table(&self, stacks: &Stacks, targets: &BrTable<'_>) -> bool
         ensures { leaves_by_table (R.resources self.now.resources).items (labels_of (R.resources self.now.resources).items stacks.now.frames) targets.now.labels targets.now.default (lowered 1 stacks.now.now) ≡ provided result (Some (nothing_known (lowered 1 stacks.now.now))) }

@@ -37,7 +37,7 @@ fn past_types(offset: u64) -> Error
 }
 
 impl<T: WasmModuleResources> FuncValidator<T> {
-    // Whether the module has more types than indexes that can be packed.
+    // Checks that the module has more types than indexes that can be packed.
     #[tactic(auto, using(crate::proofs::ManyTypes::type_counts))]
     fn has_many_types(&self) -> bool
         ensures few { result ≡ false → length (T.resources self.now.body.resources).items.types ≤ packable }

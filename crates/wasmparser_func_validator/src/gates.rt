@@ -17,7 +17,7 @@ use wasm_core_types::scalar_operator::ScalarOperator;
 use wasmparser_operators::immediates::BlockType;
 use wasmparser_operators::operator::Operator;
 
-// Whether a block of the type is allowed.
+// Checks that a block of the type is allowed.
 fn is_block_on(features: WasmFeatures, blockty: &BlockType) -> bool
     ensures { result ≡ list_all (has (feature_set features)) (block_gate (block_type blockty.now)) }
 {
@@ -27,7 +27,7 @@ fn is_block_on(features: WasmFeatures, blockty: &BlockType) -> bool
     }
 }
 
-// Whether the proposal that brought the operator is on.
+// Checks that the proposal that brought the operator is on.
 #[tactic(auto, unfolding(wasmparser_operators::specs::CodeTables::row_of))]
 fn is_proposal_on(features: WasmFeatures, operator: ScalarOperator) -> bool
     ensures { result ≡ list_all (has (feature_set features)) (scalar_row operator).gate }
@@ -50,7 +50,7 @@ fn is_proposal_on(features: WasmFeatures, operator: ScalarOperator) -> bool
     }
 }
 
-// Whether an operator of this form is allowed, as far as floats go.
+// Checks that an operator of this form is allowed, as far as floats go.
 #[inline(always)]
 pub(crate) fn are_floats_on(features: WasmFeatures, form: NumericForm) -> bool
     ensures { result ≡ list_all (has (feature_set features)) (float_gate (form_gives form ∷ form_takes form)) }
@@ -62,7 +62,7 @@ pub(crate) fn are_floats_on(features: WasmFeatures, form: NumericForm) -> bool
     !has_floats || features.floats()
 }
 
-// Whether a number of the type is allowed.
+// Checks that a number of the type is allowed.
 #[inline(always)]
 pub(crate) fn is_number_on(features: WasmFeatures, ty: NumberType) -> bool
     ensures { result ≡ list_all (has (feature_set features)) (float_gate (number ty ∷ [])) }
@@ -76,7 +76,7 @@ fn is_scalar_on(features: WasmFeatures, operator: ScalarOperator) -> bool
     is_proposal_on(features, operator) && are_floats_on(features, form_of(operator))
 }
 
-// Whether the features allow the operator.
+// Checks that the features allow the operator.
 pub(crate) fn is_on(features: WasmFeatures, op: &Operator<'_>) -> bool
     ensures { result ≡ gates.is_on (feature_set features) (operator op.now) }
 {

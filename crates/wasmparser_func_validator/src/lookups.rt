@@ -56,7 +56,7 @@ pub(crate) fn func_type_in<R: WasmModuleResources>(resources: &R, index: u32) ->
     }
 }
 
-// Whether a memory has this address.
+// Checks that a memory has this address.
 #[inline(always)]
 fn is_offset(is_64: bool, offset: u64) -> bool
     ensures { result ≡ nat_lt offset (2 ^ (if is_64 then 64 else 32)) }

@@ -96,7 +96,7 @@ impl<R: WasmModuleResources> Body<R> {
         self.apply(stacks, &takes, &[])
     }
 
-    // Whether a data count covers the segment.
+    // Checks that a data count covers the segment.
     fn has_data(&self, segment: u32) -> bool
         ensures { result ≡ has_data (R.resources self.now.resources).items segment }
     {

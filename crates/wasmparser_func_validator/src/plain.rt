@@ -26,7 +26,7 @@ use wasmparser_bodies::stacks::Stacks;
 use wasmparser_operators::immediates::BlockType;
 use wasmparser_types::val_type::ValType;
 
-// Whether a type is one of numbers.
+// Checks that a type is one of numbers.
 #[inline(always)]
 pub(crate) fn is_number(ty: &ValType) -> bool
     ensures { IsTrue result → IsNumber (val_type ty.now) }
@@ -38,7 +38,7 @@ pub(crate) fn is_number(ty: &ValType) -> bool
 }
 
 impl<R: WasmModuleResources> Body<R> {
-    // Whether each type of numbers is below itself, as it is in modules.
+    // Checks that each type of numbers is below itself, as it is in modules.
     fn numbers_fit(&self) -> bool
         ensures { IsTrue result → NumbersFit (R.resources self.now.resources).items }
     {

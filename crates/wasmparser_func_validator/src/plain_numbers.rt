@@ -90,7 +90,7 @@ pub(crate) fn five_bytes(bits: u32, code: &[u8]) -> Option<(u32, &[u8])>
     }
 }
 
-// Whether a byte ends a signed number of so many bits. Of fewer bits than a byte has these are some, but all of four bits.
+// Checks that a byte ends a signed number of so many bits. Of fewer bits than a byte has these are some, but all of four bits.
 #[inline(always)]
 fn ends_signed(bits: u32, byte: u8) -> bool
     requires { 4 ≤ bits }

@@ -56,7 +56,7 @@ impl<R: WasmModuleResources> Body<R> {
         }
     }
 
-    // Whether a jump to a label takes nothing, as far as that shows without a look at types.
+    // Checks that a jump to a label takes nothing, as far as that shows without a look at types.
     #[inline(always)]
     fn is_empty_label(&self, stacks: &Stacks, label: u32) -> bool
         ensures { IsTrue result → slice_get (labels_of (R.resources self.now.resources).items stacks.now.frames) label ≡ Some [] }

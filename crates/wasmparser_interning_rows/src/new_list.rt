@@ -16,7 +16,7 @@ pub fn on_new_list<F: Fn(Global, &mut CheckedList, &str) -> Option<bool>>(
     holds(alloc, &mut list, row)
 }
 
-/// Whether a copy is taken, and then some steps hold on the list, and others on the copy.
+/// Checks that a copy is taken, and then some steps hold on the list, and others on the copy.
 pub fn copy_stays(alloc: Global, list: &mut CheckedList, after: &str, of_copy: &str) -> bool {
     match list.commit() {
         Ok(mut copy) => steps_hold(alloc, list, after) && steps_hold(alloc, &mut copy, of_copy),

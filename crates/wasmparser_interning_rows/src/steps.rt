@@ -65,7 +65,7 @@ pub fn interned(alloc: Global, list: &mut CheckedList, call: &str) -> Option<Ans
     }
 }
 
-// Whether this id or this refusal was answered.
+// Checks that this id or this refusal was answered.
 fn is_id(answer: Result<CoreTypeId, Error>, expected: &str) -> bool {
     match answer {
         Ok(id) => id_of(expected) == Some(id),
@@ -102,12 +102,12 @@ pub fn is_answer(list: &CheckedList, answer: Answer, expected: &str) -> Option<b
     }
 }
 
-// Whether there are as many.
+// Checks that there are as many.
 fn is_count(count: usize, expected: &str) -> bool {
     number_of(expected) == Some(count as u64)
 }
 
-// Whether this is the type, or `none`.
+// Checks that this is the type, or `none`.
 fn is_type(alloc: Global, found: Option<&SubType>, expected: &str) -> bool {
     match found {
         Some(it) => sub_type_of(alloc, expected).is_some_and(|expected| *it == expected),
@@ -121,7 +121,7 @@ fn has_type(alloc: Global, list: &CheckedList, word: &str, expected: &str) -> Op
     Some(is_type(alloc, list.get(id), expected) && is_type(alloc, list.at(id), expected))
 }
 
-// Whether the ids begin and end there, or are `none`.
+// Checks that the ids begin and end there, or are `none`.
 fn is_range(found: Option<&Range<CoreTypeId>>, expected: &str) -> bool {
     match found {
         Some(range) => {
@@ -193,7 +193,7 @@ fn step_holds(alloc: Global, list: &mut CheckedList, step: &str) -> Option<bool>
     is_answer(list, answer, expected)
 }
 
-/// Whether each step holds.
+/// Checks that each step holds.
 pub fn steps_hold(alloc: Global, list: &mut CheckedList, steps: &str) -> bool {
     for step in steps.split_terminator(';') {
         if step_holds(alloc, list, step) != Some(true) {

@@ -54,7 +54,7 @@ fn links_above(list: &CheckedList, id: u32, most: u32) -> u32 {
     links
 }
 
-// Whether one type is below another, and is found so by two reads, where both are within the limit on depth.
+// Checks that one type is below another, and is found so by two reads, where both are within the limit on depth.
 fn is_pair(asked: &AskedList, a: u32, b: u32) -> bool {
     let (lower, upper) = (CoreTypeId::from_index(a), CoreTypeId::from_index(b));
     let are_within = a <= MAX_DEPTH && b <= MAX_DEPTH;
@@ -65,7 +65,7 @@ fn is_pair(asked: &AskedList, a: u32, b: u32) -> bool {
     asked.id_is_subtype(lower, upper) == (b <= a) && is_counted
 }
 
-// Whether a type has as many supertypes as types come before it, and these are the types above it.
+// Checks that a type has as many supertypes as types come before it, and these are the types above it.
 fn is_placed(list: &CheckedList, asked: &AskedList, id: u32, count: u32) -> bool {
     let depth = asked.depth(CoreTypeId::from_index(id));
     let is_within = match depth {

@@ -27,7 +27,7 @@ fn are_of_one_kind(a: &CompositeType, b: &CompositeType) -> bool
     }
 }
 
-// Whether an index stands for a type of the same kind as this one.
+// Checks that an index stands for a type of the same kind as this one.
 fn is_of_kind(list: &TypeList, index: PackedIndex, it: &CompositeType) -> bool
     ensures { IsTrue result → IsOfKind (type_by_id list.now) index (abstract_of (composite_type it.now)) }
 {
@@ -52,7 +52,7 @@ fn is_below_earlier(list: &TypeList, id: CoreTypeId, it: &SubType) -> bool
     }
 }
 
-// Whether a type is known, and is so.
+// Checks that a type is known, and is so.
 fn is_known_below_earlier(list: &TypeList, index: usize) -> bool
     ensures { IsTrue result → IsBelowEarlierAt list.now index }
 {
@@ -66,7 +66,7 @@ fn is_known_below_earlier(list: &TypeList, index: usize) -> bool
     }
 }
 
-/// Whether all types are so.
+/// Checks that all types are so.
 pub(crate) fn are_below_earlier(list: &TypeList) -> bool
     ensures { IsTrue result → AreBelowEarlier (slice_get (sub_types list.now)) }
 {

@@ -25,7 +25,7 @@ const ELEMENTS: &str = "
     4 |
 ";
 
-// Whether this id comes next, and so many were still to come.
+// Checks that this id comes next, and so many were still to come.
 fn is_next(elements: &mut RecGroupElements, left: usize, id: &str) -> bool {
     let is_told = elements.len() == left && elements.size_hint() == (left, Some(left));
     match (elements.next(), id_of(id)) {
@@ -34,7 +34,7 @@ fn is_next(elements: &mut RecGroupElements, left: usize, id: &str) -> bool {
     }
 }
 
-// Whether these ids are to come, in order, and none after them.
+// Checks that these ids are to come, in order, and none after them.
 fn gives(elements: &mut RecGroupElements, ids: &str) -> bool {
     let mut left = ids.split_whitespace().count();
     for id in ids.split_whitespace() {

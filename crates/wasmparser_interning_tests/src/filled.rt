@@ -10,7 +10,7 @@ use wasmparser_types::composite_type::{CompositeType, StructType};
 use wasmparser_types::index::{CoreTypeId, RecGroupId};
 use wasmparser_types::sub_type::SubType;
 
-// Whether a value is held so, by its one owner or shared.
+// Checks that a value is held so, by its one owner or shared.
 fn holds(held: &MaybeOwned<u32>, value: u32, is_shared: bool) -> bool {
     let is_value = *held.get() == value;
     match held.shared() {
@@ -46,12 +46,12 @@ fn structure(alloc: Global) -> SubType {
     }
 }
 
-// Whether there are so many types and groups.
+// Checks that there are so many types and groups.
 fn counts(list: &TypeList, types: usize, groups: usize) -> bool {
     CoreTypeId::list(list).len() == types && RecGroupId::list(list).len() == groups
 }
 
-// Whether a list has a type, by both ways to ask.
+// Checks that a list has a type, by both ways to ask.
 fn is_structure(types: &TypeAlloc, id: CoreTypeId, it: &SubType) -> bool {
     if id.index() >= CoreTypeId::list(types.list()).len() {
         return false;
@@ -59,13 +59,13 @@ fn is_structure(types: &TypeAlloc, id: CoreTypeId, it: &SubType) -> bool {
     types.list().get(id) == Some(it) && types[id] == *it
 }
 
-// Whether a structure that is pushed gets this id, and is there then.
+// Checks that a structure that is pushed gets this id, and is there then.
 fn takes(alloc: Global, types: &mut TypeAlloc, id: CoreTypeId) -> bool {
     let is_pushed = types.list_mut().push(structure(alloc)) == Ok(id);
     is_pushed && is_structure(types, id, &structure(alloc))
 }
 
-// Whether a range of ids that is pushed gets this number of a group.
+// Checks that a range of ids that is pushed gets this number of a group.
 fn takes_group(types: &mut TypeAlloc, id: CoreTypeId, group: RecGroupId) -> bool {
     types.list_mut().push(id..id) == Ok(group)
 }

@@ -108,7 +108,7 @@ fn refuses(alloc: Global, list: &mut CheckedList, count: u32) -> Option<bool> {
     Some(is_total && (list.len(), list.group_count()) == before)
 }
 
-// Whether so many types more are refused after so many.
+// Checks that so many types more are refused after so many.
 fn is_too_large(alloc: Global, before: u32, count: u32) -> bool {
     let mut list = CheckedList::new(alloc);
     let is_begun = are_new(alloc, &mut list, true, &[before]);

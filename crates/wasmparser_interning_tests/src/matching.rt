@@ -75,7 +75,7 @@ fn matches(asked: &AskedList, pair: &str) -> Option<bool> {
     Some(asked.matches(id_of(a)?, id_of(b)?))
 }
 
-// Whether each pair matches, or none does.
+// Checks that each pair matches, or none does.
 fn are_so(asked: &AskedList, pairs: &str, expected: bool) -> bool {
     for pair in pairs.split_whitespace() {
         if matches(asked, pair) != Some(expected) {

@@ -136,7 +136,7 @@ fn is_refusal(error: Error, expected: &str) -> bool {
     is_kind && error.offset == OFFSET
 }
 
-// Whether adding a group answers so.
+// Checks that adding a group answers so.
 fn adds(section: &mut CheckedSection, group: RecGroup, expected: &str) -> bool {
     let before = section.type_ids().len();
     match section.add(group, OFFSET) {

@@ -33,7 +33,7 @@ const SIZES: &str = "
     group = new | 0 | 0
 ";
 
-// Whether a type is so small that it can be asked how large it counts.
+// Checks that a type is so small that it can be asked how large it counts.
 fn is_small(it: &CompositeType) -> bool
     ensures { IsTrue result → size_of (composite_type it.now) < 2 ^ 24 }
 {

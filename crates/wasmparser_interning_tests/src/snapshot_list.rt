@@ -50,7 +50,7 @@ fn room_is_made(rt: HostRuntime) -> Result<(), Fail> {
     Ok(())
 }
 
-// Whether a list has the numbers from 0 on, as many as it says, and nothing after them.
+// Checks that a list has the numbers from 0 on, as many as it says, and nothing after them.
 fn counts_to(list: &SnapshotList<usize>, len: usize) -> bool {
     for number in 0..len {
         if list.get(number) != Some(&number) {
@@ -76,7 +76,7 @@ fn push_numbers(
     Ok(())
 }
 
-// Whether there are so many numbers, and the copies have one step more each.
+// Checks that there are so many numbers, and the copies have one step more each.
 fn are_counted(
     list: &SnapshotList<usize>,
     copies: &[SnapshotList<usize>],

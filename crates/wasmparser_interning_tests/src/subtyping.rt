@@ -56,7 +56,7 @@ const ABOVE: &str = "
     own.0 | own.0
 ";
 
-// Whether subtyping of these references is so, asked in both ways.
+// Checks that subtyping of these references is so, asked in both ways.
 fn is_ref(asked: &AskedList, a: RefType, b: RefType, is_below: bool) -> bool {
     asked.reftype_is_subtype(a, b) == is_below
         && asked.valtype_is_subtype(ValType::Ref(a), ValType::Ref(b)) == is_below
@@ -74,7 +74,7 @@ fn are_refs(asked: &AskedList, a: &str, b: &str, is_below: bool) -> Option<bool>
     )
 }
 
-// Whether subtyping of ids is so. The counted call answers the same by two reads at most, of types that have a depth.
+// Checks that subtyping of ids is so. The counted call answers the same by two reads at most, of types that have a depth.
 fn is_id(asked: &AskedList, a: CoreTypeId, b: CoreTypeId, is_below: bool) -> bool {
     let is_counted = match asked.counted(a, b) {
         Some((answer, reads)) => answer == is_below && reads <= 2,
@@ -91,12 +91,12 @@ fn are_ids(asked: &AskedList, a: &str, b: &str, is_below: bool) -> bool {
     }
 }
 
-// Whether a heap type is below another one, by all ways to ask.
+// Checks that a heap type is below another one, by all ways to ask.
 fn is_below(asked: &AskedList, a: &str, b: &str, is_below: bool) -> bool {
     are_refs(asked, a, b, is_below) == Some(true) && are_ids(asked, a, b, is_below)
 }
 
-// Whether a heap type is below those named, and below no other of the words.
+// Checks that a heap type is below those named, and below no other of the words.
 fn is_below_these(asked: &AskedList, it: &str, above: &str) -> bool {
     for other in HEAP_TYPES.split_whitespace() {
         if !is_below(asked, it, other, has_word(above, other)) {
@@ -199,7 +199,7 @@ const VALUES: &str = "
     group open : struct own.1?, own.0 : struct own.1? = new #0 #1; group open : struct own.1?, own.0 : struct own.1? = known #0 #1 | #1 -> #0 | #0 -> #1
 ";
 
-// Whether each parameter is below each result, or none is below any.
+// Checks that each parameter is below each result, or none is below any.
 fn are_below(asked: &AskedList, it: &FuncType, is_below: bool) -> bool {
     for a in it.params() {
         for b in it.results() {
@@ -211,7 +211,7 @@ fn are_below(asked: &AskedList, it: &FuncType, is_below: bool) -> bool {
     true
 }
 
-// Whether each parameter of a function type in words is below each result, or none is below any.
+// Checks that each parameter of a function type in words is below each result, or none is below any.
 fn func_is_so(alloc: Global, asked: &AskedList, field: &str, is_below: bool) -> bool {
     match func_type_of(alloc, field) {
         Some(it) => are_below(asked, &it, is_below),

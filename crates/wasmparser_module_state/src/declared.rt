@@ -13,7 +13,7 @@ use wasmparser_error::error::Error;
 use wasmparser_readers::export::ExternalKind;
 
 impl ModuleState {
-    /// Whether a function is declared outside of bodies: by an export, an element segment or a constant expression. A body may name it as a reference then,
+    /// Checks that a function is declared outside of bodies: by an export, an element segment or a constant expression. A body may name it as a reference then,
     /// if it is so at the module's end.
     pub fn is_declared(&self, function: u32) -> bool
         ensures { result ≡ (context self.now).declared function }

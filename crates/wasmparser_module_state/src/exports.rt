@@ -86,7 +86,7 @@ impl ModuleState {
     }
 }
 
-// Whether what is exported may be.
+// Checks that what is exported may be.
 fn may_leave(features: WasmFeatures, ty: &TypeRef) -> bool
     ensures { result ≡ may_leave (feature_set features) (Some (item ty.now)) }
 {

@@ -27,7 +27,7 @@ impl FunctionSet {
         }
     }
 
-    /// Whether a function is in the set.
+    /// Checks that a function is in the set.
     #[tactic(auto, using(crate::proofs::DeclaredLaws::flag_steps))]
     pub(crate) fn contains(&self, function: u32) -> bool
         ensures { result ≡ members self.now function }

@@ -42,7 +42,7 @@ impl ModuleState {
         self.types.func_type(index)
     }
 
-    /// Whether a type index names a function type.
+    /// Checks that a type index names a function type.
     #[tactic(auto, using(crate::proofs::FuncTypes::func_steps))]
     pub(crate) fn is_func_type(&self, index: u32) -> bool
         ensures { result ≡ is_some (func_type_at (context self.now).types index) }
@@ -50,7 +50,7 @@ impl ModuleState {
         self.types.func_type(index).is_some()
     }
 
-    /// Whether there are as many functions as there may be.
+    /// Checks that there are as many functions as there may be.
     pub(crate) fn has_all_functions(&self) -> bool
         ensures { result ≡ nat_le 1000000 (length (context self.now).imported_functions + length (context self.now).own_functions) }
     {

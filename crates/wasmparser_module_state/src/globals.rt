@@ -27,7 +27,7 @@ impl ModuleState {
         item_at(&self.imported_globals, &self.own_globals, index as usize)
     }
 
-    /// Whether there are as many globals as there may be.
+    /// Checks that there are as many globals as there may be.
     pub(crate) fn has_all_globals(&self) -> bool
         ensures { result ≡ nat_le 1000000 (length (context self.now).imported_globals + length (context self.now).own_globals) }
     {

@@ -113,7 +113,7 @@ impl ModuleState {
         Ok(())
     }
 
-    /// Whether the first of two types is below the second.
+    /// Checks that the first of two types is below the second.
     #[tactic(auto, using(crate::proofs::Judged::seen_steps))]
     pub(crate) fn is_below(&self, a: &ValType, b: &ValType) -> bool
         requires wanted { CanBeWanted (features_of self.now) (val_type a.now) }

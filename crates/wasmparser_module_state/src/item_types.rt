@@ -20,7 +20,7 @@ use wasmparser_types::index::PackedIndex;
 use wasmparser_types::ref_type::RefType;
 use wasmparser_types::val_type::ValType;
 
-// Whether it is the nullable reference to any function.
+// Checks that it is the nullable reference to any function.
 #[tactic(auto, using(crate::proofs::ItemTypes::item_steps))]
 fn is_funcref(ty: RefType) -> bool
     ensures { result ≡ is_funcref (ref_map number_of ty) }
@@ -28,7 +28,7 @@ fn is_funcref(ty: RefType) -> bool
     ty.is_nullable() && ty.is_func_ref()
 }
 
-// Whether the bounds of limits are in order, and at most this.
+// Checks that the bounds of limits are in order, and at most this.
 pub(crate) fn are_bounds(initial: u64, maximum: Option<u64>, greatest: u64) -> bool
     ensures { result ≡ are_bounds (plain_limits initial maximum false) greatest }
 {
@@ -49,14 +49,14 @@ fn most_elements(ty: &TableType) -> u64
     }
 }
 
-// Whether a global may be imported or exported.
+// Checks that a global may be imported or exported.
 pub(crate) fn may_cross(features: WasmFeatures, ty: &GlobalType) -> bool
     ensures { result ≡ may_cross (feature_set features) (global ty.now) }
 {
     !ty.mutable || features.mutable_global()
 }
 
-// Whether the number of an index, of whichever kind, is below this.
+// Checks that the number of an index, of whichever kind, is below this.
 fn is_below(index: PackedIndex, count: usize) -> bool
     ensures { result ≡ nat_lt (number_of index) count }
 {
@@ -70,7 +70,7 @@ fn is_below(index: PackedIndex, count: usize) -> bool
 }
 
 impl ModuleState {
-    // Whether a reference to a type that has an index names one of the module.
+    // Checks that a reference to a type that has an index names one of the module.
     #[tactic(auto, using(crate::proofs::ItemTypes::named_steps))]
     fn is_named(&self, ty: RefType) -> bool
         ensures { result ≡ is_named (context self.now) (ref_map number_of ty).heap_type }
@@ -82,7 +82,7 @@ impl ModuleState {
         }
     }
 
-    /// Whether a value type may stand in the module.
+    /// Checks that a value type may stand in the module.
     #[tactic(auto, using(crate::proofs::ItemTypes::item_steps))]
     pub(crate) fn is_value(&self, ty: &ValType) -> bool
         ensures { result ≡ is_value (features_of self.now) (context self.now) (val_map number_of (val_type ty.now)) }
@@ -94,7 +94,7 @@ impl ModuleState {
         }
     }
 
-    // Whether a table may hold these.
+    // Checks that a table may hold these.
     #[tactic(auto, using(crate::proofs::ItemTypes::item_steps))]
     fn is_element_type(&self, ty: RefType) -> bool
         ensures { result ≡ is_element_type (features_of self.now) (context self.now) (ref_map number_of ty) }
@@ -111,14 +111,14 @@ impl ModuleState {
             && are_bounds(ty.initial, ty.maximum, most_elements(ty))
     }
 
-    /// Whether another table of this type keeps the rules.
+    /// Checks that another table of this type keeps the rules.
     pub(crate) fn keeps_table(&self, ty: &TableType) -> bool
         ensures { result ≡ keeps_table (features_of self.now) (context self.now) (table ty.now) }
     {
         self.is_table_type(ty) && (self.tables.is_empty() || self.features().reference_types())
     }
 
-    /// Whether a tag may have the type of this index.
+    /// Checks that a tag may have the type of this index.
     #[tactic(auto, using(crate::proofs::FuncTypes::func_steps))]
     pub(crate) fn is_tag_type(&self, index: u32) -> bool
         ensures { result ≡ is_tag_type (features_of self.now) (context self.now) index }
@@ -132,7 +132,7 @@ impl ModuleState {
         }
     }
 
-    /// Whether a global of this type may be imported.
+    /// Checks that a global of this type may be imported.
     pub(crate) fn keeps_imported_global(&self, ty: &GlobalType) -> bool
         ensures { result ≡ keeps_item (features_of self.now) (context self.now) (GlobalExternal (global ty.now)) }
     {

@@ -29,7 +29,7 @@ fn most_pages(ty: MemoryType) -> u64
     }
 }
 
-// Whether a module may have a memory of this type.
+// Checks that a module may have a memory of this type.
 fn is_memory_type(features: WasmFeatures, ty: MemoryType) -> bool
     ensures { result ≡ is_memory_type (feature_set features) (memory_type ty) }
 {
@@ -56,7 +56,7 @@ impl ModuleState {
         self.memories.get(index as usize).copied()
     }
 
-    /// Whether another memory of this type keeps the rules.
+    /// Checks that another memory of this type keeps the rules.
     pub(crate) fn keeps_memory(&self, ty: MemoryType) -> bool
         ensures { result ≡ keeps_memory (features_of self.now) (context self.now) (memory_type ty) }
     {

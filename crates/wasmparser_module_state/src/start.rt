@@ -28,7 +28,7 @@ impl ModuleState {
         )
     }
 
-    // Whether an index names the type of functions that take and give nothing.
+    // Checks that an index names the type of functions that take and give nothing.
     #[tactic(auto, using(crate::proofs::UnitTypes::unit_steps))]
     fn is_unit_type(&self, index: u32) -> bool
         ensures { result ≡ is_unit (func_type_at (context self.now).types index) }

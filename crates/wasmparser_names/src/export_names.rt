@@ -40,7 +40,7 @@ fn name_at<'a>(names: &'a [u8], start: usize, export: &KeptExport) -> &'a str
     unsafe { str::from_utf8_unchecked(name) }
 }
 
-// Whether some export has this name, by looking at each.
+// Checks that some export has this name, by looking at each.
 fn has_name(names: &[u8], exports: &[KeptExport], name: &str) -> bool
     requires { AreNamed names.now 0 exports.now }
     ensures { result ≡ is_exported name.now (listed names.now 0 exports.now) }
@@ -194,7 +194,7 @@ fn is_new(
     Ok(is_new)
 }
 
-// Whether a name comes after those of all exports, whose last comes after the others.
+// Checks that a name comes after those of all exports, whose last comes after the others.
 fn is_after(names: &[u8], exports: &[KeptExport], name: &str) -> bool
     requires named { AreNamed names.now 0 exports.now }
     requires ordered { EndInLast (listed names.now 0 exports.now) }

@@ -53,7 +53,7 @@ impl ModuleNames {
         self.hasher
     }
 
-    /// Whether there are no names.
+    /// Checks that there are no names.
     pub fn is_empty(&self) -> bool
         ensures { result ≡ nat_eq (length self.now) 0 }
     {
@@ -126,7 +126,7 @@ fn name_at(names: &[String], place: usize) -> Option<&str>
     Some(name.as_str())
 }
 
-// Whether the name at a place is this one.
+// Checks that the name at a place is this one.
 fn is_at(names: &[String], place: usize, name: &str) -> bool
     ensures yes { IsTrue result → slice_get (map string_bytes names.now) place ≡ Some name.now }
     ensures no { result ≡ false → slice_get (map string_bytes names.now) place ≢ Some name.now }

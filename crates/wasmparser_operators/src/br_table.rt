@@ -46,7 +46,7 @@ impl<'a> BrTable<'a> {
         }
     }
 
-    /// Whether none is counted.
+    /// Checks that none is counted.
     pub fn is_empty(&self) -> bool
         ensures { IsTrue result ↔ (length self.now.labels ≡ 0) }
     {

@@ -1,4 +1,4 @@
-//! Laws of the definitions. The functions do nothing: their contracts are theorems.
+//! Laws of reading operators. The functions do nothing: their contracts are theorems.
 
 ghost use Rattle.wasm_bodies.specs.OperatorGrammar.{IsBlockType, IsCode, IsMemoryArgument, IsOperator};
 ghost use Rattle.wasm_core_read.specs.Laws.{IsPrefixFree, ReadsExactly};

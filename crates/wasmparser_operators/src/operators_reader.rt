@@ -18,7 +18,7 @@ use wasmparser_readers::passing::fork;
 // The byte that ends a block, or the body.
 const END: u8 = 0x0b;
 
-// Whether the next byte is that of an end.
+// Checks that the next byte is that of an end.
 fn begins_with_end(reader: &BinaryReader<'_>) -> bool
     ensures { result ≡ begins_end (slice_get reader.now.rest 0) }
 {
@@ -100,7 +100,7 @@ impl<'a> OperatorsReader<'a> {
         }
     }
 
-    /// Whether no bytes are left.
+    /// Checks that no bytes are left.
     pub fn eof(&self) -> bool
         ensures { IsTrue result ↔ (length self.now.input.rest ≡ 0) }
     {

@@ -8,7 +8,7 @@ ghost use Rattle.wasmparser_operators.specs.OperatorReading.{code_at, code_from}
 use wasm_core_read::binary_reader::BinaryReader;
 use wasmparser_readers::passing::fork;
 
-// Whether a byte that is no prefix is the code of no operator.
+// Checks that a byte that is no prefix is the code of no operator.
 #[tactic(auto, using(crate::proofs::OtherCodes::other_bytes))]
 fn is_other_byte(code: u8) -> bool
     ensures { result ≡ is_other_code (Byte code) }
@@ -29,7 +29,7 @@ fn is_other_byte(code: u8) -> bool
     }
 }
 
-// Whether no operator of structures, arrays or references has this second code.
+// Checks that no operator of structures, arrays or references has this second code.
 #[tactic(auto, unfolding(crate::specs::OperatorAnswers::is_other_code))]
 fn is_other_aggregate(number: u32) -> bool
     ensures { result ≡ is_other_code (Prefixed 0xfb number) }
@@ -40,7 +40,7 @@ fn is_other_aggregate(number: u32) -> bool
     }
 }
 
-// Whether no operator that saturates, and none on a range, has this second code.
+// Checks that no operator that saturates, and none on a range, has this second code.
 #[tactic(auto, unfolding(crate::specs::OperatorAnswers::is_other_code))]
 fn is_other_range(number: u32) -> bool
     ensures { result ≡ is_other_code (Prefixed 0xfc number) }
@@ -51,7 +51,7 @@ fn is_other_range(number: u32) -> bool
     }
 }
 
-// Whether no operator of vectors has this second code.
+// Checks that no operator of vectors has this second code.
 #[tactic(auto, unfolding(crate::specs::OperatorAnswers::is_other_code))]
 fn is_other_vector(number: u32) -> bool
     ensures { result ≡ is_other_code (Prefixed 0xfd number) }
@@ -59,7 +59,7 @@ fn is_other_vector(number: u32) -> bool
     number != 12
 }
 
-// Whether the code that begins with this byte is that of no operator. A second code that does not read is not.
+// Checks that the code that begins with this byte is that of no operator. A second code that does not read is not.
 fn is_other_from(code: u8, reader: &mut BinaryReader<'_>) -> bool
     ensures { result ≡ is_other (code_from code reader.old.rest) }
 {
@@ -80,7 +80,7 @@ fn is_other_from(code: u8, reader: &mut BinaryReader<'_>) -> bool
     }
 }
 
-// Whether a code that no operator has stands next.
+// Checks that a code that no operator has stands next.
 #[tactic(auto, using(crate::proofs::OtherCodes::codes))]
 pub(crate) fn begins_other(reader: &BinaryReader<'_>) -> bool
     ensures { result ≡ is_other (code_at reader.now.rest) }

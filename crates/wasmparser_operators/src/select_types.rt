@@ -47,7 +47,7 @@ impl<'a> SelectTypes<'a> {
         }
     }
 
-    /// Whether none is listed.
+    /// Checks that none is listed.
     pub fn is_empty(&self) -> bool
         ensures { IsTrue result ↔ (length self.now ≡ 0) }
     {
@@ -90,7 +90,7 @@ fn read_type_list<'a>(reader: &mut BinaryReader<'a>) -> Result<SelectTypes<'a>, 
     })
 }
 
-// Whether a list of one item is before the reader.
+// Checks that a list of one item is before the reader.
 fn lists_one(reader: &BinaryReader<'_>) -> bool
     ensures { result ≡ begins_with_one (unsigned_at 32 reader.now.rest) }
 {

@@ -68,7 +68,7 @@ pub fn read_external(reader: &mut BinaryReader<'_>) -> Result<TypeRef, Malformed
     read_packed_from(code, reader)
 }
 
-/// Whether the type indexes that are packed are places in the module.
+/// Checks that the type indexes that are packed are places in the module.
 #[inline(always)]
 pub fn external_is_of_module(external: &TypeRef) -> bool
     ensures { IsTrue result ↔ AllByRecursion IsModuleIndex (packed_refs (type_ref external.now)) }

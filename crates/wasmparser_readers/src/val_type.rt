@@ -196,7 +196,7 @@ impl Part for FieldType {
     }
 }
 
-/// Whether a reference names the defined type that it refers to, if any, by its place in the module.
+/// Checks that a reference names the defined type that it refers to, if any, by its place in the module.
 pub fn ref_is_of_module(reference: &RefType) -> bool
     ensures { IsTrue result ↔ AllByRecursion IsModuleIndex (ref_refs reference.now) }
 {

@@ -39,7 +39,7 @@ const EXPRESSIONS: &str = "
 
 const COUNT_OF_EXPRESSIONS: usize = 19;
 
-/// Whether these are the operators of an expression, in words with `;` between them.
+/// Checks that these are the operators of an expression, in words with `;` between them.
 pub fn has_operators(alloc: Global, expression: &ConstExpr<'_>, words: &str) -> bool {
     let mut operators = expression.operators();
     if words.is_empty() {
@@ -54,7 +54,7 @@ pub fn has_operators(alloc: Global, expression: &ConstExpr<'_>, words: &str) -> 
     operators.next().is_none() && operators.next().is_none()
 }
 
-// Whether an expression is those of the bytes that are in front of the ones left.
+// Checks that an expression is those of the bytes that are in front of the ones left.
 fn has_bytes(expression: &ConstExpr<'_>, bytes: &[u8], left: u64) -> bool {
     let reader = expression.get_binary_reader();
     let len = reader.bytes_remaining();

@@ -114,7 +114,7 @@ const CUT: &str = "
 
 const COUNT_OF_CUT: usize = 3;
 
-// Whether bytes begin with locals that end at this place, or with none where they end before.
+// Checks that bytes begin with locals that end at this place, or with none where they end before.
 fn is_cut(bytes: &[u8], locals: usize) -> bool {
     match FunctionBody::new(BinaryReader::new(bytes, 0)).get_operators_reader() {
         Ok(operators) => operators.original_position() == locals as u64,
@@ -144,7 +144,7 @@ fn cut_locals_are_refused(rt: HostRuntime) -> Result<(), Fail> {
     Ok(())
 }
 
-// Whether the reader of operators has the features of the body's.
+// Checks that the reader of operators has the features of the body's.
 fn has_features(features: WasmFeatures) -> bool {
     let mut reader = BinaryReader::new(&[0x01, 0x01, 0x63, 0x05, 0x0b], 0);
     reader.set_features(features);

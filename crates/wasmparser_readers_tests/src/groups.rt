@@ -106,7 +106,7 @@ fn is_malformed(alloc: Global, bytes: &[u8]) -> bool {
     }
 }
 
-// Whether no group reads of the first bytes alone.
+// Checks that no group reads of the first bytes alone.
 fn needs_all(alloc: Global, bytes: &[u8]) -> bool {
     for len in 0..bytes.len() {
         match bytes.get(..len) {
@@ -117,7 +117,7 @@ fn needs_all(alloc: Global, bytes: &[u8]) -> bool {
     true
 }
 
-// Whether this group reads, and no group of fewer bytes.
+// Checks that this group reads, and no group of fewer bytes.
 fn reads(alloc: Global, bytes: &[u8], group: &RecGroup) -> bool {
     match read(alloc, bytes) {
         Ok(it) => it == *group && needs_all(alloc, bytes),
@@ -144,7 +144,7 @@ fn holds(alloc: Global, row: &str) -> Option<bool> {
     Some(agrees(alloc, &bytes_of(alloc, field)?, words))
 }
 
-// Whether a group leaves these bytes, which can be looked at without being read.
+// Checks that a group leaves these bytes, which can be looked at without being read.
 fn leaves(alloc: Global, bytes: &[u8], left: &[u8]) -> bool {
     let mut reader = BinaryReader::new(bytes, 0);
     if RecGroup::from_reader(alloc, &mut reader).is_err() {

@@ -141,7 +141,7 @@ fn push_many(
     Ok(())
 }
 
-// Whether they are shown: those of each name one after the other.
+// Checks that they are shown: those of each name one after the other.
 fn shows_many(names: &ImportNames, count: u32, period: u32) -> bool {
     let Ok(imports) = names.grouped() else {
         return false;

@@ -76,7 +76,7 @@ fn read<'a>(alloc: Global, is_on: bool, bytes: &'a [u8]) -> Result<Imports<'a>, 
     Imports::from_reader(alloc, &mut reader)
 }
 
-// Whether an item shows this.
+// Checks that an item shows this.
 fn item_shows<T: Debug + Drop>(alloc: Global, item: Result<(u64, T), Error>, words: &str) -> bool {
     match item {
         Ok(item) => debugs(alloc, &item, words),
@@ -128,7 +128,7 @@ fn is_malformed(alloc: Global, is_on: bool, bytes: &[u8]) -> bool {
     }
 }
 
-// Whether no entry reads of the first bytes alone.
+// Checks that no entry reads of the first bytes alone.
 fn needs_all(alloc: Global, is_on: bool, bytes: &[u8]) -> bool {
     for len in 0..bytes.len() {
         match bytes.get(..len) {

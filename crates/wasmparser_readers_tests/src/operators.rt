@@ -20,7 +20,7 @@ const NAMES: &str = "
     I64Extend16S I64Extend32S I32TruncSatF32S I32TruncSatF32U I32TruncSatF64S I32TruncSatF64U I64TruncSatF32S I64TruncSatF32U
     I64TruncSatF64S I64TruncSatF64U";
 
-// Whether these bytes begin with a code that is no operator's.
+// Checks that these bytes begin with a code that is no operator's.
 fn begins_other(bytes: &[u8]) -> bool {
     let mut reader = OperatorsReader::new(BinaryReader::new(bytes, 0));
     match reader.read() {

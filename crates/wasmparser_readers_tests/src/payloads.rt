@@ -98,7 +98,7 @@ fn module_of(alloc: Global, field: &str) -> Option<Vec<u8>> {
     Some(module)
 }
 
-// Whether these payloads come, and no other.
+// Checks that these payloads come, and no other.
 fn gives(alloc: Global, mut payloads: Payloads<'_>, words: &str) -> bool {
     for word in words.split(';') {
         match payloads.next() {
@@ -151,7 +151,7 @@ fn headers_parse(rt: HostRuntime) -> Result<(), Fail> {
     Ok(())
 }
 
-// Whether a module comes to its end.
+// Checks that a module comes to its end.
 fn ends(bytes: &[u8]) -> bool {
     let mut has_ended = false;
     for given in Parser::new(0).parse_all(bytes) {
@@ -191,7 +191,7 @@ fn cut_modules_are_refused(rt: HostRuntime) -> Result<(), Fail> {
     Ok(())
 }
 
-// Whether a section's reader and that of a body have the features of the parser.
+// Checks that a section's reader and that of a body have the features of the parser.
 fn keeps_features(alloc: Global, features: WasmFeatures, bytes: &[u8]) -> bool {
     let mut parser = Parser::new(0);
     parser.set_features(features);
@@ -210,7 +210,7 @@ fn keeps_features(alloc: Global, features: WasmFeatures, bytes: &[u8]) -> bool {
     found == 2
 }
 
-// Whether this is the memory section of no memory whose content is at 10.
+// Checks that this is the memory section of no memory whose content is at 10.
 fn is_section(
     alloc: Global,
     features: WasmFeatures,

@@ -53,7 +53,7 @@ const ELEMENTS: &str = "
 
 const COUNT_OF_ELEMENTS: usize = 29;
 
-// Whether an index that may not be written is the one in words.
+// Checks that an index that may not be written is the one in words.
 fn is_index(index: Option<u32>, words: &str) -> bool {
     match index {
         None => words.is_empty(),

@@ -110,7 +110,7 @@ fn is_payload(alloc: Global, payload: &Payload<'_>, words: &str) -> bool {
     }
 }
 
-/// Whether what a parser gave is told by these words.
+/// Checks that what a parser gave is told by these words.
 pub fn is_shown(alloc: Global, given: &Result<Payload<'_>, Error>, words: &str) -> bool {
     match given {
         Ok(payload) => is_payload(alloc, payload, words),

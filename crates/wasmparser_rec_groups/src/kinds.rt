@@ -41,7 +41,7 @@ fn earlier_or_own<'a>(
     }
 }
 
-// Whether an index in a group in canonical form stands for a type of this kind.
+// Checks that an index in a group in canonical form stands for a type of this kind.
 fn is_like(types: &TypeList, group: &[SubType], index: PackedIndex, it: &CompositeType) -> bool
     ensures { result ≡ spec.is_like (composite_type it.now) (kinds.earlier_or_own types.now (map sub_type group.now) index) }
 {
@@ -59,7 +59,7 @@ fn has_supertypes_of_kind(types: &TypeList, group: &[SubType], it: &SubType) -> 
         .all(|index| is_like(types, group, *index, &it.composite_type))
 }
 
-// Whether all supertypes in a group in canonical form are of their subtypes' kinds.
+// Checks that all supertypes in a group in canonical form are of their subtypes' kinds.
 pub(crate) fn have_supertypes_of_kind(types: &TypeList, group: &[SubType]) -> bool
     ensures { IsTrue result ↔ HaveSupertypesOfKind (kinds.earlier_or_own types.now (map sub_type group.now)) (map sub_type group.now) }
 {

@@ -17,7 +17,7 @@ use wasmparser_types::composite_type::CompositeType;
 use wasmparser_types::index::{CoreTypeId, PackedIndex, RecGroupId};
 use wasmparser_types::sub_type::SubType;
 
-// Whether a continuation type goes on with a function type.
+// Checks that a continuation type goes on with a function type.
 fn continues_func(types: &TypeList, it: &CompositeType) -> bool
     ensures { IsTrue result ↔ ContinuesFunc (type_by_id types.now) (composite_type it.now) }
 {
@@ -30,7 +30,7 @@ fn continues_func(types: &TypeList, it: &CompositeType) -> bool
     }
 }
 
-// Whether types may be declared below what an id stands for.
+// Checks that types may be declared below what an id stands for.
 fn is_open(types: &TypeList, id: CoreTypeId) -> bool
     ensures { IsTrue result ↔ IsOpen types.now id }
 {
@@ -40,7 +40,7 @@ fn is_open(types: &TypeList, id: CoreTypeId) -> bool
     }
 }
 
-// Whether what an id stands for may be declared below what an index stands for.
+// Checks that what an id stands for may be declared below what an index stands for.
 fn extends(types: &TypeList, id: CoreTypeId, supertype: PackedIndex) -> bool
     requires agree { TablesAgree types.now }
     requires earlier { AreBelowEarlier (slice_get (sub_types types.now)) }
@@ -52,7 +52,7 @@ fn extends(types: &TypeList, id: CoreTypeId, supertype: PackedIndex) -> bool
     }
 }
 
-// Whether a type has at most one supertype, and may be declared below it.
+// Checks that a type has at most one supertype, and may be declared below it.
 fn extends_supertypes(types: &TypeList, id: CoreTypeId, it: &SubType) -> bool
     requires agree { TablesAgree types.now }
     requires earlier { AreBelowEarlier (slice_get (sub_types types.now)) }
@@ -66,7 +66,7 @@ fn extends_supertypes(types: &TypeList, id: CoreTypeId, it: &SubType) -> bool
     }
 }
 
-// Whether a type keeps the rules on supertypes and on continuations.
+// Checks that a type keeps the rules on supertypes and on continuations.
 fn keeps_rules(types: &TypeList, id: CoreTypeId, it: &SubType) -> bool
     requires agree { TablesAgree types.now }
     requires earlier { AreBelowEarlier (slice_get (sub_types types.now)) }

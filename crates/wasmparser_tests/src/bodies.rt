@@ -93,7 +93,7 @@ fn features_of(field: &str) -> Option<WasmFeatures> {
     }
 }
 
-// Whether the answer is the one that is expected.
+// Checks that the answer is the one that is expected.
 fn is_answer(alloc: Global, answer: Result<(), Error>, expected: &str) -> bool {
     match answer {
         Ok(()) => expected == "valid",
@@ -138,12 +138,12 @@ fn module_of(alloc: Global, params: u16, results: u16, body: &[u8]) -> Result<Ve
     Ok(bytes)
 }
 
-// Whether a module that is valid under some features is so under others.
+// Checks that a module that is valid under some features is so under others.
 fn stays_valid(alloc: Global, some: WasmFeatures, others: WasmFeatures, bytes: &[u8]) -> bool {
     answer_under(alloc, others, bytes).is_ok() || answer_under(alloc, some, bytes).is_err()
 }
 
-// Whether a valid module stays valid with each further feature: beside some features, beside all of these but one, and in turn from none to all.
+// Checks that a valid module stays valid with each further feature: beside some features, beside all of these but one, and in turn from none to all.
 fn stays_valid_with_more(alloc: Global, features: WasmFeatures, bytes: &[u8]) -> bool {
     let mut holds = stays_valid(alloc, features, WasmFeatures::all(), bytes);
     let mut former = WasmFeatures::empty();
@@ -175,7 +175,7 @@ fn bodies_have_their_answers(rt: HostRuntime) -> Result<(), Fail> {
     Ok(check_rows(rt.alloc(), BODIES, 58, holds)?)
 }
 
-// Whether an operator is refused in the last four bytes.
+// Checks that an operator is refused in the last four bytes.
 fn stands_in_the_body(refusal: Option<Error>, end: u64) -> bool {
     match refusal {
         Some(

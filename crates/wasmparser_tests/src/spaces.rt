@@ -85,12 +85,12 @@ fn entity_at(view: TypesRef<'_>, kind: ExternalKind, index: u32) -> Option<Entit
     }
 }
 
-// Whether an item is what the text says.
+// Checks that an item is what the text says.
 fn is_shown(alloc: Global, view: TypesRef<'_>, entity: EntityType, text: &str) -> bool {
     entity_text(alloc, view, entity).is_some_and(|shown| shown.as_str() == text)
 }
 
-// Whether an export is what the text says, a name and what it stands for.
+// Checks that an export is what the text says, a name and what it stands for.
 fn is_export(alloc: Global, view: TypesRef<'_>, export: &Export<'_>, expected: &str) -> bool {
     let Some((name, text)) = expected.split_once(' ') else {
         return false;
@@ -156,7 +156,7 @@ fn is_import(
     module == names[0] && name == names[1] && is_shown(alloc, view, entity, text)
 }
 
-// Whether the imports with their names are what the text says.
+// Checks that the imports with their names are what the text says.
 fn has_named_imports(alloc: Global, view: TypesRef<'_>, expected: &str) -> bool {
     let Ok(Some(mut imports)) = view.core_imports() else {
         return false;

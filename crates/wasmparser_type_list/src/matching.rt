@@ -86,7 +86,7 @@ impl TypeList {
         }
     }
 
-    /// Whether one reference type is below another. An index that isn't an id is below itself alone.
+    /// Checks that one reference type is below another. An index that isn't an id is below itself alone.
     pub fn reftype_is_subtype(&self, a: RefType, b: RefType) -> bool
         requires agree { TablesAgree self.now }
         requires earlier { AreBelowEarlier (slice_get (sub_types self.now)) }
@@ -95,7 +95,7 @@ impl TypeList {
         subtyping::ref_is_subtype(self, a, b)
     }
 
-    /// Whether one value type is below another. An index that isn't an id is below itself alone.
+    /// Checks that one value type is below another. An index that isn't an id is below itself alone.
     pub fn valtype_is_subtype(&self, a: ValType, b: ValType) -> bool
         requires agree { TablesAgree self.now }
         requires earlier { AreBelowEarlier (slice_get (sub_types self.now)) }

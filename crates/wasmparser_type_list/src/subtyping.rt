@@ -14,7 +14,7 @@ use crate::type_list::TypeList;
 use wasmparser_type_relations::chain::Chain;
 use wasmparser_types::index::CoreTypeId;
 
-// Whether the type with this id stands in a chain of supertypes. own: its own chain.
+// Checks that the type with this id stands in a chain of supertypes. own: its own chain.
 fn stands_in(chain: &Chain, own: Option<&Chain>, id: CoreTypeId) -> bool
     ensures { IsTrue result ↔ StandsIn (option_copied own.entry) chain.now id }
 {
@@ -28,7 +28,7 @@ fn stands_in(chain: &Chain, own: Option<&Chain>, id: CoreTypeId) -> bool
 }
 
 impl TypeList {
-    /// Whether a type is another one, or was declared below it, in however many steps. It takes two look-ups, unless the lower type has more than 63
+    /// Checks that a type is another one, or was declared below it, in however many steps. It takes two look-ups, unless the lower type has more than 63
     /// supertypes.
     pub fn id_is_subtype(&self, a: CoreTypeId, b: CoreTypeId) -> bool
         requires agree { TablesAgree self.now }
@@ -48,7 +48,7 @@ impl TypeList {
         true
     }
 
-    /// Whether a known type has at most 63 supertypes above it, which is the limit on depth.
+    /// Checks that a known type has at most 63 supertypes above it, which is the limit on depth.
     pub fn is_within_depth(&self, id: CoreTypeId) -> bool
         requires agree { TablesAgree self.now }
         requires earlier { AreBelowEarlier (slice_get (sub_types self.now)) }

@@ -210,7 +210,7 @@ impl TypeList {
         T::list(self).get(id.index())
     }
 
-    // Whether so many types more can be held.
+    // Checks that so many types more can be held.
     fn has_room(&self, count: usize) -> bool
         ensures { result ≡ nat_le (length self.now.types + count) max_types }
     {

@@ -14,7 +14,7 @@ use wasmparser_types::index::{CoreTypeId, PackedIndex, UnpackedIndex};
 use wasmparser_types::remap::RemapIndex;
 use wasmparser_types::sub_type::{RecGroup, SubType};
 
-// Whether an index, if it is a type index, is below a bound.
+// Checks that an index, if it is a type index, is below a bound.
 fn is_below(it: PackedIndex, bound: usize) -> bool
     ensures { IsTrue result ↔ IsBelow bound it }
 {
@@ -24,7 +24,7 @@ fn is_below(it: PackedIndex, bound: usize) -> bool
     }
 }
 
-// Whether the type of this index has at most one supertype, which is earlier.
+// Checks that the type of this index has at most one supertype, which is earlier.
 fn has_earlier_supertype(it: &SubType, index: usize) -> bool
     ensures { IsTrue result ↔ HasEarlierSupertype index (sub_type it.now) }
 {
@@ -80,7 +80,7 @@ impl<'a> RemapIndex for TypeCanonicalizer<'a> {
     }
 }
 
-// Whether each type has at most one supertype, which is earlier. The first type has this index.
+// Checks that each type has at most one supertype, which is earlier. The first type has this index.
 fn have_earlier_supertypes(types: &[SubType], first: usize) -> bool
     requires { first + length types.now < 2 ^ 64 }
     ensures { IsTrue result ↔ HaveEarlierSupertypes first (map sub_type types.now) }

@@ -51,7 +51,7 @@ fn is_allowed_heap(features: WasmFeatures, nullable: bool, heap: HeapType) -> bo
     }
 }
 
-// Whether a module may write a reference type.
+// Checks that a module may write a reference type.
 #[inline(never)]
 fn is_allowed_reference(features: WasmFeatures, it: RefType) -> bool
     ensures { result ≡ spec.is_allowed (feature_set features) (Ref it.nullable it.heap_type) }
@@ -59,7 +59,7 @@ fn is_allowed_reference(features: WasmFeatures, it: RefType) -> bool
     features.reference_types() && is_allowed_heap(features, it.is_nullable(), it.heap_type())
 }
 
-/// Whether a module may write a value type under these features.
+/// Checks that a module may write a value type under these features.
 #[inline(always)]
 pub fn is_allowed(features: WasmFeatures, it: &ValType) -> bool
     ensures { result ≡ spec.is_allowed (feature_set features) (val_type it.now) }
@@ -131,7 +131,7 @@ fn are_allowed_subs(features: WasmFeatures, types: &[SubType]) -> bool
     types.iter().all(|it| is_allowed_sub(features, it))
 }
 
-/// Whether a module may write a recursive group under these features.
+/// Checks that a module may write a recursive group under these features.
 pub fn is_allowed_group(features: WasmFeatures, it: &RecGroup) -> bool
     ensures { result ≡ spec.is_allowed_group (feature_set features) (rec_group it.now) }
 {

@@ -1,4 +1,4 @@
-//! What holds of all groups.
+//! Laws of keys: groups with equal keys are equal.
 
 ghost use Rattle.wasmparser_type_relations.specs.GroupKeys.{TellsApart, group_key};
 

@@ -32,7 +32,7 @@ pub trait KnownTypes {
     fn composite_type(&self, it: UnpackedIndex) -> Option<&CompositeType>
         ensures { option_map composite_type (option_copied result) ≡ option_map (λ (type : spec.SubType Index). type.composite_type) (sub_at self.now (index it)) };
 
-    /// Whether the type of one index is that of another, or was declared below it, in however many steps.
+    /// Checks that the type of one index is that of another, or was declared below it, in however many steps.
     fn index_is_subtype(&self, a: UnpackedIndex, b: UnpackedIndex) -> bool
         requires { can_ask self.now }
         ensures { IsTrue result ↔ HeapBelow (sub_at self.now) (spec.Concrete (index a)) (spec.Concrete (index b)) };

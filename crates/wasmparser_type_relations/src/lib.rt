@@ -1,4 +1,5 @@
-//! Types and recursive groups beside each other: keys that equal groups share, chains of supertypes, matching, and the rules of groups: a part of `wasmparser`.
+//! Types and groups by themselves, without a list of types: keys that equal groups share, chains of supertypes, subtyping and matching, gates and
+//! limits; and lists of which copies can be kept: a part of `wasmparser`.
 #![tactic(auto)]
 
 pub mod canonical;

@@ -9,7 +9,7 @@ ghost use Rattle.wasmparser_types.specs.CompositeTypes.{composite_type};
 use wasm_core_types::limits::Limit;
 use wasmparser_types::composite_type::CompositeType;
 
-// Whether so many items pass a limit.
+// Checks that so many items pass a limit.
 fn passes(count: usize, it: Limit) -> bool
     ensures { IsTrue result ↔ spec.IsPassedBy (limit it) count }
 {

@@ -35,7 +35,7 @@ pub trait Lookup<'a> {
         ensures counted { count self.new ≡ suc (count self.old) };
 }
 
-/// Whether a type is below another one, by two reads at most.
+/// Checks that a type is below another one, by two reads at most.
 pub fn id_is_subtype_counted<'a, L: Lookup<'a>>(list: &mut L, a: CoreTypeId, b: CoreTypeId) -> bool
     requires a_known { HasChain (L.types list.old) a }
     requires b_known { HasChain (L.types list.old) b }

@@ -34,7 +34,7 @@ pub trait Matches {
     // Whether one matches another.
     ghost matching: { SubTypes Index → Meaning → Meaning → Type 0 };
 
-    /// Whether this part matches another one. A place in a recursive group is a place in the one that is handed in with the part.
+    /// Checks that this part matches another one. A place in a recursive group is a place in the one that is handed in with the part.
     fn matches<L: KnownTypes>(
         &self,
         rec_group: RecGroupId,
@@ -57,7 +57,7 @@ fn resolved<L: KnownTypes>(types: &L, rec_group: RecGroupId, heap: HeapType) -> 
     }
 }
 
-// Whether the first parts match the others, one by one, as far as the others go.
+// Checks that the first parts match the others, one by one, as far as the others go.
 fn front_matches<T: Matches, L: KnownTypes>(
     items: &[T],
     rec_group: RecGroupId,
@@ -79,7 +79,7 @@ fn front_matches<T: Matches, L: KnownTypes>(
     true
 }
 
-// Whether parts match others one by one, and are as many.
+// Checks that parts match others one by one, and are as many.
 fn all_match<T: Matches, L: KnownTypes>(
     items: &[T],
     rec_group: RecGroupId,

@@ -207,7 +207,7 @@ impl<T: Drop> SnapshotList<T> {
         self.committed + self.current.len()
     }
 
-    /// Whether there are none.
+    /// Checks that there are none.
     pub fn is_empty(&self) -> bool
         ensures { IsTrue result ↔ (self.now.items ≡ []) }
     {

@@ -40,7 +40,7 @@ fn bottom_of(it: &CompositeType) -> AbstractHeapType
     }
 }
 
-// Whether one abstract heap type is below another.
+// Checks that one abstract heap type is below another.
 fn abstract_is_subtype(a: AbstractHeapType, b: AbstractHeapType) -> bool
     ensures { result ≡ is_abstract_below (abstract_heap_type a) (abstract_heap_type b) }
 {
@@ -90,7 +90,7 @@ fn abstract_is_subtype(a: AbstractHeapType, b: AbstractHeapType) -> bool
     }
 }
 
-// Whether one heap type is below another, by the kinds of defined types and the links between them.
+// Checks that one heap type is below another, by the kinds of defined types and the links between them.
 fn heap_test<L: KnownTypes>(types: &L, a: HeapType, b: HeapType) -> bool
     requires { L.can_ask types.now }
     ensures { IsTrue result ↔ HeapTest (L.sub_at types.now) (heap_type a) (heap_type b) }
@@ -109,7 +109,7 @@ fn heap_test<L: KnownTypes>(types: &L, a: HeapType, b: HeapType) -> bool
     }
 }
 
-/// Whether one heap type is below another.
+/// Checks that one heap type is below another.
 pub fn heap_is_subtype<L: KnownTypes>(types: &L, a: HeapType, b: HeapType) -> bool
     requires { L.can_ask types.now }
     ensures { IsTrue result ↔ HeapBelow (L.sub_at types.now) (heap_type a) (heap_type b) }
@@ -117,14 +117,14 @@ pub fn heap_is_subtype<L: KnownTypes>(types: &L, a: HeapType, b: HeapType) -> bo
     heap_test(types, a, b)
 }
 
-// Whether null is allowed above where it is allowed below.
+// Checks that null is allowed above where it is allowed below.
 pub(crate) fn null_is_allowed(below: bool, above: bool) -> bool
     ensures { IsTrue result ↔ (below ≡ true → above ≡ true) }
 {
     above || !below
 }
 
-/// Whether one reference type is below another.
+/// Checks that one reference type is below another.
 pub fn ref_is_subtype<L: KnownTypes>(types: &L, a: RefType, b: RefType) -> bool
     requires { L.can_ask types.now }
     ensures { IsTrue result ↔ RefBelow (L.sub_at types.now) a b }
@@ -135,7 +135,7 @@ pub fn ref_is_subtype<L: KnownTypes>(types: &L, a: RefType, b: RefType) -> bool
     heap_is_subtype(types, a.heap_type(), b.heap_type())
 }
 
-/// Whether one value type is below another.
+/// Checks that one value type is below another.
 pub fn val_is_subtype<L: KnownTypes>(types: &L, a: ValType, b: ValType) -> bool
     requires { L.can_ask types.now }
     ensures { IsTrue result ↔ ValBelow (L.sub_at types.now) (val_type a) (val_type b) }

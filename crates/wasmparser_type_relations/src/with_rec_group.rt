@@ -67,7 +67,7 @@ impl<T> WithRecGroup<T> {
 }
 
 impl<T: Matches + Copy> WithRecGroup<T> {
-    /// Whether a part of a type matches another one, where each has its places in its own group.
+    /// Checks that a part of a type matches another one, where each has its places in its own group.
     pub fn matches<L: KnownTypes>(types: &L, a: WithRecGroup<T>, b: WithRecGroup<T>) -> bool
         requires { L.can_ask types.now }
         ensures { IsTrue result ↔ T.matching (L.sub_at types.now) (T.mapped (L.resolved types.now a.rec_group_id) (T.meaning a.inner)) (T.mapped (L.resolved types.now b.rec_group_id) (T.meaning b.inner)) }

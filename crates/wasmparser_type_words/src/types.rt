@@ -15,7 +15,7 @@ pub fn id_of(word: &str) -> Option<CoreTypeId> {
     Some(CoreTypeId::from_index(word.strip_prefix('#')?.parse().ok()?))
 }
 
-/// Whether these are the ids, in words.
+/// Checks that these are the ids, in words.
 pub fn are_ids(ids: &[CoreTypeId], expected: &str) -> bool {
     let mut words = expected.split_whitespace();
     for id in ids {

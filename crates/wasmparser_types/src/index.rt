@@ -98,21 +98,21 @@ impl UnpackedIndex {
         }
     }
 
-    /// Whether this is a type index in a module.
+    /// Checks that this is a type index in a module.
     pub fn is_module_index(&self) -> bool
         ensures { result ≡ is_some (module_index (spec.index self.now)) }
     {
         self.as_module_index().is_some()
     }
 
-    /// Whether this is a place in a recursive group.
+    /// Checks that this is a place in a recursive group.
     pub fn is_rec_group_index(&self) -> bool
         ensures { result ≡ is_some (rec_group_index (spec.index self.now)) }
     {
         self.as_rec_group_index().is_some()
     }
 
-    /// Whether this is an id.
+    /// Checks that this is an id.
     pub fn is_core_type_id(&self) -> bool
         ensures { result ≡ is_some (core_type_id (spec.index self.now)) }
     {
@@ -257,21 +257,21 @@ impl PackedIndex {
         PackedIndex { bits }
     }
 
-    /// Whether this is a type index in a module.
+    /// Checks that this is a type index in a module.
     pub fn is_module_index(&self) -> bool
         ensures { result ≡ is_some (module_index self.now) }
     {
         self.unpack().is_module_index()
     }
 
-    /// Whether this is a place in a recursive group.
+    /// Checks that this is a place in a recursive group.
     pub fn is_rec_group_index(&self) -> bool
         ensures { result ≡ is_some (rec_group_index self.now) }
     {
         self.unpack().is_rec_group_index()
     }
 
-    /// Whether this is an id.
+    /// Checks that this is an id.
     pub fn is_core_type_id(&self) -> bool
         ensures { result ≡ is_some (core_type_id self.now) }
     {

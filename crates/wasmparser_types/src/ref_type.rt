@@ -168,7 +168,7 @@ impl RefType {
         }
     }
 
-    /// Whether it may be null.
+    /// Checks that it may be null.
     pub fn is_nullable(&self) -> bool
         ensures { result ≡ self.now.nullable }
     {
@@ -201,7 +201,7 @@ impl RefType {
         RefType::from_heap_bits(true, self.bits / 2)
     }
 
-    /// Whether it refers to a defined type.
+    /// Checks that it refers to a defined type.
     pub fn is_concrete_type_ref(&self) -> bool
         ensures { result ≡ is_some (defined self.now.heap_type) }
     {
@@ -235,98 +235,98 @@ impl RefType {
         self.bits / 2 == 2 * heap.code()
     }
 
-    /// Whether it refers to functions of any type, whether or not it may be null.
+    /// Checks that it refers to functions of any type, whether or not it may be null.
     pub fn is_func_ref(&self) -> bool
         ensures { IsTrue result ↔ (self.now.heap_type ≡ spec.Abstract spec.Func) }
     {
         self.is_abstract(AbstractHeapType::Func)
     }
 
-    /// Whether it refers to anything external, whether or not it may be null.
+    /// Checks that it refers to anything external, whether or not it may be null.
     pub fn is_extern_ref(&self) -> bool
         ensures { IsTrue result ↔ (self.now.heap_type ≡ spec.Abstract spec.Extern) }
     {
         self.is_abstract(AbstractHeapType::Extern)
     }
 
-    /// Whether it refers to anything internal, whether or not it may be null.
+    /// Checks that it refers to anything internal, whether or not it may be null.
     pub fn is_any_ref(&self) -> bool
         ensures { IsTrue result ↔ (self.now.heap_type ≡ spec.Abstract spec.Any) }
     {
         self.is_abstract(AbstractHeapType::Any)
     }
 
-    /// Whether it refers to nothing internal.
+    /// Checks that it refers to nothing internal.
     pub fn is_none_ref(&self) -> bool
         ensures { IsTrue result ↔ (self.now.heap_type ≡ spec.Abstract spec.None) }
     {
         self.is_abstract(AbstractHeapType::None)
     }
 
-    /// Whether it refers to nothing external.
+    /// Checks that it refers to nothing external.
     pub fn is_noextern_ref(&self) -> bool
         ensures { IsTrue result ↔ (self.now.heap_type ≡ spec.Abstract spec.NoExtern) }
     {
         self.is_abstract(AbstractHeapType::NoExtern)
     }
 
-    /// Whether it refers to no function.
+    /// Checks that it refers to no function.
     pub fn is_nofunc_ref(&self) -> bool
         ensures { IsTrue result ↔ (self.now.heap_type ≡ spec.Abstract spec.NoFunc) }
     {
         self.is_abstract(AbstractHeapType::NoFunc)
     }
 
-    /// Whether it refers to what can be compared, whether or not it may be null.
+    /// Checks that it refers to what can be compared, whether or not it may be null.
     pub fn is_eq_ref(&self) -> bool
         ensures { IsTrue result ↔ (self.now.heap_type ≡ spec.Abstract spec.Eq) }
     {
         self.is_abstract(AbstractHeapType::Eq)
     }
 
-    /// Whether it refers to structures of any type, whether or not it may be null.
+    /// Checks that it refers to structures of any type, whether or not it may be null.
     pub fn is_struct_ref(&self) -> bool
         ensures { IsTrue result ↔ (self.now.heap_type ≡ spec.Abstract spec.Struct) }
     {
         self.is_abstract(AbstractHeapType::Struct)
     }
 
-    /// Whether it refers to arrays of any type, whether or not it may be null.
+    /// Checks that it refers to arrays of any type, whether or not it may be null.
     pub fn is_array_ref(&self) -> bool
         ensures { IsTrue result ↔ (self.now.heap_type ≡ spec.Abstract spec.Array) }
     {
         self.is_abstract(AbstractHeapType::Array)
     }
 
-    /// Whether it refers to unboxed scalars of 31 bits, whether or not it may be null.
+    /// Checks that it refers to unboxed scalars of 31 bits, whether or not it may be null.
     pub fn is_i31_ref(&self) -> bool
         ensures { IsTrue result ↔ (self.now.heap_type ≡ spec.Abstract spec.I31) }
     {
         self.is_abstract(AbstractHeapType::I31)
     }
 
-    /// Whether it refers to exceptions, whether or not it may be null.
+    /// Checks that it refers to exceptions, whether or not it may be null.
     pub fn is_exn_ref(&self) -> bool
         ensures { IsTrue result ↔ (self.now.heap_type ≡ spec.Abstract spec.Exn) }
     {
         self.is_abstract(AbstractHeapType::Exn)
     }
 
-    /// Whether it refers to no exception.
+    /// Checks that it refers to no exception.
     pub fn is_noexn_ref(&self) -> bool
         ensures { IsTrue result ↔ (self.now.heap_type ≡ spec.Abstract spec.NoExn) }
     {
         self.is_abstract(AbstractHeapType::NoExn)
     }
 
-    /// Whether it refers to continuations of any type, whether or not it may be null.
+    /// Checks that it refers to continuations of any type, whether or not it may be null.
     pub fn is_cont_ref(&self) -> bool
         ensures { IsTrue result ↔ (self.now.heap_type ≡ spec.Abstract spec.Cont) }
     {
         self.is_abstract(AbstractHeapType::Cont)
     }
 
-    /// Whether it refers to no continuation.
+    /// Checks that it refers to no continuation.
     pub fn is_nocont_ref(&self) -> bool
         ensures { IsTrue result ↔ (self.now.heap_type ≡ spec.Abstract spec.NoCont) }
     {

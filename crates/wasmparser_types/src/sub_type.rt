@@ -79,7 +79,7 @@ impl RecGroup {
         }
     }
 
-    /// Whether the group is written out.
+    /// Checks that the group is written out.
     pub fn is_explicit_rec_group(&self) -> bool
         ensures { result ≡ is_explicit (rec_group self.now) }
     {

@@ -35,7 +35,7 @@ impl ValType {
     /// References to any continuation, or null.
     pub const CONTREF: ValType = ValType::Ref(RefType::CONTREF);
 
-    /// Whether this is a reference type.
+    /// Checks that this is a reference type.
     pub fn is_reference_type(&self) -> bool
         ensures { result ≡ is_some (reference_type (val_type self.now)) }
     {
@@ -59,7 +59,7 @@ impl ValType {
         }
     }
 
-    /// Whether the type has a default value, which locals begin with (Core Specification 3.0, Validation, "Value
+    /// Checks that the type has a default value, which locals begin with (Core Specification 3.0, Validation, "Value
     /// Types"). Only references that may not be null have none.
     pub fn is_defaultable(&self) -> bool
         ensures { result ≡ is_defaultable (val_type self.now) }

@@ -6,7 +6,7 @@ use wasmparser_func_validator::func_validator::FuncValidator;
 use wasmparser_operators::operator::Operator;
 use wasmparser_types::val_type::ValType;
 
-/// Whether this is a refusal after another one.
+/// Checks that this is a refusal after another one.
 pub fn is_failed(answer: Result<(), Error>, place: u64) -> bool {
     match answer {
         Ok(()) => false,
@@ -14,7 +14,7 @@ pub fn is_failed(answer: Result<(), Error>, place: u64) -> bool {
     }
 }
 
-/// Whether nothing is told, and all is refused.
+/// Checks that nothing is told, and all is refused.
 pub fn has_failed<R: WasmModuleResources>(validator: &mut FuncValidator<R>) -> bool {
     let tells_nothing = validator.operand_stack_height() == 0
         && validator.control_stack_height() == 0

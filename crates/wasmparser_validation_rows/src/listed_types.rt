@@ -56,7 +56,7 @@ impl ListedTypes {
         }
     }
 
-    // Whether these are one type, or the first is declared right below the second.
+    // Checks that these are one type, or the first is declared right below the second.
     fn is_declared_below(&self, a: usize, b: usize) -> bool
         ensures { result ≡ is_declared_below self.now a b }
     {
@@ -95,7 +95,7 @@ impl ListedTypes {
         self.is_heap_below(a.heap_type(), b.heap_type())
     }
 
-    /// Whether the first type is below the second.
+    /// Checks that the first type is below the second.
     pub fn is_below(&self, a: &ValType, b: &ValType) -> bool
         ensures { result ≡ is_val_below self.now (val_type a.now) (val_type b.now) }
     {

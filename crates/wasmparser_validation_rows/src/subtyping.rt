@@ -64,7 +64,7 @@ pub(crate) fn abstract_top(it: AbstractHeapType) -> AbstractHeapType
     }
 }
 
-/// Whether one abstract heap type is below another.
+/// Checks that one abstract heap type is below another.
 pub(crate) fn abstract_is_subtype(a: AbstractHeapType, b: AbstractHeapType) -> bool
     ensures { result ≡ is_abstract_below (abstract_heap_type a) (abstract_heap_type b) }
 {

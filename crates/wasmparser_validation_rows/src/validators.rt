@@ -14,7 +14,7 @@ use wasmparser_types::val_type::ValType;
 /// The index of the functions whose bodies are validated.
 pub const FUNCTION: u32 = 3;
 
-// Whether a type index names a function type.
+// Checks that a type index names a function type.
 #[tactic(auto, using(crate::proofs::FunctionTypes::functions))]
 fn is_function_type<R: WasmModuleResources>(resources: &R, ty: u32) -> bool
     ensures { result ≡ is_some (func_at (R.resources resources.now).items ty) }

@@ -39,7 +39,7 @@ pub(crate) fn declare<R: WasmModuleResources>(validator: &mut FuncValidator<R>) 
     define_locals(validator, 0, 1, ValType::Ref(RefType::FUNC))?.ok()
 }
 
-// Whether a refusal of an operator at this place changes nothing if it's tried, and is the last thing else.
+// Checks that a refusal of an operator at this place changes nothing if it's tried, and is the last thing else.
 fn refusal_holds<R: WasmModuleResources>(
     validator: &mut FuncValidator<R>,
     error: Error,

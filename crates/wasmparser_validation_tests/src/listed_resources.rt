@@ -168,7 +168,7 @@ fn top_of<R: WasmModuleResources>(resources: &R, ty: &ValType, top: &ValType) ->
     }
 }
 
-// Whether a type becomes another under some features, or stays as it is and is refused.
+// Checks that a type becomes another under some features, or stays as it is and is refused.
 fn becomes<R: WasmModuleResources>(
     resources: &R,
     written: &ValType,
@@ -244,7 +244,7 @@ fn rows_hold<R: WasmModuleResources>(alloc: Global, resources: &R) -> Result<(),
     )
 }
 
-// Whether ids stand for the types of type indexes, and an id past the list for a structure without fields.
+// Checks that ids stand for the types of type indexes, and an id past the list for a structure without fields.
 fn ids_hold(resources: &ListedResources) -> bool {
     let by_reference = &resources;
     let (first, last) = (CoreTypeId::from_index(1), CoreTypeId::from_index(77));
@@ -258,7 +258,7 @@ fn ids_hold(resources: &ListedResources) -> bool {
     are_told && other.is_some()
 }
 
-// Whether the first id stands for an array, where the example is shared.
+// Checks that the first id stands for an array, where the example is shared.
 fn is_array(shared: &Rc<ListedResources>) -> bool {
     let first = shared.sub_type_at_id(CoreTypeId::from_index(0));
     first.composite_type.as_array().is_some()

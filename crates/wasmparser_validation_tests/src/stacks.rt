@@ -126,7 +126,7 @@ const CALLS: &str = "
     known | f?l |
 ";
 
-// Whether the operands, the open blocks and the assigned locals are these.
+// Checks that the operands, the open blocks and the assigned locals are these.
 fn is_state(alloc: Global, stacks: &Stacks, expected: &str) -> bool {
     let mut text = String::new(alloc);
     let is_written = push_state(&mut text, stacks).is_ok();

@@ -94,7 +94,7 @@ pub fn state_of<R: WasmModuleResources>(
     Some(text)
 }
 
-/// Whether these are the operands.
+/// Checks that these are the operands.
 pub fn are_operands<R: WasmModuleResources>(
     alloc: Global,
     validator: &FuncValidator<R>,
@@ -104,7 +104,7 @@ pub fn are_operands<R: WasmModuleResources>(
     push_operands(&mut text, validator).is_some() && text.as_str() == expected
 }
 
-/// Whether operands, open blocks and locals are these.
+/// Checks that operands, open blocks and locals are these.
 pub fn is_state<R: WasmModuleResources>(
     alloc: Global,
     validator: &FuncValidator<R>,

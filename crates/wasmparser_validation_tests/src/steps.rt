@@ -71,7 +71,7 @@ fn steps_hold<R: WasmModuleResources>(
     Ok(())
 }
 
-// Whether this is told from the start on.
+// Checks that this is told from the start on.
 fn is_told(alloc: Global, validator: &FuncValidator<&ListedResources>) -> bool {
     validator.index() == FUNCTION
         && *validator.features() == WasmFeatures::default()

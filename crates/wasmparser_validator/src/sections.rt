@@ -92,7 +92,7 @@ impl<'a> ValidSections<'a> {
         }
     }
 
-    // Whether there are as many data segments as each data count states.
+    // Checks that there are as many data segments as each data count states.
     fn has_stated_segments(&self) -> bool
         ensures { result ≡ list_all (λ count. count == (context self.now.state).segments) self.now.data_counts.items }
     {
@@ -100,7 +100,7 @@ impl<'a> ValidSections<'a> {
         self.data_counts.iter().all(|count| *count == segments)
     }
 
-    // Whether there are also as many bodies as functions.
+    // Checks that there are also as many bodies as functions.
     fn counts_agree(&self) -> bool
         ensures { IsTrue result ↔ CountsAgree (context self.now.state) self.now.bodies.items self.now.data_counts.items }
     {

@@ -128,7 +128,7 @@ pub fn validate(alloc: Global, bytes: &[u8]) -> Result<Types, Error>
     verdict
 }
 
-// Whether a stated number, if there is one, is that one.
+// Checks that a stated number, if there is one, is that one.
 fn agrees_with_stated(number: u32, stated: Option<u32>) -> bool
     ensures { result ≡ agrees_with_stated number stated }
 {
@@ -187,7 +187,7 @@ impl Validator {
         self.data_count = None;
     }
 
-    // Whether a payload is waited for.
+    // Checks that a payload is waited for.
     #[tactic(auto, unfolding(wasmparser_payloads::specs::Parsing::piece, crate::specs::Judges::waits_in, crate::specs::Judges::may_stand_between, crate::specs::Judges::is_version))]
     fn waits_for(&self, payload: &Payload<'_>) -> bool
         ensures { result ≡ waits_for (judge self.now) (piece payload.now) }
@@ -203,7 +203,7 @@ impl Validator {
         }
     }
 
-    // Whether a payload may come among bodies and after them.
+    // Checks that a payload may come among bodies and after them.
     #[tactic(auto, unfolding(wasmparser_payloads::specs::Parsing::piece, crate::specs::Judges::follows_bodies))]
     fn follows_bodies(&self, payload: &Payload<'_>) -> bool
         ensures { result ≡ follows_bodies (judge self.now) (piece payload.now) }
@@ -217,7 +217,7 @@ impl Validator {
         }
     }
 
-    // Whether the numbers agree that a payload states.
+    // Checks that the numbers agree that a payload states.
     #[tactic(auto, unfolding(wasmparser_payloads::specs::Parsing::piece, crate::specs::Judges::agrees))]
     fn agrees(&self, payload: &Payload<'_>) -> bool
         ensures { result ≡ agrees (judge self.now) (piece payload.now) }

@@ -4,7 +4,7 @@ use std::alloc::Global;
 use wasm_core_write::encode::Encode;
 use wasm_core_write::encode_error::EncodeError;
 
-/// Whether a call that adds an item did, or was out of memory and changed no number of items.
+/// Checks that a call that adds an item did, or was out of memory and changed no number of items.
 pub fn is_sound(answer: &Result<(), EncodeError>, before: u32, after: u32) -> bool {
     match answer {
         Ok(()) => before.checked_add(1) == Some(after),
@@ -12,7 +12,7 @@ pub fn is_sound(answer: &Result<(), EncodeError>, before: u32, after: u32) -> bo
     }
 }
 
-/// Whether a value is written, at the second try where the first is out of memory and leaves the sink as it was.
+/// Checks that a value is written, at the second try where the first is out of memory and leaves the sink as it was.
 pub fn is_written<E: Encode>(alloc: Global, value: &E) -> bool {
     let mut sink = Vec::new(alloc);
     match value.encode(&mut sink) {

@@ -54,7 +54,7 @@ fn more_faults(outcomes: &[Outcome]) -> Option<u32> {
     (outcomes.len() == OUTCOMES.len()).then_some(count)
 }
 
-// Whether each input ended as it should but where memory ran out, which was told, and there is a line for each that is no fault.
+// Checks that each input ended as it should but where memory ran out, which was told, and there is a line for each that is no fault.
 fn are_expected(outcomes: &[Outcome], inputs: &Named, written: &[u8]) -> bool {
     let lines = written.iter().filter(|byte| **byte == b'\n').count();
     let answers = outcomes.iter().filter(|it| **it != Outcome::Fault).count();
@@ -63,7 +63,7 @@ fn are_expected(outcomes: &[Outcome], inputs: &Named, written: &[u8]) -> bool {
         && lines == answers
 }
 
-// Whether inputs are validated so, at the second time where there was no memory for the outcomes: then nothing was told or written.
+// Checks that inputs are validated so, at the second time where there was no memory for the outcomes: then nothing was told or written.
 fn validates(alloc: Global, written: &mut Vec<u8>) -> bool {
     let mut inputs = Named {
         told: 0,

@@ -35,7 +35,7 @@ fn answer(session: &mut Session, bytes: &[u8]) -> &'static str {
     }
 }
 
-// Whether a session answers so, after a restart where memory ran out and the session failed, and at the second time where it didn't fail.
+// Checks that a session answers so, after a restart where memory ran out and the session failed, and at the second time where it didn't fail.
 fn answers(session: &mut Session, bytes: &[u8], expected: &str) -> bool {
     let first = answer(session, bytes);
     if first != "memory" {

@@ -27,7 +27,7 @@ fn reads(alloc: Global) -> bool {
     }
 }
 
-// Whether it reads, or memory ran out, which has no place.
+// Checks that it reads, or memory ran out, which has no place.
 fn reads_or_runs_out(alloc: Global) -> bool {
     match reads_all(alloc) {
         Ok(are_all) => are_all,

@@ -3,7 +3,7 @@
 use std::alloc::Global;
 use wasmparser_type_relations::snapshot_list::SnapshotList;
 
-// Whether a list has the numbers from 0 on, as many as it says.
+// Checks that a list has the numbers from 0 on, as many as it says.
 fn counts_to(list: &SnapshotList<usize>, len: usize) -> bool {
     for number in 0..len {
         if list.get(number) != Some(&number) {
@@ -21,7 +21,7 @@ fn is_copied(list: &mut SnapshotList<usize>, len: usize) -> Option<bool> {
     }
 }
 
-// Whether a copy of so many numbers is taken, at the second call where the first is refused.
+// Checks that a copy of so many numbers is taken, at the second call where the first is refused.
 fn copies(list: &mut SnapshotList<usize>, len: usize) -> bool {
     match is_copied(list, len) {
         Some(is_right) => is_right,
@@ -29,7 +29,7 @@ fn copies(list: &mut SnapshotList<usize>, len: usize) -> bool {
     }
 }
 
-// Whether a number goes in after those below it and a copy is taken, at the second call where the first is refused.
+// Checks that a number goes in after those below it and a copy is taken, at the second call where the first is refused.
 fn takes(list: &mut SnapshotList<usize>, number: usize) -> bool {
     let is_pushed = list.push(number).is_ok();
     if !is_pushed && !(counts_to(list, number) && list.push(number).is_ok()) {
@@ -38,7 +38,7 @@ fn takes(list: &mut SnapshotList<usize>, number: usize) -> bool {
     copies(list, number.saturating_add(1))
 }
 
-// Whether all numbers below this one do.
+// Checks that all numbers below this one do.
 fn takes_each(list: &mut SnapshotList<usize>, len: usize) -> bool {
     for number in 0..len {
         if !takes(list, number) {

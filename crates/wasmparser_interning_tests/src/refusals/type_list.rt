@@ -19,7 +19,7 @@ const LISTS: &str = "
     lone open : struct = #0; lone open #0 : struct = #1 | supertype #1 = #0; type #1 = open #0 : struct | single #1 : struct i8 = new #2
 ";
 
-// Whether the questions are answered so. Where memory runs out on their words, it doesn't a second time.
+// Checks that the questions are answered so. Where memory runs out on their words, it doesn't a second time.
 fn are_so(alloc: Global, list: &mut CheckedList, questions: &str) -> bool {
     steps_hold(alloc, list, questions) || steps_hold(alloc, list, questions)
 }

@@ -74,7 +74,7 @@ fn counts<R: WasmModuleResources>(validator: &FuncValidator<R>) -> (usize, usize
     )
 }
 
-// Whether this is a refusal for lack of memory.
+// Checks that this is a refusal for lack of memory.
 pub(crate) fn is_memory(answer: &Result<(), Error>) -> bool {
     match answer {
         Ok(()) => false,
@@ -82,7 +82,7 @@ pub(crate) fn is_memory(answer: &Result<(), Error>) -> bool {
     }
 }
 
-// Whether the next operator is accepted, at the second time where memory ran out at the first.
+// Checks that the next operator is accepted, at the second time where memory ran out at the first.
 fn takes_next<R: WasmModuleResources>(
     validator: &mut FuncValidator<R>,
     operators: &mut OperatorsReader<'_>,

@@ -6,7 +6,7 @@ use wasmparser_types::val_type::ValType;
 
 const PARAMS: [ValType; 3] = [ValType::I32, ValType::I64, ValType::F32];
 
-// Whether parameters are defined, at the second time where memory ran out at the first.
+// Checks that parameters are defined, at the second time where memory ran out at the first.
 fn begins(locals: &mut Locals) -> bool {
     locals.reset();
     if locals.define_parameters(&PARAMS).is_ok() {
@@ -16,7 +16,7 @@ fn begins(locals: &mut Locals) -> bool {
     locals.define_parameters(&PARAMS).is_ok()
 }
 
-// Whether a run is defined, at the second time where memory ran out at the first.
+// Checks that a run is defined, at the second time where memory ran out at the first.
 fn defines(locals: &mut Locals, count: u32) -> bool {
     let before = locals.len();
     match locals.define(count, ValType::FUNCREF) {
@@ -28,7 +28,7 @@ fn defines(locals: &mut Locals, count: u32) -> bool {
     }
 }
 
-// Whether all runs are defined.
+// Checks that all runs are defined.
 fn defines_all(locals: &mut Locals, runs: u32) -> bool {
     let mut are_defined = begins(locals);
     for count in 0..runs {
@@ -37,7 +37,7 @@ fn defines_all(locals: &mut Locals, runs: u32) -> bool {
     are_defined && locals.len() > runs && locals.get(runs).is_some()
 }
 
-// Whether they are defined at the first time, as where there is room for all.
+// Checks that they are defined at the first time, as where there is room for all.
 fn defines_again(locals: &mut Locals, runs: u32) -> bool {
     locals.reset();
     let mut are_defined = locals.define_parameters(&PARAMS).is_ok();

@@ -77,7 +77,7 @@ fn sections_are_accepted_or_memory_ran_out(rt: HostRuntime) -> Result<(), Fail> 
     Ok(check_rows(rt.alloc(), SECTIONS, 13, sections_hold)?)
 }
 
-// Whether an item is accepted, at the second time where memory ran out.
+// Checks that an item is accepted, at the second time where memory ran out.
 fn takes(alloc: Global, state: &mut JudgedState, item: &str) -> bool {
     match accepts(alloc, state, item) {
         Some(is_accepted) => is_accepted,
@@ -128,7 +128,7 @@ const GROUPED: &str = "
     import_entries 00 |
 ";
 
-// Whether imports have these names, one after the other.
+// Checks that imports have these names, one after the other.
 fn have_names(mut imports: NamedImports<'_>, names: &str) -> bool {
     for name in names.split_whitespace() {
         let Some((origin, own)) = name.split_once('.') else {

@@ -32,7 +32,7 @@ fn counts(stacks: &Stacks, number: u32) -> (usize, usize, bool) {
     )
 }
 
-// Whether a call is done, at the second time where memory ran out at the first.
+// Checks that a call is done, at the second time where memory ran out at the first.
 fn takes(stacks: &mut Stacks, number: u32) -> bool {
     let before = counts(stacks, number);
     if call(stacks, number).is_ok() {
@@ -41,7 +41,7 @@ fn takes(stacks: &mut Stacks, number: u32) -> bool {
     counts(stacks, number) == before && call(stacks, number).is_ok()
 }
 
-// Whether a block is closed, at the second time where memory ran out at the first.
+// Checks that a block is closed, at the second time where memory ran out at the first.
 fn closes(stacks: &mut Stacks) -> bool {
     let before = counts(stacks, 0);
     if stacks.leave(&TYPES).is_ok() {
@@ -50,7 +50,7 @@ fn closes(stacks: &mut Stacks) -> bool {
     counts(stacks, 0) == before && stacks.leave(&TYPES).is_ok()
 }
 
-// Whether all calls are done, and all blocks closed.
+// Checks that all calls are done, and all blocks closed.
 fn takes_all(stacks: &mut Stacks, calls: u32) -> bool {
     for number in 0..calls {
         if !takes(stacks, number) {
@@ -65,7 +65,7 @@ fn takes_all(stacks: &mut Stacks, calls: u32) -> bool {
     stacks.is_closed() && stacks.operand_count() > 0
 }
 
-// Whether they are done at the first time, as where there is room for all.
+// Checks that they are done at the first time, as where there is room for all.
 fn does_all(stacks: &mut Stacks, calls: u32) -> bool {
     for number in 0..calls {
         if call(stacks, number).is_err() {

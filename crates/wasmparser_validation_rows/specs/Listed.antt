@@ -5,6 +5,7 @@ use Rattle.wasm_bodies.specs.BodyContext.{ModuleItems, NamedType}
 use Rattle.wasm_spec.specs.Subtyping.{abstract_of, bottom_of, is_abstract_below}
 use Rattle.wasm_spec.specs.Types as spec
 use Rattle.wasmparser_readers.specs.ItemTypes.{global_type, memory_type, table_type}
+use Rattle.wasmparser_type_relations.specs.Tops.{top_of as abstract_top}
 use Rattle.wasmparser_bodies.specs.Resources.{Resources}
 use Rattle.wasmparser_validation_rows.specs.declared.listed_resources.ListedResources.{ListedResources}
 use Rattle.wasmparser_validation_rows.specs.declared.listed_types.ListedTypes.{ListedTypes}
@@ -48,18 +49,7 @@ is_val_below types spec.V128 spec.V128 = true
 is_val_below types (spec.Ref n a) (spec.Ref m b) = (m || not n) && is_heap_below types a b
 is_val_below types _ _ = false
 
--- the greatest type above an abstract one, and above any
-abbrev pub abstract_top : spec.AbstractHeapType → spec.AbstractHeapType
-abstract_top spec.Func = spec.Func
-abstract_top spec.NoFunc = spec.Func
-abstract_top spec.Extern = spec.Extern
-abstract_top spec.NoExtern = spec.Extern
-abstract_top spec.Exn = spec.Exn
-abstract_top spec.NoExn = spec.Exn
-abstract_top spec.Cont = spec.Cont
-abstract_top spec.NoCont = spec.Cont
-abstract_top _ = spec.Any
-
+-- the greatest type above one
 abbrev pub heap_top : ListedTypes → spec.HeapType Index → spec.HeapType Index
 heap_top types (spec.Abstract heap) = spec.Abstract (abstract_top heap)
 heap_top types (spec.Concrete index) = spec.Abstract (abstract_top (abstract_of (composite_of types (number_of index))))

@@ -9,7 +9,8 @@ ghost use Rattle.wasmparser_types.specs.SubTypes.{sub_type};
 ghost use Rattle.wasmparser_types.specs.ValTypes.{val_type};
 ghost use Rattle.wasmparser_types.specs.declared.val_type.ValType.TheVariants as code;
 
-use crate::subtyping::{abstract_is_subtype, abstract_top, bottom_of, kind_of, number};
+use crate::subtyping::{abstract_is_subtype, bottom_of, kind_of, number};
+use wasmparser_type_relations::subtyping::abstract_top;
 use wasmparser_types::composite_type::CompositeType;
 use wasmparser_types::heap_type::HeapType;
 use wasmparser_types::index::CoreTypeId;

@@ -2,7 +2,6 @@
 
 ghost use Rattle.std.specs.Prelude.{◌≡◌};
 ghost use Rattle.wasm_spec.specs.Subtyping.{abstract_of, bottom_of, is_abstract_below};
-ghost use Rattle.wasmparser_validation_rows.specs.Listed.{abstract_top};
 ghost use Rattle.wasmparser_types.specs.CompositeTypes.{composite_type};
 ghost use Rattle.wasmparser_types.specs.HeapTypes.{abstract_heap_type};
 ghost use Rattle.wasmparser_types.specs.Index.{number_of};
@@ -43,24 +42,6 @@ pub(crate) fn bottom_of(it: &CompositeType) -> AbstractHeapType
         CompositeType::Func(_) => AbstractHeapType::NoFunc,
         CompositeType::Struct(_) | CompositeType::Array(_) => AbstractHeapType::None,
         CompositeType::Cont(_) => AbstractHeapType::NoCont,
-    }
-}
-
-/// The greatest type above an abstract one.
-pub(crate) fn abstract_top(it: AbstractHeapType) -> AbstractHeapType
-    ensures { abstract_heap_type result ≡ abstract_top (abstract_heap_type it) }
-{
-    match it {
-        AbstractHeapType::Func | AbstractHeapType::NoFunc => AbstractHeapType::Func,
-        AbstractHeapType::Extern | AbstractHeapType::NoExtern => AbstractHeapType::Extern,
-        AbstractHeapType::Exn | AbstractHeapType::NoExn => AbstractHeapType::Exn,
-        AbstractHeapType::Cont | AbstractHeapType::NoCont => AbstractHeapType::Cont,
-        AbstractHeapType::Any
-        | AbstractHeapType::Eq
-        | AbstractHeapType::I31
-        | AbstractHeapType::Struct
-        | AbstractHeapType::Array
-        | AbstractHeapType::None => AbstractHeapType::Any,
     }
 }
 

@@ -174,8 +174,7 @@ fn has(module: &Module, part: Part) -> bool {
         Part::Global => !module.globals().is_empty(),
         Part::Export => !module.exports().is_empty(),
         Part::Start => module.start().is_some(),
-        Part::DataCount => module.config().bulk_memory_enabled
-            && !module.data_segments().is_empty(),
+        Part::DataCount => module.config().bulk_memory_enabled && !module.data().is_empty(),
         _ => {
             has_import(module.imports(), part)
                 || has_segment(module, part)
@@ -237,7 +236,7 @@ fn has_segment(module: &Module, part: Part) -> bool {
             return true;
         }
     }
-    for segment in module.data_segments() {
+    for segment in module.data() {
         if form_of_data(segment) == part {
             return true;
         }
@@ -268,7 +267,7 @@ fn has_constant(module: &Module, part: Part) -> bool {
     tables_have(module.tables(), part)
         || globals_have(module.globals(), part)
         || elements_have(module.elems(), part)
-        || data_has(module.data_segments(), part)
+        || data_has(module.data(), part)
 }
 
 fn tables_have(tables: &[Table], part: Part) -> bool {

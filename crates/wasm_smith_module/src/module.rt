@@ -417,7 +417,7 @@ impl Module {
     }
 
     /// Returns its data segments.
-    pub fn data_segments(&self) -> &[DataSegment]
+    pub fn data(&self) -> &[DataSegment]
         ensures { map views.data_segment result.now ≡ self.now.made.data_segments }
     {
         &self.data_segments

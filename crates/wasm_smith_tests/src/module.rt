@@ -94,7 +94,7 @@ fn shows(alloc: Global, module: &Module, accessor: &str, expected: &str) -> Opti
         "exports" => Some(debugs(alloc, &module.exports(), expected)),
         "start" => Some(debugs(alloc, &module.start(), expected)),
         "elems" => Some(debugs(alloc, &module.elems(), expected)),
-        "data" => Some(debugs(alloc, &module.data_segments(), expected)),
+        "data" => Some(debugs(alloc, &module.data(), expected)),
         _ => None,
     }
 }

@@ -28,18 +28,20 @@ enum wasm_gen_kind {
     WASM_GEN_LIMIT = 3,        /* a count, a size, a depth or a sum passes a limit */
     WASM_GEN_OPERATOR = 4,     /* valid but for a body with an operator outside the table of operators */
     WASM_GEN_BODY = 5,         /* valid but for the bytes of a body, or its typing */
-    WASM_GEN_TOTAL = 6,        /* never: the validator's list of types is full */
-    WASM_GEN_ORDER = 7,        /* never: a part of a module comes too early or late */
-    WASM_GEN_FAILED = 8,       /* never: the validator refused a module before */
     WASM_GEN_MEMORY = 9,       /* out of memory: no verdict */
     WASM_GEN_FEATURES = 10,    /* unknown feature bit */
     WASM_GEN_BUFFER = 11,      /* the buffer is too short for the module */
     WASM_GEN_CONFIG_TEXT = 12, /* configuration text is not supported yet */
-    WASM_GEN_CONFIG = 13,      /* never: a value of the configuration isn't allowed */
-    WASM_GEN_SHAPE = 14,       /* never: the configuration asks for what can't be made */
-    WASM_GEN_MINIMUM = 15,     /* never: fewer items than the configuration's minimum can be made */
-    WASM_GEN_EMPTY_CHOICE = 16, /* never: a choice of nothing */
-    WASM_GEN_TYPE_SIZE = 17    /* never: the types of imports and exports are too large together */
+
+    /* No call of this version returns these. */
+    WASM_GEN_TOTAL = 6,         /* the validator's list of types is full */
+    WASM_GEN_ORDER = 7,         /* a part of a module comes too early or late */
+    WASM_GEN_FAILED = 8,        /* the validator refused a module before */
+    WASM_GEN_CONFIG = 13,       /* a value of the configuration isn't allowed */
+    WASM_GEN_SHAPE = 14,        /* the configuration asks for what can't be made */
+    WASM_GEN_MINIMUM = 15,      /* fewer items than the configuration's minimum can be made */
+    WASM_GEN_EMPTY_CHOICE = 16, /* a choice of nothing */
+    WASM_GEN_TYPE_SIZE = 17     /* the types of imports and exports are too large together */
 };
 
 /* Features of WebAssembly, each as a bit. */
@@ -97,9 +99,9 @@ uint32_t wasm_gen_features_generated(void);
 size_t wasm_gen_kind_name(uint32_t kind, char *buffer, size_t length);
 
 /* Validates a module under the features whose bits are set (enum wasm_gen_feature). Fills the verdict, and returns its kind: WASM_GEN_YES exactly
- * if the bytes are a valid module whose bodies have operators of the table, unless memory runs out; else a kind up to WASM_GEN_FEATURES that
- * isn't marked "never". A small body can need gigabytes of operands (calls of a function with a thousand results); a system that overcommits
- * may then end the process. */
+ * if the bytes are a valid module whose bodies have operators of the table, unless memory runs out; else a kind from WASM_GEN_MALFORMED to
+ * WASM_GEN_BODY, WASM_GEN_MEMORY or WASM_GEN_FEATURES. A small body can need gigabytes of operands (calls of a function with a thousand
+ * results); a system that overcommits may then end the process. */
 uint32_t wasm_gen_check(const uint8_t *bytes, size_t length, uint32_t features, struct wasm_gen_verdict *verdict);
 
 /* Makes a module from a seed, which may be any bytes; equal seeds make equal modules. Sets *module_length to the module's length, or to 0 if

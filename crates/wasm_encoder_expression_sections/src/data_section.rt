@@ -8,6 +8,7 @@ ghost use Rattle.wasm_spec.specs.Shortest.{list_encoding, framed_encoding};
 
 use crate::data_segment::{DataSegment, DataSegmentMode};
 use crate::kept_bytes::{CountedBytes, RawBytes};
+use crate::segment_codes::{ACTIVE, ACTIVE_WITH_INDEX, PASSIVE};
 use std::alloc::Global;
 use std::marker::Model;
 use wasm_core_write::encode::{Encode, Section};
@@ -42,13 +43,6 @@ impl Model for KeptData {
     ghost view = { λ d. data_bytes d.0 };
 }
 
-// The forms of segments.
-const ACTIVE: u8 = 0x00;
-
-const PASSIVE: u8 = 0x01;
-
-const ACTIVE_WITH_MEMORY: u8 = 0x02;
-
 // The number of bytes of the form of an active segment, and of its memory.
 #[tactic(auto, using(wasm_spec::proofs::UnsignedEncodings::at_most_five), unfolding(crate::specs::ItemEncodings::memory_encoding))]
 fn memory_size(memory_index: u32) -> u64
@@ -71,7 +65,7 @@ fn put_memory(memory_index: u32, sink: &mut Vec<u8>)
     if memory_index == 0 {
         sink.push_reserved(ACTIVE);
     } else {
-        sink.push_reserved(ACTIVE_WITH_MEMORY);
+        sink.push_reserved(ACTIVE_WITH_INDEX);
         memory_index.put(sink);
     }
 }

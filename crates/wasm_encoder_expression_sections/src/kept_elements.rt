@@ -7,6 +7,7 @@ ghost use Rattle.wasm_encoder_expression_sections.specs.CoreSegments.{lent_mode,
 ghost use Rattle.wasm_encoder_expression_sections.specs.ItemEncodings.{element_encoding, form_code, is_funcref, items_encoding, typed_encoding, written_mode, written_table};
 
 use crate::element_segment::{ElementMode, ElementSegment, Elements};
+use crate::segment_codes::{ACTIVE, ACTIVE_WITH_INDEX, DECLARED, PASSIVE};
 use std::alloc::Global;
 use std::marker::Model;
 use wasm_core_types::types::{HeapType, RefType};
@@ -26,7 +27,7 @@ pub enum KeptElements {
 const FUNCTIONS: u8 = 0x00;
 
 impl KeptElements {
-    // The number of a form of segments, of which those of expressions are four more.
+    // The code of a segment, to which those of expressions add four.
     fn form(&self, form: u8) -> u8
         requires { form ≤ 3 }
         ensures { result ≡ form_code form (kept_elements self.now) }
@@ -142,7 +143,7 @@ impl Encoding for KeptSegment {
                 table: None,
                 offset,
             } => {
-                sink.push_reserved(self.elements.form(0));
+                sink.push_reserved(self.elements.form(ACTIVE));
                 offset.put(sink);
                 self.elements.put(sink);
             }
@@ -150,17 +151,17 @@ impl Encoding for KeptSegment {
                 table: Some(table),
                 offset,
             } => {
-                sink.push_reserved(self.elements.form(2));
+                sink.push_reserved(self.elements.form(ACTIVE_WITH_INDEX));
                 table.put(sink);
                 offset.put(sink);
                 self.elements.put_typed(sink);
             }
             KeptMode::Passive => {
-                sink.push_reserved(self.elements.form(1));
+                sink.push_reserved(self.elements.form(PASSIVE));
                 self.elements.put_typed(sink);
             }
             KeptMode::Declared => {
-                sink.push_reserved(self.elements.form(3));
+                sink.push_reserved(self.elements.form(DECLARED));
                 self.elements.put_typed(sink);
             }
         }

@@ -10,4 +10,5 @@ pub mod global_section;
 mod kept_bytes;
 mod kept_elements;
 pub mod laws;
+mod segment_codes;
 pub mod table_section;

@@ -1,6 +1,6 @@
 //! A list of items that is kept until it is written, and the length of their encodings.
 
-ghost use Rattle.std.specs.Prelude.{◌≡◌, ◌↔◌, ◌+◌, ◌≤◌, ◌<◌, ◌^◌, [], ◌∷◌, ◌++◌, List, length, Err, IfOk, IfErr, IsTrue};
+ghost use Rattle.std.specs.Prelude.{◌≡◌, ◌↔◌, ◌+◌, ◌≤◌, ◌<◌, ◌^◌, [], ◌∷◌, ◌++◌, List, length, Err, IfOk, IfErr, IsTrue, vec_capacity};
 ghost use Rattle.std.specs.List.{flat_map};
 ghost use Rattle.wasm_core_write.specs.Encoding.{Measures, TellsItem};
 ghost use Rattle.wasm_spec.specs.Shortest.{list_encoding};
@@ -60,17 +60,13 @@ impl<T: Encoding + Drop> KeptList<T> {
     ///
     /// # Errors
     /// `TooLong` exactly where there are 4,294,967,295 items, and else `Memory`. The list is then as it was.
-    #[tactic(auto, using(wasm_spec::proofs::ListEncodings::sizes))]
     pub fn push(&mut self, item: T) -> Result<(), EncodeError>
         ensures added { IfOk result (λ _. self.new ≡ self.old ++ item ∷ []) }
         ensures kept { IfErr result (λ _. self.new ≡ self.old) }
         ensures too_long { (result ≡ Err EncodeError.TooLong) ↔ (2 ^ 32 ≤ length self.old + 1) }
     {
-        self.check_room()?;
-        let size = self.size_with(&item);
-        self.items.push(item)?;
-        self.size = size;
-        Ok(())
+        let with_item = self.size_with(&item);
+        keep(&mut self.items, &mut self.size, item, with_item)
     }
 
     /// Whether another item can be added.
@@ -81,10 +77,7 @@ impl<T: Encoding + Drop> KeptList<T> {
         ensures room { IfOk result (λ _. length self.now + 1 < 2 ^ 32) }
         ensures too_long { IfErr result (λ e. (e ≡ EncodeError.TooLong) × (2 ^ 32 ≤ length self.now + 1)) }
     {
-        if self.items.len() >= 4_294_967_295 {
-            return Err(EncodeError::TooLong);
-        }
-        Ok(())
+        check_count(self.items.len())
     }
 
     // The length of the items' encodings and of one after them.
@@ -102,6 +95,40 @@ impl<T: Encoding + Drop> KeptList<T> {
     {
         item_len(&self.items, i)
     }
+}
+
+// Checks that one item more than so many can be kept.
+fn check_count(count: usize) -> Result<(), EncodeError>
+    ensures room { IfOk result (λ _. count + 1 < 2 ^ 32) }
+    ensures too_long { IfErr result (λ e. (e ≡ EncodeError.TooLong) × (2 ^ 32 ≤ count + 1)) }
+{
+    if count >= 4_294_967_295 {
+        return Err(EncodeError::TooLong);
+    }
+    Ok(())
+}
+
+// Adds an item to those that are kept, of whose encodings `size` is the length, and `with_item` that of these and the item's.
+#[tactic(auto, using(wasm_spec::proofs::ListEncodings::sizes))]
+fn keep<T: Encoding + Drop>(
+    items: &mut Vec<T>,
+    size: &mut Result<u64, EncodeError>,
+    item: T,
+    with_item: Result<u64, EncodeError>,
+) -> Result<(), EncodeError>
+    requires measured { Measures size.old (length (flat_map T.encoding items.old.items)) (length (flat_map T.encoding items.old.items)) }
+    requires measured_with { Measures with_item (length (flat_map T.encoding items.old.items ++ T.encoding item)) (length (flat_map T.encoding items.old.items ++ T.encoding item)) }
+    ensures added { IfOk result (λ _. items.new.items ≡ items.old.items ++ item ∷ []) }
+    ensures kept { IfErr result (λ _. items.new.items ≡ items.old.items) }
+    ensures too_long { (result ≡ Err EncodeError.TooLong) ↔ (2 ^ 32 ≤ length items.old.items + 1) }
+    ensures no_room { result ≡ Err EncodeError.Memory → vec_capacity items.old ≤ length items.old.items }
+    ensures few { length items.old.items < 2 ^ 32 → length items.new.items < 2 ^ 32 }
+    ensures measured { Measures size.new (length (flat_map T.encoding items.new.items)) (length (flat_map T.encoding items.new.items)) }
+{
+    check_count(items.len())?;
+    items.push(item)?;
+    *size = with_item;
+    Ok(())
 }
 
 // The number of items, and the items.

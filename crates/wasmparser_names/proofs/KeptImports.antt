@@ -9,6 +9,7 @@ use Rattle.wasmparser_names.specs.ImportNames.{Kept, imported, module_at}
 use Rattle.wasmparser_names.specs.KeptImports.{AreOfModules, kept_imports}
 use Rattle.wasmparser_names.specs.ModuleNames.{with_name}
 use Rattle.wasmparser_names.specs.declared.import_names.KeptImport.{KeptImport}
+use Rattle.wasmparser_names.specs.declared.name_hasher.NameHasher.{NameHasher}
 
 one_more : (old news : List Imported) (new : Imported) → with_imports old (news ++ new ∷ []) ≡ with_import (with_imports old news) new
 one_more old [] new = refl
@@ -22,12 +23,23 @@ module _ (modules : List (List ℕ)) where
   last_kept [] import = refl
   last_kept (x ∷ imports) import = ap (λ l. of_kept x ∷ l) (last_kept imports import)
 
+  pub kept_last : (imports : List KeptImport) (import : KeptImport) (name : List ℕ) → import.name ≡ name
+      → kept_imports modules (imports ++ import ∷ []) ≡ kept_imports modules imports ++ imported (module_at modules import.origin) name import.item ∷ []
+  kept_last imports import name is =
+      last_kept imports import ∙ ap (λ name. kept_imports modules imports ++ imported (module_at modules import.origin) name import.item ∷ []) is
+
+  pub known_last : (imports : List KeptImport) (import : KeptImport) → import.origin < length modules → AreOfModules modules imports → AreOfModules modules (imports ++ import ∷ [])
+  known_last [] import known all = (known, tt)
+  known_last (x ∷ imports) import known all = (all.0, known_last imports import known all.1)
+
   -- an import goes to its group
-  pub kept_pushed : (imports : List KeptImport) (import : KeptImport) (name : List ℕ) → import.name ≡ name
-      → with_imports [] (kept_imports modules (imports ++ import ∷ [])) ≡ with_import (with_imports [] (kept_imports modules imports)) (imported (module_at modules import.origin) name import.item)
-  kept_pushed imports import name is =
-      ap (with_imports []) (last_kept imports import) ∙ one_more [] (kept_imports modules imports) (of_kept import)
-      ∙ ap (λ name. with_import (with_imports [] (kept_imports modules imports)) (imported (module_at modules import.origin) name import.item)) is
+  pub kept_pushed : (hasher : NameHasher) (imports new : List KeptImport) (import : Imported) (result : Result (Unit {0}) AllocError) → OnOk result (kept_imports modules new ≡ kept_imports modules imports ++ import ∷ [])
+      → OnOk result
+      (◌≡◌ {A = Kept} (record { modules = modules; imports = with_imports [] (kept_imports modules new); hasher = hasher })
+      (record { modules = modules; imports = with_import (with_imports [] (kept_imports modules imports)) import; hasher = hasher }))
+  kept_pushed hasher imports new import (Ok x) is =
+      ap (λ imports. record { modules = modules; imports = imports; hasher = hasher }) (ap (with_imports []) is ∙ one_more [] (kept_imports modules imports) import)
+  kept_pushed hasher imports new import (Err e) is = tt
 
 -- ---- names of modules that come later
 
@@ -48,7 +60,9 @@ module _ (modules : List (List ℕ)) (name : List ℕ) (imports : List KeptImpor
       by true = refl
       by false = same_kept modules (name ∷ []) imports all
 
-  pub numbered : (result : Result ℕ AllocError) (new : List (List ℕ)) → OnOk result (new ≡ with_name modules name)
-      → OnOk result (◌≡◌ {A = Kept} (record { modules = new; imports = with_imports [] (kept_imports new imports) }) (record { modules = with_name modules name; imports = with_imports [] (kept_imports modules imports) }))
-  numbered (Ok n) new is = rw is (ap (λ kept. record { modules = with_name modules name; imports = with_imports [] kept }) named_more)
-  numbered (Err e) new is = tt
+  pub numbered : (old_hasher new_hasher : NameHasher) → new_hasher ≡ old_hasher → (result : Result ℕ AllocError) (new : List (List ℕ)) → OnOk result (new ≡ with_name modules name)
+      → OnOk result
+      (◌≡◌ {A = Kept} (record { modules = new; imports = with_imports [] (kept_imports new imports); hasher = new_hasher })
+      (record { modules = with_name modules name; imports = with_imports [] (kept_imports modules imports); hasher = old_hasher }))
+  numbered hasher new_hasher same (Ok n) new is = rw (is, same) (ap (λ kept. record { modules = with_name modules name; imports = with_imports [] kept; hasher = hasher }) named_more)
+  numbered hasher new_hasher same (Err e) new is = tt

@@ -4,6 +4,7 @@ use Rattle.std.specs.List.{AllByRecursion}
 use Rattle.wasm_validity.specs.ImportedItems.{Imported}
 use Rattle.wasmparser_readers.specs.Exports.{external_kind}
 use Rattle.wasmparser_names.specs.declared.import_key.ImportKey.{ImportKey}
+use Rattle.wasmparser_names.specs.declared.name_hasher.NameHasher.{NameHasher}
 use Rattle.wasmparser_names.specs.declared.named_import.NamedImport.{NamedImport}
 use Rattle.wasmparser_names.specs.declared.imported_items.ImportedItem.{ImportedItem}
 
@@ -14,10 +15,11 @@ imported origin name item = record { origin = origin; name = name; kind = extern
 abbrev pub named_import : NamedImport → Imported
 named_import import = imported import.module.now import.name.now import.item
 
--- the names of modules, which have numbers, and the imports
+-- the names of modules, which have numbers, the imports, and what the names of modules are hashed by
 pub record Kept : Type 0 where
   pub modules : List (List ℕ)
   pub imports : List Imported
+  pub hasher : NameHasher
 
 -- the name of the module with this number
 abbrev pub module_at : List (List ℕ) → ℕ → List ℕ

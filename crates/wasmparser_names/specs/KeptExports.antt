@@ -12,6 +12,14 @@ use Rattle.wasmparser_names.specs.declared.export_names.KeptExport.{KeptExport}
 use Rattle.wasmparser_names.specs.declared.name_hasher.NameHasher.{NameHasher}
 use Rattle.std.specs.declared.cmp.Ordering.TheVariants.{Less}
 
+-- the hasher of names that stand in no section
+abbrev pub first_hasher : NameHasher
+first_hasher = record { start = sip.initial }
+
+-- that of names that stand among these bytes: it starts with a hash of them
+abbrev pub hasher_after : List ℕ → NameHasher
+hasher_after bytes = record { start = sip.write sip.initial (fed.le_bytes 8 (sip.finish (sip.write sip.initial bytes))) }
+
 -- the hash of a name
 unfoldable pub hash_of : NameHasher → List ℕ → ℕ
 hash_of hasher name = sip.finish (fold sip.write hasher.start (fed.str name))

@@ -5,6 +5,11 @@ use Rattle.std.specs.Map.{lookup}
 use Rattle.wasmparser_names.specs.KeptExports.{hash_of}
 use Rattle.wasmparser_names.specs.declared.name_hasher.NameHasher.{NameHasher}
 
+-- the names, and what they are hashed by
+pub record Names : Type 0 where
+  pub names : List (List ℕ)
+  pub hasher : NameHasher
+
 -- one name more, unless it is there
 abbrev pub with_name : List (List ℕ) → List ℕ → List (List ℕ)
 with_name names name = if list_any (bytes_eq name) names then names else names ++ name ∷ []

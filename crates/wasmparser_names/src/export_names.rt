@@ -1,9 +1,10 @@
 //! Exports by their names.
 
 ghost use Rattle.std.specs.List.{list_any};
-ghost use Rattle.std.specs.Prelude.{◌≡◌, ◌<◌, ◌++◌, ◌∷◌, [], List, IfOk, IsTrue, OnErr, OnOk, length, nat_eq, not, slice_get, option_map, true, if◌then◌else◌};
+ghost use Rattle.std.specs.HashSet.{spare};
+ghost use Rattle.std.specs.Prelude.{◌≡◌, ◌<◌, ◌≤◌, ◌+◌, ◌-◌, ◌*◌, ◌⊎◌, ◌++◌, ◌∷◌, [], List, IfOk, IfSome, IsTrue, OnErr, OnOk, length, max, nat_eq, not, slice_get, option_map, true, if◌then◌else◌, vec_capacity};
 ghost use Rattle.wasmparser_names.specs.ExportNames.{is_exported};
-ghost use Rattle.wasmparser_names.specs.KeptExports.{AreHashed, AreKnown, AreNamed, EndInLast, IsAfter, IsNamed, hash_of, listed, name_in, start_at};
+ghost use Rattle.wasmparser_names.specs.KeptExports.{AreHashed, AreKnown, AreNamed, EndInLast, IsAfter, IsNamed, hash_of, hasher_after, listed, name_in, start_at};
 ghost use Rattle.wasmparser_readers.specs.Exports.{export_item};
 
 use crate::name_hasher::NameHasher;
@@ -109,17 +110,15 @@ impl ExportNames {
         let bytes = section.remaining_buffer();
         let most = (MAX_WASM_EXPORTS as usize).min(bytes.len() / LEAST_LEN);
         let count = most.min(section.count() as usize);
-        let longest = count.saturating_mul(MAX_WASM_STRING_SIZE as usize);
-        let mut names = ExportNames::new(alloc);
-        if count > FEW_NAMES {
-            names.hasher = NameHasher::after(bytes);
+        let mut names = Vec::new(alloc);
+        let mut exports = Vec::new(alloc);
+        make_room(&mut names, &mut exports, count, bytes);
+        ExportNames {
+            names,
+            exports,
+            hasher: hasher_for(count, bytes),
+            hashes: None,
         }
-        // (without room, exports ask for it as they come)
-        let _ = names.exports.reserve(count);
-        let _ = names
-            .names
-            .reserve(longest.min(bytes.len() - LEAST_LEN * count));
-        names
     }
 
     /// How many exports there are.
@@ -167,6 +166,30 @@ impl ExportNames {
     }
 }
 
+// Returns what the names of so many exports among these bytes are hashed by.
+fn hasher_for(count: usize, bytes: &[u8]) -> NameHasher
+    ensures { 16 < count → result ≡ hasher_after bytes.now }
+{
+    if count > FEW_NAMES {
+        NameHasher::after(bytes)
+    } else {
+        NameHasher::new()
+    }
+}
+
+// Makes room for so many exports, and for the rest of these bytes as their names, if there is memory for it. (Without room, exports ask for it as they come.)
+fn make_room(names: &mut Vec<u8>, exports: &mut Vec<KeptExport>, count: usize, bytes: &[u8])
+    requires { 3 * count ≤ length bytes.now }
+    ensures names { names.new.items ≡ names.old.items }
+    ensures exports { exports.new.items ≡ exports.old.items }
+    ensures few { vec_capacity exports.new ≤ max (vec_capacity exports.old) (length exports.old.items + count) }
+    ensures short { vec_capacity names.new ≤ max (vec_capacity names.old) (length names.old.items + (length bytes.now - 3 * count)) }
+{
+    let longest = count.saturating_mul(MAX_WASM_STRING_SIZE as usize);
+    let _ = exports.reserve_exact(count);
+    let _ = names.reserve_exact(longest.min(bytes.len() - LEAST_LEN * count));
+}
+
 // Whether no export has this one's name. Then this one may be added. Hashes are kept from the first name on that doesn't come after the one before it.
 fn is_new(
     names: &[u8],
@@ -181,6 +204,7 @@ fn is_new(
     ensures new { IfOk result (λ new. new ≡ not (is_exported export.now.name.now (listed names.now 0 exports.now))) }
     ensures known { AreKnown hasher.now (option_map (λ hashes. hashes.keys) hashes.new) (listed names.now 0 exports.now) }
     ensures ready { IfOk result (λ new. IsTrue new → AreKnown hasher.now (option_map (λ hashes. hashes.keys) hashes.new) (listed names.now 0 exports.now ++ export_item export.now ∷ [])) }
+    ensures no_room { OnErr result (IfSome hashes.old (λ hashes. spare hashes ≡ 0)) }
 {
     if let Some(hashes) = hashes {
         return keep_hash(names, exports, hasher, hashes, export.name);
@@ -219,6 +243,7 @@ fn keep_hash(
     ensures new { IfOk result (λ new. new ≡ not (is_exported name.now (listed names.now 0 exports.now))) }
     ensures hashed { AreHashed hasher.now hashes.new.keys (listed names.now 0 exports.now) }
     ensures kept { IfOk result (λ new. IsTrue new → list_any (nat_eq (hash_of hasher.now name.now)) hashes.new.keys ≡ true) }
+    ensures no_room { OnErr result (spare hashes.old ≡ 0) }
 {
     if hashes.insert(hasher.hash_of(name))? {
         return Ok(true);
@@ -256,6 +281,7 @@ fn push(
     ensures pushed { OnOk result (listed names.new.items 0 exports.new.items ≡ listed names.old.items 0 exports.old.items ++ export_item export.now ∷ []) }
     ensures refused { OnErr result (listed names.new.items 0 exports.new.items ≡ listed names.old.items 0 exports.old.items) }
     ensures named { AreNamed names.new.items 0 exports.new.items }
+    ensures no_room { OnErr result ((vec_capacity exports.old < length exports.old.items + 1) ⊎ (vec_capacity names.old < length names.old.items + length export.now.name.now)) }
 {
     // (so that a name is never kept alone)
     exports.reserve(1)?;

@@ -29,22 +29,23 @@ pub(crate) struct ImportGroups<'a> {
 }
 
 impl<'a> Model for ImportGroups<'a> {
+    ghost use Rattle.indexmap.specs.IndexMap.{hasher_of};
     ghost use Rattle.std.specs.List.{IsDistinct};
-    ghost use Rattle.std.specs.Prelude.{bytes_eq};
+    ghost use Rattle.std.specs.Prelude.{◌≡◌, bytes_eq};
     ghost use Rattle.wasmparser_names.specs.ImportNames.{Kept, imports_in, AreKept};
 
     ghost Value = { Kept };
 
-    ghost view = { λ groups. record { modules = groups.modules.now; imports = imports_in groups.modules.now groups.map.entries } };
+    ghost view = { λ groups. record { modules = groups.modules.now.names; imports = imports_in groups.modules.now.names groups.map.entries; hasher = groups.modules.now.hasher } };
 
-    ghost invariant = { λ groups. IsDistinct bytes_eq groups.modules.now × AreKept groups.modules.now groups.map.entries };
+    ghost invariant = { λ groups. IsDistinct bytes_eq groups.modules.now.names × AreKept groups.modules.now.names groups.map.entries × (hasher_of groups.map ≡ groups.modules.now.hasher) };
 }
 
 impl<'a> ImportGroups<'a> {
     /// No imports from these modules.
     pub(crate) fn new(alloc: Global, modules: &'a ModuleNames) -> ImportGroups<'a>
-        requires { IsDistinct bytes_eq modules.now }
-        ensures modules { result.modules ≡ modules.now }
+        requires { IsDistinct bytes_eq modules.now.names }
+        ensures modules { result.modules ≡ modules.now.names }
         ensures imports { result.imports ≡ [] }
     {
         ImportGroups {
@@ -112,9 +113,9 @@ pub(crate) fn group<'a>(
     modules: &'a ModuleNames,
     imports: &'a [KeptImport],
 ) -> Result<ImportGroups<'a>, AllocError>
-    requires distinct { IsDistinct bytes_eq modules.now }
-    requires known { AreOfModules modules.now imports.now }
-    ensures { IfOk result (λ groups. groups.imports ≡ with_imports [] (kept_imports modules.now imports.now)) }
+    requires distinct { IsDistinct bytes_eq modules.now.names }
+    requires known { AreOfModules modules.now.names imports.now }
+    ensures { IfOk result (λ groups. groups.imports ≡ with_imports [] (kept_imports modules.now.names imports.now)) }
 {
     let mut groups = ImportGroups::new(alloc, modules);
     for import in imports {
@@ -140,9 +141,9 @@ impl<'b, 'a> Model for ImportGroupsIter<'b, 'a> {
 
     ghost Value = { List Imported };
 
-    ghost view = { λ it. imports_left it.modules.now it.«module».now it.name.now it.items.now it.rest };
+    ghost view = { λ it. imports_left it.modules.now.names it.«module».now it.name.now it.items.now it.rest };
 
-    ghost invariant = { λ it. AreKept it.modules.now it.rest };
+    ghost invariant = { λ it. AreKept it.modules.now.names it.rest };
 }
 
 impl<'b, 'a> Iterator for ImportGroupsIter<'b, 'a> {

@@ -1,7 +1,7 @@
 //! Imports with their names, as they are kept.
 
 ghost use Rattle.std.specs.List.{IsDistinct};
-ghost use Rattle.std.specs.Prelude.{◌≡◌, [], ◌<◌, Some, IfOk, OnErr, OnOk, bytes_eq, length, slice_get};
+ghost use Rattle.std.specs.Prelude.{◌≡◌, [], ◌∷◌, ◌++◌, ◌<◌, ◌≤◌, ◌⊎◌, List, ℕ, Some, IfOk, OnErr, OnOk, bytes_eq, length, slice_get, vec_capacity};
 ghost use Rattle.wasm_validity.specs.ImportedItems.{with_import, with_imports};
 ghost use Rattle.wasmparser_names.specs.ImportNames.{imported, module_at};
 ghost use Rattle.wasmparser_names.specs.KeptImports.{AreOfModules, kept_imports};
@@ -42,9 +42,13 @@ impl Model for ImportNames {
 
     ghost Value = { Kept };
 
-    ghost view = { λ names. record { modules = names.modules; imports = with_imports [] (kept_imports names.modules names.imports.items) } };
+    ghost view = { λ names. record {
+      modules = names.modules.names;
+      imports = with_imports [] (kept_imports names.modules.names names.imports.items);
+      hasher = names.modules.hasher;
+    } };
 
-    ghost invariant = { λ names. IsDistinct bytes_eq names.modules × AreOfModules names.modules names.imports.items };
+    ghost invariant = { λ names. IsDistinct bytes_eq names.modules.names × AreOfModules names.modules.names names.imports.items };
 }
 
 impl ImportNames {
@@ -62,7 +66,9 @@ impl ImportNames {
     /// Makes room for so many imports more, if there is memory for it. Where there are no names yet, those of modules are hashed by `hasher` from now on: where it
     /// starts after all names that are to come, finding them takes no longer where they were chosen to make it slow.
     pub fn start_with(&mut self, hasher: NameHasher, count: usize)
-        ensures { self.new ≡ self.old }
+        ensures modules { self.new.modules ≡ self.old.modules }
+        ensures imports { self.new.imports ≡ self.old.imports }
+        ensures hashed { self.old.modules ≡ [] → self.new.hasher ≡ hasher }
     {
         if self.modules.is_empty() {
             self.modules = ModuleNames::new(*self.imports.allocator(), hasher);
@@ -92,9 +98,7 @@ impl ImportNames {
         ensures added { OnOk result (self.new ≡ record self.old { imports = with_import self.old.imports (imported (module_at self.old.modules origin) name.now item) }) }
         ensures refused { OnErr result (self.new ≡ self.old) }
     {
-        let name = KeptName::new(*self.imports.allocator(), name)?;
-        self.imports.push(KeptImport { origin, name, item })?;
-        Ok(())
+        push(&mut self.imports, origin, name, item)
     }
 
     /// The imports in order, those of the same two names together.
@@ -109,4 +113,21 @@ impl ImportNames {
             left: groups.in_order()?,
         })
     }
+}
+
+// Adds an import to those that are kept.
+fn push(
+    imports: &mut Vec<KeptImport>,
+    origin: usize,
+    name: &str,
+    item: ImportedItem,
+) -> Result<(), AllocError>
+    ensures added { (modules : List (List ℕ)) → OnOk result (kept_imports modules imports.new.items ≡ kept_imports modules imports.old.items ++ imported (module_at modules origin) name.now item ∷ []) }
+    ensures known { (modules : List (List ℕ)) → origin < length modules → AreOfModules modules imports.old.items → AreOfModules modules imports.new.items }
+    ensures refused { OnErr result (imports.new.items ≡ imports.old.items) }
+    ensures no_room { OnErr result ((16 < length name.now) ⊎ (vec_capacity imports.old ≤ length imports.old.items)) }
+{
+    let name = KeptName::new(*imports.allocator(), name)?;
+    imports.push(KeptImport { origin, name, item })?;
+    Ok(())
 }

@@ -1,6 +1,6 @@
 //! Copies of names.
 
-ghost use Rattle.std.specs.Prelude.{◌≡◌, IfOk};
+ghost use Rattle.std.specs.Prelude.{◌≡◌, ◌<◌, IfOk, OnErr, length};
 
 use arrayvec::ArrayString;
 use std::alloc::{AllocError, Global};
@@ -30,7 +30,8 @@ impl Model for KeptName {
 impl KeptName {
     /// A copy of a name.
     pub(crate) fn new(alloc: Global, name: &str) -> Result<KeptName, AllocError>
-        ensures { IfOk result (λ kept. kept ≡ name.now) }
+        ensures copied { IfOk result (λ kept. kept ≡ name.now) }
+        ensures no_room { OnErr result (16 < length name.now) }
     {
         if let Ok(text) = ArrayString::from(name) {
             return Ok(KeptName {

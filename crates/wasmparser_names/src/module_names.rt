@@ -11,7 +11,7 @@ use std::alloc::{AllocError, Global};
 use std::collections::HashMap;
 use std::marker::Model;
 
-/// Names of modules, each of which is kept once and has a number. Contracts see them as their list.
+/// Names of modules, each of which is kept once and has a number. Contracts see their list, and what they are hashed by.
 #[derive(Debug, Drop)]
 pub struct ModuleNames {
     names: Vec<String>,
@@ -23,14 +23,14 @@ pub struct ModuleNames {
 }
 
 impl Model for ModuleNames {
-    ghost use Rattle.std.specs.Prelude.{List, ℕ, bytes_eq, map};
+    ghost use Rattle.std.specs.Prelude.{bytes_eq, map};
     ghost use Rattle.std.specs.List.{IsDistinct};
     ghost use Rattle.std.specs.String.{string_bytes};
-    ghost use Rattle.wasmparser_names.specs.ModuleNames.{AreHashed};
+    ghost use Rattle.wasmparser_names.specs.ModuleNames.{AreHashed, Names};
 
-    ghost Value = { List (List ℕ) };
+    ghost Value = { Names };
 
-    ghost view = { λ it. map string_bytes it.names.items };
+    ghost view = { λ it. record { names = map string_bytes it.names.items; hasher = it.hasher } };
 
     ghost invariant = { λ it. IsDistinct bytes_eq (map string_bytes it.names.items) × AreHashed it.hasher it.numbers.entries (map string_bytes it.names.items) };
 }
@@ -38,7 +38,8 @@ impl Model for ModuleNames {
 impl ModuleNames {
     /// No names.
     pub fn new(alloc: Global, hasher: NameHasher) -> ModuleNames
-        ensures { result ≡ [] }
+        ensures names { result.names ≡ [] }
+        ensures hashed { result.hasher ≡ hasher }
     {
         ModuleNames {
             names: Vec::new(alloc),
@@ -49,13 +50,15 @@ impl ModuleNames {
     }
 
     /// What the names are hashed by.
-    pub(crate) fn hasher(&self) -> NameHasher {
+    pub(crate) fn hasher(&self) -> NameHasher
+        ensures { result ≡ self.now.hasher }
+    {
         self.hasher
     }
 
     /// Checks that there are no names.
     pub fn is_empty(&self) -> bool
-        ensures { result ≡ nat_eq (length self.now) 0 }
+        ensures { result ≡ nat_eq (length self.now.names) 0 }
     {
         self.names.is_empty()
     }
@@ -66,10 +69,11 @@ impl ModuleNames {
     /// Where memory runs out; then nothing changes.
     #[tactic(auto, using(crate::proofs::ModuleNames::numbered_name))]
     pub fn number(&mut self, name: &str) -> Result<usize, AllocError>
-        ensures found { IfOk result (λ number. slice_get self.new number ≡ Some name.now) }
-        ensures kept { OnOk result (self.new ≡ with_name self.old name.now) }
+        ensures found { IfOk result (λ number. slice_get self.new.names number ≡ Some name.now) }
+        ensures kept { OnOk result (self.new.names ≡ with_name self.old.names name.now) }
+        ensures hashed { self.new.hasher ≡ self.old.hasher }
         ensures refused { OnErr result (self.new ≡ self.old) }
-        ensures distinct { IsDistinct bytes_eq self.new }
+        ensures distinct { IsDistinct bytes_eq self.new.names }
     {
         let last = self.last;
         if is_at(&self.names, last, name) {
@@ -82,10 +86,11 @@ impl ModuleNames {
 
     #[tactic(auto, using(crate::proofs::ModuleNames::numbered_name, crate::proofs::ModuleNames::new_name))]
     fn find_or_keep(&mut self, name: &str) -> Result<usize, AllocError>
-        ensures found { IfOk result (λ number. slice_get self.new number ≡ Some name.now) }
-        ensures kept { OnOk result (self.new ≡ with_name self.old name.now) }
+        ensures found { IfOk result (λ number. slice_get self.new.names number ≡ Some name.now) }
+        ensures kept { OnOk result (self.new.names ≡ with_name self.old.names name.now) }
+        ensures hashed { self.new.hasher ≡ self.old.hasher }
         ensures refused { OnErr result (self.new ≡ self.old) }
-        ensures distinct { IsDistinct bytes_eq self.new }
+        ensures distinct { IsDistinct bytes_eq self.new.names }
     {
         match number_of(&self.names, &self.numbers, &self.hasher, name) {
             Some(number) => Ok(number),
@@ -95,11 +100,12 @@ impl ModuleNames {
 
     // Keeps a new name.
     fn keep(&mut self, name: &str) -> Result<usize, AllocError>
-        requires { list_any (bytes_eq name.now) self.old ≡ false }
-        ensures found { IfOk result (λ number. slice_get self.new number ≡ Some name.now) }
-        ensures kept { OnOk result (self.new ≡ self.old ++ name.now ∷ []) }
+        requires { list_any (bytes_eq name.now) self.old.names ≡ false }
+        ensures found { IfOk result (λ number. slice_get self.new.names number ≡ Some name.now) }
+        ensures kept { OnOk result (self.new.names ≡ self.old.names ++ name.now ∷ []) }
+        ensures hashed { self.new.hasher ≡ self.old.hasher }
         ensures refused { OnErr result (self.new ≡ self.old) }
-        ensures distinct { IsDistinct bytes_eq self.new }
+        ensures distinct { IsDistinct bytes_eq self.new.names }
     {
         let number = self.names.len();
         self.names.reserve(1)?;
@@ -112,7 +118,7 @@ impl ModuleNames {
 
     /// The name of a number.
     pub fn get(&self, number: usize) -> Option<&str>
-        ensures { option_copied result ≡ slice_get self.now number }
+        ensures { option_copied result ≡ slice_get self.now.names number }
     {
         name_at(&self.names, number)
     }

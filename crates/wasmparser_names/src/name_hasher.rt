@@ -1,7 +1,7 @@
 //! Hashing of names that whoever wrote the module may have chosen.
 
 ghost use Rattle.std.specs.Prelude.{◌≡◌};
-ghost use Rattle.wasmparser_names.specs.KeptExports.{hash_of};
+ghost use Rattle.wasmparser_names.specs.KeptExports.{first_hasher, hash_of, hasher_after};
 
 use std::fmt;
 use std::hash::{BuildHasher, DefaultHasher, Hasher};
@@ -15,14 +15,18 @@ pub struct NameHasher {
 
 impl NameHasher {
     /// For names that stand in no section.
-    pub fn new() -> NameHasher {
+    pub fn new() -> NameHasher
+        ensures { result ≡ first_hasher }
+    {
         NameHasher {
             start: DefaultHasher::new(),
         }
     }
 
     /// For names that stand among these bytes.
-    pub fn after(bytes: &[u8]) -> NameHasher {
+    pub fn after(bytes: &[u8]) -> NameHasher
+        ensures { result ≡ hasher_after bytes.now }
+    {
         let mut section = DefaultHasher::new();
         section.write(bytes);
         // (after a word, what follows is hashed by words as well)

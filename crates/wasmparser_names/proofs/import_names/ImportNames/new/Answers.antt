@@ -3,4 +3,4 @@ use Rattle.wasmparser_names.proofs.import_names.ImportNames.new.Goals as goal
 
 pub invariant_of-result : goal.invariant_of-result
 unfolding IsDistinct
-invariant_of-result c = rw (c.new-2.ensures, c.new-3.ensures.items) (tt, tt)
+invariant_of-result c = rw (c.new-2.ensures.names, c.new-3.ensures.items) (tt, tt)

@@ -4,7 +4,7 @@ use Rattle.std.specs.Map.{lookup}
 use Rattle.std.specs.Prelude.{bytes_eq, nat_eq, slice_get, false}
 use Rattle.std.specs.String.{string_bytes}
 use Rattle.wasmparser_names.proofs.ModuleNames.{kept_last, last_hashed, last_place, still_distinct, still_hashed}
-use Rattle.wasmparser_names.specs.ModuleNames.{AreHashed}
+use Rattle.wasmparser_names.specs.ModuleNames.{AreHashed, Names}
 use Rattle.wasmparser_names.proofs.module_names.ModuleNames.keep.Goals as goal
 
 abbrev At : Type 0
@@ -16,7 +16,7 @@ names_are c =
     ∙ kept_last c.self.inside.names.items c.in_ok-kept.kept c.args.name.now c.in_ok-kept.ensures.ok
 
 is_new : (c : At) → list_any (bytes_eq c.args.name.now) (map string_bytes c.self.inside.names.items) ≡ false
-is_new c = subst (λ names. list_any (bytes_eq c.args.name.now) names ≡ false) (sym c.self.view_is) c.requires
+is_new c = subst (λ (it : Names). list_any (bytes_eq c.args.name.now) it.names ≡ false) (sym c.self.view_is) c.requires
 
 distinct : (c : At) → IsDistinct bytes_eq (map string_bytes c.push_reserved.new.self.items)
 distinct c = subst (IsDistinct bytes_eq) (sym (names_are c)) (still_distinct c.args.name.now (map string_bytes c.self.inside.names.items) c.self.invariant.0 (is_new c))

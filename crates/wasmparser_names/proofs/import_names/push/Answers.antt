@@ -1,5 +1,4 @@
 use Rattle.wasmparser_names.proofs.KeptImports.{kept_last, known_last}
-use Rattle.wasmparser_names.specs.KeptImports.{AreOfModules, kept_imports}
 use Rattle.wasmparser_names.proofs.import_names.push.Goals as goal
 
 pub returns-clause-added : goal.returns-clause-added

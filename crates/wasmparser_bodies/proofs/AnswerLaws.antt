@@ -1,4 +1,4 @@
--- What calls return that read and judge, from what the calls in them return.
+-- What calls return that read and validate, from what the calls in them return.
 use Rattle.std.proofs.Common.{◌≡◌, ◌≢◌, ◌<◌, ◌≤◌, ℕ, List, [], ◌∷◌, length, Result, Ok, Err, refl, sym, ap, subst, ◌∙◌, arith, inl, inr}
 use Rattle.std.proofs.lemmas.List.{nil_from_length}
 use Rattle.wasm_bodies.specs.BodyContext.{BodyContext}
@@ -20,7 +20,7 @@ pub placed_later : (kind : ErrorKind) (old mid : Input) (offset : ℕ) → GoesO
 placed_later kinds.Memory old mid offset g p = p
 placed_later _ old mid offset g p = record { from = omega (arith, g.forward, p.from); to = omega (arith, g.same_end, p.to) }
 
--- a call judged what was left, and this is what all is judged as
+-- a call validated what was left, whose outcome is that of all
 pub answered_later : {X : Type 0} (old mid : Input) (answer : Result X Error) (outcome all : BodyOutcome) → GoesOn old mid → outcome ≡ all → AnswersOutcome mid answer outcome → AnswersOutcome old answer all
 answered_later old mid (Ok x) outcome all g same h = sym same ∙ h
 answered_later old mid (Err e) outcome all g same h = (subst (NamesFault e.kind) same h.0, placed_later e.kind old mid e.offset g h.1)
@@ -50,7 +50,7 @@ module _ {R : Type 0} (cx : BodyContext R) where
   unread_place features bytes kinds.Memory old offset h w = absurd h
   unread_place features bytes _ old offset h w = w
 
-  -- the reader's refusal is the judge's, where blocks are open
+  -- the reader's refusal is the validator's, where blocks are open
   pub unread_operator : (m : Machine R) (old : Input) (kind : ErrorKind) (offset : ℕ) → m.frames ≢ [] → length cx.items.types ≤ packable → old.features ≡ cx.features → IsOperatorRefusal kind old.features old.rest
       → IsWithin old offset → NamesFault kind (code_outcome cx m old.rest) × IsPlacedIn kind old offset
   unread_operator m old kind offset some few same h w =

@@ -1,4 +1,4 @@
--- What it means that bytes are judged as something, and that an answer is what they are judged as.
+-- What an outcome of bytes means, and an answer that is this outcome.
 use Rattle.std.proofs.Common.{◌≡◌, ◌≢◌, ◌⊎◌, inl, inr, ℕ, List, [], ◌++◌, map, Some, Result, Ok, Err, refl, sym, ap, subst, ◌∙◌}
 use Rattle.std.specs.Option.{unwrap_or}
 use Rattle.wasm_bodies.specs.Bodies.{Run, IsFunctionBody, HasManyLocals, HasOtherOperator, in_function, parameter, AreLocals}

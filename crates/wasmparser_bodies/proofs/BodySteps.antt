@@ -1,4 +1,4 @@
--- Reading a body and judging it, operator by operator, as a loop does.
+-- Reading a body and validating it, operator by operator, as a loop does.
 use Rattle.std.proofs.Common.{◌≡◌, ◌≢◌, ◌≤◌, ◌<◌, ℕ, zero, suc, Bool, false, List, [], length, map, Some, Result, Ok, Err, refl, sym, ap, subst, ◌∙◌, arith}
 use Rattle.std.specs.Bool.{IsTrue}
 use Rattle.wasm_bodies.specs.Bodies.{parameter}
@@ -13,7 +13,7 @@ use Rattle.wasmparser_types.specs.Index.{Index, packable}
 use Rattle.wasmparser_operators.specs.OperatorAnswers.{IsOperatorRefusal}
 use Rattle.wasmparser_operators.specs.OperatorReading.{operator_at}
 use Rattle.wasmparser_bodies.specs.BodyAnswers.{IsPlacedIn, NamesFault, AnswersOutcome, with_code, body_outcome}
-use Rattle.wasmparser_bodies.specs.BodyStates.{BodyState, with_locals_in, with_machine_in, context_in, IsAtStart, rest_outcome, HasEnded, IsRefusedStep, JudgesOperator, ReadsStep}
+use Rattle.wasmparser_bodies.specs.BodyStates.{BodyState, with_locals_in, with_machine_in, context_in, IsAtStart, rest_outcome, HasEnded, IsRefusedStep, ValidatesOperator, ReadsStep}
 use Rattle.wasmparser_bodies.specs.CodeReading.{BodyOutcome, Broken, code_outcome}
 use Rattle.wasmparser_bodies.specs.LocalsAnswers.{NamesLocalsFault}
 use Rattle.wasmparser_bodies.specs.LocalsReading.{Locals, locals_outcome}
@@ -32,11 +32,11 @@ refused old from operator rest kinds.Body at offset some e o h = (code_refused (
 refused old from operator rest kinds.Memory at offset some e o h = (tt, h)
 refused old from operator rest _ at offset some e o h = absurd h
 
-pub step_judged : (old new : BodyState) (from to : Input) (offset : ℕ) (operator : Operator ℕ) (answer : Result (Unit {0}) Error) → old.machine.frames ≢ [] → from.features ≡ old.features → offset ≡ from.position
-    → operator_at from.features from.rest ≡ Some (operator, to.rest) → GoesOn from to → JudgesOperator offset operator old new answer → ReadsStep old new from to answer
-step_judged old new from to offset operator (Ok x) some same o e g h =
+pub step_validated : (old new : BodyState) (from to : Input) (offset : ℕ) (operator : Operator ℕ) (answer : Result (Unit {0}) Error) → old.machine.frames ≢ [] → from.features ≡ old.features → offset ≡ from.position
+    → operator_at from.features from.rest ≡ Some (operator, to.rest) → GoesOn from to → ValidatesOperator offset operator old new answer → ReadsStep old new from to answer
+step_validated old new from to offset operator (Ok x) some same o e g h =
     (code_goes_on (context_in old) old.machine new.machine from.rest operator to.rest (ap (λ features. operator_at features from.rest) (sym same) ∙ e) h.0, h.1, g)
-step_judged old new from to offset operator (Err x) some same o e g h =
+step_validated old new from to offset operator (Err x) some same o e g h =
     refused old from operator to.rest x.kind x.offset offset some (ap (λ features. operator_at features from.rest) (sym same) ∙ e) o h
 
 pub step_unread : (old : BodyState) (from : Input) (kind : ErrorKind) (offset : ℕ) → old.machine.frames ≢ [] → length old.items.types ≤ packable → from.features ≡ old.features
@@ -95,7 +95,7 @@ has_ended old mid new locals closed code =
     let more : new.locals ≡ mid.locals = ap (λ (s : BodyState). s.locals) code in
     (closed, code ∙ ap (λ (s : BodyState). with_machine_in new.machine s) locals ∙ ap (λ l. with_machine_in new.machine (with_locals_in l old)) (sym more))
 
--- where nothing was judged
+-- where nothing was validated
 pub from_start : (s : BodyState) (bytes : List ℕ) → IsAtStart s → rest_outcome s bytes ≡ body_outcome s.features s.items s.index bytes
 unfolding rest_outcome body_outcome
 from_start s bytes start =

@@ -1,4 +1,4 @@
--- Judging the operators of a body one by one, as a loop does.
+-- Validating the operators of a body one by one, as a loop does.
 use Rattle.std.proofs.Common.{◌≡◌, ◌≢◌, ◌≤◌, ◌<◌, ℕ, zero, suc, true, false, List, [], ◌∷◌, length, Option, Some, None, refl, sym, ap, ◌∙◌, arith}
 use Rattle.std.proofs.lemmas.Option.{none-some}
 use Rattle.wasm_bodies.specs.BodyContext.{BodyContext}

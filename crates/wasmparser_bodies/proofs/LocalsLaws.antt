@@ -1,4 +1,4 @@
--- Judging the locals of a body run by run, as a loop does.
+-- Validating the locals of a body run by run, as a loop does.
 use Rattle.std.proofs.Common.{◌≡◌, ◌≤◌, ◌<◌, ◌+◌, ℕ, true, false, leb, List, ◌++◌, length, replicate, Some, None, refl}
 use Rattle.std.proofs.lemmas.Bool.{le-leb, lt-leb}
 use Rattle.wasm_bodies.specs.Bodies.{Run, declared_local}

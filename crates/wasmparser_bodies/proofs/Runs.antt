@@ -1,4 +1,4 @@
--- Operators that are judged at once, one after the other.
+-- Operators that are validated at once, one after the other.
 use Rattle.std.proofs.Common.{◌≡◌, ◌≢◌, ◌<◌, ℕ, List, [], length, Some, refl, ◌∙◌, arith}
 use Rattle.wasm_bodies.specs.BodyContext.{BodyContext}
 use Rattle.wasm_bodies.specs.Operators.{Operator}
@@ -11,13 +11,13 @@ use Rattle.wasmparser_bodies.proofs.OperatorLengths.{operator_shorter}
 module _ {R : Type 0} (cx : BodyContext R) where
   -- none
   pub leads_nowhere : (m : Machine R) (bytes : List ℕ) → m.frames ≢ [] → LeadsOn cx m m bytes bytes
-  leads_nowhere m bytes inside = record { judged = refl; inside = inside; no_longer = omega arith }
+  leads_nowhere m bytes inside = record { validated = refl; inside = inside; no_longer = omega arith }
 
   -- one more
   pub leads_further : (old mid new : Machine R) (operator : Operator ℕ) (bytes rest after : List ℕ) → LeadsOn cx old mid bytes rest → operator_at cx.features rest ≡ Some (operator, after) → stepped cx mid operator ≡ Some new → new.frames ≢ []
       → LeadsOn cx old new bytes after
   leads_further old mid new operator bytes rest after l reads leads inside = record {
-    judged = l.judged ∙ code_goes_on cx mid new rest operator after reads leads;
+    validated = l.validated ∙ code_goes_on cx mid new rest operator after reads leads;
     inside = inside;
     no_longer = omega (arith, l.no_longer, operator_shorter cx.features rest operator after reads);
   }

@@ -14,7 +14,7 @@ use Rattle.wasm_bodies_laws.specs.Machine as machine
 use Rattle.wasmparser_types.specs.Index.{Index}
 use Rattle.wasmparser_types.specs.ValTypes.{val_type}
 use Rattle.wasmparser_types.specs.declared.val_type.ValType.{ValType}
-use Rattle.wasmparser_bodies.specs.StackChanges.{all_known, at_list, known_below, places_from, places_of, entered_by, left_with, lowered, marked as marked_local, turned_with}
+use Rattle.wasmparser_bodies.specs.StackChanges.{all_known, at_list, known_below, places_from, places_of, entered_by, left_with, lowered, marked as marked_local, else_with}
 use Rattle.wasmparser_bodies.specs.StackViews.{all_of, block_kept, block_seen, place_kept, operand, AreWithin, base_of, block_with_ids, frame_kind, frames_of, is_open_of, state_of, view_of}
 use Rattle.wasmparser_bodies.specs.declared.frame.Frame.{Frame}
 use Rattle.wasmparser_bodies.specs.declared.frame.FrameKind.TheVariants as kinds
@@ -179,9 +179,9 @@ left_within fs f old new ys a w is =
     within fs f.height f.init_height (length new) (length (take f.init_height a)) w.2 (omega arith) (omega arith)
 
 -- the second list of the innermost block begins
-pub turned : (fs : List Frame) (f g : Frame) (old : List Operand) (all : List (operands.Operand Index)) (params : List ValType) (a : List ℕ) → AreWithin (f ∷ fs) (length old) (length a)
-    → g ≡ record f { kind = kinds.Else; unreachable = false } → all ≡ take f.height (map operand old) ++ all_of params → view_of (g ∷ fs) all (take f.init_height a) ≡ turned_with (map val_type params) (view_of (f ∷ fs) (map operand old) a)
-turned fs f g old all params a w same is =
+pub else_is : (fs : List Frame) (f g : Frame) (old : List Operand) (all : List (operands.Operand Index)) (params : List ValType) (a : List ℕ) → AreWithin (f ∷ fs) (length old) (length a)
+    → g ≡ record f { kind = kinds.Else; unreachable = false } → all ≡ take f.height (map operand old) ++ all_of params → view_of (g ∷ fs) all (take f.init_height a) ≡ else_with (map val_type params) (view_of (f ∷ fs) (map operand old) a)
+else_is fs f g old all params a w same is =
     let len : length (map operand old) ≡ length old = length-map old operand in
     let t : length (take f.height (map operand old)) ≡ f.height = length-take-le f.height (map operand old) (omega (arith, w.0)) in
     let front : take f.height all ≡ take f.height (map operand old) = ap (take f.height) is ∙ take-append-le f.height (take f.height (map operand old)) (all_of params) (omega arith) ∙ take-take f.height f.height (map operand old) (omega arith) in
@@ -189,9 +189,9 @@ turned fs f g old all params a w same is =
     let kept : take f.init_height (take f.init_height a) ≡ take f.init_height a = take-take f.init_height f.init_height a (omega arith) in
     rw (same, rest, front, kept, append-nil (reverse (all_of params))) refl
 
-pub turned_within : (fs : List Frame) (f g : Frame) (old new : List Operand) (ys : List (operands.Operand Index)) (a : List ℕ) → AreWithin (f ∷ fs) (length old) (length a) → g ≡ record f { kind = kinds.Else; unreachable = false }
+pub else_within : (fs : List Frame) (f g : Frame) (old new : List Operand) (ys : List (operands.Operand Index)) (a : List ℕ) → AreWithin (f ∷ fs) (length old) (length a) → g ≡ record f { kind = kinds.Else; unreachable = false }
     → map operand new ≡ take f.height (map operand old) ++ ys → AreWithin (g ∷ fs) (length new) (length (take f.init_height a))
-turned_within fs f g old new ys a w same is =
+else_within fs f g old new ys a w same is =
     let len = length_replaced old new ys f.height w.0 is in
     let t : length (take f.init_height a) ≡ f.init_height = length-take-le f.init_height a w.1 in
     rw same (omega arith, omega arith, w.2)

@@ -14,7 +14,7 @@ use Rattle.wasmparser_error.specs.declared.error.ErrorKind.TheVariants as kinds
 use Rattle.wasmparser_bodies.specs.CodeReading.{BodyOutcome, Fine, ManyLocals, OtherOperator, Broken, code_outcome}
 use Rattle.wasmparser_bodies.specs.LocalsReading.{LocalsOutcome, Locals, TooMany, NoLocals, locals_outcome}
 
--- ---- what bytes are judged as
+-- ---- outcomes of bytes
 
 -- a body of a function of this type with these locals, its parameters among them
 abbrev pub context_of : {R : Type 0} → Features → ModuleItems R → FuncType R → List (Local R) → BodyContext R
@@ -37,7 +37,7 @@ body_outcome features items index bytes = typed_outcome features items index (fr
 
 -- ---- what calls return
 
--- what a refusal names, and its place in what was judged; memory that ran out has none
+-- what a refusal names, and its place in what was validated; memory that ran out has none
 abbrev pub NamesFault : ErrorKind → BodyOutcome → Type 0
 NamesFault kinds.Body outcome = outcome ≡ Broken
 NamesFault kinds.Operator outcome = outcome ≡ OtherOperator
@@ -49,7 +49,7 @@ abbrev pub IsPlacedIn : ErrorKind → Input → ℕ → Type 0
 IsPlacedIn kinds.Memory old offset = offset ≡ 0
 IsPlacedIn _ old offset = IsWithin old offset
 
--- what a call returned that judges what stands before a reader
+-- what a call returned that validates what stands before a reader
 abbrev pub AnswersOutcome : {X : Type 0} → Input → Result X Error → BodyOutcome → Type 0
 AnswersOutcome old (Ok x) outcome = outcome ≡ Fine
 AnswersOutcome old (Err e) outcome = NamesFault e.kind outcome × IsPlacedIn e.kind old e.offset

@@ -1,4 +1,4 @@
--- A body that is being judged.
+-- A body that is being validated.
 use Rattle.std.specs.Prelude.{◌≡◌, ℕ, Bool, List, [], map, Option, Some, None, Result, Ok, Err}
 use Rattle.wasm_bodies.specs.Bodies.{parameter}
 use Rattle.wasm_bodies.specs.BodyContext.{BodyContext, ModuleItems, Local}
@@ -14,7 +14,7 @@ use Rattle.wasmparser_bodies.specs.BodyAnswers.{IsPlacedIn, NamesFault, context_
 use Rattle.wasmparser_bodies.specs.CodeReading.{BodyOutcome, code_outcome}
 use Rattle.wasmparser_bodies.specs.LocalsReading.{locals_outcome}
 
--- What it is judged in, the type index of its function, the locals that were added, what the operators led to, and whether others may come: after a
+-- What it is validated in, the type index of its function, the locals that were added, what the operators led to, and whether others may come: after a
 -- refusal none may.
 pub record BodyState : Type 0 where
   pub features : Features
@@ -40,7 +40,7 @@ pub record IsAtStart (state : BodyState) : Type 0 where
   pub parameters : state.locals ≡ map parameter (frame_type state.items (Indexed state.index)).params
   pub begins : state.machine ≡ at_start state.index
 
--- locals and operators after those that were judged, up to the body's end
+-- locals and operators after those that were validated, up to the body's end
 unfoldable pub rest_outcome : BodyState → List ℕ → BodyOutcome
 rest_outcome state bytes =
     with_code (locals_outcome state.features state.items state.locals bytes) (λ locals rest. code_outcome (context_in (with_locals_in locals state)) state.machine rest)
@@ -58,11 +58,11 @@ IsRefusedStep kinds.Memory at offset wanted = at ≡ 0
 IsRefusedStep _ at offset wanted = ⊥
 
 -- an operator leads where it leads
-abbrev pub JudgesOperator : ℕ → Operator ℕ → BodyState → BodyState → Result (Unit {0}) Error → Type 0
-JudgesOperator offset operator old new (Ok x) = (stepped (context_in old) old.machine operator ≡ Some new.machine) × (new ≡ with_machine_in new.machine old)
-JudgesOperator offset operator old new (Err e) = IsRefusedStep e.kind e.offset offset (stepped (context_in old) old.machine operator)
+abbrev pub ValidatesOperator : ℕ → Operator ℕ → BodyState → BodyState → Result (Unit {0}) Error → Type 0
+ValidatesOperator offset operator old new (Ok x) = (stepped (context_in old) old.machine operator ≡ Some new.machine) × (new ≡ with_machine_in new.machine old)
+ValidatesOperator offset operator old new (Err e) = IsRefusedStep e.kind e.offset offset (stepped (context_in old) old.machine operator)
 
--- What a call returned that reads an operator: what is judged of the rest is what is judged with it, or it is refused.
+-- What a call returned that reads an operator: the outcome of the rest is the outcome with it, or it is refused.
 abbrev pub ReadsStep : BodyState → BodyState → Input → Input → Result (Unit {0}) Error → Type 0
 ReadsStep old new from to (Ok x) =
     (code_outcome (context_in old) old.machine from.rest ≡ code_outcome (context_in old) new.machine to.rest) × (new ≡ with_machine_in new.machine old) × GoesOn from to

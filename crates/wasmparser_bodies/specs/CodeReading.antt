@@ -1,4 +1,4 @@
--- Judging the operators of a body from its bytes: a means of proof, which laws tie to the rules on bodies.
+-- Validating the operators of a body from its bytes: a means of proof, which laws tie to the rules on bodies.
 use Rattle.std.specs.Prelude.{◌≡◌, ℕ, zero, suc, List, [], ◌∷◌, ◌++◌, length, Option, Some, None, if◌then◌else◌}
 use Rattle.wasm_bodies.specs.Bodies.{IsBodyOf, IsBegun}
 use Rattle.wasm_bodies.specs.BodyContext.{BodyContext}
@@ -10,7 +10,7 @@ use Rattle.wasm_bodies_laws.specs.Machine.{Frame, Machine, stepped}
 use Rattle.wasmparser_operators.specs.OperatorAnswers.{is_other}
 use Rattle.wasmparser_operators.specs.OperatorReading.{code_at, operator_at}
 
--- what bytes are judged as
+-- the outcomes of bytes
 pub data BodyOutcome : Type 0 where
   -- a body
   Fine : BodyOutcome
@@ -30,7 +30,7 @@ end_outcome (b ∷ rest) = Broken
 abbrev pub unread_outcome : List ℕ → BodyOutcome
 unread_outcome bytes = if is_other (code_at bytes) then OtherOperator else Broken
 
--- an operator leads to this, if it may come, and then the others are judged
+-- an operator leads to this, if it may come, and then the others are validated
 abbrev pub with_step : {R : Type 0} → Option (Machine R) → (Machine R → BodyOutcome) → BodyOutcome
 with_step None others = Broken
 with_step (Some n) others = others n

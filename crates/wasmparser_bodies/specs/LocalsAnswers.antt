@@ -39,7 +39,7 @@ abbrev pub ReadsLocalType : Input → Input → Option code.ValType → Type 0
 ReadsLocalType old new (Some type) = (val_type_at old.rest ≡ Some (module_type type, new.rest)) × IsOfModule type × GoesOn old new
 ReadsLocalType old new None = (val_type_at old.rest ≡ None) ⊎ HasLargeIndex val_refs (val_type_at old.rest)
 
--- ---- what is judged
+-- ---- what is validated
 
 -- what a refusal names
 abbrev pub NamesLocalsFault : ErrorKind → LocalsOutcome Index → Type 0
@@ -54,7 +54,7 @@ Others = List (Local Index) → List ℕ → LocalsOutcome Index
 abbrev pub run_outcome : BodyState → List ℕ → Others → LocalsOutcome Index
 run_outcome state bytes others = with_run state.features state.items state.locals (run_at bytes) others
 
--- What a call returned that reads a run: whatever is judged of the rest, it is judged with the run as without it, or the run is refused.
+-- What a call returned that reads a run: whatever the outcome of the rest is, it is the same with the run as without it, or the run is refused.
 abbrev pub ReadsRun : BodyState → BodyState → Input → Input → Result (Unit {0}) Error → Type 0
 ReadsRun old new from to (Ok x) = ((others : Others) → run_outcome old from.rest others ≡ others new.locals to.rest) × (new ≡ with_locals_in new.locals old) × GoesOn from to
 ReadsRun old new from to (Err e) = ((others : Others) → NamesLocalsFault e.kind (run_outcome old from.rest others)) × IsPlacedIn e.kind from e.offset

@@ -1,4 +1,4 @@
--- Judging the locals of a body from its bytes: a means of proof, which laws tie to the rules on bodies.
+-- Validating the locals of a body from its bytes: a means of proof, which laws tie to the rules on bodies.
 use Rattle.std.specs.Prelude.{◌≡◌, ℕ, zero, suc, ◌+◌, List, ◌++◌, length, replicate, Option, Some, None, nat_le, if◌then◌else◌}
 use Rattle.wasm_bodies.specs.Bodies.{Run, declared_local, AreLocals, in_function}
 use Rattle.wasm_bodies.specs.BodyContext.{ModuleItems, Local, written}
@@ -8,7 +8,7 @@ use Rattle.wasm_spec.specs.Features.{Features}
 use Rattle.wasm_spec.specs.Limits as limits
 use Rattle.wasm_spec.specs.Types.{ValType, FuncType}
 
--- what bytes are judged as
+-- the outcomes of bytes
 pub data LocalsOutcome (R : Type 0) : Type 0 where
   -- these locals, the parameters first, and the bytes after them
   Locals : List (Local R) → List ℕ → LocalsOutcome R

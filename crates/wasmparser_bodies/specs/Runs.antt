@@ -1,17 +1,17 @@
--- Operators at the front of some bytes that are judged at once.
+-- Operators at the front of some bytes that are validated at once.
 use Rattle.std.specs.Prelude.{◌≡◌, ◌≢◌, ◌≤◌, ℕ, List, [], length}
 use Rattle.wasm_bodies.specs.BodyContext.{BodyContext}
 use Rattle.wasm_bodies_laws.specs.Machine.{Machine}
 use Rattle.wasmparser_bodies.specs.BodyStates.{BodyState, context_in, with_machine_in}
 use Rattle.wasmparser_bodies.specs.CodeReading.{code_outcome}
 
--- Operators lead from one machine to another, in which a block is open, and these bytes are left: what is judged of them is what is judged of all.
+-- Operators lead from one machine to another, in which a block is open, and these bytes are left: their outcome is that of all.
 pub record LeadsOn {R : Type 0} (cx : BodyContext R) (old new : Machine R) (bytes rest : List ℕ) : Type 0 where
-  pub judged : code_outcome cx old bytes ≡ code_outcome cx new rest
+  pub validated : code_outcome cx old bytes ≡ code_outcome cx new rest
   pub inside : new.frames ≢ []
   pub no_longer : length rest ≤ length bytes
 
--- the same of a body that is being judged
+-- the same of a body that is being validated
 pub record RunsOn (old new : BodyState) (bytes rest : List ℕ) : Type 0 where
   pub leads : LeadsOn (context_in old) old.machine new.machine bytes rest
   pub same : new ≡ with_machine_in new.machine old

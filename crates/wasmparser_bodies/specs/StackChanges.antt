@@ -39,13 +39,13 @@ abbrev pub left_with : {R : Type 0} → List (ValType R) → Machine R → Machi
 left_with results m = left_from m.frames results m
 
 -- The second list of the innermost block begins, with operands of these types.
-abbrev pub turned_from : {R : Type 0} → List (Frame R) → List (ValType R) → Machine R → Machine R
-turned_from [] params m = m
-turned_from (f ∷ frames) params m =
+abbrev pub else_from : {R : Type 0} → List (Frame R) → List (ValType R) → Machine R → Machine R
+else_from [] params m = m
+else_from (f ∷ frames) params m =
     record { now = fresh params f.below.assigned; frames = frame_of ElseFrame f.block_type f.below ∷ frames }
 
-abbrev pub turned_with : {R : Type 0} → List (ValType R) → Machine R → Machine R
-turned_with params m = turned_from m.frames params m
+abbrev pub else_with : {R : Type 0} → List (ValType R) → Machine R → Machine R
+else_with params m = else_from m.frames params m
 
 -- ---- what getters tell
 

@@ -1,4 +1,4 @@
-//! What bytes are judged as is what the rules on bodies say of them. The functions do nothing: their contracts are theorems. R is the kind of
+//! The outcome of validating bytes is what the rules on bodies say of them. The functions do nothing: their contracts are theorems. R is the kind of
 //! references to defined types. The function's type is named by its index.
 
 ghost use Rattle.std.specs.Prelude.{◌≡◌, ◌↔◌, ◌++◌, ℕ, List, Result, Some, map};
@@ -15,7 +15,7 @@ ghost use Rattle.wasmparser_bodies.specs.CodeReading.{Broken, Fine, HasOther, Is
 ghost use Rattle.wasmparser_bodies.specs.LocalsReading.{Declares, Locals, TooMany, locals_outcome};
 ghost use Rattle.wasmparser_error.specs.declared.error.Error.{Error};
 
-/// Locals are judged as those that runs at the front of the bytes declare, or as too many where the first runs are.
+/// The outcome is the locals that runs at the front of the bytes declare, or that they are too many where the first runs are.
 pub fn locals<R>()
     ensures found { (features : Features) (items : ModuleItems R) (type : FuncType R) (encoding rest : List ℕ) (runs : List Run) → AreLocals features items type encoding runs
         → locals_outcome features items (map parameter type.params) (encoding ++ rest) ≡ Locals (in_function features items type runs).locals rest }
@@ -25,7 +25,7 @@ pub fn locals<R>()
         → (locals_outcome features items (map parameter type.params) bytes ≡ TooMany) ↔ HasManyLocals features items type bytes }
 {}
 
-/// Code is judged as operators of a body exactly where it is that, and as having another code exactly where it has one.
+/// The outcome of code is fine exactly where it is operators of a body, and another operator exactly where it has another code.
 pub fn code<R>()
     ensures fine { (cx : BodyContext R) (index : ℕ) (type : FuncType R) (bytes : List ℕ) → func_at cx.items index ≡ Some type → type.results ≡ cx.results → AreBytes bytes
         → (code_outcome cx (at_start index) bytes ≡ Fine) ↔ IsCode cx bytes }
@@ -34,7 +34,7 @@ pub fn code<R>()
     ensures no_locals { (cx : BodyContext R) (m : Machine R) (bytes : List ℕ) → AreBytes bytes → ¬ (code_outcome cx m bytes ≡ ManyLocals) }
 {}
 
-/// Bytes are judged as a body exactly where they are one, and otherwise by the rule that they break first.
+/// The outcome of bytes is fine exactly where they are a body, and otherwise the rule that they break first.
 pub fn bodies<R>()
     ensures fine { (features : Features) (items : ModuleItems R) (index : ℕ) (type : FuncType R) (bytes : List ℕ) → func_at items index ≡ Some type → AreBytes bytes
         → (body_outcome features items index bytes ≡ Fine) ↔ IsFunctionBody features items type bytes }
@@ -47,13 +47,13 @@ pub fn bodies<R>()
         ↔ ((¬ (IsFunctionBody features items type bytes)) × (¬ (HasManyLocals features items type bytes)) × (¬ (HasOtherOperator features items type bytes))) }
 {}
 
-/// An answer that is what the bytes are judged as is the right one.
+/// An answer that is the outcome of the bytes is the right one.
 pub fn answers<R>()
     ensures { (features : Features) (items : ModuleItems R) (index : ℕ) (type : FuncType R) (body : Input) (answer : Result (Unit {0}) Error) → func_at items index ≡ Some type → AreBytes body.rest
         → AnswersOutcome body answer (body_outcome features items index body.rest) → IsBodyValidated features items type body.rest body.position answer }
 {}
 
-/// Where nothing was judged, the rest is a whole body.
+/// Where nothing was validated, the rest is a whole body.
 pub fn starts()
     ensures { (state : BodyState) (bytes : List ℕ) → IsAtStart state → rest_outcome state bytes ≡ body_outcome state.features state.items state.index bytes }
 {}

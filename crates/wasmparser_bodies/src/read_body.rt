@@ -1,4 +1,4 @@
-//! Bodies, read from their bytes and judged (Core Specification 3.0, Binary Format, "Code Section").
+//! Bodies, read from their bytes and validated by a `BodyValidator` (Core Specification 3.0, Binary Format, "Code Section").
 
 ghost use Rattle.std.specs.Prelude.{◌≡◌, ◌≢◌, ◌<◌, ◌≤◌, [], IfOk, length, true};
 ghost use Rattle.wasm_core_read.specs.Input.{GoesOn};
@@ -8,21 +8,21 @@ ghost use Rattle.wasmparser_bodies.specs.BodyStates.{HasEnded, ReadsStep, contex
 ghost use Rattle.wasmparser_bodies.specs.CodeReading.{code_outcome};
 ghost use Rattle.wasmparser_types.specs.Index.{packable};
 
-use crate::judge_body::{JudgeBody, broken};
+use crate::body_validator::{BodyValidator, broken};
 use crate::read_locals::read_locals;
 use wasm_core_read::binary_reader::BinaryReader;
 use wasmparser_error::error::Error;
 use wasmparser_operators::operators_reader::OperatorsReader;
 use wasmparser_readers::passing::fork;
 
-// Reads the next operator, which is judged.
-fn read_step<B: JudgeBody>(reader: &mut OperatorsReader<'_>, body: &mut B) -> Result<(), Error>
+// Reads the next operator and validates it.
+fn read_step<B: BodyValidator>(reader: &mut OperatorsReader<'_>, body: &mut B) -> Result<(), Error>
     requires ready { (B.state body.old).is_ready ≡ true }
     requires few { length (B.state body.old).items.types ≤ packable }
     requires open { (B.state body.old).machine.frames ≢ [] }
     requires same_features { reader.old.input.features ≡ (B.state body.old).features }
     ensures kept { B.kept body.new ≡ B.kept body.old }
-    ensures judged { ReadsStep (B.state body.old) (B.state body.new) reader.old.input reader.new.input result }
+    ensures validated { ReadsStep (B.state body.old) (B.state body.new) reader.old.input reader.new.input result }
     ensures further { IfOk result (λ _. reader.old.input.position < reader.new.input.position) }
 {
     let offset = reader.original_position();
@@ -45,14 +45,14 @@ fn operators_of<'a>(reader: &OperatorsReader<'a>, rest: &'a [u8]) -> OperatorsRe
     OperatorsReader::new(to)
 }
 
-// Lets operators be judged at once, and then reads the next one, which is judged.
-fn read_on<B: JudgeBody>(reader: &mut OperatorsReader<'_>, body: &mut B) -> Result<(), Error>
+// Validates operators at once, and then reads the next one and validates it.
+fn read_on<B: BodyValidator>(reader: &mut OperatorsReader<'_>, body: &mut B) -> Result<(), Error>
     requires ready { (B.state body.old).is_ready ≡ true }
     requires few { length (B.state body.old).items.types ≤ packable }
     requires open { (B.state body.old).machine.frames ≢ [] }
     requires same_features { reader.old.input.features ≡ (B.state body.old).features }
     ensures kept { B.kept body.new ≡ B.kept body.old }
-    ensures judged { ReadsStep (B.state body.old) (B.state body.new) reader.old.input reader.new.input result }
+    ensures validated { ReadsStep (B.state body.old) (B.state body.new) reader.old.input reader.new.input result }
     ensures further { IfOk result (λ _. reader.old.input.position < reader.new.input.position) }
 {
     let rest = body.run(reader.get_binary_reader().remaining_buffer());
@@ -61,7 +61,7 @@ fn read_on<B: JudgeBody>(reader: &mut OperatorsReader<'_>, body: &mut B) -> Resu
 }
 
 // Reads operators up to the end of the body, after which nothing may stand.
-fn read_code<B: JudgeBody>(reader: &mut OperatorsReader<'_>, body: &mut B) -> Result<(), Error>
+fn read_code<B: BodyValidator>(reader: &mut OperatorsReader<'_>, body: &mut B) -> Result<(), Error>
     requires ready { (B.state body.old).is_ready ≡ true }
     requires few { length (B.state body.old).items.types ≤ packable }
     requires same_features { reader.old.input.features ≡ (B.state body.old).features }
@@ -78,13 +78,13 @@ fn read_code<B: JudgeBody>(reader: &mut OperatorsReader<'_>, body: &mut B) -> Re
     Ok(())
 }
 
-/// Reads a body and judges it. The reader has the bytes of the body and no others. What the judge had of locals and open blocks stands first: to judge
-/// a whole body it has the function's parameters, and the body's own block.
+/// Reads a body and validates it. The reader has the bytes of the body and no others. What the validator had of locals and open blocks stands first: to
+/// validate a whole body it has the function's parameters, and the body's own block.
 ///
 /// # Errors
 /// `Limit` where there are too many locals, `Operator` where a code stands that no operator has, after locals and operators that a body may
 /// begin with, and `Body` where the body is broken otherwise: each at a place of the body or its end. Or `Memory`.
-pub fn read_body<B: JudgeBody>(reader: &mut BinaryReader<'_>, body: &mut B) -> Result<(), Error>
+pub fn read_body<B: BodyValidator>(reader: &mut BinaryReader<'_>, body: &mut B) -> Result<(), Error>
     requires ready { (B.state body.old).is_ready ≡ true }
     requires few { length (B.state body.old).items.types ≤ packable }
     requires same_features { reader.old.features ≡ (B.state body.old).features }

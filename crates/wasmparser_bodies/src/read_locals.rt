@@ -5,7 +5,7 @@ ghost use Rattle.wasm_spec.specs.Limits as limits;
 ghost use Rattle.wasmparser_bodies.specs.LocalsAnswers.{ReadsLocalType, ReadsLocals, ReadsRun};
 ghost use Rattle.wasmparser_types.specs.Index.{packable};
 
-use crate::judge_body::{JudgeBody, broken};
+use crate::body_validator::{BodyValidator, broken};
 use wasm_core_read::binary_reader::BinaryReader;
 use wasmparser_error::error::Error;
 use wasmparser_readers::val_type::{read_val_type, val_is_of_module};
@@ -25,7 +25,7 @@ fn read_local_type(reader: &mut BinaryReader<'_>) -> Option<ValType>
 }
 
 // Reads a run of locals, and adds them.
-fn read_run<B: JudgeBody>(reader: &mut BinaryReader<'_>, body: &mut B) -> Result<(), Error>
+fn read_run<B: BodyValidator>(reader: &mut BinaryReader<'_>, body: &mut B) -> Result<(), Error>
     requires ready { (B.state body.old).is_ready ≡ true }
     requires few { length (B.state body.old).items.types ≤ packable }
     ensures read { ReadsRun (B.state body.old) (B.state body.new) reader.old reader.new result }
@@ -46,7 +46,10 @@ fn read_run<B: JudgeBody>(reader: &mut BinaryReader<'_>, body: &mut B) -> Result
 /// # Errors
 /// Where a run doesn't read, or its type is not allowed or there is none, `Body`; where there are too many locals, `Limit`: each at the
 /// run, or at the number of runs. Or `Memory`.
-pub fn read_locals<B: JudgeBody>(reader: &mut BinaryReader<'_>, body: &mut B) -> Result<(), Error>
+pub fn read_locals<B: BodyValidator>(
+    reader: &mut BinaryReader<'_>,
+    body: &mut B,
+) -> Result<(), Error>
     requires ready { (B.state body.old).is_ready ≡ true }
     requires few { length (B.state body.old).items.types ≤ packable }
     requires within { length (B.state body.old).locals ≤ limits.most limits.Locals }

@@ -4,7 +4,7 @@ ghost use Rattle.std.specs.Prelude.{◌≡◌, ◌≢◌, ◌↔◌, ◌+◌, �
 ghost use Rattle.std.specs.Bool.{OnFalse, OnTrue};
 ghost use Rattle.wasm_bodies.specs.BodyContext.{ModuleItems, is_among};
 ghost use Rattle.wasm_bodies.specs.Operands.{Known, State, all_taken, fresh, nothing_known, popped, put};
-ghost use Rattle.wasmparser_bodies.specs.StackChanges.{IsBelowItself, all_known, at_list, entered_by, left_with, lowered, marked, places_of, replaced_by, turned_with};
+ghost use Rattle.wasmparser_bodies.specs.StackChanges.{IsBelowItself, all_known, at_list, else_with, entered_by, left_with, lowered, marked, places_of, replaced_by};
 ghost use Rattle.wasmparser_bodies.specs.StackViews.{all_of, base_of, block_kept, block_seen, block_with_ids, frame_kind, is_open_of, operand, place_kept};
 ghost use Rattle.wasmparser_types.specs.Index.{Index};
 ghost use Rattle.wasmparser_types.specs.ValTypes.{val_type};
@@ -358,8 +358,8 @@ impl Stacks {
     ///
     /// # Errors
     /// Where memory runs out. The stacks are then as they were.
-    pub fn turn(&mut self, params: &[ValType]) -> Result<(), AllocError>
-        ensures ok { OnOk result (self.new ≡ turned_with (map val_type params.now) self.old) }
+    pub fn else_(&mut self, params: &[ValType]) -> Result<(), AllocError>
+        ensures ok { OnOk result (self.new ≡ else_with (map val_type params.now) self.old) }
         ensures refused { OnErr result (self.new ≡ self.old) }
     {
         let Some(frame) = self.frames.last() else {

@@ -85,8 +85,8 @@ some_frames : (m : Machine Index) (f : Frame Index) (fs : List (Frame Index)) �
 some_frames m f fs e none = let g = sym e ∙ none in absurd cc
 
 -- the second list of an `if` is within a block
-pub turned_inside : (cx : BodyContext Index) (old new : Machine Index) → stepped cx old Else ≡ Some new → new.frames ≢ []
-turned_inside cx old new e = by_frames old.frames e
+pub else_inside : (cx : BodyContext Index) (old new : Machine Index) → stepped cx old Else ≡ Some new → new.frames ≢ []
+else_inside cx old new e = by_frames old.frames e
   where
     by_flag : (b : Bool) (n : Machine Index) (f : Frame Index) (fs : List (Frame Index)) → n.frames ≡ f ∷ fs → provided b (Some n) ≡ Some new → new.frames ≢ []
     by_flag true n f fs is h = some_frames new f fs (ap (λ (m : Machine Index). m.frames) (sym (some_is n new h)) ∙ is)
@@ -261,4 +261,4 @@ pub gets_shorter : (cx : BodyContext Index) (old new : Machine Index) (bytes res
 gets_shorter cx old new bytes rest s = leaves_less cx s.0 bytes rest s.1
 
 pub leads_both : (cx : BodyContext Index) (old mid new : Machine Index) (bytes rest after : List ℕ) → LeadsOn cx old mid bytes rest → LeadsOn cx mid new rest after → LeadsOn cx old new bytes after
-leads_both cx old mid new bytes rest after l m = record { judged = l.judged ∙ m.judged; inside = m.inside; no_longer = omega (arith, l.no_longer, m.no_longer) }
+leads_both cx old mid new bytes rest after l m = record { validated = l.validated ∙ m.validated; inside = m.inside; no_longer = omega (arith, l.no_longer, m.no_longer) }

@@ -1,4 +1,4 @@
--- Plain operators, judged from their bytes.
+-- Plain operators, validated from their bytes.
 use Rattle.std.specs.Prelude.{◌≡◌, ◌≢◌, ◌<◌, ◌≤◌, ◌-◌, ◌^◌, ℕ, ℤ, Bool, true, false, List, [], ◌∷◌, Option, Some}
 use Rattle.std.specs.List.{AllByRecursion}
 use Rattle.wasm_bodies.specs.BodyContext.{BodyContext, ModuleItems}

@@ -10,8 +10,10 @@ use Rattle.wasm_bodies.specs.Bodies.{block_signature, entered_with}
 use Rattle.wasm_bodies.specs.Operators as operators
 use Rattle.wasm_bodies_laws.specs.Machine as machine
 use Rattle.wasm_bodies_laws.specs.Machine.{Machine, frame_type, label_types, labels_of}
+use Rattle.wasm_core_types.specs.Features.{feature_set}
 use Rattle.wasm_spec.specs.Features.{Features}
 use Rattle.wasm_spec.specs.Types.{TableType, ValType, I32}
+use Rattle.wasmparser_func_validator.specs.declared.body.Body.{Body}
 use Rattle.wasmparser_func_validator.specs.declared.refusal.Refusal.{Refusal}
 use Rattle.wasmparser_func_validator.specs.declared.refusal.Refusal.TheVariants.{Invalid, Memory}
 use Rattle.wasmparser_bodies.specs.Resources.{Resources}
@@ -22,7 +24,7 @@ use Rattle.wasmparser_types.specs.declared.val_type.ValType as code
 use Rattle.wasmparser_bodies.specs.StackViews.{block_with_ids, frame_kind}
 use Rattle.wasmparser_bodies.specs.declared.frame.FrameKind.{FrameKind}
 
--- what a body of a function whose type has this index is judged in
+-- what a body of a function whose type has this index is validated in
 abbrev pub context_of : Resources → Features → List (Local Index) → ℕ → BodyContext Index
 context_of resources features locals type = record {
   features = features;
@@ -30,6 +32,13 @@ context_of resources features locals type = record {
   locals = locals;
   results = (frame_type resources.items (Indexed type)).results;
 }
+
+-- the same of a body whose module is seen like this, and what its operators may name
+abbrev pub body_context : {R : Type 0} → (R → Resources) → Body R → BodyContext Index
+body_context seen body = context_of (seen body.resources) (feature_set body.features) body.locals body.ty
+
+abbrev pub items_in : {R : Type 0} → (R → Resources) → Body R → ModuleItems Index
+items_in seen body = (seen body.resources).items
 
 -- On Ok the list that is typed is the wanted one, and the open blocks stay. Invalid comes only where there is none. A refusal leaves all as it was.
 abbrev pub Takes : Option (State Index) → Machine Index → Machine Index → Result (Unit {0}) Refusal → Type 0

@@ -26,9 +26,9 @@ IsRefusedAt kinds.Failed at failed offset wanted = (failed ≡ true) × (at ≡ 
 IsRefusedAt _ at failed offset wanted = ⊥
 
 -- An operator at a place leads where it leads. A refusal is the last thing.
-abbrev pub Judges : Bool → ℕ → Option (Machine Index) → Machine Index → Bool → Result (Unit {0}) Error → Type 0
-Judges failed offset wanted new after (Ok x) = (failed ≡ false) × (wanted ≡ Some new) × (after ≡ false)
-Judges failed offset wanted new after (Err e) = IsRefusedAt e.kind e.offset failed offset wanted × (after ≡ true)
+abbrev pub Validates : Bool → ℕ → Option (Machine Index) → Machine Index → Bool → Result (Unit {0}) Error → Type 0
+Validates failed offset wanted new after (Ok x) = (failed ≡ false) × (wanted ≡ Some new) × (after ≡ false)
+Validates failed offset wanted new after (Err e) = IsRefusedAt e.kind e.offset failed offset wanted × (after ≡ true)
 
 -- The same, but a refusal leaves all as it was.
 abbrev pub Tries : Bool → ℕ → Option (Machine Index) → Machine Index → Machine Index → Bool → Result (Unit {0}) Error → Type 0

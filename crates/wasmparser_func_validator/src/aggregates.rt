@@ -6,11 +6,9 @@ ghost use Rattle.wasm_bodies.specs.BodyContext.{is_defaultable, unpacked};
 ghost use Rattle.wasm_bodies.specs.Signatures.{makes};
 ghost use Rattle.std.specs.Option.{option_and_then};
 ghost use Rattle.wasm_bodies.specs.Operands.{applied};
-ghost use Rattle.wasmparser_func_validator.specs.Steps.{Takes};
 ghost use Rattle.wasmparser_types.specs.ValTypes.{field_type, val_type};
 ghost use Rattle.wasm_bodies.specs.Operators as spec;
-ghost use Rattle.wasm_core_types.specs.Features.{feature_set};
-ghost use Rattle.wasmparser_func_validator.specs.Steps.{HasEffect, context_of};
+ghost use Rattle.wasmparser_func_validator.specs.Steps.{HasEffect, Takes, body_context, items_in};
 
 use crate::body::Body;
 use crate::refusal::Refusal;
@@ -36,7 +34,7 @@ impl<R: WasmModuleResources> Body<R> {
         type_index: u32,
         takes: &L,
     ) -> Result<(), Refusal>
-        ensures { Takes (option_and_then (λ signature. applied (R.resources self.now.resources).items signature stacks.old.now) (makes (R.resources self.now.resources).items type_index (L.types takes.now))) stacks.old stacks.new result }
+        ensures { Takes (option_and_then (λ signature. applied (items_in R.resources self.now) signature stacks.old.now) (makes (items_in R.resources self.now) type_index (L.types takes.now))) stacks.old stacks.new result }
     {
         let Some(reference) = self.reference_at(false, type_index) else {
             return Err(Refusal::Invalid);
@@ -49,7 +47,7 @@ impl<R: WasmModuleResources> Body<R> {
     }
 
     pub(crate) fn struct_new(&self, stacks: &mut Stacks, type_index: u32) -> Result<(), Refusal>
-        ensures { HasEffect (context_of (R.resources self.now.resources) (feature_set self.now.features) self.now.locals self.now.ty) (spec.StructNew type_index) stacks.old stacks.new result }
+        ensures { HasEffect (body_context R.resources self.now) (spec.StructNew type_index) stacks.old stacks.new result }
     {
         match self.fields_at(type_index) {
             Some(fields) => self.make(stacks, type_index, &Fields(fields)),
@@ -62,7 +60,7 @@ impl<R: WasmModuleResources> Body<R> {
         stacks: &mut Stacks,
         type_index: u32,
     ) -> Result<(), Refusal>
-        ensures { HasEffect (context_of (R.resources self.now.resources) (feature_set self.now.features) self.now.locals self.now.ty) (spec.StructNewDefault type_index) stacks.old stacks.new result }
+        ensures { HasEffect (body_context R.resources self.now) (spec.StructNewDefault type_index) stacks.old stacks.new result }
     {
         match self.fields_at(type_index) {
             Some(fields) => {
@@ -76,7 +74,7 @@ impl<R: WasmModuleResources> Body<R> {
     }
 
     pub(crate) fn array_new(&self, stacks: &mut Stacks, type_index: u32) -> Result<(), Refusal>
-        ensures { HasEffect (context_of (R.resources self.now.resources) (feature_set self.now.features) self.now.locals self.now.ty) (spec.ArrayNew type_index) stacks.old stacks.new result }
+        ensures { HasEffect (body_context R.resources self.now) (spec.ArrayNew type_index) stacks.old stacks.new result }
     {
         match self.element_at(type_index) {
             Some(element) => self.make(stacks, type_index, &Types(&[element, ValType::I32])),
@@ -89,7 +87,7 @@ impl<R: WasmModuleResources> Body<R> {
         stacks: &mut Stacks,
         type_index: u32,
     ) -> Result<(), Refusal>
-        ensures { HasEffect (context_of (R.resources self.now.resources) (feature_set self.now.features) self.now.locals self.now.ty) (spec.ArrayNewDefault type_index) stacks.old stacks.new result }
+        ensures { HasEffect (body_context R.resources self.now) (spec.ArrayNewDefault type_index) stacks.old stacks.new result }
     {
         match self.element_at(type_index) {
             Some(element) => {
@@ -108,7 +106,7 @@ impl<R: WasmModuleResources> Body<R> {
         type_index: u32,
         count: u32,
     ) -> Result<(), Refusal>
-        ensures { HasEffect (context_of (R.resources self.now.resources) (feature_set self.now.features) self.now.locals self.now.ty) (spec.ArrayNewFixed type_index count) stacks.old stacks.new result }
+        ensures { HasEffect (body_context R.resources self.now) (spec.ArrayNewFixed type_index count) stacks.old stacks.new result }
     {
         match self.element_at(type_index) {
             Some(value_type) => self.make(stacks, type_index, &Copies { count, value_type }),

@@ -5,8 +5,7 @@ ghost use Rattle.wasm_bodies.specs.Bodies.{is_exactly};
 ghost use Rattle.wasm_bodies.specs.Operands.{State, fresh};
 ghost use Rattle.wasm_bodies.specs.Operators as spec;
 ghost use Rattle.wasm_bodies_laws.specs.Machine.{frame_of, may_end, stepped_in};
-ghost use Rattle.wasm_core_types.specs.Features.{feature_set};
-ghost use Rattle.wasmparser_func_validator.specs.Steps.{Steps, context_of, kind_kept, opened_if, opens};
+ghost use Rattle.wasmparser_func_validator.specs.Steps.{Steps, body_context, items_in, kind_kept, opened_if, opens};
 ghost use Rattle.wasmparser_operators.specs.OperatorValues.{IsBlockOfModule, block_type};
 ghost use Rattle.wasmparser_bodies.specs.StackViews.{block_seen, block_with_ids, frame_kind};
 ghost use Rattle.wasmparser_types.specs.Index.{Index};
@@ -26,7 +25,7 @@ impl<R: WasmModuleResources> Body<R> {
     // Checks that the innermost list ends with exactly these types.
     #[tactic(auto, using(crate::proofs::TypeLaws::ends))]
     fn has_given(&self, stacks: &Stacks, results: &[ValType]) -> bool
-        ensures { result ≡ is_exactly (R.resources self.now.resources).items (map val_type results.now) stacks.now.now }
+        ensures { result ≡ is_exactly (items_in R.resources self.now) (map val_type results.now) stacks.now.now }
     {
         if !self.accepts(stacks, 0, &Types(results)) {
             return false;
@@ -40,7 +39,7 @@ impl<R: WasmModuleResources> Body<R> {
     // Checks that a list that begins with the parameters, and has nothing else, may end with the results.
     #[tactic(auto, using(crate::proofs::TypeLaws::serves))]
     fn serves(&self, params: &[ValType], results: &[ValType]) -> bool
-        ensures { (assigned : List ℕ) → result ≡ is_exactly (R.resources self.now.resources).items (map val_type results.now) (fresh (map val_type params.now) assigned) }
+        ensures { (assigned : List ℕ) → result ≡ is_exactly (items_in R.resources self.now) (map val_type results.now) (fresh (map val_type params.now) assigned) }
     {
         self.are_below(params, results)
     }
@@ -53,7 +52,7 @@ impl<R: WasmModuleResources> Body<R> {
         blockty: &BlockType,
     ) -> Result<(), Refusal>
         requires { IsBlockOfModule blockty.now }
-        ensures { Steps (opens (context_of (R.resources self.now.resources) (feature_set self.now.features) self.now.locals self.now.ty) (frame_kind kind) (block_type blockty.now) stacks.old) stacks.old stacks.new result }
+        ensures { Steps (opens (body_context R.resources self.now) (frame_kind kind) (block_type blockty.now) stacks.old) stacks.old stacks.new result }
     {
         let Some(block_type) = self.checked_block(blockty) else {
             return Err(Refusal::Invalid);
@@ -70,7 +69,7 @@ impl<R: WasmModuleResources> Body<R> {
     // Opens an `if`, which takes its condition first.
     pub(crate) fn open_if(&self, stacks: &mut Stacks, blockty: &BlockType) -> Result<(), Refusal>
         requires { IsBlockOfModule blockty.now }
-        ensures { Steps (opened_if (context_of (R.resources self.now.resources) (feature_set self.now.features) self.now.locals self.now.ty) (block_type blockty.now) stacks.old) stacks.old stacks.new result }
+        ensures { Steps (opened_if (body_context R.resources self.now) (block_type blockty.now) stacks.old) stacks.old stacks.new result }
     {
         let Some(block_type) = self.checked_block(blockty) else {
             return Err(Refusal::Invalid);
@@ -85,8 +84,8 @@ impl<R: WasmModuleResources> Body<R> {
     }
 
     // `else`: the first list of an `if` ends, and the second begins.
-    pub(crate) fn turn(&self, stacks: &mut Stacks) -> Result<(), Refusal>
-        ensures { Steps (stepped_in (context_of (R.resources self.now.resources) (feature_set self.now.features) self.now.locals self.now.ty) stacks.old.frames stacks.old.now spec.Else) stacks.old stacks.new result }
+    pub(crate) fn else_(&self, stacks: &mut Stacks) -> Result<(), Refusal>
+        ensures { Steps (stepped_in (body_context R.resources self.now) stacks.old.frames stacks.old.now spec.Else) stacks.old stacks.new result }
     {
         let Some((kind, block_type)) = self.innermost(stacks) else {
             return Err(Refusal::Invalid);
@@ -97,13 +96,13 @@ impl<R: WasmModuleResources> Body<R> {
         if !self.has_given(stacks, self.block_results(&block_type)) {
             return Err(Refusal::Invalid);
         }
-        stacks.turn(self.block_params(&block_type))?;
+        stacks.else_(self.block_params(&block_type))?;
         Ok(())
     }
 
     // `end`: the innermost list ends, and what it gives goes on top of what lies below.
     pub(crate) fn close(&self, stacks: &mut Stacks) -> Result<(), Refusal>
-        ensures { Steps (stepped_in (context_of (R.resources self.now.resources) (feature_set self.now.features) self.now.locals self.now.ty) stacks.old.frames stacks.old.now spec.End) stacks.old stacks.new result }
+        ensures { Steps (stepped_in (body_context R.resources self.now) stacks.old.frames stacks.old.now spec.End) stacks.old stacks.new result }
     {
         let Some((kind, block_type)) = self.innermost(stacks) else {
             return Err(Refusal::Invalid);
@@ -131,7 +130,7 @@ impl<R: WasmModuleResources> Body<R> {
 
     // Checks that a block may end without a second list.
     fn may_end(&self, kind: FrameKind, block_type: &BlockType) -> bool
-        ensures { (below : State Index) → result ≡ may_end (R.resources self.now.resources).items (frame_kind kind) (frame_of (frame_kind kind) (block_with_ids block_type.now) below) }
+        ensures { (below : State Index) → result ≡ may_end (items_in R.resources self.now) (frame_kind kind) (frame_of (frame_kind kind) (block_with_ids block_type.now) below) }
     {
         match kind {
             FrameKind::If => {

@@ -7,7 +7,7 @@ ghost use Rattle.wasm_bodies.specs.Operands.{all_taken, applied, fits};
 ghost use Rattle.wasm_bodies.specs.Signatures.{after_one_more, from_to};
 ghost use Rattle.wasmparser_bodies.specs.StackChanges.{lowered};
 ghost use Rattle.wasmparser_bodies.specs.StackViews.{operand};
-ghost use Rattle.wasmparser_func_validator.specs.Steps.{Takes};
+ghost use Rattle.wasmparser_func_validator.specs.Steps.{Takes, items_in};
 ghost use Rattle.wasmparser_types.specs.ValTypes.{val_type};
 
 use crate::refusal::Refusal;
@@ -33,7 +33,7 @@ pub struct Body<R> {
 impl<R: WasmModuleResources> Body<R> {
     // Checks that an operand may stand where one of the type is wanted.
     fn fits(&self, wanted: ValType, x: &Operand) -> bool
-        ensures { result ≡ fits (R.resources self.now.resources).items (val_type wanted) (operand x.now) }
+        ensures { result ≡ fits (items_in R.resources self.now) (val_type wanted) (operand x.now) }
     {
         match x {
             Operand::Known(known) => self.resources.is_subtype(*known, wanted),
@@ -45,7 +45,7 @@ impl<R: WasmModuleResources> Body<R> {
     // Checks that operands of these types are there, below the last one or from the last one on.
     pub(crate) fn accepts<L: TypeList>(&self, stacks: &Stacks, above: usize, types: &L) -> bool
         requires { above ≤ 1 }
-        ensures { all_taken (R.resources self.now.resources).items (L.types types.now) (lowered above stacks.now.now) ≡ provided result (Some (lowered (above + length (L.types types.now)) stacks.now.now)) }
+        ensures { all_taken (items_in R.resources self.now) (L.types types.now) (lowered above stacks.now.now) ≡ provided result (Some (lowered (above + length (L.types types.now)) stacks.now.now)) }
     {
         let count = types.count();
         let mut left = count;
@@ -72,7 +72,7 @@ impl<R: WasmModuleResources> Body<R> {
         takes: &[ValType],
         gives: &[ValType],
     ) -> Result<(), Refusal>
-        ensures { Takes (applied (R.resources self.now.resources).items (from_to (map val_type takes.now) (map val_type gives.now)) stacks.old.now) stacks.old stacks.new result }
+        ensures { Takes (applied (items_in R.resources self.now) (from_to (map val_type takes.now) (map val_type gives.now)) stacks.old.now) stacks.old stacks.new result }
     {
         if !self.accepts(stacks, 0, &Types(takes)) {
             return Err(Refusal::Invalid);
@@ -88,7 +88,7 @@ impl<R: WasmModuleResources> Body<R> {
         takes: &[ValType],
         last: &ValType,
     ) -> bool
-        ensures { all_taken (R.resources self.now.resources).items (after_one_more (val_type last.now) (from_to (map val_type takes.now) [])).params stacks.now.now ≡ provided result (Some (lowered (length takes.now + 1) stacks.now.now)) }
+        ensures { all_taken (items_in R.resources self.now) (after_one_more (val_type last.now) (from_to (map val_type takes.now) [])).params stacks.now.now ≡ provided result (Some (lowered (length takes.now + 1) stacks.now.now)) }
     {
         self.accepts(stacks, 0, &Types(slice::from_ref(last)))
             && self.accepts(stacks, 1, &Types(takes))
@@ -102,7 +102,7 @@ impl<R: WasmModuleResources> Body<R> {
         last: &ValType,
         gives: &[ValType],
     ) -> Result<(), Refusal>
-        ensures { Takes (applied (R.resources self.now.resources).items (after_one_more (val_type last.now) (from_to (map val_type takes.now) (map val_type gives.now))) stacks.old.now) stacks.old stacks.new result }
+        ensures { Takes (applied (items_in R.resources self.now) (after_one_more (val_type last.now) (from_to (map val_type takes.now) (map val_type gives.now))) stacks.old.now) stacks.old stacks.new result }
     {
         if !self.accepts_with_last(stacks, takes, last) {
             return Err(Refusal::Invalid);
@@ -114,7 +114,7 @@ impl<R: WasmModuleResources> Body<R> {
     // Takes operands, and never goes on.
     pub(crate) fn leave(&self, stacks: &mut Stacks, takes: &[ValType]) -> Result<(), Refusal>
         requires { stacks.old.frames ≢ [] }
-        ensures { Takes (leaves (R.resources self.now.resources).items (map val_type takes.now) stacks.old.now) stacks.old stacks.new result }
+        ensures { Takes (leaves (items_in R.resources self.now) (map val_type takes.now) stacks.old.now) stacks.old stacks.new result }
     {
         if !self.accepts(stacks, 0, &Types(takes)) {
             return Err(Refusal::Invalid);
@@ -131,7 +131,7 @@ impl<R: WasmModuleResources> Body<R> {
         last: &ValType,
     ) -> Result<(), Refusal>
         requires { stacks.old.frames ≢ [] }
-        ensures { Takes (leaves (R.resources self.now.resources).items (after_one_more (val_type last.now) (from_to (map val_type takes.now) [])).params stacks.old.now) stacks.old stacks.new result }
+        ensures { Takes (leaves (items_in R.resources self.now) (after_one_more (val_type last.now) (from_to (map val_type takes.now) [])).params stacks.old.now) stacks.old stacks.new result }
     {
         if !self.accepts_with_last(stacks, takes, last) {
             return Err(Refusal::Invalid);
@@ -142,7 +142,7 @@ impl<R: WasmModuleResources> Body<R> {
 
     // True if both lists have equal length and each type is a subtype of its counterpart.
     pub(crate) fn are_below(&self, types: &[ValType], wanted: &[ValType]) -> bool
-        ensures { result ≡ are_below (R.resources self.now.resources).items (map val_type types.now) (map val_type wanted.now) }
+        ensures { result ≡ are_below (items_in R.resources self.now) (map val_type types.now) (map val_type wanted.now) }
     {
         if types.len() != wanted.len() {
             return false;

@@ -14,8 +14,7 @@ ghost use Rattle.wasmparser_bodies.specs.StackViews.{block_with_ids, frame_kind}
 ghost use Rattle.wasmparser_types.specs.Index.{Index};
 ghost use Rattle.wasmparser_types.specs.ValTypes.{val_type};
 ghost use Rattle.wasm_bodies.specs.Operators as spec;
-ghost use Rattle.wasm_core_types.specs.Features.{feature_set};
-ghost use Rattle.wasmparser_func_validator.specs.Steps.{HasEffect, Takes, context_of, label_kept};
+ghost use Rattle.wasmparser_func_validator.specs.Steps.{HasEffect, Takes, body_context, items_in, label_kept};
 
 use crate::body::Body;
 use crate::references::non_null;
@@ -44,7 +43,7 @@ impl<R: WasmModuleResources> Body<R> {
     #[tactic(auto, using(crate::proofs::BranchLaws::labels))]
     #[inline(always)]
     pub(crate) fn target(&self, stacks: &Stacks, label: u32) -> Option<(FrameKind, BlockType)>
-        ensures { option_map (label_kept (R.resources self.now.resources).items) result ≡ slice_get (labels_of (R.resources self.now.resources).items stacks.now.frames) label }
+        ensures { option_map (label_kept (items_in R.resources self.now)) result ≡ slice_get (labels_of (items_in R.resources self.now) stacks.now.frames) label }
     {
         match stacks.frame_at(label as usize) {
             Some(frame) => Some((frame.kind, frame.block_type)),
@@ -54,7 +53,7 @@ impl<R: WasmModuleResources> Body<R> {
 
     pub(crate) fn br(&self, stacks: &mut Stacks, label: u32) -> Result<(), Refusal>
         requires { stacks.old.frames ≢ [] }
-        ensures { HasEffect (context_of (R.resources self.now.resources) (feature_set self.now.features) self.now.locals self.now.ty) (spec.Br label) stacks.old stacks.new result }
+        ensures { HasEffect (body_context R.resources self.now) (spec.Br label) stacks.old stacks.new result }
     {
         let Some((kind, block_type)) = self.target(stacks, label) else {
             return Err(Refusal::Invalid);
@@ -64,7 +63,7 @@ impl<R: WasmModuleResources> Body<R> {
 
     #[tactic(auto, using(crate::proofs::BranchLaws::jumps))]
     pub(crate) fn br_if(&self, stacks: &mut Stacks, label: u32) -> Result<(), Refusal>
-        ensures { HasEffect (context_of (R.resources self.now.resources) (feature_set self.now.features) self.now.locals self.now.ty) (spec.BrIf label) stacks.old stacks.new result }
+        ensures { HasEffect (body_context R.resources self.now) (spec.BrIf label) stacks.old stacks.new result }
     {
         let Some((kind, block_type)) = self.target(stacks, label) else {
             return Err(Refusal::Invalid);
@@ -75,7 +74,7 @@ impl<R: WasmModuleResources> Body<R> {
 
     // Checks that a label takes so many operands, and these may be those below the last one.
     fn accepts_label(&self, stacks: &Stacks, arity: usize, label: u32) -> bool
-        ensures { result ≡ accepts (R.resources self.now.resources).items arity (lowered 1 stacks.now.now) (slice_get (labels_of (R.resources self.now.resources).items stacks.now.frames) label) }
+        ensures { result ≡ accepts (items_in R.resources self.now) arity (lowered 1 stacks.now.now) (slice_get (labels_of (items_in R.resources self.now) stacks.now.frames) label) }
     {
         let Some((kind, block_type)) = self.target(stacks, label) else {
             return false;
@@ -86,7 +85,7 @@ impl<R: WasmModuleResources> Body<R> {
 
     // Checks that jumps to two labels take the same, as far as that shows without a look at types.
     fn are_alike(&self, stacks: &Stacks, one: u32, other: u32) -> bool
-        ensures { IsTrue result → slice_get (labels_of (R.resources self.now.resources).items stacks.now.frames) one ≡ slice_get (labels_of (R.resources self.now.resources).items stacks.now.frames) other }
+        ensures { IsTrue result → slice_get (labels_of (items_in R.resources self.now) stacks.now.frames) one ≡ slice_get (labels_of (items_in R.resources self.now) stacks.now.frames) other }
     {
         let (Some(a), Some(b)) = (self.target(stacks, one), self.target(stacks, other)) else {
             return false;
@@ -109,7 +108,7 @@ impl<R: WasmModuleResources> Body<R> {
         other: u32,
         is_accepted: bool,
     ) -> bool
-        ensures { is_accepted ≡ accepts (R.resources self.now.resources).items arity (lowered 1 stacks.now.now) (slice_get (labels_of (R.resources self.now.resources).items stacks.now.frames) other) → result ≡ accepts (R.resources self.now.resources).items arity (lowered 1 stacks.now.now) (slice_get (labels_of (R.resources self.now.resources).items stacks.now.frames) label) }
+        ensures { is_accepted ≡ accepts (items_in R.resources self.now) arity (lowered 1 stacks.now.now) (slice_get (labels_of (items_in R.resources self.now) stacks.now.frames) other) → result ≡ accepts (items_in R.resources self.now) arity (lowered 1 stacks.now.now) (slice_get (labels_of (items_in R.resources self.now) stacks.now.frames) label) }
     {
         if self.are_alike(stacks, label, other) {
             return is_accepted;
@@ -125,8 +124,8 @@ impl<R: WasmModuleResources> Body<R> {
         targets: &BrTable<'_>,
         is_accepted: bool,
     ) -> bool
-        requires { is_accepted ≡ accepts (R.resources self.now.resources).items arity (lowered 1 stacks.now.now) (slice_get (labels_of (R.resources self.now.resources).items stacks.now.frames) targets.now.default) }
-        ensures { result ≡ list_all (λ label. accepts (R.resources self.now.resources).items arity (lowered 1 stacks.now.now) (slice_get (labels_of (R.resources self.now.resources).items stacks.now.frames) label)) targets.now.labels }
+        requires { is_accepted ≡ accepts (items_in R.resources self.now) arity (lowered 1 stacks.now.now) (slice_get (labels_of (items_in R.resources self.now) stacks.now.frames) targets.now.default) }
+        ensures { result ≡ list_all (λ label. accepts (items_in R.resources self.now) arity (lowered 1 stacks.now.now) (slice_get (labels_of (items_in R.resources self.now) stacks.now.frames) label)) targets.now.labels }
     {
         targets.targets().all(|label| {
             self.accepts_beside(stacks, arity, label, targets.default(), is_accepted)
@@ -136,7 +135,7 @@ impl<R: WasmModuleResources> Body<R> {
     // Checks that each label of a table accepts the operands below the last one.
     #[tactic(auto, using(crate::proofs::BranchLaws::tables))]
     fn accepts_table(&self, stacks: &Stacks, targets: &BrTable<'_>) -> bool
-        ensures { leaves_by_table (R.resources self.now.resources).items (labels_of (R.resources self.now.resources).items stacks.now.frames) targets.now.labels targets.now.default (lowered 1 stacks.now.now) ≡ provided result (Some (nothing_known (lowered 1 stacks.now.now))) }
+        ensures { leaves_by_table (items_in R.resources self.now) (labels_of (items_in R.resources self.now) stacks.now.frames) targets.now.labels targets.now.default (lowered 1 stacks.now.now) ≡ provided result (Some (nothing_known (lowered 1 stacks.now.now))) }
     {
         let Some((kind, block_type)) = self.target(stacks, targets.default()) else {
             return false;
@@ -148,7 +147,7 @@ impl<R: WasmModuleResources> Body<R> {
 
     pub(crate) fn br_table(&self, stacks: &mut Stacks, targets: &BrTable<'_>) -> Result<(), Refusal>
         requires { stacks.old.frames ≢ [] }
-        ensures { HasEffect (context_of (R.resources self.now.resources) (feature_set self.now.features) self.now.locals self.now.ty) (spec.BrTable targets.now.labels targets.now.default) stacks.old stacks.new result }
+        ensures { HasEffect (body_context R.resources self.now) (spec.BrTable targets.now.labels targets.now.default) stacks.old stacks.new result }
     {
         if !self.accepts(stacks, 0, &Types(slice::from_ref(&ValType::I32))) {
             return Err(Refusal::Invalid);
@@ -162,13 +161,13 @@ impl<R: WasmModuleResources> Body<R> {
 
     pub(crate) fn return_(&self, stacks: &mut Stacks) -> Result<(), Refusal>
         requires { stacks.old.frames ≢ [] }
-        ensures { HasEffect (context_of (R.resources self.now.resources) (feature_set self.now.features) self.now.locals self.now.ty) spec.Return stacks.old stacks.new result }
+        ensures { HasEffect (body_context R.resources self.now) spec.Return stacks.old stacks.new result }
     {
         self.leave(stacks, self.results())
     }
 
     pub(crate) fn call(&self, stacks: &mut Stacks, function: u32) -> Result<(), Refusal>
-        ensures { HasEffect (context_of (R.resources self.now.resources) (feature_set self.now.features) self.now.locals self.now.ty) (spec.Call function) stacks.old stacks.new result }
+        ensures { HasEffect (body_context R.resources self.now) (spec.Call function) stacks.old stacks.new result }
     {
         match self.function_type(function) {
             Some(it) => self.apply(stacks, it.params(), it.results()),
@@ -178,7 +177,7 @@ impl<R: WasmModuleResources> Body<R> {
 
     // What a table of functions is indexed by.
     fn index_of_functions(&self, table: u32) -> Option<ValType>
-        ensures { option_map val_type result ≡ option_and_then (λ t. provided ((R.resources self.now.resources).items.is_below (table_item t) (value_of funcref)) (Some (table_index t))) (slice_get (R.resources self.now.resources).items.tables table) }
+        ensures { option_map val_type result ≡ option_and_then (λ t. provided ((items_in R.resources self.now).is_below (table_item t) (value_of funcref)) (Some (table_index t))) (slice_get (items_in R.resources self.now).tables table) }
     {
         match self.table_types(table) {
             Some((index, item)) => {
@@ -198,7 +197,7 @@ impl<R: WasmModuleResources> Body<R> {
         type_index: u32,
         table: u32,
     ) -> Result<(), Refusal>
-        ensures { HasEffect (context_of (R.resources self.now.resources) (feature_set self.now.features) self.now.locals self.now.ty) (spec.CallIndirect type_index table) stacks.old stacks.new result }
+        ensures { HasEffect (body_context R.resources self.now) (spec.CallIndirect type_index table) stacks.old stacks.new result }
     {
         let Some(it) = self.func_type_at(type_index) else {
             return Err(Refusal::Invalid);
@@ -210,7 +209,7 @@ impl<R: WasmModuleResources> Body<R> {
     }
 
     pub(crate) fn call_ref(&self, stacks: &mut Stacks, type_index: u32) -> Result<(), Refusal>
-        ensures { HasEffect (context_of (R.resources self.now.resources) (feature_set self.now.features) self.now.locals self.now.ty) (spec.CallRef type_index) stacks.old stacks.new result }
+        ensures { HasEffect (body_context R.resources self.now) (spec.CallRef type_index) stacks.old stacks.new result }
     {
         let Some(it) = self.func_type_at(type_index) else {
             return Err(Refusal::Invalid);
@@ -223,7 +222,7 @@ impl<R: WasmModuleResources> Body<R> {
 
     pub(crate) fn return_call(&self, stacks: &mut Stacks, function: u32) -> Result<(), Refusal>
         requires { stacks.old.frames ≢ [] }
-        ensures { HasEffect (context_of (R.resources self.now.resources) (feature_set self.now.features) self.now.locals self.now.ty) (spec.ReturnCall function) stacks.old stacks.new result }
+        ensures { HasEffect (body_context R.resources self.now) (spec.ReturnCall function) stacks.old stacks.new result }
     {
         let Some(it) = self.function_type(function) else {
             return Err(Refusal::Invalid);
@@ -242,7 +241,7 @@ impl<R: WasmModuleResources> Body<R> {
         table: u32,
     ) -> Result<(), Refusal>
         requires { stacks.old.frames ≢ [] }
-        ensures { HasEffect (context_of (R.resources self.now.resources) (feature_set self.now.features) self.now.locals self.now.ty) (spec.ReturnCallIndirect type_index table) stacks.old stacks.new result }
+        ensures { HasEffect (body_context R.resources self.now) (spec.ReturnCallIndirect type_index table) stacks.old stacks.new result }
     {
         let Some(it) = self.func_type_at(type_index) else {
             return Err(Refusal::Invalid);
@@ -262,7 +261,7 @@ impl<R: WasmModuleResources> Body<R> {
         type_index: u32,
     ) -> Result<(), Refusal>
         requires { stacks.old.frames ≢ [] }
-        ensures { HasEffect (context_of (R.resources self.now.resources) (feature_set self.now.features) self.now.locals self.now.ty) (spec.ReturnCallRef type_index) stacks.old stacks.new result }
+        ensures { HasEffect (body_context R.resources self.now) (spec.ReturnCallRef type_index) stacks.old stacks.new result }
     {
         let Some(it) = self.func_type_at(type_index) else {
             return Err(Refusal::Invalid);
@@ -277,7 +276,7 @@ impl<R: WasmModuleResources> Body<R> {
     }
 
     pub(crate) fn br_on_null(&self, stacks: &mut Stacks, label: u32) -> Result<(), Refusal>
-        ensures { HasEffect (context_of (R.resources self.now.resources) (feature_set self.now.features) self.now.locals self.now.ty) (spec.BrOnNull label) stacks.old stacks.new result }
+        ensures { HasEffect (body_context R.resources self.now) (spec.BrOnNull label) stacks.old stacks.new result }
     {
         let Some((kind, block_type)) = self.target(stacks, label) else {
             return Err(Refusal::Invalid);
@@ -298,7 +297,7 @@ impl<R: WasmModuleResources> Body<R> {
 
     // Takes a reference that goes to a label with operands of these types below it, which stay.
     fn jump_with_last(&self, stacks: &mut Stacks, types: &[ValType]) -> Result<(), Refusal>
-        ensures { Takes (jumps_with_last (R.resources self.now.resources).items (reverse (map val_type types.now)) stacks.old.now) stacks.old stacks.new result }
+        ensures { Takes (jumps_with_last (items_in R.resources self.now) (reverse (map val_type types.now)) stacks.old.now) stacks.old stacks.new result }
     {
         let Some((last, others)) = types.split_last() else {
             return Err(Refusal::Invalid);
@@ -313,7 +312,7 @@ impl<R: WasmModuleResources> Body<R> {
     }
 
     pub(crate) fn br_on_non_null(&self, stacks: &mut Stacks, label: u32) -> Result<(), Refusal>
-        ensures { HasEffect (context_of (R.resources self.now.resources) (feature_set self.now.features) self.now.locals self.now.ty) (spec.BrOnNonNull label) stacks.old stacks.new result }
+        ensures { HasEffect (body_context R.resources self.now) (spec.BrOnNonNull label) stacks.old stacks.new result }
     {
         let Some((kind, block_type)) = self.target(stacks, label) else {
             return Err(Refusal::Invalid);

@@ -9,13 +9,14 @@ ghost use Rattle.wasmparser_bodies.specs.BodyAnswers.{AnswersOutcome, IsBodyVali
 ghost use Rattle.wasmparser_bodies.specs.LocalsAnswers.{ReadsLocals};
 ghost use Rattle.wasmparser_bodies.specs.BodyStates.{IsAtStart, rest_outcome};
 ghost use Rattle.wasmparser_func_validator.specs.FromBytes.{ReadsDeclared, failed_at, past_types};
+ghost use Rattle.wasmparser_func_validator.specs.Steps.{items_in};
 ghost use Rattle.wasmparser_func_validator.specs.Validation.{is_refused};
 ghost use Rattle.wasmparser_types.specs.Index.{Index, packable};
 
 use crate::func_validator::{FuncValidator, failed};
 use wasm_core_read::binary_reader::BinaryReader;
 use wasm_core_types::limits::Limit;
-use wasmparser_bodies::judge_body::JudgeBody;
+use wasmparser_bodies::body_validator::BodyValidator;
 use wasmparser_bodies::module_resources::WasmModuleResources;
 use wasmparser_bodies::read_body::read_body;
 use wasmparser_bodies::read_locals::read_locals;
@@ -40,8 +41,8 @@ impl<T: WasmModuleResources> FuncValidator<T> {
     // Checks that the module has more types than indexes that can be packed.
     #[tactic(auto, using(crate::proofs::ManyTypes::type_counts))]
     fn has_many_types(&self) -> bool
-        ensures few { result ≡ false → length (T.resources self.now.body.resources).items.types ≤ packable }
-        ensures many { result ≡ true → packable < length (T.resources self.now.body.resources).items.types }
+        ensures few { result ≡ false → length (items_in T.resources self.now.body).types ≤ packable }
+        ensures many { result ≡ true → packable < length (items_in T.resources self.now.body).types }
     {
         let first = self.body.resources.sub_type_at(FIRST_UNPACKED);
         first.is_some()
@@ -55,9 +56,9 @@ impl<T: WasmModuleResources> FuncValidator<T> {
     /// at the number of runs, `Memory`, or `Failed` at the body's first byte after a refusal. There also `Limit`, of types, where the module has
     /// more of them than the 2^20 that types of locals can name.
     pub fn read_locals(&mut self, reader: &mut BinaryReader<'_>) -> Result<(), Error>
-        ensures read { self.old.failed ≡ false → length (T.resources self.old.body.resources).items.types ≤ packable → ReadsLocals (⟦<FuncValidator<T> as JudgeBody>⟧.state self.old) (⟦<FuncValidator<T> as JudgeBody>⟧.state self.new) reader.old reader.new result }
-        ensures declared { self.old.failed ≡ false → length (T.resources self.old.body.resources).items.types ≤ packable → (type : types.FuncType Index) → self.old.body.locals ≡ map parameter type.params → ReadsDeclared (feature_set self.old.body.features) (T.resources self.old.body.resources).items type reader.old reader.new self.new.body.locals result }
-        ensures many_types { self.old.failed ≡ false → packable < length (T.resources self.old.body.resources).items.types → result ≡ Err (past_types reader.old.position) }
+        ensures read { self.old.failed ≡ false → length (items_in T.resources self.old.body).types ≤ packable → ReadsLocals (⟦<FuncValidator<T> as BodyValidator>⟧.state self.old) (⟦<FuncValidator<T> as BodyValidator>⟧.state self.new) reader.old reader.new result }
+        ensures declared { self.old.failed ≡ false → length (items_in T.resources self.old.body).types ≤ packable → (type : types.FuncType Index) → self.old.body.locals ≡ map parameter type.params → ReadsDeclared (feature_set self.old.body.features) (items_in T.resources self.old.body) type reader.old reader.new self.new.body.locals result }
+        ensures many_types { self.old.failed ≡ false → packable < length (items_in T.resources self.old.body).types → result ≡ Err (past_types reader.old.position) }
         ensures after_refusal { self.old.failed ≡ true → (result ≡ Err (failed_at reader.old.position)) × (self.new ≡ self.old) }
         ensures failed { self.new.failed ≡ is_refused result }
         ensures stays { IfErr result (λ _. reader.new ≡ reader.old) }
@@ -88,9 +89,9 @@ impl<T: WasmModuleResources> FuncValidator<T> {
     /// may begin with, and `Body` where the body is broken otherwise, each at a place of the body or its end. Or `Memory`, or `Failed` at the body's
     /// first byte after a refusal. There also `Limit`, of types, where the module has more of them than the 2^20 that types in bodies can name.
     pub fn validate(&mut self, body: &FunctionBody<'_>) -> Result<(), Error>
-        ensures validated { self.old.failed ≡ false → length (T.resources self.old.body.resources).items.types ≤ packable → IsAtStart (⟦<FuncValidator<T> as JudgeBody>⟧.state self.old) → (type : types.FuncType Index) → func_at (T.resources self.old.body.resources).items self.old.body.ty ≡ Some type → IsBodyValidated (feature_set self.old.body.features) (T.resources self.old.body.resources).items type body.now.rest body.now.position result }
-        ensures answers { self.old.failed ≡ false → length (T.resources self.old.body.resources).items.types ≤ packable → AnswersOutcome body.now result (rest_outcome (⟦<FuncValidator<T> as JudgeBody>⟧.state self.old) body.now.rest) }
-        ensures many_types { self.old.failed ≡ false → packable < length (T.resources self.old.body.resources).items.types → result ≡ Err (past_types body.now.position) }
+        ensures validated { self.old.failed ≡ false → length (items_in T.resources self.old.body).types ≤ packable → IsAtStart (⟦<FuncValidator<T> as BodyValidator>⟧.state self.old) → (type : types.FuncType Index) → func_at (items_in T.resources self.old.body) self.old.body.ty ≡ Some type → IsBodyValidated (feature_set self.old.body.features) (items_in T.resources self.old.body) type body.now.rest body.now.position result }
+        ensures answers { self.old.failed ≡ false → length (items_in T.resources self.old.body).types ≤ packable → AnswersOutcome body.now result (rest_outcome (⟦<FuncValidator<T> as BodyValidator>⟧.state self.old) body.now.rest) }
+        ensures many_types { self.old.failed ≡ false → packable < length (items_in T.resources self.old.body).types → result ≡ Err (past_types body.now.position) }
         ensures after_refusal { self.old.failed ≡ true → (result ≡ Err (failed_at body.now.position)) × (self.new ≡ self.old) }
         ensures failed { self.new.failed ≡ is_refused result }
         ensures ended { IfOk result (λ _. self.new.stacks.frames ≡ []) }

@@ -7,8 +7,8 @@ ghost use Rattle.wasm_bodies.specs.Operators.{Indexed};
 ghost use Rattle.wasm_bodies_laws.specs.Machine.{at_start, frame_type, stepped};
 ghost use Rattle.wasm_core_types.specs.Features.{feature_set};
 ghost use Rattle.wasmparser_error.specs.declared.error.ErrorKind.TheVariants as kinds;
-ghost use Rattle.wasmparser_func_validator.specs.Steps.{context_of};
-ghost use Rattle.wasmparser_func_validator.specs.Validation.{Defines, IsRefusedStart, Judges, Tries, is_refused, known_type, locals_error, type_seen, unless_failed};
+ghost use Rattle.wasmparser_func_validator.specs.Steps.{body_context, items_in};
+ghost use Rattle.wasmparser_func_validator.specs.Validation.{Defines, IsRefusedStart, Tries, Validates, is_refused, known_type, locals_error, type_seen, unless_failed};
 ghost use Rattle.wasmparser_operators.specs.OperatorValues as code;
 ghost use Rattle.wasmparser_bodies.specs.LocalRuns.{local_seen};
 ghost use Rattle.wasmparser_bodies.specs.StackChanges.{all_known, places_of};
@@ -83,7 +83,7 @@ impl<T: WasmModuleResources> FuncValidator<T> {
     /// `Body` at the offset, where it may not stand there, `Memory`, or `Failed` at the offset after a refusal.
     pub fn op(&mut self, offset: u64, operator: &Operator<'_>) -> Result<(), Error>
         requires { code.IsWhole operator.now }
-        ensures judged { Judges self.old.failed offset (stepped (context_of (T.resources self.old.body.resources) (feature_set self.old.body.features) self.old.body.locals self.old.body.ty) self.old.stacks (code.operator operator.now)) self.new.stacks self.new.failed result }
+        ensures validated { Validates self.old.failed offset (stepped (body_context T.resources self.old.body) self.old.stacks (code.operator operator.now)) self.new.stacks self.new.failed result }
         ensures body { self.new.body ≡ self.old.body }
         ensures index { self.new.index ≡ self.old.index }
     {
@@ -105,7 +105,7 @@ impl<T: WasmModuleResources> FuncValidator<T> {
     /// Those of `op`.
     pub fn try_op(&mut self, offset: u64, operator: &Operator<'_>) -> Result<(), Error>
         requires { code.IsWhole operator.now }
-        ensures tried { Tries self.old.failed offset (stepped (context_of (T.resources self.old.body.resources) (feature_set self.old.body.features) self.old.body.locals self.old.body.ty) self.old.stacks (code.operator operator.now)) self.old.stacks self.new.stacks self.new.failed result }
+        ensures tried { Tries self.old.failed offset (stepped (body_context T.resources self.old.body) self.old.stacks (code.operator operator.now)) self.old.stacks self.new.stacks self.new.failed result }
         ensures body { self.new.body ≡ self.old.body }
         ensures index { self.new.index ≡ self.old.index }
     {
@@ -121,9 +121,9 @@ impl<T: WasmModuleResources> FuncValidator<T> {
     // Opens the body as a block, and begins its locals with the parameters.
     pub(crate) fn begin(&mut self) -> Result<(), Error>
         ensures stacks { OnOk result (self.new.stacks ≡ at_start self.old.body.ty) }
-        ensures locals { OnOk result (self.new.body.locals ≡ map parameter (frame_type (T.resources self.old.body.resources).items (Indexed self.old.body.ty)).params) }
+        ensures locals { OnOk result (self.new.body.locals ≡ map parameter (frame_type (items_in T.resources self.old.body) (Indexed self.old.body.ty)).params) }
         ensures given { OnOk result ((self.new.body.resources ≡ self.old.body.resources) × (self.new.body.features ≡ self.old.body.features) × (self.new.body.ty ≡ self.old.body.ty) × (self.new.index ≡ self.old.index) × (self.new.failed ≡ self.old.failed)) }
-        ensures refused { IfErr result (λ e. IsRefusedStart (frame_type (T.resources self.old.body.resources).items (Indexed self.old.body.ty)).params e.kind e.offset) }
+        ensures refused { IfErr result (λ e. IsRefusedStart (frame_type (items_in T.resources self.old.body) (Indexed self.old.body.ty)).params e.kind e.offset) }
     {
         self.stacks.reset();
         let ty = BlockType::FuncType(self.body.ty);
@@ -141,7 +141,7 @@ impl<T: WasmModuleResources> FuncValidator<T> {
     // Defines locals, as `define_locals` does, where nothing was refused.
     fn add_locals(&mut self, offset: u64, count: u32, ty: &ValType) -> Result<(), Error>
         requires { code.IsOfModule ty.now }
-        ensures defined { Defines false offset count (written (feature_set self.old.body.features) (T.resources self.old.body.resources).items (code.module_type ty.now)) self.old.body.locals self.new.body.locals (is_refused result) result }
+        ensures defined { Defines false offset count (written (feature_set self.old.body.features) (items_in T.resources self.old.body) (code.module_type ty.now)) self.old.body.locals self.new.body.locals (is_refused result) result }
         ensures stacks { self.new.stacks ≡ self.old.stacks }
         ensures others { (self.new.body.ty ≡ self.old.body.ty) × (self.new.body.features ≡ self.old.body.features) × (self.new.body.resources ≡ self.old.body.resources) × (self.new.index ≡ self.old.index) × (self.new.failed ≡ self.old.failed) }
     {
@@ -164,7 +164,7 @@ impl<T: WasmModuleResources> FuncValidator<T> {
     /// locals, `Memory`, or `Failed` at the offset after a refusal.
     pub fn define_locals(&mut self, offset: u64, count: u32, ty: ValType) -> Result<(), Error>
         requires { code.IsOfModule ty }
-        ensures defined { Defines self.old.failed offset count (written (feature_set self.old.body.features) (T.resources self.old.body.resources).items (code.module_type ty)) self.old.body.locals self.new.body.locals self.new.failed result }
+        ensures defined { Defines self.old.failed offset count (written (feature_set self.old.body.features) (items_in T.resources self.old.body) (code.module_type ty)) self.old.body.locals self.new.body.locals self.new.failed result }
         ensures stacks { self.new.stacks ≡ self.old.stacks }
         ensures others { (self.new.body.ty ≡ self.old.body.ty) × (self.new.body.features ≡ self.old.body.features) × (self.new.body.resources ≡ self.old.body.resources) × (self.new.index ≡ self.old.index) }
     {

@@ -4,12 +4,12 @@
 mod aggregates;
 mod blocks;
 mod body;
+mod body_validator;
 mod branches;
 mod from_bytes;
 pub mod func_to_validate;
 pub mod func_validator;
 mod gates;
-mod judging;
 mod lookups;
 mod memories;
 mod number_type;

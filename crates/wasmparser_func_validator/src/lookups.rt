@@ -12,7 +12,7 @@ ghost use Rattle.wasm_spec.specs.TypeReferences.{heap_map, val_map};
 ghost use Rattle.wasm_spec.specs.Types as spec;
 ghost use Rattle.wasmparser_operators.specs.OperatorValues.{IsBlockOfModule, IsHeapOfModule, IsOfModule, block_type, memory_argument, module_type};
 ghost use Rattle.wasmparser_bodies.specs.StackViews.{block_with_ids, frame_kind};
-ghost use Rattle.wasmparser_func_validator.specs.Steps.{context_of, pair_kept, table_seen};
+ghost use Rattle.wasmparser_func_validator.specs.Steps.{body_context, items_in, pair_kept, table_seen};
 ghost use Rattle.wasmparser_types.specs.CompositeTypes.{func_type};
 ghost use Rattle.wasmparser_types.specs.HeapTypes.{heap_type};
 ghost use Rattle.wasmparser_types.specs.Index.{number_of};
@@ -67,14 +67,14 @@ fn is_offset(is_64: bool, offset: u64) -> bool
 impl<R: WasmModuleResources> Body<R> {
     // The function type of a type index, if it is one.
     pub(crate) fn func_type_at(&self, index: u32) -> Option<&FuncType>
-        ensures { option_map func_type (option_copied result) ≡ func_at (R.resources self.now.resources).items index }
+        ensures { option_map func_type (option_copied result) ≡ func_at (items_in R.resources self.now) index }
     {
         func_type_in(&self.resources, index)
     }
 
     // The type of a function.
     pub(crate) fn function_type(&self, function: u32) -> Option<&FuncType>
-        ensures { option_map func_type (option_copied result) ≡ function_at (R.resources self.now.resources).items function }
+        ensures { option_map func_type (option_copied result) ≡ function_at (items_in R.resources self.now) function }
     {
         match self.resources.type_index_of_function(function) {
             Some(index) => self.func_type_at(index),
@@ -85,7 +85,7 @@ impl<R: WasmModuleResources> Body<R> {
     // The fields of a type index, if it is a structure's.
     #[tactic(auto, using(crate::proofs::LookupLaws::composites))]
     pub(crate) fn fields_at(&self, index: u32) -> Option<&[FieldType]>
-        ensures { option_map (λ fields. map field_type fields) (option_copied result) ≡ fields_at (R.resources self.now.resources).items index }
+        ensures { option_map (λ fields. map field_type fields) (option_copied result) ≡ fields_at (items_in R.resources self.now) index }
     {
         match self.resources.sub_type_at(index) {
             Some(it) => match it.composite_type.as_struct() {
@@ -99,7 +99,7 @@ impl<R: WasmModuleResources> Body<R> {
     // What an element holds, as an operand, if the type index is an array's.
     #[tactic(auto, using(crate::proofs::LookupLaws::composites))]
     pub(crate) fn element_at(&self, index: u32) -> Option<ValType>
-        ensures { option_map val_type result ≡ option_map unpacked (element_at (R.resources self.now.resources).items index) }
+        ensures { option_map val_type result ≡ option_map unpacked (element_at (items_in R.resources self.now) index) }
     {
         match self.resources.sub_type_at(index) {
             Some(it) => match it.composite_type.as_array() {
@@ -112,7 +112,7 @@ impl<R: WasmModuleResources> Body<R> {
 
     // References to a type index, if it names a type.
     pub(crate) fn reference_at(&self, nullable: bool, index: u32) -> Option<ValType>
-        ensures { option_map val_type result ≡ reference_at (R.resources self.now.resources).items nullable index }
+        ensures { option_map val_type result ≡ reference_at (items_in R.resources self.now) nullable index }
     {
         let mut heap = HeapType::Concrete(UnpackedIndex::Module(index));
         match self.resources.check_heap_type(&mut heap, 0) {
@@ -124,7 +124,7 @@ impl<R: WasmModuleResources> Body<R> {
     // A value type that a body writes, with an id in place of a type index, if it is allowed and names a type.
     pub(crate) fn written(&self, ty: &ValType) -> Option<ValType>
         requires { IsOfModule ty.now }
-        ensures { option_map val_type result ≡ written (feature_set self.now.features) (R.resources self.now.resources).items (module_type ty.now) }
+        ensures { option_map val_type result ≡ written (feature_set self.now.features) (items_in R.resources self.now) (module_type ty.now) }
     {
         let mut ty = *ty;
         match self.resources.check_value_type(&mut ty, &self.features, 0) {
@@ -136,7 +136,7 @@ impl<R: WasmModuleResources> Body<R> {
     // The type of null, as a reference to this, if it may be written.
     pub(crate) fn null_type(&self, heap: &HeapType) -> Option<ValType>
         requires { IsHeapOfModule heap.now }
-        ensures { option_map val_type result ≡ written (feature_set self.now.features) (R.resources self.now.resources).items (spec.Ref true (heap_map number_of (heap_type heap.now))) }
+        ensures { option_map val_type result ≡ written (feature_set self.now.features) (items_in R.resources self.now) (spec.Ref true (heap_map number_of (heap_type heap.now))) }
     {
         let mut heap = *heap;
         match self.resources.check_heap_type(&mut heap, 0) {
@@ -157,7 +157,7 @@ impl<R: WasmModuleResources> Body<R> {
     // A block type that a body writes, with an id in place of a type index, if it stands for something.
     pub(crate) fn checked_block(&self, blockty: &BlockType) -> Option<BlockType>
         requires { IsBlockOfModule blockty.now }
-        ensures { option_map block_with_ids result ≡ block_meant (context_of (R.resources self.now.resources) (feature_set self.now.features) self.now.locals self.now.ty) (block_type blockty.now) }
+        ensures { option_map block_with_ids result ≡ block_meant (body_context R.resources self.now) (block_type blockty.now) }
     {
         match blockty {
             BlockType::Empty => Some(BlockType::Empty),
@@ -175,7 +175,7 @@ impl<R: WasmModuleResources> Body<R> {
     // The types that a block takes.
     #[inline(always)]
     pub(crate) fn block_params<'a>(&'a self, block_type: &'a BlockType) -> &'a [ValType]
-        ensures { map val_type result.now ≡ (frame_type (R.resources self.now.resources).items (block_with_ids block_type.now)).params }
+        ensures { map val_type result.now ≡ (frame_type (items_in R.resources self.now) (block_with_ids block_type.now)).params }
     {
         match block_type {
             BlockType::Empty => &[],
@@ -190,7 +190,7 @@ impl<R: WasmModuleResources> Body<R> {
     // The types that a block gives.
     #[inline(always)]
     pub(crate) fn block_results<'a>(&'a self, block_type: &'a BlockType) -> &'a [ValType]
-        ensures { map val_type result.now ≡ (frame_type (R.resources self.now.resources).items (block_with_ids block_type.now)).results }
+        ensures { map val_type result.now ≡ (frame_type (items_in R.resources self.now) (block_with_ids block_type.now)).results }
     {
         match block_type {
             BlockType::Empty => &[],
@@ -204,7 +204,7 @@ impl<R: WasmModuleResources> Body<R> {
 
     // The types that the function gives.
     pub(crate) fn results(&self) -> &[ValType]
-        ensures { map val_type result.now ≡ (frame_type (R.resources self.now.resources).items (Indexed self.now.ty)).results }
+        ensures { map val_type result.now ≡ (frame_type (items_in R.resources self.now) (Indexed self.now.ty)).results }
     {
         match self.func_type_at(self.ty) {
             Some(it) => it.results(),
@@ -215,7 +215,7 @@ impl<R: WasmModuleResources> Body<R> {
     // The types that a jump to a block takes.
     #[inline(always)]
     pub(crate) fn label<'a>(&'a self, kind: FrameKind, block_type: &'a BlockType) -> &'a [ValType]
-        ensures { map val_type result.now ≡ label_types (frame_kind kind) (frame_type (R.resources self.now.resources).items (block_with_ids block_type.now)) }
+        ensures { map val_type result.now ≡ label_types (frame_kind kind) (frame_type (items_in R.resources self.now) (block_with_ids block_type.now)) }
     {
         match kind {
             FrameKind::Loop => self.block_params(block_type),
@@ -229,7 +229,7 @@ impl<R: WasmModuleResources> Body<R> {
 
     // What a memory is addressed by.
     pub(crate) fn address_of(&self, memory: u32) -> Option<ValType>
-        ensures { option_map val_type result ≡ option_map memory_index (slice_get (R.resources self.now.resources).items.memories memory) }
+        ensures { option_map val_type result ≡ option_map memory_index (slice_get (items_in R.resources self.now).memories memory) }
     {
         match self.resources.memory_at(memory) {
             Some(it) => Some(address_type(it.memory64)),
@@ -240,7 +240,7 @@ impl<R: WasmModuleResources> Body<R> {
     // What an access to a memory is addressed by, whose greatest alignment this is.
     #[inline(always)]
     pub(crate) fn accessed(&self, memarg: &MemArg, max_align: u8) -> Option<ValType>
-        ensures { option_map val_type result ≡ accessed (R.resources self.now.resources).items (access 0 Int32 max_align) (memory_argument memarg.now) }
+        ensures { option_map val_type result ≡ accessed (items_in R.resources self.now) (access 0 Int32 max_align) (memory_argument memarg.now) }
     {
         match self.resources.memory_at(memarg.memory) {
             Some(it) => {
@@ -255,7 +255,7 @@ impl<R: WasmModuleResources> Body<R> {
 
     // What a table is indexed by, and what it holds.
     pub(crate) fn table_types(&self, table: u32) -> Option<(ValType, ValType)>
-        ensures { option_map pair_kept result ≡ option_map table_seen (slice_get (R.resources self.now.resources).items.tables table) }
+        ensures { option_map pair_kept result ≡ option_map table_seen (slice_get (items_in R.resources self.now).tables table) }
     {
         match self.resources.table_at(table) {
             Some(it) => Some((address_type(it.table64), ValType::Ref(it.element_type))),
@@ -265,7 +265,7 @@ impl<R: WasmModuleResources> Body<R> {
 
     // The type of an element segment.
     pub(crate) fn segment_type(&self, segment: u32) -> Option<ValType>
-        ensures { option_map val_type result ≡ option_map value_of (slice_get (R.resources self.now.resources).items.elements segment) }
+        ensures { option_map val_type result ≡ option_map value_of (slice_get (items_in R.resources self.now).elements segment) }
     {
         match self.resources.element_type_at(segment) {
             Some(it) => Some(ValType::Ref(it)),

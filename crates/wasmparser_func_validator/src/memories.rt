@@ -6,8 +6,7 @@ ghost use Rattle.wasm_bodies.specs.Signatures.{has_data};
 ghost use Rattle.wasmparser_func_validator.specs.NumericForms.{number};
 ghost use Rattle.wasmparser_operators.specs.OperatorValues.{memory_argument};
 ghost use Rattle.wasm_bodies.specs.Operators as spec;
-ghost use Rattle.wasm_core_types.specs.Features.{feature_set};
-ghost use Rattle.wasmparser_func_validator.specs.Steps.{HasEffect, context_of};
+ghost use Rattle.wasmparser_func_validator.specs.Steps.{HasEffect, body_context, items_in};
 
 use crate::body::Body;
 use crate::lookups::{address_type, fill_types};
@@ -26,7 +25,7 @@ impl<R: WasmModuleResources> Body<R> {
         max_align: u8,
         ty: NumberType,
     ) -> Result<(), Refusal>
-        ensures { HasEffect (context_of (R.resources self.now.resources) (feature_set self.now.features) self.now.locals self.now.ty) (spec.Load (access 0 (number ty) max_align) (memory_argument memarg.now)) stacks.old stacks.new result }
+        ensures { HasEffect (body_context R.resources self.now) (spec.Load (access 0 (number ty) max_align) (memory_argument memarg.now)) stacks.old stacks.new result }
     {
         match self.accessed(memarg, max_align) {
             Some(address) => self.apply(stacks, &[address], &[ty.val_type()]),
@@ -41,7 +40,7 @@ impl<R: WasmModuleResources> Body<R> {
         max_align: u8,
         ty: NumberType,
     ) -> Result<(), Refusal>
-        ensures { HasEffect (context_of (R.resources self.now.resources) (feature_set self.now.features) self.now.locals self.now.ty) (spec.Store (access 0 (number ty) max_align) (memory_argument memarg.now)) stacks.old stacks.new result }
+        ensures { HasEffect (body_context R.resources self.now) (spec.Store (access 0 (number ty) max_align) (memory_argument memarg.now)) stacks.old stacks.new result }
     {
         match self.accessed(memarg, max_align) {
             Some(address) => self.apply(stacks, &[address, ty.val_type()], &[]),
@@ -50,7 +49,7 @@ impl<R: WasmModuleResources> Body<R> {
     }
 
     pub(crate) fn memory_size(&self, stacks: &mut Stacks, memory: u32) -> Result<(), Refusal>
-        ensures { HasEffect (context_of (R.resources self.now.resources) (feature_set self.now.features) self.now.locals self.now.ty) (spec.MemorySize memory) stacks.old stacks.new result }
+        ensures { HasEffect (body_context R.resources self.now) (spec.MemorySize memory) stacks.old stacks.new result }
     {
         match self.address_of(memory) {
             Some(address) => self.apply(stacks, &[], &[address]),
@@ -59,7 +58,7 @@ impl<R: WasmModuleResources> Body<R> {
     }
 
     pub(crate) fn memory_grow(&self, stacks: &mut Stacks, memory: u32) -> Result<(), Refusal>
-        ensures { HasEffect (context_of (R.resources self.now.resources) (feature_set self.now.features) self.now.locals self.now.ty) (spec.MemoryGrow memory) stacks.old stacks.new result }
+        ensures { HasEffect (body_context R.resources self.now) (spec.MemoryGrow memory) stacks.old stacks.new result }
     {
         match self.address_of(memory) {
             Some(address) => {
@@ -71,7 +70,7 @@ impl<R: WasmModuleResources> Body<R> {
     }
 
     pub(crate) fn memory_fill(&self, stacks: &mut Stacks, memory: u32) -> Result<(), Refusal>
-        ensures { HasEffect (context_of (R.resources self.now.resources) (feature_set self.now.features) self.now.locals self.now.ty) (spec.MemoryFill memory) stacks.old stacks.new result }
+        ensures { HasEffect (body_context R.resources self.now) (spec.MemoryFill memory) stacks.old stacks.new result }
     {
         match self.address_of(memory) {
             Some(address) => self.apply(stacks, &fill_types(&address, &ValType::I32), &[]),
@@ -80,7 +79,7 @@ impl<R: WasmModuleResources> Body<R> {
     }
 
     pub(crate) fn memory_copy(&self, stacks: &mut Stacks, to: u32, from: u32) -> Result<(), Refusal>
-        ensures { HasEffect (context_of (R.resources self.now.resources) (feature_set self.now.features) self.now.locals self.now.ty) (spec.MemoryCopy to from) stacks.old stacks.new result }
+        ensures { HasEffect (body_context R.resources self.now) (spec.MemoryCopy to from) stacks.old stacks.new result }
     {
         let Some(to) = self.resources.memory_at(to) else {
             return Err(Refusal::Invalid);
@@ -98,7 +97,7 @@ impl<R: WasmModuleResources> Body<R> {
 
     // Checks that a data count covers the segment.
     fn has_data(&self, segment: u32) -> bool
-        ensures { result ≡ has_data (R.resources self.now.resources).items segment }
+        ensures { result ≡ has_data (items_in R.resources self.now) segment }
     {
         match self.resources.data_count() {
             Some(count) => segment < count,
@@ -112,7 +111,7 @@ impl<R: WasmModuleResources> Body<R> {
         segment: u32,
         memory: u32,
     ) -> Result<(), Refusal>
-        ensures { HasEffect (context_of (R.resources self.now.resources) (feature_set self.now.features) self.now.locals self.now.ty) (spec.MemoryInit segment memory) stacks.old stacks.new result }
+        ensures { HasEffect (body_context R.resources self.now) (spec.MemoryInit segment memory) stacks.old stacks.new result }
     {
         if !self.has_data(segment) {
             return Err(Refusal::Invalid);
@@ -124,7 +123,7 @@ impl<R: WasmModuleResources> Body<R> {
     }
 
     pub(crate) fn data_drop(&self, stacks: &mut Stacks, segment: u32) -> Result<(), Refusal>
-        ensures { HasEffect (context_of (R.resources self.now.resources) (feature_set self.now.features) self.now.locals self.now.ty) (spec.DataDrop segment) stacks.old stacks.new result }
+        ensures { HasEffect (body_context R.resources self.now) (spec.DataDrop segment) stacks.old stacks.new result }
     {
         if !self.has_data(segment) {
             return Err(Refusal::Invalid);

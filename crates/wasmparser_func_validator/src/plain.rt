@@ -1,18 +1,14 @@
-//! Plain operators, judged from their bytes.
-//!
-//! Most operators of real bodies are on numbers and locals, jump, call, load or store. They are judged as they stand in the bytes, without an
-//! `Operator` of their own: the most frequent ones, where nothing has to be called, by the loop in `quick`, and here what that loop leaves. What isn't
-//! plain, or would be refused, is left as it was to `step`.
+//! The second of three ways to validate operators: those that `quick` leaves, since they call something or take memory, but that are frequent enough
+//! to go straight from the bytes, one at a time and without an `Operator`; what is rarer, or would be refused, it leaves as it was to `step`.
 
 ghost use Rattle.std.specs.Prelude.{◌≡◌, ◌≢◌, ◌∷◌, ◌<◌, [], IsTrue, MatchOption, Some};
 ghost use Rattle.wasm_bodies.specs.Effects.{effect_of};
 ghost use Rattle.wasm_bodies.specs.OperatorGates.{block_gate};
 ghost use Rattle.wasm_bodies.specs.Operators as spec;
 ghost use Rattle.wasm_bodies_laws.specs.Machine.{labels_of};
-ghost use Rattle.wasm_core_types.specs.Features.{feature_set};
 ghost use Rattle.wasmparser_bodies.specs.Runs.{LeadsOn};
 ghost use Rattle.wasmparser_func_validator.specs.Plain.{IsNumber, IsStep, NumbersFit, TriesBare, TriesBlock, TriesEffect, TriesNumber};
-ghost use Rattle.wasmparser_func_validator.specs.Steps.{context_of};
+ghost use Rattle.wasmparser_func_validator.specs.Steps.{body_context, items_in};
 ghost use Rattle.wasmparser_operators.specs.OperatorValues.{IsBlockOfModule, block_type};
 ghost use Rattle.wasmparser_types.specs.ValTypes.{val_type};
 
@@ -40,7 +36,7 @@ pub(crate) fn is_number(ty: &ValType) -> bool
 impl<R: WasmModuleResources> Body<R> {
     // Checks that each type of numbers is below itself, as it is in modules.
     fn numbers_fit(&self) -> bool
-        ensures { IsTrue result → NumbersFit (R.resources self.now.resources).items }
+        ensures { IsTrue result → NumbersFit (items_in R.resources self.now) }
     {
         self.resources.is_subtype(ValType::I32, ValType::I32)
             && self.resources.is_subtype(ValType::I64, ValType::I64)
@@ -50,8 +46,8 @@ impl<R: WasmModuleResources> Body<R> {
 
     #[inline(always)]
     pub(crate) fn set_local(&self, stacks: &mut Stacks, index: u32) -> bool
-        requires fit { NumbersFit (R.resources self.now.resources).items }
-        ensures { TriesEffect (effect_of (context_of (R.resources self.now.resources) (feature_set self.now.features) self.now.locals self.now.ty) (labels_of (R.resources self.now.resources).items stacks.old.frames) stacks.old.now (spec.LocalSet index)) stacks.old stacks.new result }
+        requires fit { NumbersFit (items_in R.resources self.now) }
+        ensures { TriesEffect (effect_of (body_context R.resources self.now) (labels_of (items_in R.resources self.now) stacks.old.frames) stacks.old.now (spec.LocalSet index)) stacks.old stacks.new result }
     {
         let Some(local) = self.locals.get(index) else {
             return false;
@@ -64,8 +60,8 @@ impl<R: WasmModuleResources> Body<R> {
 
     #[inline(always)]
     pub(crate) fn tee_local(&self, stacks: &mut Stacks, index: u32) -> bool
-        requires fit { NumbersFit (R.resources self.now.resources).items }
-        ensures { TriesEffect (effect_of (context_of (R.resources self.now.resources) (feature_set self.now.features) self.now.locals self.now.ty) (labels_of (R.resources self.now.resources).items stacks.old.frames) stacks.old.now (spec.LocalTee index)) stacks.old stacks.new result }
+        requires fit { NumbersFit (items_in R.resources self.now) }
+        ensures { TriesEffect (effect_of (body_context R.resources self.now) (labels_of (items_in R.resources self.now) stacks.old.frames) stacks.old.now (spec.LocalTee index)) stacks.old stacks.new result }
     {
         let Some(local) = self.locals.get(index) else {
             return false;
@@ -78,8 +74,8 @@ impl<R: WasmModuleResources> Body<R> {
 
     #[inline(always)]
     pub(crate) fn set_global(&self, stacks: &mut Stacks, index: u32) -> bool
-        requires fit { NumbersFit (R.resources self.now.resources).items }
-        ensures { TriesEffect (effect_of (context_of (R.resources self.now.resources) (feature_set self.now.features) self.now.locals self.now.ty) (labels_of (R.resources self.now.resources).items stacks.old.frames) stacks.old.now (spec.GlobalSet index)) stacks.old stacks.new result }
+        requires fit { NumbersFit (items_in R.resources self.now) }
+        ensures { TriesEffect (effect_of (body_context R.resources self.now) (labels_of (items_in R.resources self.now) stacks.old.frames) stacks.old.now (spec.GlobalSet index)) stacks.old stacks.new result }
     {
         let Some(global) = self.resources.global_at(index) else {
             return false;
@@ -93,8 +89,8 @@ impl<R: WasmModuleResources> Body<R> {
     // A jump to a label, where the operand on top isn't 0.
     #[inline(always)]
     fn jump_if(&self, stacks: &mut Stacks, label: u32) -> bool
-        requires fit { NumbersFit (R.resources self.now.resources).items }
-        ensures { TriesEffect (effect_of (context_of (R.resources self.now.resources) (feature_set self.now.features) self.now.locals self.now.ty) (labels_of (R.resources self.now.resources).items stacks.old.frames) stacks.old.now (spec.BrIf label)) stacks.old stacks.new result }
+        requires fit { NumbersFit (items_in R.resources self.now) }
+        ensures { TriesEffect (effect_of (body_context R.resources self.now) (labels_of (items_in R.resources self.now) stacks.old.frames) stacks.old.now (spec.BrIf label)) stacks.old stacks.new result }
     {
         let Some((kind, block_type)) = self.target(stacks, label) else {
             return false;
@@ -109,8 +105,8 @@ impl<R: WasmModuleResources> Body<R> {
     #[inline(always)]
     fn with_number(&self, code: u8, stacks: &mut Stacks, number: u32) -> bool
         requires inside { stacks.old.frames ≢ [] }
-        requires fit { NumbersFit (R.resources self.now.resources).items }
-        ensures { TriesNumber (context_of (R.resources self.now.resources) (feature_set self.now.features) self.now.locals self.now.ty) stacks.old stacks.new code number result }
+        requires fit { NumbersFit (items_in R.resources self.now) }
+        ensures { TriesNumber (body_context R.resources self.now) stacks.old stacks.new code number result }
     {
         match code {
             0x0c => self.br(stacks, number).is_ok(),
@@ -131,7 +127,7 @@ impl<R: WasmModuleResources> Body<R> {
         requires inside { stacks.old.frames ≢ [] }
         requires plain { block_gate (block_type ty.now) ≡ [] }
         requires of_module { IsBlockOfModule ty.now }
-        ensures { TriesBlock (context_of (R.resources self.now.resources) (feature_set self.now.features) self.now.locals self.now.ty) stacks.old stacks.new code (block_type ty.now) result }
+        ensures { TriesBlock (body_context R.resources self.now) stacks.old stacks.new code (block_type ty.now) result }
     {
         match code {
             0x02 => self.open(stacks, FrameKind::Block, ty).is_ok(),
@@ -144,8 +140,8 @@ impl<R: WasmModuleResources> Body<R> {
     #[inline(always)]
     fn plain_block<'a>(&self, code: u8, stacks: &mut Stacks, rest: &'a [u8]) -> Option<&'a [u8]>
         requires inside { stacks.old.frames ≢ [] }
-        requires fit { NumbersFit (R.resources self.now.resources).items }
-        ensures { MatchOption result (stacks.new ≡ stacks.old) (λ after. IsStep (context_of (R.resources self.now.resources) (feature_set self.now.features) self.now.locals self.now.ty) stacks.old stacks.new (code ∷ rest.now) after.now) }
+        requires fit { NumbersFit (items_in R.resources self.now) }
+        ensures { MatchOption result (stacks.new ≡ stacks.old) (λ after. IsStep (body_context R.resources self.now) stacks.old stacks.new (code ∷ rest.now) after.now) }
     {
         let [ty, rest @ ..] = rest else {
             return None;
@@ -162,8 +158,8 @@ impl<R: WasmModuleResources> Body<R> {
     #[inline(always)]
     fn bare(&self, code: u8, stacks: &mut Stacks) -> bool
         requires inside { stacks.old.frames ≢ [] }
-        requires fit { NumbersFit (R.resources self.now.resources).items }
-        ensures { TriesBare (context_of (R.resources self.now.resources) (feature_set self.now.features) self.now.locals self.now.ty) stacks.old stacks.new code result }
+        requires fit { NumbersFit (items_in R.resources self.now) }
+        ensures { TriesBare (body_context R.resources self.now) stacks.old stacks.new code result }
     {
         match code {
             0x00 => {
@@ -171,7 +167,7 @@ impl<R: WasmModuleResources> Body<R> {
                 true
             }
             0x01 => true,
-            0x05 => self.turn(stacks).is_ok(),
+            0x05 => self.else_(stacks).is_ok(),
             0x0b => stacks.frame_count() > 1 && self.close(stacks).is_ok(),
             0x0f => self.return_(stacks).is_ok(),
             0x1a => self.drop_one(stacks).is_ok(),
@@ -183,8 +179,8 @@ impl<R: WasmModuleResources> Body<R> {
     #[inline(always)]
     fn plain_bare<'a>(&self, code: u8, stacks: &mut Stacks, rest: &'a [u8]) -> Option<&'a [u8]>
         requires inside { stacks.old.frames ≢ [] }
-        requires fit { NumbersFit (R.resources self.now.resources).items }
-        ensures { MatchOption result (stacks.new ≡ stacks.old) (λ after. IsStep (context_of (R.resources self.now.resources) (feature_set self.now.features) self.now.locals self.now.ty) stacks.old stacks.new (code ∷ rest.now) after.now) }
+        requires fit { NumbersFit (items_in R.resources self.now) }
+        ensures { MatchOption result (stacks.new ≡ stacks.old) (λ after. IsStep (body_context R.resources self.now) stacks.old stacks.new (code ∷ rest.now) after.now) }
     {
         if self.bare(code, stacks) {
             Some(rest)
@@ -196,8 +192,8 @@ impl<R: WasmModuleResources> Body<R> {
     #[inline(always)]
     fn plain_number<'a>(&self, code: u8, stacks: &mut Stacks, rest: &'a [u8]) -> Option<&'a [u8]>
         requires inside { stacks.old.frames ≢ [] }
-        requires fit { NumbersFit (R.resources self.now.resources).items }
-        ensures { MatchOption result (stacks.new ≡ stacks.old) (λ after. IsStep (context_of (R.resources self.now.resources) (feature_set self.now.features) self.now.locals self.now.ty) stacks.old stacks.new (code ∷ rest.now) after.now) }
+        requires fit { NumbersFit (items_in R.resources self.now) }
+        ensures { MatchOption result (stacks.new ≡ stacks.old) (λ after. IsStep (body_context R.resources self.now) stacks.old stacks.new (code ∷ rest.now) after.now) }
     {
         let (number, rest) = five_bytes(32, rest)?;
         if self.with_number(code, stacks, number) {
@@ -210,7 +206,7 @@ impl<R: WasmModuleResources> Body<R> {
     #[inline(always)]
     fn plain_constant<'a>(&self, code: u8, stacks: &mut Stacks, rest: &'a [u8]) -> Option<&'a [u8]>
         requires inside { stacks.old.frames ≢ [] }
-        ensures { MatchOption result (stacks.new ≡ stacks.old) (λ after. IsStep (context_of (R.resources self.now.resources) (feature_set self.now.features) self.now.locals self.now.ty) stacks.old stacks.new (code ∷ rest.now) after.now) }
+        ensures { MatchOption result (stacks.new ≡ stacks.old) (λ after. IsStep (body_context R.resources self.now) stacks.old stacks.new (code ∷ rest.now) after.now) }
     {
         match code {
             0x41 => {
@@ -235,8 +231,8 @@ impl<R: WasmModuleResources> Body<R> {
     #[inline(never)]
     fn plain<'a>(&self, stacks: &mut Stacks, code: &'a [u8]) -> Option<&'a [u8]>
         requires inside { stacks.old.frames ≢ [] }
-        requires fit { NumbersFit (R.resources self.now.resources).items }
-        ensures { MatchOption result (stacks.new ≡ stacks.old) (λ after. IsStep (context_of (R.resources self.now.resources) (feature_set self.now.features) self.now.locals self.now.ty) stacks.old stacks.new code.now after.now) }
+        requires fit { NumbersFit (items_in R.resources self.now) }
+        ensures { MatchOption result (stacks.new ≡ stacks.old) (λ after. IsStep (body_context R.resources self.now) stacks.old stacks.new code.now after.now) }
     {
         let [first, rest @ ..] = code else {
             return None;
@@ -252,7 +248,7 @@ impl<R: WasmModuleResources> Body<R> {
     // Plain operators at the front, and the bytes that are left.
     pub(crate) fn run<'a>(&self, stacks: &mut Stacks, code: &'a [u8]) -> &'a [u8]
         requires inside { stacks.old.frames ≢ [] }
-        ensures { LeadsOn (context_of (R.resources self.now.resources) (feature_set self.now.features) self.now.locals self.now.ty) stacks.old stacks.new code.now result.now }
+        ensures { LeadsOn (body_context R.resources self.now) stacks.old stacks.new code.now result.now }
     {
         if !self.numbers_fit() {
             return code;

@@ -1,7 +1,7 @@
-//! Which way the most frequent operators are judged in, by their codes. A code that stands in a wrong class is left to other ways, so that nothing has to
+//! How the most frequent operators are validated, by their codes. A code that stands in a wrong class is left to other ways, so that nothing has to
 //! be proved of the table.
 
-// How an operator is judged.
+// How an operator is validated.
 #[derive(Clone, Copy)]
 pub(crate) enum Class {
     // A number follows: each of these operators is an arm of its own.

@@ -1,5 +1,5 @@
-//! The most frequent plain operators, judged in a loop that calls nothing and takes no memory, so that what it needs of the stacks stays at hand. Where
-//! an operator isn't one of these, or needs more, it is left as it was.
+//! The fastest of three ways to validate operators: the most frequent ones from their bytes, in a loop that calls nothing and takes no memory, so that
+//! what it needs of the stacks stays at hand; what is rarer, or needs more, it leaves as it was to `plain`.
 
 ghost use Rattle.std.specs.Prelude.{◌≡◌, ◌≢◌, ◌∷◌, ◌<◌, [], IsTrue, IfSome, MatchOption, Some, map, slice_get};
 ghost use Rattle.wasm_bodies.specs.Effects.{effect_of};
@@ -12,7 +12,7 @@ ghost use Rattle.wasm_core_types.specs.Features.{feature_set};
 ghost use Rattle.wasmparser_bodies.specs.Runs.{LeadsOn};
 ghost use Rattle.wasmparser_func_validator.specs.NumericForms.{form_gives, form_takes};
 ghost use Rattle.wasmparser_func_validator.specs.Plain.{AreItself, IsScalarForm, IsStep, NumbersFit, TriesBare, TriesBlock, TriesEffect, TriesNumber};
-ghost use Rattle.wasmparser_func_validator.specs.Steps.{context_of};
+ghost use Rattle.wasmparser_func_validator.specs.Steps.{body_context, items_in};
 ghost use Rattle.wasmparser_operators.specs.OperatorReading.{memory_argument_at};
 ghost use Rattle.wasmparser_operators.specs.OperatorValues.{block_type, memory_argument};
 ghost use Rattle.wasmparser_types.specs.ValTypes.{val_type};
@@ -38,7 +38,7 @@ impl<R: WasmModuleResources> Body<R> {
 
     #[inline(always)]
     fn push_local(&self, stacks: &mut Stacks, index: u32) -> bool
-        ensures { TriesEffect (effect_of (context_of (R.resources self.now.resources) (feature_set self.now.features) self.now.locals self.now.ty) (labels_of (R.resources self.now.resources).items stacks.old.frames) stacks.old.now (spec.LocalGet index)) stacks.old stacks.new result }
+        ensures { TriesEffect (effect_of (body_context R.resources self.now) (labels_of (items_in R.resources self.now) stacks.old.frames) stacks.old.now (spec.LocalGet index)) stacks.old stacks.new result }
     {
         let Some(local) = self.locals.get(index) else {
             return false;
@@ -48,7 +48,7 @@ impl<R: WasmModuleResources> Body<R> {
 
     #[inline(always)]
     fn push_global(&self, stacks: &mut Stacks, index: u32) -> bool
-        ensures { TriesEffect (effect_of (context_of (R.resources self.now.resources) (feature_set self.now.features) self.now.locals self.now.ty) (labels_of (R.resources self.now.resources).items stacks.old.frames) stacks.old.now (spec.GlobalGet index)) stacks.old stacks.new result }
+        ensures { TriesEffect (effect_of (body_context R.resources self.now) (labels_of (items_in R.resources self.now) stacks.old.frames) stacks.old.now (spec.GlobalGet index)) stacks.old stacks.new result }
     {
         match self.resources.global_at(index) {
             Some(global) => stacks.push_within_capacity(global.content_type),
@@ -59,7 +59,7 @@ impl<R: WasmModuleResources> Body<R> {
     // Checks that a jump to a label takes nothing, as far as that shows without a look at types.
     #[inline(always)]
     fn is_empty_label(&self, stacks: &Stacks, label: u32) -> bool
-        ensures { IsTrue result → slice_get (labels_of (R.resources self.now.resources).items stacks.now.frames) label ≡ Some [] }
+        ensures { IsTrue result → slice_get (labels_of (items_in R.resources self.now) stacks.now.frames) label ≡ Some [] }
     {
         let Some((kind, block_type)) = self.target(stacks, label) else {
             return false;
@@ -73,7 +73,7 @@ impl<R: WasmModuleResources> Body<R> {
     #[inline(always)]
     fn jump(&self, stacks: &mut Stacks, label: u32) -> bool
         requires inside { stacks.old.frames ≢ [] }
-        ensures { TriesEffect (effect_of (context_of (R.resources self.now.resources) (feature_set self.now.features) self.now.locals self.now.ty) (labels_of (R.resources self.now.resources).items stacks.old.frames) stacks.old.now (spec.Br label)) stacks.old stacks.new result }
+        ensures { TriesEffect (effect_of (body_context R.resources self.now) (labels_of (items_in R.resources self.now) stacks.old.frames) stacks.old.now (spec.Br label)) stacks.old stacks.new result }
     {
         if !self.is_empty_label(stacks, label) {
             return false;
@@ -84,8 +84,8 @@ impl<R: WasmModuleResources> Body<R> {
 
     #[inline(always)]
     fn jump_quickly_if(&self, stacks: &mut Stacks, label: u32) -> bool
-        requires fit { NumbersFit (R.resources self.now.resources).items }
-        ensures { TriesEffect (effect_of (context_of (R.resources self.now.resources) (feature_set self.now.features) self.now.locals self.now.ty) (labels_of (R.resources self.now.resources).items stacks.old.frames) stacks.old.now (spec.BrIf label)) stacks.old stacks.new result }
+        requires fit { NumbersFit (items_in R.resources self.now) }
+        ensures { TriesEffect (effect_of (body_context R.resources self.now) (labels_of (items_in R.resources self.now) stacks.old.frames) stacks.old.now (spec.BrIf label)) stacks.old stacks.new result }
     {
         self.is_empty_label(stacks, label) && stacks.pop_known(&ValType::I32)
     }
@@ -93,8 +93,8 @@ impl<R: WasmModuleResources> Body<R> {
     #[inline(always)]
     fn with_small_number(&self, code: u8, stacks: &mut Stacks, number: u32) -> bool
         requires inside { stacks.old.frames ≢ [] }
-        requires fit { NumbersFit (R.resources self.now.resources).items }
-        ensures { TriesNumber (context_of (R.resources self.now.resources) (feature_set self.now.features) self.now.locals self.now.ty) stacks.old stacks.new code number result }
+        requires fit { NumbersFit (items_in R.resources self.now) }
+        ensures { TriesNumber (body_context R.resources self.now) stacks.old stacks.new code number result }
     {
         match code {
             0x0c => self.jump(stacks, number),
@@ -112,8 +112,8 @@ impl<R: WasmModuleResources> Body<R> {
     #[inline(always)]
     fn quick_number<'a>(&self, code: u8, stacks: &mut Stacks, rest: &'a [u8]) -> Option<&'a [u8]>
         requires inside { stacks.old.frames ≢ [] }
-        requires fit { NumbersFit (R.resources self.now.resources).items }
-        ensures { MatchOption result (stacks.new ≡ stacks.old) (λ after. IsStep (context_of (R.resources self.now.resources) (feature_set self.now.features) self.now.locals self.now.ty) stacks.old stacks.new (code ∷ rest.now) after.now) }
+        requires fit { NumbersFit (items_in R.resources self.now) }
+        ensures { MatchOption result (stacks.new ≡ stacks.old) (λ after. IsStep (body_context R.resources self.now) stacks.old stacks.new (code ∷ rest.now) after.now) }
     {
         match rest {
             [byte, after @ ..] if *byte < 0x80 => {
@@ -133,8 +133,8 @@ impl<R: WasmModuleResources> Body<R> {
     #[inline(always)]
     fn exchange(&self, stacks: &mut Stacks, takes: &[ValType], gives: ValType) -> bool
         requires some { takes.now ≢ [] }
-        requires fit { AreItself (R.resources self.now.resources).items (map val_type takes.now) }
-        ensures { TriesEffect (applied (R.resources self.now.resources).items (from_to (map val_type takes.now) (val_type gives ∷ [])) stacks.old.now) stacks.old stacks.new result }
+        requires fit { AreItself (items_in R.resources self.now) (map val_type takes.now) }
+        ensures { TriesEffect (applied (items_in R.resources self.now) (from_to (map val_type takes.now) (val_type gives ∷ [])) stacks.old.now) stacks.old stacks.new result }
     {
         if !stacks.are_known(0, takes) {
             return false;
@@ -146,8 +146,8 @@ impl<R: WasmModuleResources> Body<R> {
     // What an operator on numbers does.
     #[inline(always)]
     fn compute(&self, stacks: &mut Stacks, form: NumericForm) -> bool
-        requires fit { NumbersFit (R.resources self.now.resources).items }
-        ensures { TriesEffect (applied (R.resources self.now.resources).items (from_to (map value_type (form_takes form)) (value_type (form_gives form) ∷ [])) stacks.old.now) stacks.old stacks.new result }
+        requires fit { NumbersFit (items_in R.resources self.now) }
+        ensures { TriesEffect (applied (items_in R.resources self.now) (from_to (map value_type (form_takes form)) (value_type (form_gives form) ∷ [])) stacks.old.now) stacks.old stacks.new result }
     {
         match form {
             NumericForm::Unary(from, to) => {
@@ -169,9 +169,9 @@ impl<R: WasmModuleResources> Body<R> {
         rest: &'a [u8],
     ) -> Option<&'a [u8]>
         requires inside { stacks.old.frames ≢ [] }
-        requires fit { NumbersFit (R.resources self.now.resources).items }
+        requires fit { NumbersFit (items_in R.resources self.now) }
         requires formed { IfSome form (IsScalarForm code) }
-        ensures { MatchOption result (stacks.new ≡ stacks.old) (λ after. IsStep (context_of (R.resources self.now.resources) (feature_set self.now.features) self.now.locals self.now.ty) stacks.old stacks.new (code ∷ rest.now) after.now) }
+        ensures { MatchOption result (stacks.new ≡ stacks.old) (λ after. IsStep (body_context R.resources self.now) stacks.old stacks.new (code ∷ rest.now) after.now) }
     {
         let form = form?;
         if are_floats_on(self.features, form) && self.compute(stacks, form) {
@@ -184,7 +184,7 @@ impl<R: WasmModuleResources> Body<R> {
     #[inline(always)]
     fn quick_constant<'a>(&self, code: u8, stacks: &mut Stacks, rest: &'a [u8]) -> Option<&'a [u8]>
         requires inside { stacks.old.frames ≢ [] }
-        ensures { MatchOption result (stacks.new ≡ stacks.old) (λ after. IsStep (context_of (R.resources self.now.resources) (feature_set self.now.features) self.now.locals self.now.ty) stacks.old stacks.new (code ∷ rest.now) after.now) }
+        ensures { MatchOption result (stacks.new ≡ stacks.old) (λ after. IsStep (body_context R.resources self.now) stacks.old stacks.new (code ∷ rest.now) after.now) }
     {
         match code {
             0x41 => {
@@ -210,7 +210,7 @@ impl<R: WasmModuleResources> Body<R> {
     #[inline(always)]
     fn quick_float<'a>(&self, code: u8, stacks: &mut Stacks, rest: &'a [u8]) -> Option<&'a [u8]>
         requires inside { stacks.old.frames ≢ [] }
-        ensures { MatchOption result (stacks.new ≡ stacks.old) (λ after. IsStep (context_of (R.resources self.now.resources) (feature_set self.now.features) self.now.locals self.now.ty) stacks.old stacks.new (code ∷ rest.now) after.now) }
+        ensures { MatchOption result (stacks.new ≡ stacks.old) (λ after. IsStep (body_context R.resources self.now) stacks.old stacks.new (code ∷ rest.now) after.now) }
     {
         if !self.features.floats() {
             return None;
@@ -262,8 +262,8 @@ impl<R: WasmModuleResources> Body<R> {
     #[inline(always)]
     fn quick_load<'a>(&self, code: u8, stacks: &mut Stacks, rest: &'a [u8]) -> Option<&'a [u8]>
         requires inside { stacks.old.frames ≢ [] }
-        requires fit { NumbersFit (R.resources self.now.resources).items }
-        ensures { MatchOption result (stacks.new ≡ stacks.old) (λ after. IsStep (context_of (R.resources self.now.resources) (feature_set self.now.features) self.now.locals self.now.ty) stacks.old stacks.new (code ∷ rest.now) after.now) }
+        requires fit { NumbersFit (items_in R.resources self.now) }
+        ensures { MatchOption result (stacks.new ≡ stacks.old) (λ after. IsStep (body_context R.resources self.now) stacks.old stacks.new (code ∷ rest.now) after.now) }
     {
         let (ty, exponent) = load_form(code)?;
         if !is_number_on(self.features, ty) {
@@ -281,8 +281,8 @@ impl<R: WasmModuleResources> Body<R> {
     #[inline(always)]
     fn quick_store<'a>(&self, code: u8, stacks: &mut Stacks, rest: &'a [u8]) -> Option<&'a [u8]>
         requires inside { stacks.old.frames ≢ [] }
-        requires fit { NumbersFit (R.resources self.now.resources).items }
-        ensures { MatchOption result (stacks.new ≡ stacks.old) (λ after. IsStep (context_of (R.resources self.now.resources) (feature_set self.now.features) self.now.locals self.now.ty) stacks.old stacks.new (code ∷ rest.now) after.now) }
+        requires fit { NumbersFit (items_in R.resources self.now) }
+        ensures { MatchOption result (stacks.new ≡ stacks.old) (λ after. IsStep (body_context R.resources self.now) stacks.old stacks.new (code ∷ rest.now) after.now) }
     {
         let (ty, exponent) = store_form(code)?;
         if !is_number_on(self.features, ty) {
@@ -304,8 +304,8 @@ impl<R: WasmModuleResources> Body<R> {
     #[inline(always)]
     fn open_empty(&self, code: u8, stacks: &mut Stacks) -> bool
         requires inside { stacks.old.frames ≢ [] }
-        requires fit { NumbersFit (R.resources self.now.resources).items }
-        ensures { TriesBlock (context_of (R.resources self.now.resources) (feature_set self.now.features) self.now.locals self.now.ty) stacks.old stacks.new code spec.Empty result }
+        requires fit { NumbersFit (items_in R.resources self.now) }
+        ensures { TriesBlock (body_context R.resources self.now) stacks.old stacks.new code spec.Empty result }
     {
         match code {
             0x02 => stacks.enter_within_capacity(FrameKind::Block, BlockType::Empty, 0),
@@ -321,8 +321,8 @@ impl<R: WasmModuleResources> Body<R> {
     #[inline(always)]
     fn quick_block<'a>(&self, code: u8, stacks: &mut Stacks, rest: &'a [u8]) -> Option<&'a [u8]>
         requires inside { stacks.old.frames ≢ [] }
-        requires fit { NumbersFit (R.resources self.now.resources).items }
-        ensures { MatchOption result (stacks.new ≡ stacks.old) (λ after. IsStep (context_of (R.resources self.now.resources) (feature_set self.now.features) self.now.locals self.now.ty) stacks.old stacks.new (code ∷ rest.now) after.now) }
+        requires fit { NumbersFit (items_in R.resources self.now) }
+        ensures { MatchOption result (stacks.new ≡ stacks.old) (λ after. IsStep (body_context R.resources self.now) stacks.old stacks.new (code ∷ rest.now) after.now) }
     {
         match rest {
             [byte, after @ ..] if *byte == 0x40 => {
@@ -339,7 +339,7 @@ impl<R: WasmModuleResources> Body<R> {
     // Closes a block without types that isn't the body's own.
     #[inline(always)]
     fn close_empty(&self, stacks: &mut Stacks) -> bool
-        ensures { TriesBare (context_of (R.resources self.now.resources) (feature_set self.now.features) self.now.locals self.now.ty) stacks.old stacks.new 0x0b result }
+        ensures { TriesBare (body_context R.resources self.now) stacks.old stacks.new 0x0b result }
     {
         let Some(frame) = stacks.frame_at(0) else {
             return false;
@@ -356,7 +356,7 @@ impl<R: WasmModuleResources> Body<R> {
 
     #[inline(always)]
     fn quick_end<'a>(&self, stacks: &mut Stacks, rest: &'a [u8]) -> Option<&'a [u8]>
-        ensures { MatchOption result (stacks.new ≡ stacks.old) (λ after. IsStep (context_of (R.resources self.now.resources) (feature_set self.now.features) self.now.locals self.now.ty) stacks.old stacks.new (0x0b ∷ rest.now) after.now) }
+        ensures { MatchOption result (stacks.new ≡ stacks.old) (λ after. IsStep (body_context R.resources self.now) stacks.old stacks.new (0x0b ∷ rest.now) after.now) }
     {
         if self.close_empty(stacks) {
             Some(rest)
@@ -370,7 +370,7 @@ impl<R: WasmModuleResources> Body<R> {
     #[inline(always)]
     fn bare_quickly(&self, code: u8, stacks: &mut Stacks) -> bool
         requires inside { stacks.old.frames ≢ [] }
-        ensures { TriesBare (context_of (R.resources self.now.resources) (feature_set self.now.features) self.now.locals self.now.ty) stacks.old stacks.new code result }
+        ensures { TriesBare (body_context R.resources self.now) stacks.old stacks.new code result }
     {
         match code {
             0x00 => {
@@ -385,7 +385,7 @@ impl<R: WasmModuleResources> Body<R> {
     #[inline(always)]
     fn quick_bare<'a>(&self, code: u8, stacks: &mut Stacks, rest: &'a [u8]) -> Option<&'a [u8]>
         requires inside { stacks.old.frames ≢ [] }
-        ensures { MatchOption result (stacks.new ≡ stacks.old) (λ after. IsStep (context_of (R.resources self.now.resources) (feature_set self.now.features) self.now.locals self.now.ty) stacks.old stacks.new (code ∷ rest.now) after.now) }
+        ensures { MatchOption result (stacks.new ≡ stacks.old) (λ after. IsStep (body_context R.resources self.now) stacks.old stacks.new (code ∷ rest.now) after.now) }
     {
         if self.bare_quickly(code, stacks) {
             Some(rest)
@@ -401,8 +401,8 @@ impl<R: WasmModuleResources> Body<R> {
     #[inline(always)]
     fn quick<'a>(&self, stacks: &mut Stacks, code: &'a [u8]) -> Option<&'a [u8]>
         requires inside { stacks.old.frames ≢ [] }
-        requires fit { NumbersFit (R.resources self.now.resources).items }
-        ensures { MatchOption result (stacks.new ≡ stacks.old) (λ after. IsStep (context_of (R.resources self.now.resources) (feature_set self.now.features) self.now.locals self.now.ty) stacks.old stacks.new code.now after.now) }
+        requires fit { NumbersFit (items_in R.resources self.now) }
+        ensures { MatchOption result (stacks.new ≡ stacks.old) (λ after. IsStep (body_context R.resources self.now) stacks.old stacks.new code.now after.now) }
     {
         let [first, rest @ ..] = code else {
             return None;
@@ -441,8 +441,8 @@ impl<R: WasmModuleResources> Body<R> {
     #[inline(never)]
     pub(crate) fn run_quickly<'a>(&self, stacks: &mut Stacks, code: &'a [u8]) -> &'a [u8]
         requires inside { stacks.old.frames ≢ [] }
-        requires fit { NumbersFit (R.resources self.now.resources).items }
-        ensures { LeadsOn (context_of (R.resources self.now.resources) (feature_set self.now.features) self.now.locals self.now.ty) stacks.old stacks.new code.now result.now }
+        requires fit { NumbersFit (items_in R.resources self.now) }
+        ensures { LeadsOn (body_context R.resources self.now) stacks.old stacks.new code.now result.now }
     {
         let mut rest = code;
         'operators: while let Some(after) = self.quick(stacks, rest) {

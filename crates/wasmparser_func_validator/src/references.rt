@@ -10,8 +10,7 @@ ghost use Rattle.wasmparser_types.specs.HeapTypes.{abstract_heap_type, heap_type
 ghost use Rattle.wasmparser_types.specs.Index.{number_of};
 ghost use Rattle.wasmparser_types.specs.ValTypes.{val_type};
 ghost use Rattle.wasm_bodies.specs.Operators as spec;
-ghost use Rattle.wasm_core_types.specs.Features.{feature_set};
-ghost use Rattle.wasmparser_func_validator.specs.Steps.{HasEffect, context_of};
+ghost use Rattle.wasmparser_func_validator.specs.Steps.{HasEffect, body_context, items_in};
 
 use crate::body::Body;
 use crate::refusal::Refusal;
@@ -68,7 +67,7 @@ impl<R: WasmModuleResources> Body<R> {
         to: AbstractHeapType,
         x: &Operand,
     ) -> Option<Operand>
-        ensures { option_map operand result ≡ operands.converted (R.resources self.now.resources).items (abstract_heap_type from) (abstract_heap_type to) (operand x.now) }
+        ensures { option_map operand result ≡ operands.converted (items_in R.resources self.now) (abstract_heap_type from) (abstract_heap_type to) (operand x.now) }
     {
         match x {
             Operand::Known(ty) => match ty.as_reference_type() {
@@ -91,7 +90,7 @@ impl<R: WasmModuleResources> Body<R> {
 
     #[tactic(auto, using(crate::proofs::OperandLaws::replaces))]
     pub(crate) fn any_convert_extern(&self, stacks: &mut Stacks) -> Result<(), Refusal>
-        ensures { HasEffect (context_of (R.resources self.now.resources) (feature_set self.now.features) self.now.locals self.now.ty) spec.AnyConvertExtern stacks.old stacks.new result }
+        ensures { HasEffect (body_context R.resources self.now) spec.AnyConvertExtern stacks.old stacks.new result }
     {
         let Some(x) = stacks.peek(0) else {
             return Err(Refusal::Invalid);
@@ -105,7 +104,7 @@ impl<R: WasmModuleResources> Body<R> {
 
     #[tactic(auto, using(crate::proofs::OperandLaws::replaces))]
     pub(crate) fn extern_convert_any(&self, stacks: &mut Stacks) -> Result<(), Refusal>
-        ensures { HasEffect (context_of (R.resources self.now.resources) (feature_set self.now.features) self.now.locals self.now.ty) spec.ExternConvertAny stacks.old stacks.new result }
+        ensures { HasEffect (body_context R.resources self.now) spec.ExternConvertAny stacks.old stacks.new result }
     {
         let Some(x) = stacks.peek(0) else {
             return Err(Refusal::Invalid);
@@ -119,7 +118,7 @@ impl<R: WasmModuleResources> Body<R> {
 
     pub(crate) fn ref_null(&self, stacks: &mut Stacks, heap: &HeapType) -> Result<(), Refusal>
         requires { IsHeapOfModule heap.now }
-        ensures { HasEffect (context_of (R.resources self.now.resources) (feature_set self.now.features) self.now.locals self.now.ty) (spec.RefNull (heap_map number_of (heap_type heap.now))) stacks.old stacks.new result }
+        ensures { HasEffect (body_context R.resources self.now) (spec.RefNull (heap_map number_of (heap_type heap.now))) stacks.old stacks.new result }
     {
         match self.null_type(heap) {
             Some(ty) => self.apply(stacks, &[], &[ty]),
@@ -129,7 +128,7 @@ impl<R: WasmModuleResources> Body<R> {
 
     #[tactic(auto, using(crate::proofs::OperandLaws::replaces))]
     pub(crate) fn ref_is_null(&self, stacks: &mut Stacks) -> Result<(), Refusal>
-        ensures { HasEffect (context_of (R.resources self.now.resources) (feature_set self.now.features) self.now.locals self.now.ty) spec.RefIsNull stacks.old stacks.new result }
+        ensures { HasEffect (body_context R.resources self.now) spec.RefIsNull stacks.old stacks.new result }
     {
         let Some(x) = stacks.peek(0) else {
             return Err(Refusal::Invalid);
@@ -143,7 +142,7 @@ impl<R: WasmModuleResources> Body<R> {
 
     #[tactic(auto, using(crate::proofs::OperandLaws::replaces))]
     pub(crate) fn ref_as_non_null(&self, stacks: &mut Stacks) -> Result<(), Refusal>
-        ensures { HasEffect (context_of (R.resources self.now.resources) (feature_set self.now.features) self.now.locals self.now.ty) spec.RefAsNonNull stacks.old stacks.new result }
+        ensures { HasEffect (body_context R.resources self.now) spec.RefAsNonNull stacks.old stacks.new result }
     {
         let Some(x) = stacks.peek(0) else {
             return Err(Refusal::Invalid);
@@ -156,7 +155,7 @@ impl<R: WasmModuleResources> Body<R> {
     }
 
     pub(crate) fn ref_func(&self, stacks: &mut Stacks, function: u32) -> Result<(), Refusal>
-        ensures { HasEffect (context_of (R.resources self.now.resources) (feature_set self.now.features) self.now.locals self.now.ty) (spec.RefFunc function) stacks.old stacks.new result }
+        ensures { HasEffect (body_context R.resources self.now) (spec.RefFunc function) stacks.old stacks.new result }
     {
         if !self.resources.is_function_referenced(function) {
             return Err(Refusal::Invalid);
@@ -171,14 +170,14 @@ impl<R: WasmModuleResources> Body<R> {
     }
 
     pub(crate) fn ref_eq(&self, stacks: &mut Stacks) -> Result<(), Refusal>
-        ensures { HasEffect (context_of (R.resources self.now.resources) (feature_set self.now.features) self.now.locals self.now.ty) spec.RefEq stacks.old stacks.new result }
+        ensures { HasEffect (body_context R.resources self.now) spec.RefEq stacks.old stacks.new result }
     {
         let takes = [ValType::Ref(RefType::EQREF), ValType::Ref(RefType::EQREF)];
         self.apply(stacks, &takes, &[ValType::I32])
     }
 
     pub(crate) fn ref_i31(&self, stacks: &mut Stacks) -> Result<(), Refusal>
-        ensures { HasEffect (context_of (R.resources self.now.resources) (feature_set self.now.features) self.now.locals self.now.ty) spec.RefI31 stacks.old stacks.new result }
+        ensures { HasEffect (body_context R.resources self.now) spec.RefI31 stacks.old stacks.new result }
     {
         self.apply(
             stacks,
@@ -189,7 +188,7 @@ impl<R: WasmModuleResources> Body<R> {
 
     pub(crate) fn select_typed(&self, stacks: &mut Stacks, ty: &ValType) -> Result<(), Refusal>
         requires { IsOfModule ty.now }
-        ensures { HasEffect (context_of (R.resources self.now.resources) (feature_set self.now.features) self.now.locals self.now.ty) (spec.SelectTyped (module_type ty.now ∷ [])) stacks.old stacks.new result }
+        ensures { HasEffect (body_context R.resources self.now) (spec.SelectTyped (module_type ty.now ∷ [])) stacks.old stacks.new result }
     {
         match self.written(ty) {
             Some(ty) => self.apply(stacks, &select_types(&ty), &[ty]),

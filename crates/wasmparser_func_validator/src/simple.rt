@@ -4,9 +4,8 @@ ghost use Rattle.std.specs.Prelude.{◌≡◌, ◌≢◌, [], option_map};
 ghost use Rattle.std.specs.Option.{option_and_then};
 ghost use Rattle.wasm_bodies.specs.Operands.{applied};
 ghost use Rattle.wasm_bodies.specs.Operators as spec;
-ghost use Rattle.wasm_core_types.specs.Features.{feature_set};
 ghost use Rattle.wasmparser_bodies.specs.StackViews.{operand};
-ghost use Rattle.wasmparser_func_validator.specs.Steps.{HasEffect, Takes, context_of};
+ghost use Rattle.wasmparser_func_validator.specs.Steps.{HasEffect, Takes, body_context};
 ghost use Rattle.wasmparser_operators.specs.ScalarValues.{scalar_row};
 ghost use Rattle.wasm_bodies.specs.Operands as operands;
 ghost use Rattle.wasmparser_types.specs.ValTypes.{val_type};
@@ -71,7 +70,7 @@ fn selected(a: &Operand, b: &Operand) -> Option<Operand>
 impl<R: WasmModuleResources> Body<R> {
     #[inline(always)]
     pub(crate) fn drop_one(&self, stacks: &mut Stacks) -> Result<(), Refusal>
-        ensures { HasEffect (context_of (R.resources self.now.resources) (feature_set self.now.features) self.now.locals self.now.ty) spec.Drop stacks.old stacks.new result }
+        ensures { HasEffect (body_context R.resources self.now) spec.Drop stacks.old stacks.new result }
     {
         match stacks.pop() {
             Some(_) => Ok(()),
@@ -81,7 +80,7 @@ impl<R: WasmModuleResources> Body<R> {
 
     #[tactic(auto, using(crate::proofs::OperandLaws::selects))]
     pub(crate) fn select(&self, stacks: &mut Stacks) -> Result<(), Refusal>
-        ensures { HasEffect (context_of (R.resources self.now.resources) (feature_set self.now.features) self.now.locals self.now.ty) spec.Select stacks.old stacks.new result }
+        ensures { HasEffect (body_context R.resources self.now) spec.Select stacks.old stacks.new result }
     {
         if !self.accepts(stacks, 0, &Types(slice::from_ref(&ValType::I32))) {
             return Err(Refusal::Invalid);
@@ -104,7 +103,7 @@ impl<R: WasmModuleResources> Body<R> {
         stacks: &mut Stacks,
         operator: ScalarOperator,
     ) -> Result<(), Refusal>
-        ensures { HasEffect (context_of (R.resources self.now.resources) (feature_set self.now.features) self.now.locals self.now.ty) (spec.Scalar (scalar_row operator)) stacks.old stacks.new result }
+        ensures { HasEffect (body_context R.resources self.now) (spec.Scalar (scalar_row operator)) stacks.old stacks.new result }
     {
         match form_of(operator) {
             NumericForm::Unary(from, to) => {

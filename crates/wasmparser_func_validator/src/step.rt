@@ -1,4 +1,5 @@
-//! One operator after the other.
+//! The last of three ways to validate operators, and the only one that has them all and refuses: one `Operator` at a time, as a reader gives it, by the
+//! whole rule, of which `quick` and `plain` are shortcuts.
 
 ghost use Rattle.std.specs.Prelude.{◌≡◌, ◌≢◌, []};
 ghost use Rattle.wasm_bodies.specs.OperatorRows.{value_type};
@@ -6,9 +7,8 @@ ghost use Rattle.wasm_bodies.specs.Operands.{applied};
 ghost use Rattle.wasm_bodies.specs.Operators as spec;
 ghost use Rattle.wasm_bodies.specs.Signatures.{gives_one};
 ghost use Rattle.wasm_bodies_laws.specs.Machine.{stepped};
-ghost use Rattle.wasm_core_types.specs.Features.{feature_set};
 ghost use Rattle.wasmparser_func_validator.specs.NumericForms.{number};
-ghost use Rattle.wasmparser_func_validator.specs.Steps.{HasEffect, Steps, Takes, context_of};
+ghost use Rattle.wasmparser_func_validator.specs.Steps.{HasEffect, Steps, Takes, body_context, items_in};
 ghost use Rattle.wasmparser_operators.specs.OperatorValues.{IsWhole, operator};
 
 use crate::body::Body;
@@ -24,14 +24,14 @@ use wasmparser_types::val_type::ValType;
 impl<R: WasmModuleResources> Body<R> {
     // Gives a number.
     fn constant(&self, stacks: &mut Stacks, ty: NumberType) -> Result<(), Refusal>
-        ensures { Takes (applied (R.resources self.now.resources).items (gives_one (value_type (number ty))) stacks.old.now) stacks.old stacks.new result }
+        ensures { Takes (applied (items_in R.resources self.now) (gives_one (value_type (number ty))) stacks.old.now) stacks.old stacks.new result }
     {
         self.apply(stacks, &[], &[ty.val_type()])
     }
 
     // Gives a vector.
     fn vector(&self, stacks: &mut Stacks) -> Result<(), Refusal>
-        ensures { HasEffect (context_of (R.resources self.now.resources) (feature_set self.now.features) self.now.locals self.now.ty) (spec.V128Const []) stacks.old stacks.new result }
+        ensures { HasEffect (body_context R.resources self.now) (spec.V128Const []) stacks.old stacks.new result }
     {
         self.apply(stacks, &[], &[ValType::V128])
     }
@@ -40,7 +40,7 @@ impl<R: WasmModuleResources> Body<R> {
     fn operate(&self, stacks: &mut Stacks, op: &Operator<'_>) -> Result<(), Refusal>
         requires open { stacks.old.frames ≢ [] }
         requires whole { IsWhole op.now }
-        ensures { HasEffect (context_of (R.resources self.now.resources) (feature_set self.now.features) self.now.locals self.now.ty) (operator op.now) stacks.old stacks.new result }
+        ensures { HasEffect (body_context R.resources self.now) (operator op.now) stacks.old stacks.new result }
     {
         match op {
             Operator::Unreachable => {
@@ -164,7 +164,7 @@ impl<R: WasmModuleResources> Body<R> {
     // One operator. None may come after the end of the body.
     pub(crate) fn step(&self, stacks: &mut Stacks, op: &Operator<'_>) -> Result<(), Refusal>
         requires { IsWhole op.now }
-        ensures { Steps (stepped (context_of (R.resources self.now.resources) (feature_set self.now.features) self.now.locals self.now.ty) stacks.old (operator op.now)) stacks.old stacks.new result }
+        ensures { Steps (stepped (body_context R.resources self.now) stacks.old (operator op.now)) stacks.old stacks.new result }
     {
         if stacks.is_closed() {
             return Err(Refusal::Invalid);
@@ -176,7 +176,7 @@ impl<R: WasmModuleResources> Body<R> {
             Operator::Block { blockty } => self.open(stacks, FrameKind::Block, blockty),
             Operator::Loop { blockty } => self.open(stacks, FrameKind::Loop, blockty),
             Operator::If { blockty } => self.open_if(stacks, blockty),
-            Operator::Else => self.turn(stacks),
+            Operator::Else => self.else_(stacks),
             Operator::End => self.close(stacks),
             _ => self.operate(stacks, op),
         }

@@ -2,8 +2,7 @@
 
 ghost use Rattle.std.specs.Prelude.{◌≡◌};
 ghost use Rattle.wasm_bodies.specs.Operators as spec;
-ghost use Rattle.wasm_core_types.specs.Features.{feature_set};
-ghost use Rattle.wasmparser_func_validator.specs.Steps.{HasEffect, context_of};
+ghost use Rattle.wasmparser_func_validator.specs.Steps.{HasEffect, body_context};
 
 use crate::body::Body;
 use crate::lookups::{address_type, fill_types};
@@ -14,7 +13,7 @@ use wasmparser_types::val_type::ValType;
 
 impl<R: WasmModuleResources> Body<R> {
     pub(crate) fn table_get(&self, stacks: &mut Stacks, table: u32) -> Result<(), Refusal>
-        ensures { HasEffect (context_of (R.resources self.now.resources) (feature_set self.now.features) self.now.locals self.now.ty) (spec.TableGet table) stacks.old stacks.new result }
+        ensures { HasEffect (body_context R.resources self.now) (spec.TableGet table) stacks.old stacks.new result }
     {
         match self.table_types(table) {
             Some((index, item)) => self.apply(stacks, &[index], &[item]),
@@ -23,7 +22,7 @@ impl<R: WasmModuleResources> Body<R> {
     }
 
     pub(crate) fn table_set(&self, stacks: &mut Stacks, table: u32) -> Result<(), Refusal>
-        ensures { HasEffect (context_of (R.resources self.now.resources) (feature_set self.now.features) self.now.locals self.now.ty) (spec.TableSet table) stacks.old stacks.new result }
+        ensures { HasEffect (body_context R.resources self.now) (spec.TableSet table) stacks.old stacks.new result }
     {
         match self.table_types(table) {
             Some((index, item)) => self.apply(stacks, &[index, item], &[]),
@@ -32,7 +31,7 @@ impl<R: WasmModuleResources> Body<R> {
     }
 
     pub(crate) fn table_size(&self, stacks: &mut Stacks, table: u32) -> Result<(), Refusal>
-        ensures { HasEffect (context_of (R.resources self.now.resources) (feature_set self.now.features) self.now.locals self.now.ty) (spec.TableSize table) stacks.old stacks.new result }
+        ensures { HasEffect (body_context R.resources self.now) (spec.TableSize table) stacks.old stacks.new result }
     {
         match self.table_types(table) {
             Some((index, _)) => self.apply(stacks, &[], &[index]),
@@ -41,7 +40,7 @@ impl<R: WasmModuleResources> Body<R> {
     }
 
     pub(crate) fn table_grow(&self, stacks: &mut Stacks, table: u32) -> Result<(), Refusal>
-        ensures { HasEffect (context_of (R.resources self.now.resources) (feature_set self.now.features) self.now.locals self.now.ty) (spec.TableGrow table) stacks.old stacks.new result }
+        ensures { HasEffect (body_context R.resources self.now) (spec.TableGrow table) stacks.old stacks.new result }
     {
         match self.table_types(table) {
             Some((index, item)) => {
@@ -53,7 +52,7 @@ impl<R: WasmModuleResources> Body<R> {
     }
 
     pub(crate) fn table_fill(&self, stacks: &mut Stacks, table: u32) -> Result<(), Refusal>
-        ensures { HasEffect (context_of (R.resources self.now.resources) (feature_set self.now.features) self.now.locals self.now.ty) (spec.TableFill table) stacks.old stacks.new result }
+        ensures { HasEffect (body_context R.resources self.now) (spec.TableFill table) stacks.old stacks.new result }
     {
         match self.table_types(table) {
             Some((index, item)) => self.apply(stacks, &fill_types(&index, &item), &[]),
@@ -62,7 +61,7 @@ impl<R: WasmModuleResources> Body<R> {
     }
 
     pub(crate) fn table_copy(&self, stacks: &mut Stacks, to: u32, from: u32) -> Result<(), Refusal>
-        ensures { HasEffect (context_of (R.resources self.now.resources) (feature_set self.now.features) self.now.locals self.now.ty) (spec.TableCopy to from) stacks.old stacks.new result }
+        ensures { HasEffect (body_context R.resources self.now) (spec.TableCopy to from) stacks.old stacks.new result }
     {
         let Some(to) = self.resources.table_at(to) else {
             return Err(Refusal::Invalid);
@@ -91,7 +90,7 @@ impl<R: WasmModuleResources> Body<R> {
         segment: u32,
         table: u32,
     ) -> Result<(), Refusal>
-        ensures { HasEffect (context_of (R.resources self.now.resources) (feature_set self.now.features) self.now.locals self.now.ty) (spec.TableInit segment table) stacks.old stacks.new result }
+        ensures { HasEffect (body_context R.resources self.now) (spec.TableInit segment table) stacks.old stacks.new result }
     {
         let Some(segment) = self.segment_type(segment) else {
             return Err(Refusal::Invalid);
@@ -106,7 +105,7 @@ impl<R: WasmModuleResources> Body<R> {
     }
 
     pub(crate) fn elem_drop(&self, stacks: &mut Stacks, segment: u32) -> Result<(), Refusal>
-        ensures { HasEffect (context_of (R.resources self.now.resources) (feature_set self.now.features) self.now.locals self.now.ty) (spec.ElemDrop segment) stacks.old stacks.new result }
+        ensures { HasEffect (body_context R.resources self.now) (spec.ElemDrop segment) stacks.old stacks.new result }
     {
         match self.segment_type(segment) {
             Some(_) => Ok(()),

@@ -2,8 +2,7 @@
 
 ghost use Rattle.std.specs.Prelude.{◌≡◌};
 ghost use Rattle.wasm_bodies.specs.Operators as spec;
-ghost use Rattle.wasm_core_types.specs.Features.{feature_set};
-ghost use Rattle.wasmparser_func_validator.specs.Steps.{HasEffect, context_of};
+ghost use Rattle.wasmparser_func_validator.specs.Steps.{HasEffect, body_context};
 
 use crate::body::Body;
 use crate::refusal::Refusal;
@@ -15,7 +14,7 @@ use wasmparser_bodies::stacks::Stacks;
 impl<R: WasmModuleResources> Body<R> {
     #[inline(always)]
     pub(crate) fn local_get(&self, stacks: &mut Stacks, index: u32) -> Result<(), Refusal>
-        ensures { HasEffect (context_of (R.resources self.now.resources) (feature_set self.now.features) self.now.locals self.now.ty) (spec.LocalGet index) stacks.old stacks.new result }
+        ensures { HasEffect (body_context R.resources self.now) (spec.LocalGet index) stacks.old stacks.new result }
     {
         let Some(local) = self.locals.get(index) else {
             return Err(Refusal::Invalid);
@@ -28,7 +27,7 @@ impl<R: WasmModuleResources> Body<R> {
     }
 
     pub(crate) fn local_set(&self, stacks: &mut Stacks, index: u32) -> Result<(), Refusal>
-        ensures { HasEffect (context_of (R.resources self.now.resources) (feature_set self.now.features) self.now.locals self.now.ty) (spec.LocalSet index) stacks.old stacks.new result }
+        ensures { HasEffect (body_context R.resources self.now) (spec.LocalSet index) stacks.old stacks.new result }
     {
         let Some(local) = self.locals.get(index) else {
             return Err(Refusal::Invalid);
@@ -44,7 +43,7 @@ impl<R: WasmModuleResources> Body<R> {
     }
 
     pub(crate) fn local_tee(&self, stacks: &mut Stacks, index: u32) -> Result<(), Refusal>
-        ensures { HasEffect (context_of (R.resources self.now.resources) (feature_set self.now.features) self.now.locals self.now.ty) (spec.LocalTee index) stacks.old stacks.new result }
+        ensures { HasEffect (body_context R.resources self.now) (spec.LocalTee index) stacks.old stacks.new result }
     {
         let Some(local) = self.locals.get(index) else {
             return Err(Refusal::Invalid);
@@ -62,7 +61,7 @@ impl<R: WasmModuleResources> Body<R> {
     }
 
     pub(crate) fn global_get(&self, stacks: &mut Stacks, index: u32) -> Result<(), Refusal>
-        ensures { HasEffect (context_of (R.resources self.now.resources) (feature_set self.now.features) self.now.locals self.now.ty) (spec.GlobalGet index) stacks.old stacks.new result }
+        ensures { HasEffect (body_context R.resources self.now) (spec.GlobalGet index) stacks.old stacks.new result }
     {
         match self.resources.global_at(index) {
             Some(global) => {
@@ -74,7 +73,7 @@ impl<R: WasmModuleResources> Body<R> {
     }
 
     pub(crate) fn global_set(&self, stacks: &mut Stacks, index: u32) -> Result<(), Refusal>
-        ensures { HasEffect (context_of (R.resources self.now.resources) (feature_set self.now.features) self.now.locals self.now.ty) (spec.GlobalSet index) stacks.old stacks.new result }
+        ensures { HasEffect (body_context R.resources self.now) (spec.GlobalSet index) stacks.old stacks.new result }
     {
         let Some(global) = self.resources.global_at(index) else {
             return Err(Refusal::Invalid);

@@ -49,8 +49,8 @@ fn call_on_blocks(stacks: &mut Stacks, letter: char) -> Result<(), AllocError> {
             let params = [ValType::I32, ValType::I64];
             stacks.enter(FrameKind::If, BlockType::Type(ValType::I32), 2, &params)
         }
-        'e' => stacks.turn(&[]),
-        'E' => stacks.turn(&[ValType::I64]),
+        'e' => stacks.else_(&[]),
+        'E' => stacks.else_(&[ValType::I64]),
         ')' => stacks.leave(&[]),
         ']' => stacks.leave(&[ValType::I32, ValType::I32]),
         'u' => {

@@ -17,7 +17,7 @@ fn call(stacks: &mut Stacks, number: u32) -> Result<(), AllocError> {
         2 => stacks.replace(1, &TYPES),
         3 => stacks.replace_with(2, &TYPES, &Operand::UnknownRef),
         4 => stacks.enter(FrameKind::If, BlockType::Empty, 1, &TYPES),
-        5 => stacks.turn(&TYPES),
+        5 => stacks.else_(&TYPES),
         6 => stacks.assign(number),
         _ => stacks.replace_and_assign(0, &TYPES, number),
     }

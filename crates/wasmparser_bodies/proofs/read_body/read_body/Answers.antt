@@ -11,12 +11,12 @@ use Rattle.wasmparser_bodies.proofs.read_body.read_body.Goals as goal
 pub returns-in_err-read_locals-clause-answers : goal.returns-in_err-read_locals-clause-answers
 returns-in_err-read_locals-clause-answers g c =
     let p = err_from_is_err_and c.from_residual.result c.from_residual.ensures.1 in
-    rw (p.1, p.2) (locals_answered (g.B.JudgeBody.state c.args.body.now) c.args.reader.now _ _ c.in_err-read_locals.ensures.read)
+    rw (p.1, p.2) (locals_answered (g.B.BodyValidator.state c.args.body.now) c.args.reader.now _ _ c.in_err-read_locals.ensures.read)
 
 pub returns-clause-answers : goal.returns-clause-answers
 returns-clause-answers g c =
-    let old = g.B.JudgeBody.state c.args.body.now in
-    let new = g.B.JudgeBody.state c.read_locals.new.body in
+    let old = g.B.BodyValidator.state c.args.body.now in
+    let new = g.B.BodyValidator.state c.read_locals.new.body in
     let mid = c.read_locals.new.reader in
     let read = c.in_ok-read_locals.ensures.read in
     let stands = ap (λ (left : OperatorsLeft). left.input) c.new-operators.ensures ∙ c.fork.ensures.same in

@@ -4,14 +4,14 @@ use Rattle.wasmparser_bodies.specs.BodyStates.{context_in, with_machine_in}
 use Rattle.wasmparser_bodies.specs.CodeReading.{code_outcome}
 use Rattle.wasmparser_bodies.proofs.read_body.read_code.Given as goal
 
--- what is judged of the operators that are left is what all are judged as
+-- the outcome of the operators that are left is that of all
 abbrev pub invariant-operators : goal.invariant-operators
 invariant-operators g l = record {
-  so_far : code_outcome (context_in (g.B.JudgeBody.state l.fn.body)) (g.B.JudgeBody.state l.body).machine l.reader.input.rest
-      ≡ code_outcome (context_in (g.B.JudgeBody.state l.fn.body)) (g.B.JudgeBody.state l.fn.body).machine l.fn.reader.input.rest;
-  same : g.B.JudgeBody.state l.body ≡ with_machine_in (g.B.JudgeBody.state l.body).machine (g.B.JudgeBody.state l.fn.body);
+  so_far : code_outcome (context_in (g.B.BodyValidator.state l.fn.body)) (g.B.BodyValidator.state l.body).machine l.reader.input.rest
+      ≡ code_outcome (context_in (g.B.BodyValidator.state l.fn.body)) (g.B.BodyValidator.state l.fn.body).machine l.fn.reader.input.rest;
+  same : g.B.BodyValidator.state l.body ≡ with_machine_in (g.B.BodyValidator.state l.body).machine (g.B.BodyValidator.state l.fn.body);
   goes_on : GoesOn l.fn.reader.input l.reader.input;
-  kept : g.B.JudgeBody.kept l.body ≡ g.B.JudgeBody.kept l.fn.body;
+  kept : g.B.BodyValidator.kept l.body ≡ g.B.BodyValidator.kept l.fn.body;
 }
 
 abbrev pub decreases-operators : goal.decreases-operators

@@ -7,11 +7,11 @@ use Rattle.wasmparser_bodies.proofs.read_locals.read_locals.Goals as goal
 
 pub returns-in_default-clause-read : goal.returns-in_default-clause-read
 returns-in_default-clause-read g c =
-    broken_locals c.args.reader.now _ _ _ c.broken.ensures c.original_position-offset.ensures.place (locals_unread (g.B.JudgeBody.state c.args.body.now) _ c.in_default.ensures.exact.0)
+    broken_locals c.args.reader.now _ _ _ c.broken.ensures c.original_position-offset.ensures.place (locals_unread (g.B.BodyValidator.state c.args.body.now) _ c.in_default.ensures.exact.0)
 
 pub loop-init : goal.loop-init
 loop-init g c = record {
-  so_far = runs_begin (g.B.JudgeBody.state c.args.body.now) _ _ _ c.in-Ok.ensures.exact.0 c.requires.within;
+  so_far = runs_begin (g.B.BodyValidator.state c.args.body.now) _ _ _ c.in-Ok.ensures.exact.0 c.requires.within;
   same = refl;
   goes_on = c.in-Ok.ensures.exact.1;
   kept = refl;
@@ -21,15 +21,15 @@ pub returns-in_err-read_run-clause-read : goal.returns-in_err-read_run-clause-re
 returns-in_err-read_run-clause-read g c =
     let p = err_from_is_err_and c.from_residual.result c.from_residual.ensures.1 in
     rw (p.1, p.2) (
-      runs_fail (g.B.JudgeBody.state c.loop.body) _ _ _ _ _ c.loop-test.true c.in_err-read_run.ensures.read.0 c.loop.invariant.so_far,
+      runs_fail (g.B.BodyValidator.state c.loop.body) _ _ _ _ _ c.loop-test.true c.in_err-read_run.ensures.read.0 c.loop.invariant.so_far,
       placed_later _ _ _ _ c.loop.invariant.goes_on c.in_err-read_run.ensures.read.1,
     )
 
 pub loop-preserved : goal.loop-preserved
 loop-preserved g c =
-    let start = g.B.JudgeBody.state c.args.body.now in
-    let old = g.B.JudgeBody.state c.loop.body in
-    let new = g.B.JudgeBody.state c.read_run.new.body in
+    let start = g.B.BodyValidator.state c.args.body.now in
+    let old = g.B.BodyValidator.state c.loop.body in
+    let new = g.B.BodyValidator.state c.read_run.new.body in
     record {
       so_far = runs_go_on old new _ _ _ _ _ c.loop-test.true c.in_ok-read_run.ensures.read.0 c.in_ok-read_run.ensures.read.1 c.loop.invariant.so_far;
       same = since start old new c.loop.invariant.same c.in_ok-read_run.ensures.read.1;
@@ -38,4 +38,4 @@ loop-preserved g c =
     }
 
 pub returns-clause-read : goal.returns-clause-read
-returns-clause-read g c = (all_read (g.B.JudgeBody.state c.loop.body) _ _ _ _ c.loop-test.false c.loop.invariant.so_far, c.loop.invariant.same, c.loop.invariant.goes_on)
+returns-clause-read g c = (all_read (g.B.BodyValidator.state c.loop.body) _ _ _ _ c.loop-test.false c.loop.invariant.so_far, c.loop.invariant.same, c.loop.invariant.goes_on)

@@ -4,12 +4,12 @@ use Rattle.wasmparser_bodies.specs.BodyStates.{with_locals_in}
 use Rattle.wasmparser_bodies.specs.LocalsReading.{locals_outcome, runs_outcome}
 use Rattle.wasmparser_bodies.proofs.read_locals.read_locals.Given as goal
 
--- what is judged of the runs that are left is what all runs are judged as
+-- the outcome of the runs that are left is that of all runs
 abbrev pub invariant-loop : goal.invariant-loop
 invariant-loop g l = record {
-  so_far : runs_outcome (g.B.JudgeBody.state l.body).features (g.B.JudgeBody.state l.body).items (l.runs - l.counter) (g.B.JudgeBody.state l.body).locals l.reader.rest
-      ≡ locals_outcome (g.B.JudgeBody.state l.fn.body).features (g.B.JudgeBody.state l.fn.body).items (g.B.JudgeBody.state l.fn.body).locals l.fn.reader.rest;
-  same : g.B.JudgeBody.state l.body ≡ with_locals_in (g.B.JudgeBody.state l.body).locals (g.B.JudgeBody.state l.fn.body);
+  so_far : runs_outcome (g.B.BodyValidator.state l.body).features (g.B.BodyValidator.state l.body).items (l.runs - l.counter) (g.B.BodyValidator.state l.body).locals l.reader.rest
+      ≡ locals_outcome (g.B.BodyValidator.state l.fn.body).features (g.B.BodyValidator.state l.fn.body).items (g.B.BodyValidator.state l.fn.body).locals l.fn.reader.rest;
+  same : g.B.BodyValidator.state l.body ≡ with_locals_in (g.B.BodyValidator.state l.body).locals (g.B.BodyValidator.state l.fn.body);
   goes_on : GoesOn l.fn.reader l.reader;
-  kept : g.B.JudgeBody.kept l.body ≡ g.B.JudgeBody.kept l.fn.body;
+  kept : g.B.BodyValidator.kept l.body ≡ g.B.BodyValidator.kept l.fn.body;
 }

@@ -1,18 +1,19 @@
 use Rattle.std.proofs.Common.{◌+◌, ◌<◌, ◌&&◌, ◌∙◌, sym, ap, arith, map, drop, length}
 use Rattle.std.proofs.lemmas.List.{length-map}
 use Rattle.wasm_bodies.specs.BodyContext.{are_below}
+use Rattle.wasmparser_func_validator.specs.Steps.{items_in}
 use Rattle.wasmparser_types.specs.ValTypes.{val_type}
 use Rattle.wasmparser_func_validator.proofs.TypeLaws.{item_at, next_below, unlike}
 use Rattle.wasmparser_func_validator.proofs.body.Body.are_below.Goals as goal
 
 pub returns-then-types-wanted : goal.returns-then-types-wanted
 returns-then-types-wanted g c =
-    sym (unlike (g.R.WasmModuleResources.resources c.args.self.now.resources).items (map val_type c.args.types.now) (map val_type c.args.wanted.now)
+    sym (unlike (items_in g.R.WasmModuleResources.resources c.args.self.now) (map val_type c.args.types.now) (map val_type c.args.wanted.now)
     (λ e. absurd (omega (arith, c.if-types-wanted.true, e, length-map c.args.types.now val_type, length-map c.args.wanted.now val_type))))
 
 pub loop-index-preserved : goal.loop-index-preserved
 loop-index-preserved g c =
-    let items = (g.R.WasmModuleResources.resources c.args.self.now.resources).items in
+    let items = items_in g.R.WasmModuleResources.resources c.args.self.now in
     let a = map val_type c.args.types.now in
     let b = map val_type c.args.wanted.now in
     let i = c.loop-index.index in
@@ -26,7 +27,7 @@ loop-index-preserved g c =
 
 pub returns-then-not-is_subtype : goal.returns-then-not-is_subtype
 returns-then-not-is_subtype g c =
-    let items = (g.R.WasmModuleResources.resources c.args.self.now.resources).items in
+    let items = items_in g.R.WasmModuleResources.resources c.args.self.now in
     let a = map val_type c.args.types.now in
     let b = map val_type c.args.wanted.now in
     let i = c.loop-index.index in

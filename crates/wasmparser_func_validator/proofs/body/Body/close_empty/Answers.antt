@@ -3,15 +3,14 @@ use Rattle.std.proofs.lemmas.List.{nil_from_length}
 use Rattle.std.specs.Option.{option_map}
 use Rattle.std.specs.Prelude.{slice_get}
 use Rattle.wasm_bodies.specs.Operators.{Empty}
-use Rattle.wasm_core_types.specs.Features.{feature_set}
 use Rattle.wasmparser_bodies.specs.StackViews.{block_seen, block_with_ids, frame_kind}
-use Rattle.wasmparser_func_validator.specs.Steps.{context_of}
+use Rattle.wasmparser_func_validator.specs.Steps.{body_context}
 use Rattle.wasmparser_func_validator.proofs.EmptyBlocks.{empty_closed}
 use Rattle.wasmparser_func_validator.proofs.body.Body.close_empty.Goals as goal
 
 pub returns : goal.returns
 returns g c =
-    let cx = context_of (g.R.WasmModuleResources.resources c.args.self.now.resources) (feature_set c.args.self.now.features) c.args.self.now.locals c.args.self.now.ty in
+    let cx = body_context g.R.WasmModuleResources.resources c.args.self.now in
     let f = c.in-Some.frame.now in
     let at : Some (frame_kind f.kind, Empty) ≡ option_map block_seen (slice_get c.args.stacks.now.frames 0) = ap (λ t. Some (frame_kind f.kind, block_with_ids t)) (sym c.in-Empty.is) ∙ c.in-Some.ensures.block in
     let none : c.args.stacks.now.now.known ≡ [] = nil_from_length c.args.stacks.now.now.known (omega (arith, c.known_len.ensures, c.if-known_len-gt0.false)) in

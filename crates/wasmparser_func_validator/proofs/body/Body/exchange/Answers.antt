@@ -4,6 +4,7 @@ use Rattle.std.proofs.lemmas.List.{length-map}
 use Rattle.wasm_bodies.specs.Operands.{Known, given}
 use Rattle.wasm_bodies_laws.specs.Machine.{Machine}
 use Rattle.wasmparser_bodies.specs.StackChanges.{lowered}
+use Rattle.wasmparser_func_validator.specs.Steps.{items_in}
 use Rattle.wasmparser_types.specs.Index.{Index}
 use Rattle.wasmparser_types.specs.ValTypes.{val_type}
 use Rattle.wasmparser_func_validator.proofs.PlainLaws.{all_known}
@@ -11,7 +12,7 @@ use Rattle.wasmparser_func_validator.proofs.body.Body.exchange.Goals as goal
 
 pub returns : goal.returns
 returns g c =
-    let items = (g.R.WasmModuleResources.resources c.args.self.now.resources).items in
+    let items = items_in g.R.WasmModuleResources.resources c.args.self.now in
     let types = map val_type c.args.takes.now in
     let s = c.args.stacks.now.now in
     let len : length (map val_type c.args.takes.now) ≡ length c.args.takes.now = length-map c.args.takes.now val_type in

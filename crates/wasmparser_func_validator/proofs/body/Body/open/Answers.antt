@@ -1,18 +1,17 @@
 use Rattle.std.proofs.Common.{arith, ◌≡◌, ◌+◌, ◌∙◌, Some, ap, sym, subst, length, map}
 use Rattle.std.proofs.lemmas.List.{length-map}
 use Rattle.wasm_bodies.specs.Operands.{all_taken}
-use Rattle.wasm_core_types.specs.Features.{feature_set}
 use Rattle.wasmparser_operators.specs.OperatorValues.{block_type}
 use Rattle.wasmparser_bodies.specs.StackChanges.{lowered}
 use Rattle.wasmparser_bodies.specs.StackViews.{block_with_ids, frame_kind}
 use Rattle.wasmparser_types.specs.ValTypes.{val_type}
-use Rattle.wasmparser_func_validator.specs.Steps.{context_of}
+use Rattle.wasmparser_func_validator.specs.Steps.{body_context}
 use Rattle.wasmparser_func_validator.proofs.BlockLaws.{opened}
 use Rattle.wasmparser_func_validator.proofs.body.Body.open.Goals as goal
 
 pub returns : goal.returns
 returns g c =
-    let cx = context_of (g.R.WasmModuleResources.resources c.args.self.now.resources) (feature_set c.args.self.now.features) c.args.self.now.locals c.args.self.now.ty in
+    let cx = body_context g.R.WasmModuleResources.resources c.args.self.now in
     let s = c.args.stacks.now.now in
     let params = map val_type c.block_params-params.result.now in
     let count : 0 + length params ≡ length c.block_params-params.result.now = omega (arith, length-map c.block_params-params.result.now val_type) in

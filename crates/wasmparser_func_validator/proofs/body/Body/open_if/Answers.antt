@@ -1,20 +1,19 @@
 use Rattle.std.proofs.Common.{◌+◌, ◌∙◌, Some, ap, sym, length, map}
 use Rattle.wasm_bodies.specs.Operands.{taken}
 use Rattle.wasm_bodies_laws.specs.Machine.{IfFrame}
-use Rattle.wasm_core_types.specs.Features.{feature_set}
 use Rattle.wasm_spec.specs.Types.{I32}
 use Rattle.wasmparser_operators.specs.OperatorValues.{block_type}
 use Rattle.wasmparser_bodies.specs.StackChanges.{lowered}
 use Rattle.wasmparser_bodies.specs.StackViews.{block_with_ids}
 use Rattle.wasmparser_types.specs.ValTypes.{val_type}
-use Rattle.wasmparser_func_validator.specs.Steps.{context_of}
+use Rattle.wasmparser_func_validator.specs.Steps.{body_context}
 use Rattle.wasmparser_func_validator.proofs.BlockLaws.{opened_after}
 use Rattle.wasmparser_func_validator.proofs.Taking.{all_taken-more}
 use Rattle.wasmparser_func_validator.proofs.body.Body.open_if.Goals as goal
 
 pub returns : goal.returns
 returns g c =
-    let cx = context_of (g.R.WasmModuleResources.resources c.args.self.now.resources) (feature_set c.args.self.now.features) c.args.self.now.locals c.args.self.now.ty in
+    let cx = body_context g.R.WasmModuleResources.resources c.args.self.now in
     let s = c.args.stacks.now.now in
     let params = map val_type c.block_params-params.result.now in
     opened_after cx IfFrame (block_type c.args.blockty.now) (block_with_ids c.in-Some.block_type) c.args.stacks.now.frames (taken cx.items I32 s) (lowered (length c.block_params-params.result.now + 1) s) params

@@ -1,7 +1,6 @@
-use Rattle.wasm_core_types.specs.Features.{feature_set}
-use Rattle.wasmparser_func_validator.specs.Steps.{context_of}
+use Rattle.wasmparser_func_validator.specs.Steps.{body_context}
 use Rattle.wasmparser_func_validator.proofs.PlainLaws.{bare_step}
 use Rattle.wasmparser_func_validator.proofs.body.Body.plain_bare.Goals as goal
 
 pub returns-then-bare : goal.returns-then-bare
-returns-then-bare g c = bare_step (context_of (g.R.WasmModuleResources.resources c.args.self.now.resources) (feature_set c.args.self.now.features) c.args.self.now.locals c.args.self.now.ty) c.args.stacks.now c.bare.new.stacks c.args.code c.args.rest.now c.if-bare.ensures
+returns-then-bare g c = bare_step (body_context g.R.WasmModuleResources.resources c.args.self.now) c.args.stacks.now c.bare.new.stacks c.args.code c.args.rest.now c.if-bare.ensures

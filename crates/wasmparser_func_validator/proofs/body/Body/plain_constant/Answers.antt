@@ -1,17 +1,16 @@
 use Rattle.std.proofs.Common.{refl}
 use Rattle.wasm_bodies.specs.Operators.{I32Const, I64Const}
-use Rattle.wasm_core_types.specs.Features.{feature_set}
 use Rattle.wasm_spec.specs.Types.{I32, I64}
-use Rattle.wasmparser_func_validator.specs.Steps.{context_of}
+use Rattle.wasmparser_func_validator.specs.Steps.{body_context}
 use Rattle.wasmparser_func_validator.proofs.PlainLaws.{constant_step, int32_coded, int64_coded}
 use Rattle.wasmparser_func_validator.proofs.body.Body.plain_constant.Goals as goal
 
 pub returns-in-Ok : goal.returns-in-Ok
 returns-in-Ok g c =
-    let cx = context_of (g.R.WasmModuleResources.resources c.args.self.now.resources) (feature_set c.args.self.now.features) c.args.self.now.locals c.args.self.now.ty in
+    let cx = body_context g.R.WasmModuleResources.resources c.args.self.now in
     rw c.in-65.is (constant_step cx c.args.stacks.now c.push_known.new.self 0x41 32 (λ v. I32Const v) I32 c.args.rest.now c.in_ok-after-in-65.after.now int32_coded (λ v. (refl, refl, refl)) c.requires.inside c.in_ok-after-in-65.ensures c.in-Ok.ensures.ok)
 
 pub returns-in-Ok-push_known : goal.returns-in-Ok-push_known
 returns-in-Ok-push_known g c =
-    let cx = context_of (g.R.WasmModuleResources.resources c.args.self.now.resources) (feature_set c.args.self.now.features) c.args.self.now.locals c.args.self.now.ty in
+    let cx = body_context g.R.WasmModuleResources.resources c.args.self.now in
     rw c.in-66.is (constant_step cx c.args.stacks.now c.push_known-in-66.new.self 0x42 64 (λ v. I64Const v) I64 c.args.rest.now c.in_ok-after-in-66.after.now int64_coded (λ v. (refl, refl, refl)) c.requires.inside c.in_ok-after-in-66.ensures c.in-Ok-push_known.ensures.ok)

@@ -1,8 +1,7 @@
 use Rattle.std.proofs.Common.{◌≡◌, ◌-◌, ◌∷◌, Some, drop, length, take, sym, subst}
 use Rattle.wasm_bodies.specs.Operators.{Empty}
-use Rattle.wasm_core_types.specs.Features.{feature_set}
 use Rattle.wasmparser_operators.specs.OperatorReading.{All, block_type_at}
-use Rattle.wasmparser_func_validator.specs.Steps.{context_of}
+use Rattle.wasmparser_func_validator.specs.Steps.{body_context}
 use Rattle.wasmparser_func_validator.proofs.EmptyBlocks.{empty_reads}
 use Rattle.wasmparser_func_validator.proofs.PlainLaws.{block_step}
 use Rattle.wasmparser_func_validator.proofs.PlainNumbers.{front_is}
@@ -10,7 +9,7 @@ use Rattle.wasmparser_func_validator.proofs.body.Body.quick_block.Goals as goal
 
 pub returns-then-open_empty : goal.returns-then-open_empty
 returns-then-open_empty g c =
-    let cx = context_of (g.R.WasmModuleResources.resources c.args.self.now.resources) (feature_set c.args.self.now.features) c.args.self.now.locals c.args.self.now.ty in
+    let cx = body_context g.R.WasmModuleResources.resources c.args.self.now in
     let bytes = c.args.rest.now in
     let after = take (length c.args.rest.now - 1) (drop 1 c.args.rest.now) in
     let reads : block_type_at All cx.features bytes ≡ Some (Empty, after) =

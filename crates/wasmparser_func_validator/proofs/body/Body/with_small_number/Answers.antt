@@ -1,42 +1,41 @@
 use Rattle.std.proofs.Common.{refl}
 use Rattle.wasm_bodies.specs.Operators.{Br, BrIf, LocalGet, LocalSet, LocalTee, GlobalGet, GlobalSet}
-use Rattle.wasm_core_types.specs.Features.{feature_set}
-use Rattle.wasmparser_func_validator.specs.Steps.{context_of}
+use Rattle.wasmparser_func_validator.specs.Steps.{body_context}
 use Rattle.wasmparser_func_validator.proofs.PlainCodes.{br_coded, br_if_coded, local_get_coded, set_local_coded, tee_local_coded, global_get_coded, global_set_coded}
 use Rattle.wasmparser_func_validator.proofs.PlainLaws.{number_tried}
 use Rattle.wasmparser_func_validator.proofs.body.Body.with_small_number.Goals as goal
 
 pub returns-in-12 : goal.returns-in-12
 returns-in-12 g c =
-    let cx = context_of (g.R.WasmModuleResources.resources c.args.self.now.resources) (feature_set c.args.self.now.features) c.args.self.now.locals c.args.self.now.ty in
+    let cx = body_context g.R.WasmModuleResources.resources c.args.self.now in
     rw c.in-12.is (number_tried cx c.args.stacks.now c.jump.new.stacks 12 c.args.number (λ n. Br n) c.jump.result br_coded refl refl c.requires.inside c.jump.ensures)
 
 pub returns-in-13 : goal.returns-in-13
 returns-in-13 g c =
-    let cx = context_of (g.R.WasmModuleResources.resources c.args.self.now.resources) (feature_set c.args.self.now.features) c.args.self.now.locals c.args.self.now.ty in
+    let cx = body_context g.R.WasmModuleResources.resources c.args.self.now in
     rw c.in-13.is (number_tried cx c.args.stacks.now c.jump_quickly_if.new.stacks 13 c.args.number (λ n. BrIf n) c.jump_quickly_if.result br_if_coded refl refl c.requires.inside c.jump_quickly_if.ensures)
 
 pub returns-in-32 : goal.returns-in-32
 returns-in-32 g c =
-    let cx = context_of (g.R.WasmModuleResources.resources c.args.self.now.resources) (feature_set c.args.self.now.features) c.args.self.now.locals c.args.self.now.ty in
+    let cx = body_context g.R.WasmModuleResources.resources c.args.self.now in
     rw c.in-32.is (number_tried cx c.args.stacks.now c.push_local.new.stacks 32 c.args.number (λ n. LocalGet n) c.push_local.result local_get_coded refl refl c.requires.inside c.push_local.ensures)
 
 pub returns-in-33 : goal.returns-in-33
 returns-in-33 g c =
-    let cx = context_of (g.R.WasmModuleResources.resources c.args.self.now.resources) (feature_set c.args.self.now.features) c.args.self.now.locals c.args.self.now.ty in
+    let cx = body_context g.R.WasmModuleResources.resources c.args.self.now in
     rw c.in-33.is (number_tried cx c.args.stacks.now c.set_local.new.stacks 33 c.args.number (λ n. LocalSet n) c.set_local.result set_local_coded refl refl c.requires.inside c.set_local.ensures)
 
 pub returns-in-34 : goal.returns-in-34
 returns-in-34 g c =
-    let cx = context_of (g.R.WasmModuleResources.resources c.args.self.now.resources) (feature_set c.args.self.now.features) c.args.self.now.locals c.args.self.now.ty in
+    let cx = body_context g.R.WasmModuleResources.resources c.args.self.now in
     rw c.in-34.is (number_tried cx c.args.stacks.now c.tee_local.new.stacks 34 c.args.number (λ n. LocalTee n) c.tee_local.result tee_local_coded refl refl c.requires.inside c.tee_local.ensures)
 
 pub returns-in-35 : goal.returns-in-35
 returns-in-35 g c =
-    let cx = context_of (g.R.WasmModuleResources.resources c.args.self.now.resources) (feature_set c.args.self.now.features) c.args.self.now.locals c.args.self.now.ty in
+    let cx = body_context g.R.WasmModuleResources.resources c.args.self.now in
     rw c.in-35.is (number_tried cx c.args.stacks.now c.push_global.new.stacks 35 c.args.number (λ n. GlobalGet n) c.push_global.result global_get_coded refl refl c.requires.inside c.push_global.ensures)
 
 pub returns-in-36 : goal.returns-in-36
 returns-in-36 g c =
-    let cx = context_of (g.R.WasmModuleResources.resources c.args.self.now.resources) (feature_set c.args.self.now.features) c.args.self.now.locals c.args.self.now.ty in
+    let cx = body_context g.R.WasmModuleResources.resources c.args.self.now in
     rw c.in-36.is (number_tried cx c.args.stacks.now c.set_global.new.stacks 36 c.args.number (λ n. GlobalSet n) c.set_global.result global_set_coded refl refl c.requires.inside c.set_global.ensures)

@@ -6,13 +6,14 @@ use Rattle.wasmparser_bodies.specs.BodyStates.{rest_outcome}
 use Rattle.wasmparser_func_validator.specs.FromBytes.{state_of}
 use Rattle.wasmparser_func_validator.proofs.ReadBodies.{answered, validated}
 use Rattle.wasmparser_func_validator.proofs.func_validator.FuncValidator.validate.Goals as goal
+use Rattle.wasmparser_func_validator.specs.Steps.{items_in}
 
 pub returns-clause-validated : goal.returns-clause-validated
 returns-clause-validated g c = λ ready few start type named.
     let v = c.args.self.now in
     let body = c.args.body.now in
     let f = feature_set v.body.features in
-    let items = (g.T.WasmModuleResources.resources v.body.resources).items in
+    let items = items_in g.T.WasmModuleResources.resources v.body in
     let state = state_of f items v.body.ty v.body.locals v.stacks v.failed in
     let is = c.set_features.ensures ∙ ap (λ (i : Input). record i { features = f }) c.get_binary_reader-reader.ensures.same in
     let answers = subst (λ (i : Input). AnswersOutcome i c.read_body-result.result (rest_outcome state i.rest)) is c.read_body-result.ensures.answers in

@@ -1,17 +1,18 @@
-//! Validators of bodies as judges of what is read.
+//! `FuncValidator` as the `BodyValidator` (`body_validator.rt` of `wasmparser_bodies`) that `read_body` calls.
 
 use crate::func_validator::FuncValidator;
-use wasmparser_bodies::judge_body::JudgeBody;
+use wasmparser_bodies::body_validator::BodyValidator;
 use wasmparser_bodies::module_resources::WasmModuleResources;
 use wasmparser_error::error::Error;
 use wasmparser_operators::operator::Operator;
 use wasmparser_types::val_type::ValType;
 
-impl<T: WasmModuleResources> JudgeBody for FuncValidator<T> {
+impl<T: WasmModuleResources> BodyValidator for FuncValidator<T> {
     ghost use Rattle.wasm_core_types.specs.Features.{feature_set};
     ghost use Rattle.wasmparser_func_validator.specs.FromBytes.{Given, state_of};
+    ghost use Rattle.wasmparser_func_validator.specs.Steps.{items_in};
 
-    ghost state = { λ v. state_of (feature_set v.body.features) (T.resources v.body.resources).items v.body.ty v.body.locals v.stacks v.failed };
+    ghost state = { λ v. state_of (feature_set v.body.features) (items_in T.resources v.body) v.body.ty v.body.locals v.stacks v.failed };
 
     ghost Kept = { Given T };
 

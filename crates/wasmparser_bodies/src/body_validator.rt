@@ -1,8 +1,8 @@
-//! What judges a body, as a reader of bodies sees it.
+//! What validates a body, as `read_body` sees it: `FuncValidator` of `wasmparser_func_validator`, which implements it in its own `body_validator.rt`.
 
 ghost use Rattle.std.specs.Prelude.{◌≡◌, ◌≢◌, ◌↔◌, [], IsTrue, true};
 ghost use Rattle.wasm_bodies.specs.BodyContext.{written};
-ghost use Rattle.wasmparser_bodies.specs.BodyStates.{BodyState, JudgesOperator};
+ghost use Rattle.wasmparser_bodies.specs.BodyStates.{BodyState, ValidatesOperator};
 ghost use Rattle.wasmparser_bodies.specs.LocalsAnswers.{DefinesRun};
 ghost use Rattle.wasmparser_bodies.specs.Runs.{RunsOn};
 ghost use Rattle.wasmparser_error.specs.declared.error.ErrorKind.TheVariants as kinds;
@@ -12,9 +12,10 @@ use wasmparser_error::error::{Error, ErrorKind};
 use wasmparser_operators::operator::Operator;
 use wasmparser_types::val_type::ValType;
 
-/// Judges a body: first its locals, run by run, and then its operators. After a refusal it is done with.
-pub trait JudgeBody {
-    // What the body is judged in, and what was judged of it.
+/// Validates a body: first its locals, run by run, and then its operators. After a refusal it is done with. This is a trait, though it has one
+/// implementation, so that reading is proved over the state of a body alone, without the stacks and the rules behind it.
+pub trait BodyValidator {
+    // What the body is validated in, and what was validated of it.
     ghost state: { Self → BodyState };
 
     // What stays the same, whatever is answered.
@@ -33,17 +34,17 @@ pub trait JudgeBody {
         ensures defined { DefinesRun offset count (written (state self.old).features (state self.old).items (module_type ty)) (state self.old) (state self.new) result }
         ensures kept { kept self.new ≡ kept self.old };
 
-    /// Judges the next operator, which is as a reader gives it.
+    /// Validates the next operator, which is as a reader gives it.
     ///
     /// # Errors
     /// `Body` at the offset, where it may not stand there; or `Memory`.
     fn op(&mut self, offset: u64, it: &Operator<'_>) -> Result<(), Error>
         requires whole { IsWhole it.now }
         requires ready { (state self.old).is_ready ≡ true }
-        ensures judged { JudgesOperator offset (operator it.now) (state self.old) (state self.new) result }
+        ensures validated { ValidatesOperator offset (operator it.now) (state self.old) (state self.new) result }
         ensures kept { kept self.new ≡ kept self.old };
 
-    /// Judges operators at the front of the bytes, as many as it likes, up to the body's last one, and gives the bytes that are left. What it would
+    /// Validates operators at the front of the bytes, as many as it likes, up to the body's last one, and gives the bytes that are left. What it would
     /// refuse it leaves.
     fn run<'a>(&mut self, code: &'a [u8]) -> &'a [u8]
         requires ready { (state self.old).is_ready ≡ true }

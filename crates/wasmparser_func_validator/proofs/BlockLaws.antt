@@ -1,5 +1,5 @@
 -- Opening blocks.
-use Rattle.std.proofs.Common.{◌≡◌, ℕ, Option, Some, None, List, ◌∷◌, refl, sym, ap, subst, ◌∙◌}
+use Rattle.std.proofs.Common.{◌≡◌, ℕ, Option, Some, None, IsSome, List, ◌∷◌, refl, sym, ap, subst, ◌∙◌}
 use Rattle.std.specs.Option.{option_and_then, option_map}
 use Rattle.wasm_bodies.specs.Bodies.{Entered, block_signature, entered_with}
 use Rattle.wasm_bodies.specs.BodyContext.{BodyContext, func_at, written}
@@ -13,6 +13,10 @@ use Rattle.wasmparser_types.specs.Index.{Index}
 
 some_is : {X : Type 0} (a b : X) → Some a ≡ Some b → a ≡ b
 some_is a b e = cc
+
+-- what is something is there
+pub there_is : {X : Type 0} {o : Option X} {x : X} → o ≡ Some x → IsSome o
+there_is e = rw e refl
 
 -- a block type that stands for something has the signature of what it stands for
 pub signature_of_meant : (cx : BodyContext Index) (type : operators.BlockType ℕ) (meant : operators.BlockType Index) → block_meant cx type ≡ Some meant → block_signature cx type ≡ Some (frame_type cx.items meant)

@@ -52,7 +52,7 @@ number_step cx old new code number bytes rest e h = (h.0 number, coded_reads cx.
 pub tried : (wanted : Option (State Index)) (old new : Machine Index) (r : Result (Unit {0}) Refusal) (b : Bool) → b ≡ is_ok r → Takes wanted old new r → TriesEffect wanted old new b
 tried wanted old new (Ok x) b e h = subst (λ t. TriesEffect wanted old new t) (sym e) h
 tried wanted old new (Err Invalid) b e h = subst (λ t. TriesEffect wanted old new t) (sym e) h.1
-tried wanted old new (Err Memory) b e h = subst (λ t. TriesEffect wanted old new t) (sym e) h
+tried wanted old new (Err Memory) b e h = subst (λ t. TriesEffect wanted old new t) (sym e) h.1
 
 -- ---- where operators without an inner list lead
 
@@ -79,7 +79,7 @@ pub stepped_tried : (cx : BodyContext Index) (old new : Machine Index) (code : �
     → b ≡ is_ok r → Steps (stepped cx old operator) old new r → TriesBare cx old new code b
 stepped_tried cx old new code operator (Ok x) b coded inside e h = subst (λ t. TriesBare cx old new code t) (sym e) (operator, coded, (h, inside h))
 stepped_tried cx old new code operator (Err Invalid) b coded inside e h = subst (λ t. TriesBare cx old new code t) (sym e) h.1
-stepped_tried cx old new code operator (Err Memory) b coded inside e h = subst (λ t. TriesBare cx old new code t) (sym e) h
+stepped_tried cx old new code operator (Err Memory) b coded inside e h = subst (λ t. TriesBare cx old new code t) (sym e) h.1
 
 some_frames : (m : Machine Index) (f : Frame Index) (fs : List (Frame Index)) → m.frames ≡ f ∷ fs → m.frames ≢ []
 some_frames m f fs e none = let g = sym e ∙ none in absurd cc
@@ -130,7 +130,7 @@ pub block_tried : (cx : BodyContext Index) (old new : Machine Index) (code : ℕ
     → b ≡ is_ok r → Steps (stepped cx old (make type)) old new r → TriesBlock cx old new code type b
 block_tried cx old new code type make (Ok x) b coded is not_end not_else e h = subst (λ t. TriesBlock cx old new code type t) (sym e) (make, coded, (h, opened_inside cx old new (make type) is not_end not_else h))
 block_tried cx old new code type make (Err Invalid) b coded is not_end not_else e h = subst (λ t. TriesBlock cx old new code type t) (sym e) h.1
-block_tried cx old new code type make (Err Memory) b coded is not_end not_else e h = subst (λ t. TriesBlock cx old new code type t) (sym e) h
+block_tried cx old new code type make (Err Memory) b coded is not_end not_else e h = subst (λ t. TriesBlock cx old new code type t) (sym e) h.1
 
 pub block_step : (cx : BodyContext Index) (old new : Machine Index) (code : ℕ) (type : BlockType ℕ) (bytes rest : List ℕ) → block_type_at All cx.features bytes ≡ Some (type, rest) → TriesBlock cx old new code type true → IsStep cx old new (code ∷ bytes) rest
 block_step cx old new code type bytes rest e h = (h.0 type, coded_reads cx.features code (OfBlock h.0) bytes h.1 ∙ rw e refl, h.2)

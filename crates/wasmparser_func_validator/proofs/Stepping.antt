@@ -1,5 +1,5 @@
 -- One step, by what its parts do.
-use Rattle.std.proofs.Common.{◌≡◌, ℕ, true, false, Option, Some, None, Result, Ok, Err, List, [], ◌∷◌, refl, sym, ap, subst, ◌∙◌}
+use Rattle.std.proofs.Common.{◌≡◌, ℕ, true, false, Option, Some, None, IsSome, Result, Ok, Err, List, [], ◌∷◌, refl, sym, ap, subst, ◌∙◌}
 use Rattle.std.specs.Option.{option_and_then, option_map}
 use Rattle.wasm_bodies.specs.Bodies.{Entered, block_signature, entered, entered_with}
 use Rattle.wasm_bodies.specs.BodyContext.{BodyContext, provided}
@@ -17,6 +17,10 @@ use Rattle.wasmparser_types.specs.Index.{Index}
 use Rattle.wasmparser_func_validator.specs.Steps.{HasEffect, Steps, Takes, opens_from}
 use Rattle.wasmparser_func_validator.specs.declared.refusal.Refusal.{Refusal}
 use Rattle.wasmparser_func_validator.specs.declared.refusal.Refusal.TheVariants.{Invalid, Memory}
+
+mapped_some : {A B : Type 0} (f : A → B) (o : Option A) → IsSome o → IsSome (option_map f o)
+mapped_some f None h = absurd cc
+mapped_some f (Some x) h = refl
 
 -- nothing is entered
 abbrev never : FrameKind → Option (Entered Index) → Option (BlockType Index) → Option (Frame Index)
@@ -65,7 +69,7 @@ module _ (cx : BodyContext Index) (s : State Index) (f : Frame Index) (fs : List
       → Takes (effect_of cx (labels_of cx.items (f ∷ fs)) s op) (record { now = s; frames = f ∷ fs }) new r → Steps (stepped_in cx (f ∷ fs) s op) (record { now = s; frames = f ∷ fs }) new r
   plain op new (Ok u) simple on h = rw (simple, on, h.0) (ap (λ l. Some (record { now = new.now; frames = l })) (sym h.1))
   plain op new (Err Invalid) simple on h = (rw (simple, on, h.0) refl, h.1)
-  plain op new (Err Memory) simple on h = h
+  plain op new (Err Memory) simple on h = (rw (simple, on) (mapped_some there _ h.0), h.1)
 
 -- an operator that no arm for blocks took
 pub is_plain : (op : ops.Operator) → ((b : code.BlockType) → op ≡ operators.Block b → ⊥) → ((b : code.BlockType) → op ≡ operators.Loop b → ⊥) → ((b : code.BlockType) → op ≡ operators.If b → ⊥) → (op ≡ operators.Else → ⊥) → (op ≡ operators.End → ⊥) → is_structural (operator op) ≡ false

@@ -1,5 +1,5 @@
 -- What operators do to the stacks of a body, and when they are refused.
-use Rattle.std.specs.Prelude.{◌≡◌, ℕ, List, Option, Some, None, option_map, Result, Ok, Err}
+use Rattle.std.specs.Prelude.{◌≡◌, ℕ, List, Option, Some, None, IsSome, option_map, Result, Ok, Err}
 use Rattle.std.specs.Option.{option_and_then}
 use Rattle.wasm_bodies.specs.BodyContext.{BodyContext, Local, ModuleItems}
 use Rattle.wasm_bodies.specs.Effects.{effect_of}
@@ -40,11 +40,12 @@ body_context seen body = context_of (seen body.resources) (feature_set body.feat
 abbrev pub items_in : {R : Type 0} → (R → Resources) → Body R → ModuleItems Index
 items_in seen body = (seen body.resources).items
 
--- On Ok the list that is typed is the wanted one, and the open blocks stay. Invalid comes only where there is none. A refusal leaves all as it was.
+-- On Ok the list that is typed is the wanted one, and the open blocks stay. Invalid comes only where there is none, and Memory only where there is one. A
+-- refusal leaves all as it was.
 abbrev pub Takes : Option (State Index) → Machine Index → Machine Index → Result (Unit {0}) Refusal → Type 0
 Takes wanted old new (Ok x) = (wanted ≡ Some new.now) × (new.frames ≡ old.frames)
 Takes wanted old new (Err Invalid) = (wanted ≡ None) × (new ≡ old)
-Takes wanted old new (Err Memory) = new ≡ old
+Takes wanted old new (Err Memory) = IsSome wanted × (new ≡ old)
 
 -- what an operator does that is allowed and has an effect
 abbrev pub HasEffect : BodyContext Index → operators.Operator ℕ → Machine Index → Machine Index → Result (Unit {0}) Refusal → Type 0
@@ -54,7 +55,7 @@ HasEffect cx operator old new result = Takes (effect_of cx (labels_of cx.items o
 abbrev pub Steps : Option (Machine Index) → Machine Index → Machine Index → Result (Unit {0}) Refusal → Type 0
 Steps wanted old new (Ok x) = wanted ≡ Some new
 Steps wanted old new (Err Invalid) = (wanted ≡ None) × (new ≡ old)
-Steps wanted old new (Err Memory) = new ≡ old
+Steps wanted old new (Err Memory) = IsSome wanted × (new ≡ old)
 
 -- ---- what is looked up
 

@@ -1,5 +1,5 @@
 -- What calls of a validator of a body answer.
-use Rattle.std.specs.Prelude.{◌≡◌, ◌++◌, ◌+◌, ℕ, Bool, true, false, List, length, replicate, Option, Some, None, is_some, option_map, Result, Ok, Err, if◌then◌else◌}
+use Rattle.std.specs.Prelude.{◌≡◌, ◌++◌, ◌+◌, ℕ, Bool, true, false, List, length, replicate, Option, Some, None, IsSome, is_some, option_map, Result, Ok, Err, if◌then◌else◌}
 use Rattle.wasm_bodies.specs.Bodies.{declared_local}
 use Rattle.wasm_bodies.specs.BodyContext.{Local}
 use Rattle.wasm_bodies.specs.Operands.{Operand, Known, Unknown, UnknownRef}
@@ -18,10 +18,10 @@ use Rattle.wasmparser_types.specs.declared.val_type.ValType as code
 
 -- ---- operators
 
--- what is wrong at an operator: nothing is wanted, or memory ran out, or something was refused before
+-- what is wrong at an operator: nothing is wanted, or memory ran out for what is, or something was refused before
 abbrev pub IsRefusedAt : ErrorKind → ℕ → Bool → ℕ → Option (Machine Index) → Type 0
 IsRefusedAt kinds.Body at failed offset wanted = (failed ≡ false) × (wanted ≡ None) × (at ≡ offset)
-IsRefusedAt kinds.Memory at failed offset wanted = (failed ≡ false) × (at ≡ 0)
+IsRefusedAt kinds.Memory at failed offset wanted = (failed ≡ false) × IsSome wanted × (at ≡ 0)
 IsRefusedAt kinds.Failed at failed offset wanted = (failed ≡ true) × (at ≡ offset)
 IsRefusedAt _ at failed offset wanted = ⊥
 

@@ -5,7 +5,7 @@ use Rattle.wasm_bodies.specs.BodyContext.{NamedType, ModuleItems, BodyContext}
 use Rattle.wasm_bodies.specs.Operators.{Operator}
 use Rattle.wasm_spec.specs.Features.{Flag, Features, bit_of, default_features}
 use Rattle.wasm_spec.specs.Subtyping.{abstract_of, bottom_of, is_abstract_below}
-use Rattle.wasm_spec.specs.Types.{AbstractHeapType, Extern, Struct, HeapType, Abstract, Concrete, ValType, I32, I64, F32, F64, V128, Ref, I8, I16, FieldType, FuncType, CompositeType, FuncComposite, StructComposite, ArrayComposite, RefType, TableType, Limits, funcref}
+use Rattle.wasm_spec.specs.Types.{AbstractHeapType, Func, Extern, Struct, HeapType, Abstract, Concrete, ValType, I32, I64, F32, F64, V128, Ref, I8, I16, FieldType, FuncType, CompositeType, FuncComposite, StructComposite, ArrayComposite, RefType, TableType, Limits, funcref}
 use Rattle.wasm_spec_examples.specs.Examples.{at_least}
 use Rattle.wasm_spec_examples.specs.TypeExamples.{const_field, gives, takes}
 
@@ -57,8 +57,8 @@ types =
     function [] [] ∷ function (I32 ∷ I64 ∷ []) (I32 ∷ []) ∷ function [] (I32 ∷ [])
     -- a structure of a number and a packed one, and an array of packed ones
     ∷ StructComposite (const_field I64 ∷ var_packed ∷ []) ∷ ArrayComposite (record { element_type = I16; mutable = true })
-    -- a structure and an array of references to the structure, which aren't null
-    ∷ StructComposite (const_field (to_type 3) ∷ []) ∷ ArrayComposite (const_field (to_type 3))
+    -- a structure of two numbers and, between them, a reference to the structure, which isn't null, and an array of such references
+    ∷ StructComposite (const_field I32 ∷ const_field (to_type 3) ∷ const_field I64 ∷ []) ∷ ArrayComposite (const_field (to_type 3))
     -- functions: of a number to a number, and to structures
     ∷ function (I32 ∷ []) (I32 ∷ []) ∷ function [] (to_type 3 ∷ []) ∷ function [] (any_structure ∷ [])
     -- functions of two numbers to two numbers, of a number to another, and of a structure to any
@@ -104,18 +104,24 @@ external = record { nullable = true; heap_type = Abstract Extern }
 abbrev pub of_one_type : RefType ℕ
 of_one_type = record { nullable = true; heap_type = Concrete 2 }
 
--- Six functions, of types 0, 1, 2, 7, 8 and 9, of which a body may refer to the third. Four tables: of functions, of functions with indexes of 64
--- bits, of what comes from outside, and of functions of one type. Two memories, the second of which has addresses of 64 bits; a global that can't
--- be set, and one that can; three element segments: of functions, of what comes from outside, and of functions of one type; one data segment.
+-- functions, and never null
+abbrev pub not_null : RefType ℕ
+not_null = record { nullable = false; heap_type = Abstract Func }
+
+-- Six functions, of types 0, 1, 2, 7, 8 and 9, of which a body may refer to the third. Five tables: of functions, of functions with indexes of 64
+-- bits, of what comes from outside, of functions of one type, and of functions without null. Two memories, the second of which has addresses of 64
+-- bits; a global that can't be set, and one that can; four element segments: of functions, of what comes from outside, of functions of one type, and
+-- of functions without null; one data segment.
 abbrev pub module_items : ModuleItems ℕ
 module_items = record {
   types = types;
   functions = 0 ∷ 1 ∷ 2 ∷ 7 ∷ 8 ∷ 9 ∷ [];
-  tables = table_of funcref (at_least 1) ∷ table_of funcref (wide (at_least 1)) ∷ table_of external (at_least 1) ∷ table_of of_one_type (at_least 1) ∷ [];
+  tables = table_of funcref (at_least 1) ∷ table_of funcref (wide (at_least 1)) ∷ table_of external (at_least 1) ∷ table_of of_one_type (at_least 1)
+      ∷ table_of not_null (at_least 1) ∷ [];
   memories = at_least 1 ∷ wide (at_least 1) ∷ [];
   globals = record { value_type = I64; mutable = false } ∷ record { value_type = I64; mutable = true } ∷ [];
   tags = [];
-  elements = funcref ∷ external ∷ of_one_type ∷ [];
+  elements = funcref ∷ external ∷ of_one_type ∷ not_null ∷ [];
   data_count = Some 1;
   declared = λ function. nat_eq function 2;
   is_below = is_type_below;

@@ -4,11 +4,11 @@ ghost use Rattle.std.specs.Prelude.{ℕ, [], ◌∷◌, true, false};
 ghost use Rattle.wasm_bodies.specs.Bodies.{IsBegun, block, done, if_else, if_then, loop};
 ghost use Rattle.wasm_bodies.specs.Effects.{Labels};
 ghost use Rattle.wasm_bodies.specs.Operands.{State, fresh};
-ghost use Rattle.wasm_bodies.specs.Operators.{Block, Br, BrIf, BrOnNonNull, BrOnNull, BrTable, CallRef, Drop, Else, Empty, End, If, Indexed, Loop, RefFunc, RefIsNull, RefNull, Return, StructNewDefault, Unreachable, Value};
+ghost use Rattle.wasm_bodies.specs.Operators.{Block, Br, BrIf, BrOnNonNull, BrOnNull, BrTable, CallRef, Drop, Else, Empty, End, If, Indexed, Loop, RefFunc, RefIsNull, RefNull, Return, StructNewDefault, Unreachable, V128Const, Value};
 ghost use Rattle.wasm_spec.specs.Features.{Floats, FunctionReferences, MultiValue, Simd, default_features};
-ghost use Rattle.wasm_spec.specs.Types.{Abstract, Concrete, F32, Func, I32, I64, Ref, V128};
+ghost use Rattle.wasm_spec.specs.Types.{Abstract, Concrete, F32, F64, Func, I32, I64, Ref, V128};
 ghost use Rattle.wasm_spec_examples.specs.BodyExamples.{CodeGives, CodeGivesNot, CodeGivesWith, Gives, GivesNot, any_structure, function_with, straight, then, to_type};
-ghost use Rattle.wasm_spec_examples.specs.OperatorExamples.{i32, i64, null, null_external, scalar};
+ghost use Rattle.wasm_spec_examples.specs.OperatorExamples.{f32, f64, i32, i64, null, null_external, scalar};
 ghost use Rattle.wasm_spec_examples.specs.TypeExamples.{gives};
 
 /// A block takes and gives what its type says, and its list sees nothing of the operands around it.
@@ -28,6 +28,9 @@ pub fn blocks()
     ensures of_no_type { CodeGivesNot [] (block (Indexed 13) done done) }
     ensures of_a_float { CodeGivesWith Floats [] (block (Value F32) (straight (Unreachable ∷ [])) (straight (Drop ∷ []))) }
     ensures of_a_vector { CodeGivesWith Simd [] (loop (Value V128) (straight (Unreachable ∷ [])) (straight (Drop ∷ []))) }
+    ensures float { CodeGives (F32 ∷ []) (block (Value F32) (straight (f32 ∷ [])) done) }
+    ensures double { CodeGives (F64 ∷ []) (block (Value F64) (straight (f64 ∷ [])) done) }
+    ensures vector { CodeGives (V128 ∷ []) (block (Value V128) (straight (V128Const [] ∷ [])) done) }
     ensures of_no_reference { CodeGivesNot [] (block (Value (to_type 13)) (straight (Unreachable ∷ [])) (straight (Drop ∷ []))) }
     ensures declared_result { CodeGives (Ref true (Abstract Func) ∷ []) (block (Value (Ref true (Abstract Func))) (straight (RefFunc 2 ∷ [])) done) }
     ensures no_sharper_result { CodeGivesNot (to_type 2 ∷ []) (block (Value (Ref true (Abstract Func))) (straight (RefFunc 2 ∷ [])) done) }
@@ -68,6 +71,8 @@ pub fn jumps_by_table()
     ensures large_index { GivesNot (I32 ∷ []) (i32 ∷ i64 ∷ BrTable [] 0 ∷ []) }
     ensures two_arities { CodeGivesNot (I32 ∷ []) (block Empty (straight (i32 ∷ i32 ∷ BrTable (0 ∷ []) 1 ∷ [])) (straight (i32 ∷ []))) }
     ensures other_type { CodeGivesNot (I32 ∷ []) (block (Value I64) (straight (i32 ∷ i32 ∷ BrTable (0 ∷ []) 1 ∷ [])) (straight (Drop ∷ i32 ∷ []))) }
+    ensures default_of_another { CodeGivesNot (I32 ∷ []) (block (Value I64) (straight (i64 ∷ i32 ∷ BrTable (0 ∷ []) 1 ∷ [])) (straight (Drop ∷ i32 ∷ []))) }
+    ensures default_alone_of_another { GivesNot (I32 ∷ []) (i64 ∷ i32 ∷ BrTable [] 0 ∷ []) }
     ensures two_arities_unknown { CodeGivesNot (I32 ∷ []) (block Empty (straight (Unreachable ∷ BrTable (0 ∷ []) 1 ∷ [])) (straight (i32 ∷ []))) }
     ensures other_types_unknown { CodeGives (I32 ∷ []) (block (Value I64) (straight (Unreachable ∷ BrTable (0 ∷ []) 1 ∷ [])) (straight (Drop ∷ i32 ∷ []))) }
     ensures below_both { CodeGives (to_type 2 ∷ []) (block (Value (Ref true (Abstract Func))) (straight (RefFunc 2 ∷ i32 ∷ BrTable (0 ∷ []) 1 ∷ [])) (straight (Drop ∷ RefFunc 2 ∷ []))) }
@@ -86,6 +91,8 @@ pub fn jumps_on_null()
     ensures to_nothing { GivesNot [] (null ∷ BrOnNull 1 ∷ Drop ∷ []) }
     ensures on_non_null { CodeGivesWith FunctionReferences (Ref false (Abstract Func) ∷ []) (block (Value (Ref false (Abstract Func))) (straight (null ∷ BrOnNonNull 0 ∷ RefFunc 2 ∷ [])) done) }
     ensures to_nullable { CodeGives (Ref true (Abstract Func) ∷ []) (block (Value (Ref true (Abstract Func))) (straight (null ∷ BrOnNonNull 0 ∷ RefFunc 2 ∷ [])) done) }
+    ensures on_non_null_with_others { Gives (I32 ∷ I64 ∷ Ref true (Abstract Func) ∷ []) (i32 ∷ i64 ∷ null ∷ BrOnNonNull 0 ∷ null ∷ []) }
+    ensures on_non_null_out_of_order { GivesNot (I32 ∷ I64 ∷ Ref true (Abstract Func) ∷ []) (i64 ∷ i32 ∷ null ∷ BrOnNonNull 0 ∷ Unreachable ∷ []) }
     ensures nothing_is_left { CodeGivesNot (Ref true (Abstract Func) ∷ []) (block (Value (Ref true (Abstract Func))) (straight (null ∷ BrOnNonNull 0 ∷ [])) done) }
     ensures to_another_kind { CodeGivesNot (Ref true (Abstract Func) ∷ []) (block (Value (Ref true (Abstract Func))) (straight (null_external ∷ BrOnNonNull 0 ∷ null ∷ [])) done) }
     ensures to_a_number { CodeGivesNot (I32 ∷ []) (block (Value I32) (straight (null ∷ BrOnNonNull 0 ∷ Drop ∷ i32 ∷ [])) done) }

@@ -54,6 +54,7 @@ pub fn assignments()
     ensures set_to_null { UsesNot [] (run_of 1 (Ref false (Abstract Func)) ∷ []) (straight (null ∷ LocalSet 0 ∷ [])) }
     ensures kept { Uses [] (run_of 1 (to_type 2) ∷ []) (straight (RefFunc 2 ∷ LocalTee 0 ∷ Drop ∷ LocalGet 0 ∷ Drop ∷ [])) }
     ensures set_another { UsesNot [] (run_of 2 (to_type 2) ∷ []) (straight (RefFunc 2 ∷ LocalSet 1 ∷ LocalGet 0 ∷ Drop ∷ [])) }
+    ensures set_both { Uses [] (run_of 2 (to_type 2) ∷ []) (straight (RefFunc 2 ∷ LocalSet 0 ∷ RefFunc 2 ∷ LocalSet 1 ∷ LocalGet 0 ∷ Drop ∷ LocalGet 1 ∷ Drop ∷ [])) }
     ensures seen_in_block { Uses [] (run_of 1 (to_type 2) ∷ []) (then (RefFunc 2 ∷ LocalSet 0 ∷ []) (block Empty (straight (LocalGet 0 ∷ Drop ∷ [])) done)) }
     ensures past_block { UsesNot [] (run_of 1 (to_type 2) ∷ []) (block Empty (straight (RefFunc 2 ∷ LocalSet 0 ∷ [])) (straight (LocalGet 0 ∷ Drop ∷ []))) }
     ensures past_loop { UsesNot [] (run_of 1 (to_type 2) ∷ []) (loop Empty (straight (RefFunc 2 ∷ LocalSet 0 ∷ [])) (straight (LocalGet 0 ∷ Drop ∷ []))) }

@@ -1,7 +1,7 @@
 //! Worked examples of operators: for each rule a body that keeps it, and one beside it that breaks it.
 
 ghost use Rattle.std.specs.Prelude.{[], ◌∷◌, true, false};
-ghost use Rattle.wasm_bodies.specs.OperatorRows.{Float32, Float64, access};
+ghost use Rattle.wasm_bodies.specs.OperatorRows.{Float32, Float64, Int32, access};
 ghost use Rattle.wasm_bodies.specs.Operators.{AnyConvertExtern, ArrayNew, ArrayNewDefault, ArrayNewFixed, Call, CallIndirect, CallRef, DataDrop, Drop, ElemDrop, Else, End, ExternConvertAny, F32Const, F64Const, GlobalGet, GlobalSet, Load, MemoryCopy, MemoryFill, MemoryGrow, MemoryInit, MemorySize, Nop, RefAsNonNull, RefEq, RefFunc, RefI31, RefIsNull, RefNull, ReturnCall, ReturnCallIndirect, ReturnCallRef, Select, SelectTyped, Store, StructNew, StructNewDefault, TableCopy, TableFill, TableGet, TableGrow, TableInit, TableSet, TableSize, Unreachable, V128Const};
 ghost use Rattle.wasm_spec.specs.Features.{BulkMemory, Floats, FunctionReferences, Gc, ReferenceTypes, SaturatingFloatToInt, SignExtension, Simd, TailCall};
 ghost use Rattle.wasm_spec.specs.Types.{Abstract, Any, Concrete, Cont, Eq, Extern, F32, F64, Func, I31, I32, I64, NoFunc, Ref, V128};
@@ -96,11 +96,17 @@ pub fn parametric()
     ensures dropped_reference { Gives [] (null ∷ Drop ∷ []) }
     ensures dropped_nothing { GivesNot [] (Drop ∷ []) }
     ensures chosen { Gives (I64 ∷ []) (i64 ∷ i64 ∷ i32 ∷ Select ∷ []) }
+    ensures chosen_small { Gives (I32 ∷ []) (i32 ∷ i32 ∷ i32 ∷ Select ∷ []) }
+    ensures chosen_float { Gives (F32 ∷ []) (f32 ∷ f32 ∷ i32 ∷ Select ∷ []) }
+    ensures chosen_double { Gives (F64 ∷ []) (f64 ∷ f64 ∷ i32 ∷ Select ∷ []) }
     ensures chosen_vector { Gives (V128 ∷ []) (V128Const [] ∷ V128Const [] ∷ i32 ∷ Select ∷ []) }
     ensures chosen_of_two_types { GivesNot (I64 ∷ []) (i64 ∷ i32 ∷ i32 ∷ Select ∷ []) }
     ensures chosen_by_another { GivesNot (I64 ∷ []) (i64 ∷ i64 ∷ i64 ∷ Select ∷ []) }
     ensures chosen_of_references { GivesNot (Ref true (Abstract Func) ∷ []) (null ∷ null ∷ i32 ∷ Select ∷ []) }
     ensures typed { GivesWith ReferenceTypes (I32 ∷ []) (i32 ∷ i32 ∷ i32 ∷ SelectTyped (I32 ∷ []) ∷ []) }
+    ensures typed_float { Gives (F32 ∷ []) (f32 ∷ f32 ∷ i32 ∷ SelectTyped (F32 ∷ []) ∷ []) }
+    ensures typed_double { Gives (F64 ∷ []) (f64 ∷ f64 ∷ i32 ∷ SelectTyped (F64 ∷ []) ∷ []) }
+    ensures typed_vector { Gives (V128 ∷ []) (V128Const [] ∷ V128Const [] ∷ i32 ∷ SelectTyped (V128 ∷ []) ∷ []) }
     ensures typed_references { Gives (Ref true (Abstract Func) ∷ []) (null ∷ RefFunc 2 ∷ i32 ∷ SelectTyped (Ref true (Abstract Func) ∷ []) ∷ []) }
     ensures typed_as_another { GivesNot (I32 ∷ []) (i32 ∷ i32 ∷ i32 ∷ SelectTyped (I64 ∷ []) ∷ []) }
     ensures typed_as_two { GivesNot (I32 ∷ I32 ∷ []) (i32 ∷ i32 ∷ i32 ∷ i32 ∷ i32 ∷ SelectTyped (I32 ∷ I32 ∷ []) ∷ []) }
@@ -119,7 +125,7 @@ pub fn calls()
     ensures short_index { GivesNot (I32 ∷ []) (i32 ∷ i64 ∷ i32 ∷ CallIndirect 1 1 ∷ []) }
     ensures index_first { GivesNot (I32 ∷ []) (i32 ∷ i32 ∷ i64 ∷ CallIndirect 1 0 ∷ []) }
     ensures through_no_functions { GivesNot (I32 ∷ []) (i32 ∷ i64 ∷ i32 ∷ CallIndirect 1 2 ∷ []) }
-    ensures through_no_table { GivesNot (I32 ∷ []) (i32 ∷ i64 ∷ i32 ∷ CallIndirect 1 4 ∷ []) }
+    ensures through_no_table { GivesNot (I32 ∷ []) (i32 ∷ i64 ∷ i32 ∷ CallIndirect 1 5 ∷ []) }
     ensures through_narrower_table { Gives (I32 ∷ []) (i32 ∷ CallIndirect 2 3 ∷ []) }
     ensures of_a_structure { GivesNot [] (Unreachable ∷ CallIndirect 3 0 ∷ []) }
     ensures of_reference { GivesWith FunctionReferences (I32 ∷ []) (RefFunc 2 ∷ CallRef 2 ∷ []) }
@@ -177,6 +183,14 @@ pub fn memories()
     ensures dropped_none { GivesNot [] (DataDrop 1 ∷ []) }
 {}
 
+/// Offsets are addresses of the memory, up to the last one of 64 bits.
+pub fn offsets()
+    ensures loaded { Gives (I32 ∷ []) (i64 ∷ Load (access 0x28 Int32 2) (access_at 2 1 18446744073709551615) ∷ []) }
+    ensures loaded_past { GivesNot (I32 ∷ []) (i64 ∷ Load (access 0x28 Int32 2) (access_at 2 1 18446744073709551616) ∷ []) }
+    ensures stored { Gives [] (i64 ∷ i32 ∷ Store (access 0x36 Int32 2) (access_at 2 1 18446744073709551615) ∷ []) }
+    ensures stored_past { GivesNot [] (i64 ∷ i32 ∷ Store (access 0x36 Int32 2) (access_at 2 1 18446744073709551616) ∷ []) }
+{}
+
 /// Items of tables, and operators on whole ranges of them.
 pub fn tables()
     ensures got { GivesWith ReferenceTypes (Ref true (Abstract Func) ∷ []) (i32 ∷ TableGet 0 ∷ []) }
@@ -184,6 +198,8 @@ pub fn tables()
     ensures got_by_another { GivesNot (Ref true (Abstract Func) ∷ []) (i32 ∷ TableGet 1 ∷ []) }
     ensures set { Gives [] (i32 ∷ RefFunc 2 ∷ TableSet 0 ∷ []) }
     ensures set_to_another { GivesNot [] (i32 ∷ RefFunc 2 ∷ TableSet 2 ∷ []) }
+    ensures long_set { Gives [] (i64 ∷ RefFunc 2 ∷ TableSet 1 ∷ []) }
+    ensures set_by_another { GivesNot [] (i32 ∷ RefFunc 2 ∷ TableSet 1 ∷ []) }
     ensures size { GivesWith ReferenceTypes (I64 ∷ []) (TableSize 1 ∷ []) }
     ensures grown { Gives (I64 ∷ []) (null ∷ i64 ∷ TableGrow 1 ∷ []) }
     ensures grown_with_another { GivesNot (I32 ∷ []) (null ∷ i32 ∷ TableGrow 2 ∷ []) }
@@ -191,6 +207,8 @@ pub fn tables()
     ensures filled_with_another { GivesNot [] (i64 ∷ null_external ∷ i64 ∷ TableFill 1 ∷ []) }
     ensures copied { GivesWith BulkMemory [] (i32 ∷ i32 ∷ i32 ∷ TableCopy 0 0 ∷ []) }
     ensures copied_from_long { Gives [] (i32 ∷ i64 ∷ i32 ∷ TableCopy 0 1 ∷ []) }
+    ensures copied_to_long { Gives [] (i64 ∷ i32 ∷ i32 ∷ TableCopy 1 0 ∷ []) }
+    ensures copied_to_long_by_another { GivesNot [] (i64 ∷ i32 ∷ i64 ∷ TableCopy 1 0 ∷ []) }
     ensures copied_in_long { Gives [] (i64 ∷ i64 ∷ i64 ∷ TableCopy 1 1 ∷ []) }
     ensures copied_to_wider { Gives [] (i32 ∷ i32 ∷ i32 ∷ TableCopy 0 3 ∷ []) }
     ensures copied_to_narrower { GivesNot [] (i32 ∷ i32 ∷ i32 ∷ TableCopy 3 0 ∷ []) }
@@ -200,9 +218,21 @@ pub fn tables()
     ensures filled_from_another_segment { GivesNot [] (i32 ∷ i32 ∷ i32 ∷ TableInit 1 0 ∷ []) }
     ensures filled_from_narrower_segment { Gives [] (i32 ∷ i32 ∷ i32 ∷ TableInit 2 0 ∷ []) }
     ensures filled_from_wider_segment { GivesNot [] (i32 ∷ i32 ∷ i32 ∷ TableInit 0 3 ∷ []) }
-    ensures filled_from_no_segment { GivesNot [] (i32 ∷ i32 ∷ i32 ∷ TableInit 3 0 ∷ []) }
+    ensures filled_from_no_segment { GivesNot [] (i32 ∷ i32 ∷ i32 ∷ TableInit 4 0 ∷ []) }
     ensures dropped { GivesWith BulkMemory [] (ElemDrop 1 ∷ []) }
-    ensures dropped_none { GivesNot [] (ElemDrop 3 ∷ []) }
+    ensures dropped_none { GivesNot [] (ElemDrop 4 ∷ []) }
+{}
+
+/// Tables and element segments whose items are never null.
+pub fn tables_without_null()
+    ensures got { Gives (Ref false (Abstract Func) ∷ []) (i32 ∷ TableGet 4 ∷ []) }
+    ensures got_where_null { GivesNot (Ref false (Abstract Func) ∷ []) (i32 ∷ TableGet 0 ∷ []) }
+    ensures set { Gives [] (i32 ∷ RefFunc 2 ∷ TableSet 4 ∷ []) }
+    ensures set_to_null { GivesNot [] (i32 ∷ null ∷ TableSet 4 ∷ []) }
+    ensures copied { Gives [] (i32 ∷ i32 ∷ i32 ∷ TableCopy 0 4 ∷ []) }
+    ensures copied_from_null { GivesNot [] (i32 ∷ i32 ∷ i32 ∷ TableCopy 4 0 ∷ []) }
+    ensures filled_from_segment { Gives [] (i32 ∷ i32 ∷ i32 ∷ TableInit 3 4 ∷ []) }
+    ensures filled_from_segment_with_null { GivesNot [] (i32 ∷ i32 ∷ i32 ∷ TableInit 0 4 ∷ []) }
 {}
 
 /// References: null of the type that is written, functions that are declared, and tests.
@@ -247,8 +277,10 @@ pub fn aggregates()
     ensures small_number_of_a_large { GivesNot (Ref false (Abstract I31) ∷ []) (i64 ∷ RefI31 ∷ []) }
     ensures inside { GivesWith Gc (Ref true (Abstract Any) ∷ []) (null_external ∷ AnyConvertExtern ∷ []) }
     ensures inside_as_none { GivesNot (Ref false (Abstract Any) ∷ []) (null_external ∷ AnyConvertExtern ∷ []) }
+    ensures inside_of_number { GivesNot [] (i32 ∷ AnyConvertExtern ∷ Drop ∷ []) }
     ensures inside_already { GivesNot [] (RefNull (Abstract Any) ∷ AnyConvertExtern ∷ Drop ∷ []) }
     ensures outside { GivesWith Gc (Ref false (Abstract Extern) ∷ []) (i32 ∷ RefI31 ∷ ExternConvertAny ∷ []) }
+    ensures outside_of_number { GivesNot [] (i32 ∷ ExternConvertAny ∷ Drop ∷ []) }
     ensures outside_already { GivesNot [] (null_external ∷ ExternConvertAny ∷ Drop ∷ []) }
 {}
 

@@ -7,7 +7,7 @@ ghost use Rattle.wasm_spec.specs.Matching.{CompositeMatches, FieldMatches, Stora
 ghost use Rattle.wasm_spec.specs.Subtyping.{HeapBelow, IsOfKind, SubTypes, ValBelow, bottom_of};
 ghost use Rattle.wasm_spec.specs.Trees.{section_types, type_at, unrolled};
 ghost use Rattle.wasm_spec.specs.TypeReferences.{group_refs, sub_refs};
-ghost use Rattle.wasm_spec.specs.Types.{Abstract, AbstractHeapType, Any, Array, ArrayComposite, Concrete, Cont, ContComposite, Eq, Exn, Extern, Func, FuncComposite, Group, HeapType, I16, I31, I32, I64, I8, NoCont, NoExn, NoExtern, NoFunc, None, Ref, Single, StorageType, Struct, StructComposite, SubType, Val, ValType, is_ref};
+ghost use Rattle.wasm_spec.specs.Types.{Abstract, AbstractHeapType, Any, Array, ArrayComposite, Concrete, Cont, ContComposite, Eq, Exn, Extern, F32, F64, Func, FuncComposite, Group, HeapType, I16, I31, I32, I64, I8, NoCont, NoExn, NoExtern, NoFunc, None, Ref, Single, StorageType, Struct, StructComposite, SubType, V128, Val, ValType, is_ref};
 ghost use Rattle.wasm_spec_examples.specs.TypeExamples.{IsOneType, any, any_structure, chain, const_field, empty_function, empty_structure, final_type, gives, of_params, one_field, open_below, open_type, pair_from, ref_null, structure_to, takes, two_fields, var_field};
 
 /// Two structures that refer to each other, written twice, are two types and not four; and it matters which place refers to which.
@@ -93,6 +93,10 @@ pub fn values<R>()
     ensures not_null { (sub_at : SubTypes R) (a b : HeapType R) → ¬ (ValBelow sub_at (Ref true a) (Ref false b)) }
     ensures upward { (sub_at : SubTypes R) (nullable : Bool) → ¬ (ValBelow sub_at (Ref nullable (Abstract Any)) (Ref nullable (Abstract Struct))) }
     ensures number { (sub_at : SubTypes R) → ValBelow sub_at I32 I32 }
+    ensures large_number { (sub_at : SubTypes R) → ValBelow sub_at I64 I64 }
+    ensures float { (sub_at : SubTypes R) → ValBelow sub_at F32 F32 }
+    ensures double { (sub_at : SubTypes R) → ValBelow sub_at F64 F64 }
+    ensures vector { (sub_at : SubTypes R) → ValBelow sub_at V128 V128 }
     ensures numbers { (sub_at : SubTypes R) (a b : ValType R) → is_ref a ≡ false → ValBelow sub_at a b → a ≡ b }
     ensures references { (sub_at : SubTypes R) (a b : ValType R) → is_ref a ≡ true → ValBelow sub_at a b → is_ref b ≡ true }
 {}
@@ -108,6 +112,8 @@ pub fn fields<R>()
     ensures var_const { (sub_at : SubTypes R) → ¬ (FieldMatches sub_at (var_field I32) (const_field I32)) }
     ensures packed { (sub_at : SubTypes R) (mutable : Bool)
         → FieldMatches sub_at (record { element_type = I8; mutable = mutable }) (record { element_type = I8; mutable = mutable }) }
+    ensures wide_packed { (sub_at : SubTypes R) (mutable : Bool)
+        → FieldMatches sub_at (record { element_type = I16; mutable = mutable }) (record { element_type = I16; mutable = mutable }) }
     ensures packed_mixed { (sub_at : SubTypes R) (mutable : Bool)
         → ¬ (FieldMatches sub_at (record { element_type = I8; mutable = mutable }) (record { element_type = I16; mutable = mutable })) }
     ensures i8 { (sub_at : SubTypes R) (b : StorageType R) → StorageBelow sub_at I8 b → b ≡ I8 }

@@ -8,6 +8,7 @@ returns c = record {
   set_to_null = wrong refl;
   kept = right refl;
   set_another = wrong refl;
+  set_both = right refl;
   seen_in_block = right refl;
   past_block = wrong refl;
   past_loop = wrong refl;

@@ -22,7 +22,9 @@ returns c = record {
   small_number_of_a_large = wrong refl;
   inside = (right refl, wrong refl);
   inside_as_none = wrong refl;
+  inside_of_number = wrong refl;
   inside_already = wrong refl;
   outside = (right refl, wrong refl);
+  outside_of_number = wrong refl;
   outside_already = wrong refl;
 }

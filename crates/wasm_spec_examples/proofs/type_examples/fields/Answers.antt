@@ -15,6 +15,7 @@ returns c start = record {
   const_var = λ sub_at m. let e = m.same in absurd cc;
   var_const = λ sub_at m. let e = m.same in absurd cc;
   packed = λ sub_at mutable. record { same = refl; below = tt; back = λ e. tt };
+  wide_packed = λ sub_at mutable. record { same = refl; below = tt; back = λ e. tt };
   packed_mixed = λ sub_at mutable m. m.below;
   i8 = packed_8;
   i16 = packed_16;

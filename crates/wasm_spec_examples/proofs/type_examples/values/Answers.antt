@@ -10,6 +10,10 @@ returns c start = record {
   not_null = λ sub_at a b h. let e = h.null refl in absurd cc;
   upward = λ sub_at nullable h. let e = complete sub_at {a = Abstract Any} {b = Abstract Struct} h.heap in absurd cc;
   number = λ sub_at. tt;
+  large_number = λ sub_at. tt;
+  float = λ sub_at. tt;
+  double = λ sub_at. tt;
+  vector = λ sub_at. tt;
   numbers = number_alone;
   references = reference_alone;
 }

@@ -1,7 +1,7 @@
 -- Types that worked examples share.
 use Rattle.std.specs.Prelude.{◌≡◌, ℕ, zero, suc, true, false, List, [], ◌∷◌, map, replicate}
 use Rattle.wasm_spec.specs.Trees.{section_types, type_at}
-use Rattle.wasm_spec.specs.Types.{Any, Struct, HeapType, Abstract, Concrete, ValType, I32, I64, Ref, Val, FieldType, FuncType, CompositeType, FuncComposite, StructComposite, ArrayComposite, ContComposite, SubType, RecGroup, Single, Group}
+use Rattle.wasm_spec.specs.Types.{Any, Struct, HeapType, Abstract, Concrete, ValType, I32, I64, Ref, StorageType, Val, FieldType, FuncType, CompositeType, FuncComposite, StructComposite, ArrayComposite, ContComposite, SubType, RecGroup, Single, Group}
 
 abbrev pub ref_null : {R : Type 0} → HeapType R → ValType R
 ref_null heap = Ref true heap
@@ -12,6 +12,10 @@ const_field type = record { element_type = Val type; mutable = false }
 
 abbrev pub var_field : {R : Type 0} → ValType R → FieldType R
 var_field type = record { element_type = Val type; mutable = true }
+
+-- one that holds a packed number, and can be written
+abbrev pub packed_field : {R : Type 0} → StorageType R → FieldType R
+packed_field type = record { element_type = type; mutable = true }
 
 -- functions without results, and without parameters
 abbrev pub takes : {R : Type 0} → List (ValType R) → FuncType R

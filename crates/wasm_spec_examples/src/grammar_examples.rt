@@ -6,9 +6,21 @@ ghost use Rattle.wasm_spec.specs.Constants.{AnyConvertExtern, ArrayNew, ArrayNew
 ghost use Rattle.wasm_spec.specs.Grammar.{IsModule, header};
 ghost use Rattle.wasm_spec.specs.ModuleParts.{IsDataSegment, IsElementSegment, IsExport, IsGlobal, IsImport, IsTable};
 ghost use Rattle.wasm_spec.specs.Syntax.{ActiveData, ActiveElement, CodeSection, CompactItems, CompactNames, Custom, DataCountSection, DataSection, DataSegment, DeclaredElement, ElementSection, ElementSegment, ExportSection, ExpressionItems, FunctionItems, FunctionSection, GlobalSection, Import, ImportEntry, ImportSection, MemorySection, PassiveData, PassiveElement, Section, StartSection, TableSection, TagSection, TypeSection};
-ghost use Rattle.wasm_spec.specs.TypeGrammar.{IsHeapIndex, IsHeapType, IsMemoryType, IsRecGroup, IsRefType, IsTableType, IsTagType, IsValType};
-ghost use Rattle.wasm_spec.specs.Types.{Abstract, ArrayComposite, Concrete, ContComposite, Extern, Func, FuncComposite, FuncExternal, FuncKind, GlobalExternal, Group, HeapType, I16, I32, I64, I8, MemoryExternal, MemoryKind, MemoryType, Ref, Single, StructComposite, TableExternal, TableType, TagExternal, Val, ValType, funcref};
+ghost use Rattle.wasm_spec.specs.TypeGrammar.{IsHeapIndex, IsHeapType, IsMemoryType, IsRecGroup, IsRefType, IsStorageType, IsTableType, IsTagType, IsValType};
+ghost use Rattle.wasm_spec.specs.Types.{Abstract, ArrayComposite, Concrete, ContComposite, Extern, F32, F64, Func, FuncComposite, FuncExternal, FuncKind, GlobalExternal, Group, HeapType, I16, I32, I64, I8, MemoryExternal, MemoryKind, MemoryType, Ref, Single, StructComposite, TableExternal, TableType, TagExternal, V128, Val, ValType, funcref};
 ghost use Rattle.wasm_spec_examples.specs.Examples.{at_least, final_type, no_values};
+
+/// Numbers, vectors and what fields hold: a byte each.
+pub fn values()
+    ensures i32 { IsValType (0x7f ∷ []) I32 }
+    ensures i64 { IsValType (0x7e ∷ []) I64 }
+    ensures f32 { IsValType (0x7d ∷ []) F32 }
+    ensures f64 { IsValType (0x7c ∷ []) F64 }
+    ensures v128 { IsValType (0x7b ∷ []) V128 }
+    ensures packed_8 { IsStorageType (0x78 ∷ []) I8 }
+    ensures packed_16 { IsStorageType (0x77 ∷ []) I16 }
+    ensures unpacked { IsStorageType (0x7d ∷ []) (Val F32) }
+{}
 
 /// Heap types and references.
 pub fn references()

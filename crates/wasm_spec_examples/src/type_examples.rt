@@ -8,7 +8,7 @@ ghost use Rattle.wasm_spec.specs.Subtyping.{HeapBelow, IsOfKind, SubTypes, ValBe
 ghost use Rattle.wasm_spec.specs.Trees.{section_types, type_at, unrolled};
 ghost use Rattle.wasm_spec.specs.TypeReferences.{group_refs, sub_refs};
 ghost use Rattle.wasm_spec.specs.Types.{Abstract, AbstractHeapType, Any, Array, ArrayComposite, Concrete, Cont, ContComposite, Eq, Exn, Extern, F32, F64, Func, FuncComposite, Group, HeapType, I16, I31, I32, I64, I8, NoCont, NoExn, NoExtern, NoFunc, None, Ref, Single, StorageType, Struct, StructComposite, SubType, V128, Val, ValType, is_ref};
-ghost use Rattle.wasm_spec_examples.specs.TypeExamples.{IsOneType, any, any_structure, chain, const_field, empty_function, empty_structure, final_type, gives, of_params, one_field, open_below, open_type, pair_from, ref_null, structure_to, takes, two_fields, var_field};
+ghost use Rattle.wasm_spec_examples.specs.TypeExamples.{IsOneType, any, any_structure, chain, const_field, empty_function, empty_structure, final_type, gives, of_params, one_field, open_below, open_type, packed_field, pair_from, ref_null, structure_to, takes, two_fields, var_field};
 
 /// Two structures that refer to each other, written twice, are two types and not four; and it matters which place refers to which.
 pub fn equal_groups()
@@ -36,6 +36,14 @@ pub fn references_to_types()
 
     // A structure that refers to itself, and one that refers to that one.
     ensures own { ¬ (IsOneType (Single (structure_to 0) ∷ Single (structure_to 0) ∷ []) 0 1) }
+{}
+
+/// A type index stands for a type with the values and packed numbers that are written.
+pub fn written_values()
+    ensures params { unrolled (type_at (section_types (Single (final_type (FuncComposite (takes (I32 ∷ I64 ∷ F32 ∷ F64 ∷ V128 ∷ [])))) ∷ [])) 0)
+        ≡ Some (final_type (FuncComposite (takes (I32 ∷ I64 ∷ F32 ∷ F64 ∷ V128 ∷ [])))) }
+    ensures fields { unrolled (type_at (section_types (Single (final_type (StructComposite (packed_field I8 ∷ packed_field I16 ∷ var_field F32 ∷ []))) ∷ [])) 0)
+        ≡ Some (final_type (StructComposite (packed_field I8 ∷ packed_field I16 ∷ var_field F32 ∷ []))) }
 {}
 
 /// References in the order of writing: supertypes, parameters and results, and fields.

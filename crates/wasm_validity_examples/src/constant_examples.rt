@@ -164,7 +164,10 @@ pub fn initialised_globals()
     ensures variable { IsKept at_first (own_global (variable I32) (i32_number ∷ [])) }
     ensures other_type { IsBroken at_first (own_global (constant I32) (i64_number ∷ [])) }
     ensures nothing { IsBroken at_first (own_global (constant I32) []) }
+    ensures large_number { IsKept at_first (own_global (constant I64) (i64_number ∷ [])) }
     ensures float { KeptWith (Floats ∷ []) at_first (own_global (constant F32) (F32Const 0 ∷ [])) }
+    ensures double { KeptWith (Floats ∷ []) at_first (own_global (constant F64) (F64Const 0 ∷ [])) }
+    ensures vector { KeptWith (Simd ∷ []) at_first (own_global (constant V128) (V128Const [] ∷ [])) }
     ensures itself { IsBroken at_first (own_global (constant I32) (GlobalGet 0 ∷ [])) }
     ensures one_before { KeptWith (Gc ∷ []) (after at_first (own_global (constant I32) (i32_number ∷ []))) (own_global (constant I32) (GlobalGet 0 ∷ [])) }
     ensures variable_before { IsBroken (after at_first (own_global (variable I32) (i32_number ∷ []))) (own_global (constant I32) (GlobalGet 0 ∷ [])) }

@@ -55,6 +55,7 @@ pub fn unreachable_code()
 /// What a list assigns, it assigns for itself and the lists in it.
 pub fn assignments()
     ensures inside { LeadsWith (run_of 1 (to_type 2) ∷ []) 0 (Block Empty ∷ RefFunc 2 ∷ LocalSet 0 ∷ Block Empty ∷ LocalGet 0 ∷ Drop ∷ []) (fresh [] (0 ∷ [])) (frame_of BlockFrame Empty (fresh [] (0 ∷ [])) ∷ frame_of BlockFrame Empty (fresh [] []) ∷ body 0 ∷ []) }
+    ensures second { LeadsWith (run_of 2 (to_type 2) ∷ []) 0 (RefFunc 2 ∷ LocalSet 0 ∷ RefFunc 2 ∷ LocalSet 1 ∷ []) (fresh [] (0 ∷ 1 ∷ [])) (body 0 ∷ []) }
     ensures past { LeadsWith (run_of 1 (to_type 2) ∷ []) 0 (Block Empty ∷ RefFunc 2 ∷ LocalSet 0 ∷ End ∷ []) (fresh [] []) (body 0 ∷ []) }
     ensures used_past { StopsWith (run_of 1 (to_type 2) ∷ []) 0 (Block Empty ∷ RefFunc 2 ∷ LocalSet 0 ∷ End ∷ LocalGet 0 ∷ []) }
     ensures in_second { LeadsWith (run_of 1 (to_type 2) ∷ []) 0 (i32 ∷ If Empty ∷ RefFunc 2 ∷ LocalSet 0 ∷ Else ∷ []) (fresh [] []) (frame_of ElseFrame Empty (fresh [] []) ∷ body 0 ∷ []) }

@@ -29,7 +29,7 @@ here from at offset a o = record { from = omega (arith, a, o); to = omega (arith
 refused : (old : BodyState) (from : Input) (operator : Operator ℕ) (rest : List ℕ) (kind : ErrorKind) (at offset : ℕ) → old.machine.frames ≢ [] → operator_at old.features from.rest ≡ Some (operator, rest) → offset ≡ from.position
     → IsRefusedStep kind at offset (stepped (context_in old) old.machine operator) → NamesFault kind (code_outcome (context_in old) old.machine from.rest) × IsPlacedIn kind from at
 refused old from operator rest kinds.Body at offset some e o h = (code_refused (context_in old) old.machine from.rest operator rest some e h.0, here from at offset h.1 o)
-refused old from operator rest kinds.Memory at offset some e o h = (tt, h)
+refused old from operator rest kinds.Memory at offset some e o h = (tt, h.1)
 refused old from operator rest _ at offset some e o h = absurd h
 
 pub step_validated : (old new : BodyState) (from to : Input) (offset : ℕ) (operator : Operator ℕ) (answer : Result (Unit {0}) Error) → old.machine.frames ≢ [] → from.features ≡ old.features → offset ≡ from.position

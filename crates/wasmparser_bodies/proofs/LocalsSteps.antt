@@ -78,7 +78,7 @@ module _ (old : BodyState) (from : Input) (count : ℕ) (mid : List ℕ) (type :
   refused kinds.Body at offset o h =
       ((λ others. run_unwritten old.features old.items old.locals from.rest run rest others (a_run from.rest count mid type rest counted typed) h.0), here from at offset h.1 o)
   refused (kinds.Limit limit) at offset o h = limit_refused limit at offset o h
-  refused kinds.Memory at offset o h = ((λ others. tt), h)
+  refused kinds.Memory at offset o h = ((λ others. tt), h.2)
   refused _ at offset o h = absurd h
 
 pub with_itself : (old new : BodyState) (locals : List (Local Index)) → new ≡ with_locals_in locals old → new ≡ with_locals_in new.locals old

@@ -1,5 +1,5 @@
 -- A body that is being validated.
-use Rattle.std.specs.Prelude.{◌≡◌, ℕ, Bool, List, [], map, Option, Some, None, Result, Ok, Err}
+use Rattle.std.specs.Prelude.{◌≡◌, ℕ, Bool, List, [], map, Option, Some, None, IsSome, Result, Ok, Err}
 use Rattle.wasm_bodies.specs.Bodies.{parameter}
 use Rattle.wasm_bodies.specs.BodyContext.{BodyContext, ModuleItems, Local}
 use Rattle.wasm_bodies.specs.Operators.{Indexed, Operator}
@@ -51,10 +51,10 @@ HasEnded old new = (new.machine.frames ≡ []) × (new ≡ with_machine_in new.m
 
 -- ---- operators
 
--- what is wrong at an operator: it leads nowhere, or memory ran out
+-- what is wrong at an operator: it leads nowhere, or memory ran out where it leads
 abbrev pub IsRefusedStep : ErrorKind → ℕ → ℕ → Option (Machine Index) → Type 0
 IsRefusedStep kinds.Body at offset wanted = (wanted ≡ None) × (at ≡ offset)
-IsRefusedStep kinds.Memory at offset wanted = at ≡ 0
+IsRefusedStep kinds.Memory at offset wanted = IsSome wanted × (at ≡ 0)
 IsRefusedStep _ at offset wanted = ⊥
 
 -- an operator leads where it leads

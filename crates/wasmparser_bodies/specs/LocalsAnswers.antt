@@ -21,11 +21,11 @@ use Rattle.wasmparser_bodies.specs.LocalsReading.{LocalsOutcome, Locals, TooMany
 
 -- ---- one run
 
--- what is wrong with a run: its type stands for nothing, there are too many locals, or memory ran out
+-- what is wrong with a run: its type stands for nothing, there are too many locals, or memory ran out for a run that may come
 abbrev pub IsRefusedRun : ErrorKind → ℕ → ℕ → ℕ → Option (ValType Index) → Type 0
 IsRefusedRun kinds.Body at offset total type = (type ≡ None) × (at ≡ offset)
 IsRefusedRun (kinds.Limit core.Locals) at offset total type = (is_some type ≡ true) × limits.IsPassedBy limits.Locals total × (at ≡ offset)
-IsRefusedRun kinds.Memory at offset total type = at ≡ 0
+IsRefusedRun kinds.Memory at offset total type = (is_some type ≡ true) × (limits.IsPassedBy limits.Locals total → ⊥) × (at ≡ 0)
 IsRefusedRun _ at offset total type = ⊥
 
 -- so many locals more of what a type stands for, within the limit

@@ -138,6 +138,7 @@ impl Locals {
         ensures ok { OnOk result (self.new ≡ self.old ++ replicate count (local_seen local.now)) }
         ensures within { OnOk result (limits.IsPassedBy limits.Locals (length self.old + count) → ⊥) }
         ensures limit { result ≡ Err LocalsError.Limit → limits.IsPassedBy limits.Locals (length self.old + count) }
+        ensures memory { result ≡ Err LocalsError.Memory → limits.IsPassedBy limits.Locals (length self.old + count) → ⊥ }
         ensures refused { OnErr result (self.new ≡ self.old) }
     {
         if u64::from(self.count) + u64::from(count) > MAX_WASM_FUNCTION_LOCALS {
@@ -183,6 +184,7 @@ impl Locals {
         ensures ok { OnOk result (self.new ≡ self.old ++ replicate count (declared_local (val_type value_type))) }
         ensures within { OnOk result (limits.IsPassedBy limits.Locals (length self.old + count) → ⊥) }
         ensures limit { result ≡ Err LocalsError.Limit → limits.IsPassedBy limits.Locals (length self.old + count) }
+        ensures memory { result ≡ Err LocalsError.Memory → limits.IsPassedBy limits.Locals (length self.old + count) → ⊥ }
         ensures refused { OnErr result (self.new ≡ self.old) }
     {
         let local = Local {

@@ -40,7 +40,7 @@ Tries failed offset wanted old new after (Err e) = IsRefusedAt e.kind e.offset f
 abbrev pub IsRefusedRun : ErrorKind → ℕ → Bool → ℕ → ℕ → Option (ValType Index) → Type 0
 IsRefusedRun kinds.Body at failed offset total type = (failed ≡ false) × (type ≡ None) × (at ≡ offset)
 IsRefusedRun (kinds.Limit Locals) at failed offset total type = (failed ≡ false) × (is_some type ≡ true) × limits.IsPassedBy limits.Locals total × (at ≡ offset)
-IsRefusedRun kinds.Memory at failed offset total type = (failed ≡ false) × (at ≡ 0)
+IsRefusedRun kinds.Memory at failed offset total type = (failed ≡ false) × (is_some type ≡ true) × (limits.IsPassedBy limits.Locals total → ⊥) × (at ≡ 0)
 IsRefusedRun kinds.Failed at failed offset total type = (failed ≡ true) × (at ≡ offset)
 IsRefusedRun _ at failed offset total type = ⊥
 

@@ -13,3 +13,9 @@ returns-clause-within c = λ passed.
     let i = c.self.inside in
     let n : c.self.inside.count ≡ length c.args.self.now = count_is i.first.items i.runs.items i.count c.self.invariant.laid_out ∙ ap length c.self.view_is in
     omega (arith, c.from.ensures, c.from-2.ensures)
+
+pub returns-then-is_err-clause-memory : goal.returns-then-is_err-clause-memory
+returns-then-is_err-clause-memory c = λ e passed.
+    let i = c.self.inside in
+    let n : c.self.inside.count ≡ length c.args.self.now = count_is i.first.items i.runs.items i.count c.self.invariant.laid_out ∙ ap length c.self.view_is in
+    omega (arith, c.from.ensures, c.from-2.ensures)

@@ -1,6 +1,6 @@
 //! The types that a validator knows, in which equal ones are one.
 
-ghost use Rattle.std.specs.Prelude.{◌≡◌, ◌≤◌, IfErr, IfOk, map};
+ghost use Rattle.std.specs.Prelude.{◌≡◌, ◌⊎◌, ◌≤◌, ◌<◌, IfErr, IfOk, map};
 ghost use Rattle.std.specs.Option.{option_copied};
 ghost use Rattle.wasmparser_types.specs.RecGroups.{members};
 ghost use Rattle.wasmparser_types.specs.SubTypes.{sub_type};
@@ -37,6 +37,7 @@ fn reserve(
     ensures chains { chains.new.items ≡ chains.old.items }
     ensures groups { groups.new.items ≡ groups.old.items }
     ensures room { IfOk result (λ _. (count ≤ types.new.room) × (count ≤ rec_groups.new.room) × (count ≤ chains.new.room) × (1 ≤ groups.new.room)) }
+    ensures no_room { IfErr result (λ _. (types.old.room < count) ⊎ ((rec_groups.old.room < count) ⊎ ((chains.old.room < count) ⊎ (groups.old.room < 1)))) }
 {
     types.reserve(count)?;
     rec_groups.reserve(count)?;
@@ -102,7 +103,7 @@ impl Model for TypeList {
 }
 
 impl TypeList {
-    ghost use Rattle.std.specs.Prelude.{◌≡◌, ◌+◌, ◌≤◌, [], Some, None, IfErr, IfOk, IsSome, OnOk, Bool, ℕ, ◌<◌, ◌∷◌, length, map, nat_le, slice_get, true};
+    ghost use Rattle.std.specs.Prelude.{◌≡◌, ◌+◌, ◌≤◌, [], Some, None, IfErr, IfOk, IsSome, OnOk, Bool, ℕ, ◌<◌, ◌^◌, ◌∷◌, length, map, nat_le, slice_get, true};
     ghost use Rattle.wasmparser_error.specs.declared.error.ErrorKind.TheVariants as kinds;
     ghost use Rattle.wasmparser_types.specs.UnpackedIndex as unpacked;
     ghost use Rattle.wasmparser_type_relations.specs.Chains.{chain_of};
@@ -127,6 +128,17 @@ impl TypeList {
         }
     }
 
+    // The number of the next group, unless there are as many as a `u32` counts.
+    fn next_group(&self) -> Result<RecGroupId, AllocError>
+        ensures next { IfOk result (λ id. id ≡ length self.now.groups) }
+        ensures full { IfErr result (λ _. 2 ^ 32 ≤ length self.now.groups) }
+    {
+        match u32::try_from(self.rec_group_elements.len()) {
+            Ok(number) => Ok(RecGroupId::from_index(number)),
+            Err(_) => Err(AllocError),
+        }
+    }
+
     // Adds a group. All that may be refused comes before the first change.
     fn add(
         &mut self,
@@ -142,10 +154,7 @@ impl TypeList {
     {
         let count = types.len();
         let first = self.core_types.len() as u32;
-        let Ok(number) = u32::try_from(self.rec_group_elements.len()) else {
-            return Err(AllocError);
-        };
-        let id = RecGroupId::from_index(number);
+        let id = self.next_group()?;
         make_absolute(&mut types, first);
         let chains = group_chains(self.alloc, &self.core_type_to_chain, &types)?;
         let rec_groups = vec![in self.alloc; id; count]?;

@@ -45,11 +45,11 @@ returns-clause-added c =
     c.make_absolute.ensures ∙ ap (λ n. subs_map (absolute n) group) first_is in
     let types_are : c.append_reserved.new.self.items ≡ old.types ++ c.make_absolute.new.types.items =
     c.append_reserved.ensures ∙ ap (λ q. q ++ c.make_absolute.new.types.items) (c.in_ok-reserve.ensures.types ∙ ap (λ t. t.types) c.self.view_is) in
-    let id = c.from_index-id.result in
+    let id = c.in_ok-id.id in
     let count_is : c.len-count.result ≡ length group = omega (arith, c.len-count.ensures, c.args.types.ok.0, length-map c.args.types.items sub_type) in
     let last_is : c.from_index-end.result ≡ length old.types + length group = omega (arith, c.from_index-end.ensures, first_is, count_is) in
     record {
-      number_is = c.from_index-id.ensures ∙ c.in-Ok.ensures.1 ∙ c.len.ensures ∙ ap (λ t. length t.groups) c.self.view_is;
+      number_is = c.in_ok-id.ensures.next;
       kept = (c.make_absolute.new.types.items, types_are);
       types = ap (map sub_type) types_are ∙ map-append sub_type old.types c.make_absolute.new.types.items ∙ ap (λ q. sub_types old ++ q) absolutes;
       rec_groups = c.append_reserved-2.ensures

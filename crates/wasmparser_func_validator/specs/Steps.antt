@@ -24,7 +24,7 @@ use Rattle.wasmparser_types.specs.declared.val_type.ValType as code
 use Rattle.wasmparser_bodies.specs.StackViews.{block_with_ids, frame_kind}
 use Rattle.wasmparser_bodies.specs.declared.frame.FrameKind.{FrameKind}
 
--- what a body of a function whose type has this index is validated in
+-- the context of a body of a function whose type has this index
 abbrev pub context_of : Resources → Features → List (Local Index) → ℕ → BodyContext Index
 context_of resources features locals type = record {
   features = features;
@@ -33,10 +33,11 @@ context_of resources features locals type = record {
   results = (frame_type resources.items (Indexed type)).results;
 }
 
--- the same of a body whose module is seen like this, and what its operators may name
+-- the same of a body whose module is seen like this
 abbrev pub body_context : {R : Type 0} → (R → Resources) → Body R → BodyContext Index
 body_context seen body = context_of (seen body.resources) (feature_set body.features) body.locals body.ty
 
+-- the items that its operators may name
 abbrev pub items_in : {R : Type 0} → (R → Resources) → Body R → ModuleItems Index
 items_in seen body = (seen body.resources).items
 

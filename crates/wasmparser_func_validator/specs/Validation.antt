@@ -18,7 +18,7 @@ use Rattle.wasmparser_types.specs.declared.val_type.ValType as code
 
 -- ---- operators
 
--- what is wrong at an operator: nothing is wanted, or memory ran out for what is, or something was refused before
+-- the cause of an error at an operator: it leads nowhere, memory ran out though it leads somewhere, or an earlier one was refused
 abbrev pub IsRefusedAt : ErrorKind → ℕ → Bool → ℕ → Option (Machine Index) → Type 0
 IsRefusedAt kinds.Body at failed offset wanted = (failed ≡ false) × (wanted ≡ None) × (at ≡ offset)
 IsRefusedAt kinds.Memory at failed offset wanted = (failed ≡ false) × IsSome wanted × (at ≡ 0)

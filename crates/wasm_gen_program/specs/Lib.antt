@@ -2,8 +2,6 @@ pub mod Asked
 pub mod CheckInputs
 pub mod CommandLine
 pub mod Device
-pub mod Input
-pub mod Inputs
 pub mod Run
 pub mod RunGenerate
 pub mod Transfer

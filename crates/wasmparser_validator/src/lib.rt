@@ -3,13 +3,16 @@
 
 pub mod core_imports;
 pub mod examples;
+mod growing_types;
 pub mod laws;
+mod modules;
 mod payload;
 pub mod resources;
+mod sections;
 pub mod spaces;
 pub mod types;
+mod unknown;
 pub mod valid_payload;
-mod validate_all;
-mod validate_bodies;
+mod valid_state;
 pub mod validator;
 pub mod validator_id;

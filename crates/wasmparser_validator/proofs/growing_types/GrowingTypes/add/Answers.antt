@@ -1,0 +1,13 @@
+use Rattle.wasmparser_payloads.specs.Parsing.{piece}
+use Rattle.wasmparser_validator.proofs.JudgeLaws.{body_adds_nothing}
+use Rattle.wasmparser_validator.proofs.ResourceLaws.{kept_tells}
+use Rattle.wasmparser_validator.proofs.growing_types.GrowingTypes.add.Goals as goal
+
+pub invariant_of-self-in-CodeSectionEntry-2 : goal.invariant_of-self-in-CodeSectionEntry-2
+unfolding piece
+invariant_of-self-in-CodeSectionEntry-2 c =
+    let says = rw c.in-CodeSectionEntry.is at c.in_ok-add.ensures.added in (
+      c.add.ensures.grows,
+      kept_tells c.self.inside.types c.add.new.self c.take-resources.result c.self.inside.resources c.take-resources.ensures.value c.add.ensures.features
+          (body_adds_nothing _ _ _ _ _ c.in-CodeSectionEntry.field-0 tt says) c.self.invariant.1,
+    )

@@ -40,7 +40,7 @@ enum wasm_gen_kind {
     WASM_GEN_CONFIG = 13,       /* a value of the configuration isn't allowed */
     WASM_GEN_SHAPE = 14,        /* the configuration asks for what can't be made */
     WASM_GEN_MINIMUM = 15,      /* fewer items than the configuration's minimum can be made */
-    WASM_GEN_EMPTY_CHOICE = 16, /* a choice of nothing */
+    WASM_GEN_EMPTY_CHOICE = 16, /* a choice among no alternatives */
     WASM_GEN_TYPE_SIZE = 17     /* the types of imports and exports are too large together */
 };
 

@@ -1,4 +1,4 @@
-/* A libFuzzer target: has any bytes judged, makes a module of them, and hands both to an engine. Put yours in place of `engine`. */
+/* A libFuzzer target: validates any bytes, makes a module of them, and hands both to an engine. Put yours in place of `engine`. */
 #include <stdlib.h>
 #include <wasm_gen.h>
 
@@ -7,8 +7,8 @@ static void engine(const uint8_t *bytes, size_t length, int is_valid) {
     (void)bytes, (void)length, (void)is_valid;
 }
 
-/* Judges the bytes, and hands them to the engine. Each kind has a branch of its own, which the fuzzer sees. */
-static void judge(const uint8_t *bytes, size_t length, uint32_t features, int is_generated) {
+/* Validates the bytes, and hands them to the engine. Each kind has a branch of its own, which the fuzzer sees. */
+static void check(const uint8_t *bytes, size_t length, uint32_t features, int is_generated) {
     struct wasm_gen_verdict verdict;
     switch (wasm_gen_check(bytes, length, features, &verdict)) {
     case WASM_GEN_YES: engine(bytes, length, 1); return;
@@ -23,22 +23,22 @@ static void judge(const uint8_t *bytes, size_t length, uint32_t features, int is
     if (is_generated) abort();
 }
 
-/* Makes a module of the bytes, and hands it on. Where it doesn't fit into the buffer, asks again with one of the length that was told. */
+/* Makes a module of the bytes, and hands it on. Where it doesn't fit into the buffer, asks again with one of the length that was given. */
 static void generate(const uint8_t *seed, size_t size) {
     static uint8_t *module;
-    static size_t room;
+    static size_t capacity;
     size_t length;
-    uint32_t kind = wasm_gen_generate(NULL, 0, seed, size, module, room, &length);
+    uint32_t kind = wasm_gen_generate(NULL, 0, seed, size, module, capacity, &length);
     if (kind == WASM_GEN_BUFFER) {
-        module = realloc(module, room = length);
+        module = realloc(module, capacity = length);
         if (!module) abort();
-        kind = wasm_gen_generate(NULL, 0, seed, size, module, room, &length);
+        kind = wasm_gen_generate(NULL, 0, seed, size, module, capacity, &length);
     }
-    if (kind == WASM_GEN_YES) judge(module, length, wasm_gen_features_generated(), 1);
+    if (kind == WASM_GEN_YES) check(module, length, wasm_gen_features_generated(), 1);
 }
 
 int LLVMFuzzerTestOneInput(const uint8_t *data, size_t size) {
-    judge(data, size, wasm_gen_features_default(), 0);
+    check(data, size, wasm_gen_features_default(), 0);
     generate(data, size);
     return 0;
 }

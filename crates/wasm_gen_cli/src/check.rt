@@ -13,7 +13,11 @@ use wasm_gen::status::status_of;
 struct NamedFiles<'a, R>(&'a R);
 
 impl<R: Files + Eprint> Inputs for NamedFiles<'_, R> {
+    ghost use Rattle.std.specs.Prelude.{None};
+
     type Input = R::File;
+
+    ghost events = { λ _. None };
 
     fn open(&mut self, name: &str) -> Option<R::File> {
         fs::open(self.0, name).ok()

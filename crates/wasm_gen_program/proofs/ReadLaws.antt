@@ -3,7 +3,7 @@ use Rattle.std.proofs.Common.{ℕ, ◌+◌, ◌<◌, ◌≤◌, Option, Some, No
 use Rattle.wasm_gen_program.specs.Device.{ReadCounts, Tells, EndsRead, FailsOrTires, FailsRead, ReadsOn, ReadsToEnd, ReadsWithin}
 
 -- a step, and then another
-joined : {T : Type 0} (first second both : T → T → Type 0) → ((x y z : T) → first x y → second y z → both x z) → (a b c : Option T)
+pub joined : {T : Type 0} (first second both : T → T → Type 0) → ((x y z : T) → first x y → second y z → both x z) → (a b c : Option T)
     → Tells first a b → Tells second b c → Tells both a c
 joined first second both step a b None p q = tt
 joined first second both step a None (Some z) p q = absurd q

@@ -1,6 +1,5 @@
 -- What writes in a row tell together.
-use Rattle.std.proofs.Common.{ℕ, ◌+◌, List, Option, Some, None, refl, ◌∙◌, ap}
-use Rattle.std.specs.Io.KnownBytes.{Keeps}
+use Rattle.std.proofs.Common.{ℕ, ◌+◌, Option, Some, None, refl, ◌∙◌, ap}
 use Rattle.wasm_gen_program.specs.Device.{WritesOn, FailsWrite}
 
 pub writes_go_on : (a b c : Option ℕ) → WritesOn a b → WritesOn b c → WritesOn a c
@@ -14,10 +13,6 @@ last_write_fails a b None p q = tt
 last_write_fails a None (Some z) p q = absurd q
 last_write_fails None (Some y) (Some z) p q = absurd p
 last_write_fails (Some x) (Some y) (Some z) p q = q ∙ ap (λ n. n + 1) p
-
-pub none_kept : (a : Option (List ℕ)) → Keeps a a
-none_kept None = tt
-none_kept (Some bytes) = refl
 
 pub none_written : (a : Option ℕ) → WritesOn a a
 none_written None = tt

@@ -1,11 +1,13 @@
 -- Validating many inputs one after the other.
-use Rattle.std.specs.Io.KnownBytes.{Keeps}
-use Rattle.std.specs.Prelude.{◌≡◌, ◌⊎◌, ◌+◌, if◌then◌else◌, ℕ, List, [], ◌∷◌, ◌++◌, length, Bool, true, false, Option, Result, Ok, Err}
+use Rattle.std.specs.Prelude.{◌≡◌, ◌≢◌, ◌≤◌, ◌⊎◌, ◌+◌, if◌then◌else◌, ℕ, List, [], ◌∷◌, ◌++◌, length, slice_get, take, Bool, true, false, Option, Some, None, Result, Ok, Err, Vec, IfErr, IfOk, OnErr}
 use Rattle.wasm_gen_sessions.specs.History.{History}
+use Rattle.wasm_gen_program.specs.Device.{FailsWrite, SinkView, SourceView, WritesOn}
+use Rattle.wasm_gen_program.specs.Input.{ReadsInput, WritesOutput}
+use Rattle.wasm_gen_program.specs.Inputs.{AddsEvents, Event, faults_of, opened}
 use Rattle.wasm_gen_program.specs.Run.{WritesFront, WritesVerdict}
 use Rattle.wasm_spec.specs.Features.{default_features}
 use Rattle.wasm_gen_program.specs.declared.error.RunError.{RunError}
-use Rattle.wasm_gen_program.specs.declared.error.RunError.TheVariants.{Memory, Write}
+use Rattle.wasm_gen_program.specs.declared.error.RunError.TheVariants.{Memory, Read, TooLong, Write}
 use Rattle.wasm_gen_program.specs.declared.status.Outcome.{Outcome}
 use Rattle.wasm_gen_program.specs.declared.status.Outcome.TheVariants.{Yes, No, Fault}
 
@@ -32,39 +34,79 @@ restarted session next = record { features = session.features; id = next; has_fa
 abbrev pub going_on : History → ℕ → History
 going_on session next = if session.has_failed then restarted session next else session
 
--- after a fault the session goes on as it was, or, where memory ran out, by another validator of the name that was handed in
-abbrev pub GoesOn : RunError → History → ℕ → History → Type 0
-GoesOn Memory old next new = new ≡ restarted old next
-GoesOn fault old next new = new ≡ old
-
 -- the line of the session's verdict on what was read is written, and nothing else; then the session goes on
-abbrev pub WritesLine : History → ℕ → History → Option (List ℕ) → Option (List ℕ) → Option (List ℕ) → Option (List ℕ) → Bool → Type 0
+abbrev pub WritesLine : History → ℕ → History → SourceView → SourceView → SinkView → SinkView → Bool → Type 0
 WritesLine old next new unread left before after is_yes =
-    (validated : History) × WritesVerdict old validated unread left before after is_yes × (new ≡ going_on validated next)
+    (validated : History) × WritesVerdict old validated unread.remaining left.remaining before.contents after.contents is_yes × (new ≡ going_on validated next)
 
--- what became of an input after which the run goes on: a verdict, whose line is written, or a fault, of which nothing is
-abbrev pub EndsInput : Result Bool RunError → History → ℕ → History → Option (List ℕ) → Option (List ℕ) → Type 0
-EndsInput (Ok is_yes) old next new before after = (unread : Option (List ℕ)) × (left : Option (List ℕ)) × WritesLine old next new unread left before after is_yes
-EndsInput (Err fault) old next new before after = GoesOn fault old next new × Keeps before after
+-- a front of the line of its verdict is written, and nothing else
+abbrev pub BreaksLine : History → SourceView → SourceView → SinkView → SinkView → Type 0
+BreaksLine old unread left before after = (validated : History) × WritesFront old validated unread.remaining left.remaining before.contents after.contents
 
--- what became of an input that ends the run: a front of the line of its verdict is written
-abbrev pub EndsRun : History → Option (List ℕ) → Option (List ℕ) → Type 0
-EndsRun old before after = (validated : History) × (unread : Option (List ℕ)) × (left : Option (List ℕ)) × WritesFront old validated unread left before after
+-- an input is validated, the line of its verdict is written, and unless that failed, the session goes on
+pub record ValidatesNext (old : History) (next : ℕ) (new : History) (unread left : SourceView) (before after : SinkView) (result : Result Bool RunError) : Type 0 where
+  pub validated : IfOk result (WritesLine old next new unread left before after)
+  pub front : IfErr result (λ e. e ≡ Write → BreaksLine old unread left before after)
+  pub ready : result ≢ Err Write → new.has_failed ≡ false
+  -- after a fault the session is as it was, or, where memory ran out, another validator of the name that was handed in
+  pub kept : IfErr result (λ e. (e ≡ Read) ⊎ (e ≡ TooLong) → new ≡ old)
+  pub memory : IfErr result (λ e. e ≡ Memory → new ≡ restarted old next)
+  -- these are all the refusals
+  pub kinds : IfErr result (λ e. (e ≡ Read) ⊎ (e ≡ TooLong) ⊎ (e ≡ Memory) ⊎ (e ≡ Write))
+  pub input : ReadsInput unread left result
+  pub output : WritesOutput before after result
 
--- Inputs came to these outcomes one after the other, and the run goes on: the first was validated by the session `first`, each other one by the
--- session that was left. After the n-th a validator that had failed was followed by one of the name n.
-pub data Validates (first : History) (before : Option (List ℕ)) : List Outcome → History → Option (List ℕ) → Type 0 where
-  begun : Validates first before [] first before
-  one_more : {outcomes : List Outcome} {session : History} {written : Option (List ℕ)} → Validates first before outcomes session written
-      → (answer : Result Bool RunError) (new : History) (after : Option (List ℕ)) → ends_run answer ≡ false
-      → EndsInput answer session (length outcomes + 1) new written after → Validates first before (outcomes ++ outcome answer ∷ []) new after
+-- What became of an input as it was opened. One that was not is a fault, after which all is as it was.
+abbrev pub EndsInput : Option SourceView → Result Bool RunError → History → ℕ → History → SinkView → SinkView → Type 0
+EndsInput None answer old next new before after = (answer ≡ Err Read) × (new ≡ old) × (after ≡ before)
+EndsInput (Some unread) answer old next new before after = (left : SourceView) × ValidatesNext old next new unread left before after answer
 
--- so many inputs came to these outcomes
-abbrev pub ValidatesAll : History → ℕ → List Outcome → Option (List ℕ) → Option (List ℕ) → Type 0
-ValidatesAll first count outcomes before after =
-    (length outcomes ≡ count) × (session : History) × Validates first before outcomes session after
+-- how far a run has come: by the session that validates the next input, what the sink holds, and what was done with inputs
+pub record Progress : Type 0 where
+  pub session : History
+  pub sink : SinkView
+  pub events : Option (List Event)
 
--- so many at most came to these outcomes, and at the last one a write failed
-abbrev pub ValidatesUntil : History → List Outcome → Option (List ℕ) → Option (List ℕ) → Type 0
-ValidatesUntil first outcomes before after = (others : List Outcome) × (outcomes ≡ others ++ Fault ∷ [])
-    × (session : History) × (written : Option (List ℕ)) × Validates first before others session written × EndsRun session written after
+-- where a run begins, with this sink and these inputs
+abbrev pub starting : SinkView → Option (List Event) → Progress
+starting sink events = record { session = beginning; sink = sink; events = events }
+
+-- the input of this name was opened, came to this answer, and its fault was told; a validator that had failed is followed by one of the name `next`
+pub record ChecksNamed (name : List ℕ) (next : ℕ) (old new : Progress) (answer : Result Bool RunError) : Type 0 where
+  pub found : Option SourceView
+  pub ended : EndsInput found answer old.session next new.session old.sink new.sink
+  pub events : AddsEvents old.events new.events (opened name found ∷ faults_of name answer)
+
+-- The inputs of these names came to these outcomes one after the other, and the run goes on: each was validated by the session that was left
+-- by the one before. After the n-th a validator that had failed was followed by one of the name n.
+pub data Validates (first : Progress) : List (List ℕ) → List Outcome → Progress → Type 0 where
+  begun : Validates first [] [] first
+  one_more : {names : List (List ℕ)} {outcomes : List Outcome} {old : Progress} → Validates first names outcomes old
+      → (name : List ℕ) (answer : Result Bool RunError) (new : Progress) → ends_run answer ≡ false
+      → ChecksNamed name (length outcomes + 1) old new answer → Validates first (names ++ name ∷ []) (outcomes ++ outcome answer ∷ []) new
+
+-- the inputs of all these names came to these outcomes, and no write failed
+pub record ValidatesAll (names : List (List ℕ)) (outcomes : List Outcome) (before after : SinkView) (start end : Option (List Event)) : Type 0 where
+  pub each : length outcomes ≡ length names
+  pub session : History
+  pub inputs : Validates (starting before start) names outcomes (record { session = session; sink = after; events = end })
+  pub written : WritesOn before.faults after.faults
+
+-- the inputs of the first of these names came to these outcomes, and at the last one a write failed
+pub record ValidatesUntil (names : List (List ℕ)) (outcomes : List Outcome) (before after : SinkView) (start end : Option (List Event)) : Type 0 where
+  pub others : List Outcome
+  pub last : outcomes ≡ others ++ Fault ∷ []
+  pub reached : Progress
+  pub inputs : Validates (starting before start) (take (length others) names) others reached
+  pub name : List ℕ
+  pub named : slice_get names (length others) ≡ Some name
+  pub session : History
+  pub ended : ChecksNamed name (length others + 1) reached (record { session = session; sink = after; events = end }) (Err Write)
+  pub failed : FailsWrite before.faults after.faults
+
+-- the inputs of these names are validated in turn, by a session that begins under the default features
+pub record ChecksInputs {Z E : Type 0} (names : List (List ℕ)) (before after : SinkView) (start end : Option (List Event)) (result : Result (Vec Outcome Z) E) : Type 0 where
+  pub each : IfOk result (λ outcomes. length outcomes.items ≤ length names)
+  pub whole : IfOk result (λ outcomes. ValidatesAll names outcomes.items before after start end ⊎ ValidatesUntil names outcomes.items before after start end)
+  -- without memory for the outcomes nothing is opened, told or written
+  pub refused : OnErr result ((after ≡ before) × (end ≡ start))

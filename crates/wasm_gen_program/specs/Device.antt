@@ -1,6 +1,6 @@
--- What a source and a sink tell of their failures. One that tells may stop, as where a count has no room,
+-- What contracts see of a source and a sink, and what these tell of their failures. One that tells may stop, as where a count has no room,
 -- and does not begin again.
-use Rattle.std.specs.Prelude.{◌≡◌, ◌≢◌, ◌≤◌, ◌+◌, ◌⊎◌, ℕ, Option, Some, None, ⊤, MatchResult, Result}
+use Rattle.std.specs.Prelude.{◌≡◌, ◌≢◌, ◌≤◌, ◌+◌, ◌⊎◌, ℕ, List, Option, Some, None, ⊤, MatchResult, Result}
 use Rattle.std.specs.IoError.{error_kind}
 use Rattle.std.specs.declared.io.Error.{Error}
 use Rattle.std.specs.declared.io.ErrorKind.TheVariants.{Interrupted}
@@ -10,6 +10,16 @@ pub record ReadCounts : Type 0 where
   pub asked : ℕ
   pub failed : ℕ
   pub ended : ℕ
+
+-- what contracts see of a source: the bytes that are left, where they are known, and how many reads there were, where that is told
+pub record SourceView : Type 0 where
+  pub remaining : Option (List ℕ)
+  pub reads : Option ReadCounts
+
+-- what contracts see of a sink: the bytes that it holds, where they are known, and how many writes failed or took no byte, where that is told
+pub record SinkView : Type 0 where
+  pub contents : Option (List ℕ)
+  pub faults : Option ℕ
 
 -- what is told before and after a step, which fits this relation while it is told
 abbrev pub Tells : {T : Type 0} → (T → T → Type 0) → Option T → Option T → Type 0

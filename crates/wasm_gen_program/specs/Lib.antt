@@ -2,6 +2,8 @@ pub mod Asked
 pub mod CheckInputs
 pub mod CommandLine
 pub mod Device
+pub mod Input
+pub mod Inputs
 pub mod Run
 pub mod RunGenerate
 pub mod Transfer

@@ -1,10 +1,8 @@
 //! Validates many inputs one after the other, as the program does.
 
-ghost use Rattle.std.specs.Prelude.{◌≡◌, ◌≢◌, ◌≤◌, ◌⊎◌, ◌^◌, ℕ, List, true, false, length, Option, None, Err, IfSome, IfOk, IfErr, OnErr, OnOk};
-ghost use Rattle.std.specs.Io.KnownBytes.{Keeps};
-ghost use Rattle.wasm_gen_program.specs.CheckInputs.{EndsInput, EndsRun, GoesOn, ValidatesAll, ValidatesUntil, WritesLine, beginning, ends_run, outcome, restarted};
-ghost use Rattle.wasm_gen_program.specs.Device.{FailsOrTires, FailsWrite, ReadsToEnd, ReadsWithin, WritesOn};
-ghost use Rattle.wasm_gen_program.specs.Transfer.{ConsumesMore};
+ghost use Rattle.std.specs.Prelude.{◌≡◌, ◌∷◌, [], List, Option, false, map, option_map};
+ghost use Rattle.wasm_gen_program.specs.CheckInputs.{ChecksInputs, ChecksNamed, EndsInput, ValidatesNext, beginning, ends_run, outcome};
+ghost use Rattle.wasm_gen_program.specs.Inputs.{AddsEvents, Event, opened, told};
 
 use crate::device::{Sink, Source};
 use crate::error::RunError;
@@ -15,16 +13,22 @@ use wasm_core::features::WasmFeatures;
 use wasm_gen_sessions::judge::ValidatorId;
 use wasm_gen_sessions::session::Session;
 
-/// Where inputs are found by their names, and where faults are told.
+/// Where inputs are found by their names, and where faults are told. Std has no model of files and of standard error, so an
+/// implementation over them tells contracts nothing; `check_inputs` is the same for all.
 pub trait Inputs {
     /// An input that is read.
     type Input: Source + Drop;
 
+    // What was opened and told so far, where that is told.
+    ghost events: { Self → Option (List Event) };
+
     /// The input of this name, where it can be opened.
-    fn open(&mut self, name: &str) -> Option<Self::Input>;
+    fn open(&mut self, name: &str) -> Option<Self::Input>
+        ensures { AddsEvents (events self.old) (events self.new) (opened name.now (option_map Self.Input.seen result) ∷ []) };
 
     /// Tells a fault of the input of this name.
-    fn tell(&mut self, fault: RunError, name: &str);
+    fn tell(&mut self, fault: RunError, name: &str)
+        ensures { AddsEvents (events self.old) (events self.new) (told fault name.now ∷ []) };
 }
 
 /// The session that the program begins with: under the default features.
@@ -65,30 +69,7 @@ pub fn check_next<R: Source, W: Sink>(
     writer: &mut W,
 ) -> Result<bool, RunError>
     requires { session.old.has_failed ≡ false }
-    ensures validated { IfOk result (λ is_yes. WritesLine session.old next session.new
-        (R.remaining reader.old) (R.remaining reader.new) (W.contents writer.old) (W.contents writer.new) is_yes) }
-    ensures ready { result ≢ Err RunError.Write → session.new.has_failed ≡ false }
-    ensures goes_on { IfErr result (λ e. e ≢ RunError.Write → GoesOn e session.old next session.new) }
-    ensures memory { IfErr result (λ e. e ≡ RunError.Memory → session.new ≡ restarted session.old next) }
-    ensures unread { IfErr result (λ e. (e ≡ RunError.Read) ⊎ (e ≡ RunError.TooLong) → session.new ≡ session.old) }
-
-    // Each refusal comes only with its cause.
-    ensures kinds { IfErr result (λ e. (e ≡ RunError.Read) ⊎ (e ≡ RunError.TooLong) ⊎ (e ≡ RunError.Memory) ⊎ (e ≡ RunError.Write)) }
-    ensures read { IfErr result (λ e. e ≡ RunError.Read
-        → FailsOrTires (R.reads reader.old) (R.reads reader.new) (2 ^ 29)) }
-    ensures too_long { IfErr result (λ e. e ≡ RunError.TooLong
-        → ConsumesMore (R.remaining reader.old) (R.remaining reader.new) (2 ^ 28)) }
-    ensures write { IfErr result (λ e. e ≡ RunError.Write → FailsWrite (W.faults writer.old) (W.faults writer.new)) }
-    ensures nothing { IfErr result (λ e. e ≢ RunError.Write → Keeps (W.contents writer.old) (W.contents writer.new)) }
-    ensures front { IfErr result (λ e. e ≡ RunError.Write → EndsRun session.old (W.contents writer.old) (W.contents writer.new)) }
-
-    // No failed read or write is passed over.
-    ensures read_to_end { OnOk result (ReadsToEnd (R.reads reader.old) (R.reads reader.new) (2 ^ 29)) }
-    ensures read_before_write { IfErr result (λ e. e ≡ RunError.Write
-        → ReadsToEnd (R.reads reader.old) (R.reads reader.new) (2 ^ 29)) }
-    ensures unfailed_read { IfErr result (λ e. (e ≡ RunError.TooLong) ⊎ (e ≡ RunError.Memory)
-        → ReadsWithin (R.reads reader.old) (R.reads reader.new) (2 ^ 29) ⊎ ReadsToEnd (R.reads reader.old) (R.reads reader.new) (2 ^ 29)) }
-    ensures unfailed_write { ends_run result ≡ false → WritesOn (W.faults writer.old) (W.faults writer.new) }
+    ensures { ValidatesNext session.old next session.new (R.seen reader.old) (R.seen reader.new) (W.seen writer.old) (W.seen writer.new) result }
 {
     let answer = run_check(alloc, session, reader, writer);
     if session.has_failed() || matches!(answer, Err(RunError::Memory)) {
@@ -106,17 +87,7 @@ fn check_opened<R: Source + Drop, W: Sink>(
     writer: &mut W,
 ) -> Result<bool, RunError>
     requires { session.old.has_failed ≡ false }
-    ensures validated { IfSome input (λ r. IfOk result (λ is_yes. (left : Option (List ℕ)) × WritesLine session.old next session.new
-        (R.remaining r) left (W.contents writer.old) (W.contents writer.new) is_yes)) }
-    ensures unopened { input ≡ None → (result ≡ Err RunError.Read) × (session.new ≡ session.old) }
-    ensures memory { IfErr result (λ e. e ≡ RunError.Memory → session.new ≡ restarted session.old next) }
-    ensures unread { IfErr result (λ e. (e ≡ RunError.Read) ⊎ (e ≡ RunError.TooLong) → session.new ≡ session.old) }
-    ensures kinds { IfErr result (λ e. (e ≡ RunError.Read) ⊎ (e ≡ RunError.TooLong) ⊎ (e ≡ RunError.Memory) ⊎ (e ≡ RunError.Write)) }
-    ensures ready { ends_run result ≡ false → session.new.has_failed ≡ false }
-    ensures ended { ends_run result ≡ false → EndsInput result session.old next session.new (W.contents writer.old) (W.contents writer.new) }
-    ensures front { ends_run result ≡ true → EndsRun session.old (W.contents writer.old) (W.contents writer.new) }
-    ensures write { ends_run result ≡ true → FailsWrite (W.faults writer.old) (W.faults writer.new) }
-    ensures unfailed_write { ends_run result ≡ false → WritesOn (W.faults writer.old) (W.faults writer.new) }
+    ensures { EndsInput (option_map R.seen input) result session.old next session.new (W.seen writer.old) (W.seen writer.new) }
 {
     match input {
         Some(mut reader) => check_next(alloc, session, next, &mut reader, writer),
@@ -124,8 +95,28 @@ fn check_opened<R: Source + Drop, W: Sink>(
     }
 }
 
+// Opens the input of this name, validates it, and tells its fault.
+fn check_named<I: Inputs, W: Sink>(
+    alloc: Global,
+    session: &mut Session,
+    next: ValidatorId,
+    inputs: &mut I,
+    name: &str,
+    writer: &mut W,
+) -> Result<bool, RunError>
+    requires { session.old.has_failed ≡ false }
+    ensures { ChecksNamed name.now next (record { session = session.old; sink = W.seen writer.old; events = I.events inputs.old })
+        (record { session = session.new; sink = W.seen writer.new; events = I.events inputs.new }) result }
+{
+    let input = inputs.open(name);
+    let answer = check_opened(alloc, session, next, input, writer);
+    if let Err(e) = answer {
+        inputs.tell(e, name);
+    }
+    answer
+}
+
 // Validates the inputs of these names in turn by a session.
-#[tactic(auto, using(crate::proofs::WriteLaws::none_kept, crate::proofs::WriteLaws::none_written))]
 fn check_all<I: Inputs, W: Sink>(
     alloc: Global,
     session: &mut Session,
@@ -134,21 +125,13 @@ fn check_all<I: Inputs, W: Sink>(
     writer: &mut W,
 ) -> Result<Vec<Outcome>, AllocError>
     requires { session.old ≡ beginning }
-    ensures each { IfOk result (λ outcomes. length outcomes.items ≤ length names.now) }
-    ensures whole { IfOk result (λ outcomes.
-        (ValidatesAll beginning (length names.now) outcomes.items (W.contents writer.old) (W.contents writer.new) × WritesOn (W.faults writer.old) (W.faults writer.new))
-        ⊎ (ValidatesUntil beginning outcomes.items (W.contents writer.old) (W.contents writer.new) × FailsWrite (W.faults writer.old) (W.faults writer.new))) }
-    ensures refused { OnErr result (Keeps (W.contents writer.old) (W.contents writer.new) × WritesOn (W.faults writer.old) (W.faults writer.new)) }
+    ensures { ChecksInputs (map (λ name. name.now) names.now) (W.seen writer.old) (W.seen writer.new) (I.events inputs.old) (I.events inputs.new) result }
 {
     let mut outcomes = Vec::with_capacity(alloc, names.len())?;
     for (place, name) in names.iter().enumerate() {
         let next = ValidatorId::new(place + 1);
-        let input = inputs.open(name);
-        let answer = check_opened(alloc, session, next, input, writer);
+        let answer = check_named(alloc, session, next, inputs, name, writer);
         outcomes.push_reserved(outcome_of(answer));
-        if let Err(e) = answer {
-            inputs.tell(e, name);
-        }
         if ends_run(answer) {
             break;
         }
@@ -167,11 +150,7 @@ pub fn check_inputs<I: Inputs, W: Sink>(
     names: &[&str],
     writer: &mut W,
 ) -> Result<Vec<Outcome>, AllocError>
-    ensures each { IfOk result (λ outcomes. length outcomes.items ≤ length names.now) }
-    ensures whole { IfOk result (λ outcomes.
-        (ValidatesAll beginning (length names.now) outcomes.items (W.contents writer.old) (W.contents writer.new) × WritesOn (W.faults writer.old) (W.faults writer.new))
-        ⊎ (ValidatesUntil beginning outcomes.items (W.contents writer.old) (W.contents writer.new) × FailsWrite (W.faults writer.old) (W.faults writer.new))) }
-    ensures refused { OnErr result (Keeps (W.contents writer.old) (W.contents writer.new) × WritesOn (W.faults writer.old) (W.faults writer.new)) }
+    ensures { ChecksInputs (map (λ name. name.now) names.now) (W.seen writer.old) (W.seen writer.new) (I.events inputs.old) (I.events inputs.new) result }
 {
     let mut session = first_session(alloc);
     let outcomes = check_all(alloc, &mut session, inputs, names, writer);

@@ -1,12 +1,7 @@
 //! The program's commands over a reader and a writer.
 
-ghost use Rattle.std.specs.Prelude.{◌≡◌, ◌≢◌, ◌^◌, ◌⊎◌, IfOk, IfErr, OnOk};
-ghost use Rattle.std.specs.Io.KnownBytes.{Keeps};
-ghost use Rattle.wasm_gen_program.specs.Device.{FailsOrTires, FailsWrite, ReadsToEnd, ReadsWithin, WritesOn};
-ghost use Rattle.wasm_gen_program.specs.Run.{WritesVerdict, WritesFront, KeepsOrRunsOut, ReachesVerdict};
-ghost use Rattle.wasm_gen_program.specs.RunGenerate.{MakesBytes, WritesModule, WritesModuleFront, RefusesSeed};
-ghost use Rattle.wasm_gen_program.specs.Transfer.{ConsumesMore};
-ghost use Rattle.wasm_gen_sessions.specs.declared.error.GenerateError.{GenerateError};
+ghost use Rattle.wasm_gen_program.specs.Run.{RunsCheck, ValidatesInput};
+ghost use Rattle.wasm_gen_program.specs.RunGenerate.{ReturnsModule, RunsGenerate};
 
 use crate::device::{Sink, Source};
 use crate::error::RunError;
@@ -31,35 +26,7 @@ pub fn run_check<R: Source, W: Sink>(
     reader: &mut R,
     writer: &mut W,
 ) -> Result<bool, RunError>
-    ensures ok { IfOk result (λ is_yes. WritesVerdict session.old session.new
-        (R.remaining reader.old) (R.remaining reader.new) (W.contents writer.old) (W.contents writer.new) is_yes) }
-    ensures front { IfErr result (λ e. e ≡ RunError.Write → WritesFront session.old session.new
-        (R.remaining reader.old) (R.remaining reader.new) (W.contents writer.old) (W.contents writer.new)) }
-    ensures nothing { IfErr result (λ e. e ≢ RunError.Write → Keeps (W.contents writer.old) (W.contents writer.new)) }
-
-    // Each refusal comes only with its cause.
-    ensures kinds { IfErr result (λ e. (e ≡ RunError.Read) ⊎ (e ≡ RunError.TooLong) ⊎ (e ≡ RunError.Memory) ⊎ (e ≡ RunError.Write)) }
-    ensures read { IfErr result (λ e. e ≡ RunError.Read
-        → FailsOrTires (R.reads reader.old) (R.reads reader.new) (2 ^ 29)) }
-    ensures too_long { IfErr result (λ e. e ≡ RunError.TooLong
-        → ConsumesMore (R.remaining reader.old) (R.remaining reader.new) (2 ^ 28)) }
-    ensures write { IfErr result (λ e. e ≡ RunError.Write → FailsWrite (W.faults writer.old) (W.faults writer.new)) }
-
-    // No failed read or write is passed over.
-    ensures read_to_end { OnOk result (ReadsToEnd (R.reads reader.old) (R.reads reader.new) (2 ^ 29)) }
-    ensures written { OnOk result (WritesOn (W.faults writer.old) (W.faults writer.new)) }
-    ensures read_before_write { IfErr result (λ e. e ≡ RunError.Write
-        → ReadsToEnd (R.reads reader.old) (R.reads reader.new) (2 ^ 29)) }
-    ensures unfailed_read { IfErr result (λ e. (e ≡ RunError.TooLong) ⊎ (e ≡ RunError.Memory)
-        → ReadsWithin (R.reads reader.old) (R.reads reader.new) (2 ^ 29) ⊎ ReadsToEnd (R.reads reader.old) (R.reads reader.new) (2 ^ 29)) }
-    ensures unfailed_write { IfErr result (λ e. e ≢ RunError.Write → WritesOn (W.faults writer.old) (W.faults writer.new)) }
-
-    // Without a whole input the session is as it was.
-    ensures unread { IfErr result (λ e. (e ≡ RunError.Read) ⊎ (e ≡ RunError.TooLong) → session.new ≡ session.old) }
-    ensures memory { IfErr result (λ e. e ≡ RunError.Memory → KeepsOrRunsOut session.old session.new
-        (R.remaining reader.old) (R.remaining reader.new)) }
-    ensures features { session.new.features ≡ session.old.features }
-    ensures id { session.new.id ≡ session.old.id }
+    ensures { RunsCheck session.old session.new (R.seen reader.old) (R.seen reader.new) (W.seen writer.old) (W.seen writer.new) result }
 {
     let Ok(mut line) = empty_line(alloc) else {
         return Err(RunError::Memory);
@@ -78,23 +45,7 @@ fn check_input<R: Source>(
     session: &mut Session,
     reader: &mut R,
 ) -> Result<Result<Types, Error>, RunError>
-    ensures reached { IfOk result (ReachesVerdict session.old session.new (R.remaining reader.old) (R.remaining reader.new)) }
-
-    ensures kinds { IfErr result (λ e. (e ≡ RunError.Read) ⊎ (e ≡ RunError.TooLong) ⊎ (e ≡ RunError.Memory)) }
-    ensures read { IfErr result (λ e. e ≡ RunError.Read
-        → FailsOrTires (R.reads reader.old) (R.reads reader.new) (2 ^ 29)) }
-    ensures too_long { IfErr result (λ e. e ≡ RunError.TooLong
-        → ConsumesMore (R.remaining reader.old) (R.remaining reader.new) (2 ^ 28)) }
-
-    ensures read_to_end { OnOk result (ReadsToEnd (R.reads reader.old) (R.reads reader.new) (2 ^ 29)) }
-    ensures unfailed_read { IfErr result (λ e. (e ≡ RunError.TooLong) ⊎ (e ≡ RunError.Memory)
-        → ReadsWithin (R.reads reader.old) (R.reads reader.new) (2 ^ 29) ⊎ ReadsToEnd (R.reads reader.old) (R.reads reader.new) (2 ^ 29)) }
-
-    ensures unread { IfErr result (λ e. (e ≡ RunError.Read) ⊎ (e ≡ RunError.TooLong) → session.new ≡ session.old) }
-    ensures memory { IfErr result (λ e. e ≡ RunError.Memory → KeepsOrRunsOut session.old session.new
-        (R.remaining reader.old) (R.remaining reader.new)) }
-    ensures features { session.new.features ≡ session.old.features }
-    ensures id { session.new.id ≡ session.old.id }
+    ensures { ValidatesInput session.old session.new (R.seen reader.old) (R.seen reader.new) result }
 {
     let bytes = read_whole(alloc, reader, MAX_INPUT, MAX_TURNS)?;
     let verdict = session.check(&bytes);
@@ -116,31 +67,7 @@ pub fn run_generate<R: Source, W: Sink>(
     reader: &mut R,
     writer: &mut W,
 ) -> Result<(), RunError>
-    ensures ok { OnOk result (WritesModule config.now
-        (R.remaining reader.old) (R.remaining reader.new) (W.contents writer.old) (W.contents writer.new)) }
-    ensures front { IfErr result (λ e. e ≡ RunError.Write → WritesModuleFront config.now
-        (R.remaining reader.old) (R.remaining reader.new) (W.contents writer.old) (W.contents writer.new)) }
-    ensures nothing { IfErr result (λ e. e ≢ RunError.Write → Keeps (W.contents writer.old) (W.contents writer.new)) }
-
-    // Each refusal comes only with its cause.
-    ensures read { IfErr result (λ e. e ≡ RunError.Read
-        → FailsOrTires (R.reads reader.old) (R.reads reader.new) (2 ^ 29)) }
-    ensures too_long { IfErr result (λ e. e ≡ RunError.TooLong
-        → ConsumesMore (R.remaining reader.old) (R.remaining reader.new) (2 ^ 28)) }
-    ensures write { IfErr result (λ e. e ≡ RunError.Write → FailsWrite (W.faults writer.old) (W.faults writer.new)) }
-    ensures generate { IfErr result (λ e. (cause : GenerateError) → e ≡ RunError.Generate cause
-        → RefusesSeed config.now (R.remaining reader.old) (R.remaining reader.new) cause) }
-
-    // No failed read or write is passed over.
-    ensures read_to_end { OnOk result (ReadsToEnd (R.reads reader.old) (R.reads reader.new) (2 ^ 29)) }
-    ensures written { OnOk result (WritesOn (W.faults writer.old) (W.faults writer.new)) }
-    ensures read_before_write { IfErr result (λ e. e ≡ RunError.Write
-        → ReadsToEnd (R.reads reader.old) (R.reads reader.new) (2 ^ 29)) }
-    ensures read_before_refusal { IfErr result (λ e. (cause : GenerateError) → e ≡ RunError.Generate cause
-        → ReadsToEnd (R.reads reader.old) (R.reads reader.new) (2 ^ 29)) }
-    ensures unfailed_read { IfErr result (λ e. (e ≡ RunError.TooLong) ⊎ (e ≡ RunError.Memory)
-        → ReadsWithin (R.reads reader.old) (R.reads reader.new) (2 ^ 29) ⊎ ReadsToEnd (R.reads reader.old) (R.reads reader.new) (2 ^ 29)) }
-    ensures unfailed_write { IfErr result (λ e. e ≢ RunError.Write → WritesOn (W.faults writer.old) (W.faults writer.new)) }
+    ensures { RunsGenerate config.now (R.seen reader.old) (R.seen reader.new) (W.seen writer.old) (W.seen writer.new) result }
 {
     let bytes = make_module(alloc, config, reader)?;
     write_whole(writer, &bytes)
@@ -152,21 +79,7 @@ fn make_module<R: Source>(
     config: &Config,
     reader: &mut R,
 ) -> Result<Vec<u8>, RunError>
-    ensures made { IfOk result (λ bytes. MakesBytes config.now (R.remaining reader.old) (R.remaining reader.new) bytes.items) }
-
-    ensures no_write { IfErr result (λ e. e ≢ RunError.Write) }
-    ensures read { IfErr result (λ e. e ≡ RunError.Read
-        → FailsOrTires (R.reads reader.old) (R.reads reader.new) (2 ^ 29)) }
-    ensures too_long { IfErr result (λ e. e ≡ RunError.TooLong
-        → ConsumesMore (R.remaining reader.old) (R.remaining reader.new) (2 ^ 28)) }
-    ensures generate { IfErr result (λ e. (cause : GenerateError) → e ≡ RunError.Generate cause
-        → RefusesSeed config.now (R.remaining reader.old) (R.remaining reader.new) cause) }
-
-    ensures read_to_end { OnOk result (ReadsToEnd (R.reads reader.old) (R.reads reader.new) (2 ^ 29)) }
-    ensures read_before_refusal { IfErr result (λ e. (cause : GenerateError) → e ≡ RunError.Generate cause
-        → ReadsToEnd (R.reads reader.old) (R.reads reader.new) (2 ^ 29)) }
-    ensures unfailed_read { IfErr result (λ e. (e ≡ RunError.TooLong) ⊎ (e ≡ RunError.Memory)
-        → ReadsWithin (R.reads reader.old) (R.reads reader.new) (2 ^ 29) ⊎ ReadsToEnd (R.reads reader.old) (R.reads reader.new) (2 ^ 29)) }
+    ensures { ReturnsModule config.now (R.seen reader.old) (R.seen reader.new) result }
 {
     let seed = read_whole(alloc, reader, MAX_INPUT, MAX_TURNS)?;
     Ok(generate(alloc, config, &seed)?)

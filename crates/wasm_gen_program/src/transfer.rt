@@ -36,23 +36,23 @@ fn read_turn<R: Source>(
     bytes: &mut Vec<u8>,
 ) -> Result<Turn, RunError>
     requires { 0 < length chunk.old }
-    ensures more { result ≡ Ok Turn.More → Gathers (R.remaining reader.old) (R.remaining reader.new)
+    ensures more { result ≡ Ok Turn.More → Gathers (R.seen reader.old).remaining (R.seen reader.new).remaining
         (length chunk.old) bytes.old.items bytes.new.items }
     ensures end { result ≡ Ok Turn.End → (bytes.new.items ≡ bytes.old.items)
-        × Keeps (R.remaining reader.old) (R.remaining reader.new) × IsAtEnd (R.remaining reader.new) }
+        × Keeps (R.seen reader.old).remaining (R.seen reader.new).remaining × IsAtEnd (R.seen reader.new).remaining }
     ensures nothing { result ≡ Ok Turn.Nothing → (bytes.new.items ≡ bytes.old.items)
-        × Keeps (R.remaining reader.old) (R.remaining reader.new) }
+        × Keeps (R.seen reader.old).remaining (R.seen reader.new).remaining }
 
-    ensures ended { result ≡ Ok Turn.End → EndsRead (R.reads reader.old) (R.reads reader.new) }
+    ensures ended { result ≡ Ok Turn.End → EndsRead (R.seen reader.old).reads (R.seen reader.new).reads }
     ensures goes_on { IfOk result (λ turn. turn ≢ Turn.End
-        → ReadsOn (R.reads reader.old) (R.reads reader.new) 1) }
+        → ReadsOn (R.seen reader.old).reads (R.seen reader.new).reads 1) }
 
     ensures kinds { IfErr result (λ e. (e ≡ RunError.Read) ⊎ (e ≡ RunError.Memory)) }
-    ensures failed { result ≡ Err RunError.Read → FailsRead (R.reads reader.old) (R.reads reader.new) }
+    ensures failed { result ≡ Err RunError.Read → FailsRead (R.seen reader.old).reads (R.seen reader.new).reads }
     ensures memory { result ≡ Err RunError.Memory
-        → ReadsOn (R.reads reader.old) (R.reads reader.new) 1 }
+        → ReadsOn (R.seen reader.old).reads (R.seen reader.new).reads 1 }
     ensures bounded { OnErr result
-        (ConsumesUpTo (R.remaining reader.old) (R.remaining reader.new) (length chunk.old)) }
+        (ConsumesUpTo (R.seen reader.old).remaining (R.seen reader.new).remaining (length chunk.old)) }
 {
     match reader.read(chunk) {
         Ok(0) => Ok(Turn::End),
@@ -77,20 +77,20 @@ pub fn read_whole<R: Source>(
     turns: u64,
 ) -> Result<Vec<u8>, RunError>
     ensures whole { IfOk result (λ bytes.
-        ConsumesAll (R.remaining reader.old) (R.remaining reader.new) bytes.items) }
+        ConsumesAll (R.seen reader.old).remaining (R.seen reader.new).remaining bytes.items) }
     ensures within { IfOk result (λ bytes. length bytes.items ≤ most) }
-    ensures ended { OnOk result (ReadsToEnd (R.reads reader.old) (R.reads reader.new) turns) }
+    ensures ended { OnOk result (ReadsToEnd (R.seen reader.old).reads (R.seen reader.new).reads turns) }
 
     ensures kinds { IfErr result (λ e.
         (e ≡ RunError.Read) ⊎ (e ≡ RunError.TooLong) ⊎ (e ≡ RunError.Memory)) }
     ensures failed { result ≡ Err RunError.Read
-        → FailsOrTires (R.reads reader.old) (R.reads reader.new) turns }
+        → FailsOrTires (R.seen reader.old).reads (R.seen reader.new).reads turns }
     ensures too_long { result ≡ Err RunError.TooLong
-        → ConsumesMore (R.remaining reader.old) (R.remaining reader.new) most }
+        → ConsumesMore (R.seen reader.old).remaining (R.seen reader.new).remaining most }
     ensures unfailed { IfErr result (λ e. e ≢ RunError.Read
-        → ReadsWithin (R.reads reader.old) (R.reads reader.new) turns) }
+        → ReadsWithin (R.seen reader.old).reads (R.seen reader.new).reads turns) }
     ensures bounded { OnErr result
-        (ConsumesUpTo (R.remaining reader.old) (R.remaining reader.new) (most + CHUNK_SIZE)) }
+        (ConsumesUpTo (R.seen reader.old).remaining (R.seen reader.new).remaining (most + CHUNK_SIZE)) }
 {
     let mut bytes = Vec::new(alloc);
     let mut chunk = [0u8; CHUNK_SIZE];
@@ -113,13 +113,13 @@ pub fn read_whole<R: Source>(
 /// # Errors
 /// `Write` where a write fails or takes no byte.
 pub fn write_whole<W: Sink>(writer: &mut W, bytes: &[u8]) -> Result<(), RunError>
-    ensures whole { OnOk result (Appends (W.contents writer.old) (W.contents writer.new) bytes.now) }
-    ensures unfailed { OnOk result (WritesOn (W.faults writer.old) (W.faults writer.new)) }
+    ensures whole { OnOk result (Appends (W.seen writer.old).contents (W.seen writer.new).contents bytes.now) }
+    ensures unfailed { OnOk result (WritesOn (W.seen writer.old).faults (W.seen writer.new).faults) }
 
     ensures kind { IfErr result (λ e. e ≡ RunError.Write) }
-    ensures failed { OnErr result (FailsWrite (W.faults writer.old) (W.faults writer.new)) }
+    ensures failed { OnErr result (FailsWrite (W.seen writer.old).faults (W.seen writer.new).faults) }
     ensures front { OnErr result
-        (AppendsFront (W.contents writer.old) (W.contents writer.new) bytes.now) }
+        (AppendsFront (W.seen writer.old).contents (W.seen writer.new).contents bytes.now) }
 {
     let mut written = 0;
     while written < bytes.len() {

@@ -109,12 +109,13 @@ impl TellingReader<'_> {
 }
 
 impl Source for TellingReader<'_> {
-    ghost use Rattle.wasm_gen_program.specs.Device.{ReadCounts};
+    ghost use Rattle.wasm_gen_program.specs.Device.{ReadCounts, SourceView};
 
-    ghost remaining = { λ s. Some s.rest.now };
-
-    ghost reads = { λ s. option_map (λ told.
-        record { asked = told.asked; failed = told.failed; ended = told.ended }) s.told };
+    ghost seen = { λ s. record {
+      remaining = Some s.rest.now;
+      reads = option_map (λ told.
+          record { asked = told.asked; failed = told.failed; ended = told.ended }) s.told;
+    } };
 
     fn read(&mut self, buffer: &mut [u8]) -> io::Result<usize> {
         if self.fails_with == Some(self.rest.len()) {
@@ -186,9 +187,9 @@ impl NarrowWriter {
 }
 
 impl Sink for NarrowWriter {
-    ghost contents = { λ s. Some s.taken.items };
+    ghost use Rattle.wasm_gen_program.specs.Device.{SinkView};
 
-    ghost faults = { λ s. s.faults };
+    ghost seen = { λ s. record { contents = Some s.taken.items; faults = s.faults } };
 
     fn write(&mut self, buffer: &[u8]) -> io::Result<usize> {
         let Some(byte) = buffer.first() else {

@@ -76,6 +76,10 @@ module _ (features : Features) (cx : Context) (export : Export) where
       → is_exported export.name cx.exports ≡ false → keeps_export features cx export ≡ true
   keeps found type is some may none = rw (← is, some, may, none) refl
 
+  pub leaves : (found : Option TypeRef) (type : TypeRef) → option_map item found ≡ item_at cx export.kind export.index → found ≡ Some type → may_leave features (Some (item type)) ≡ true
+      → may_leave features (item_at cx export.kind export.index) ≡ true
+  leaves found type is some may = rw (← is, some, may) refl
+
   -- a sum within the limit has the exact size
   pub exact_size : (found : Option TypeRef) (type : TypeRef) (size grown : ℕ) → option_map item found ≡ item_at cx export.kind export.index → found ≡ Some type → CountsAs (size_of cx (item type)) size
       → grown ≡ cx.type_size + size → grown ≤ 999999 → grown ≡ cx.type_size + size_of_export cx (item_at cx export.kind export.index)
@@ -92,4 +96,4 @@ module _ (features : Features) (cx : Context) (export : Export) where
         | inr (t, within) ↦ omega (arith, lt, same, counted.exact (counted.large (omega (arith, within))))
       ]
 
-pub ruleset export_steps = (missing, stays, taken, keeps, exact_size, large_size, export_there)
+pub ruleset export_steps = (missing, stays, taken, keeps, leaves, exact_size, large_size, export_there)

@@ -150,19 +150,19 @@ accepted_entry features old mid had has entry n is counted few h named =
 
 -- what refuses its items refuses the entry
 pub refused_entry : (features : Features) (old : Context) (had : List Imported) (held : List DefType) (entry : ImportEntry) (kind : ErrorKind) → NamesItems features old (imported_by entry) (named_measures old (import_names entry) (imported_by entry)) kind
-    → NamesEntry features (record old { imported = had }) held (OfImport entry) kind
-refused_entry features old had held entry kinds.Invalid h = by_shared (shares_small_index entry) (named_rules features old had (imported_by entry) ∙ h)
+    → suc old.imports ≤ most TheImports → NamesEntry features (record old { imported = had }) held (OfImport entry) kind
+refused_entry features old had held entry kinds.Invalid h few = by_shared (shares_small_index entry) (named_rules features old had (imported_by entry) ∙ h)
   where
     by_shared : (small : Bool) → keep_items features (record old { imported = had }) (imported_by entry) ≡ false → (small && keep_items features (record old { imported = had }) (imported_by entry)) ≡ true → ⊥
     by_shared true h k = let w = sym h ∙ k in absurd cc
     by_shared false h k = absurd cc
-refused_entry features old had held entry (kinds.Limit l) h =
+refused_entry features old had held entry (kinds.Limit l) h few =
     let same = named_measures_of (record old { imports = suc old.imports }) had (imported_by entry) ∙ counted_measures old (suc old.imports) (imported_by entry) in
     inl (inr (subst (λ ms. Passes (core.limit l) (name_measures (import_names entry) ++ ms)) (sym same) h))
-refused_entry features old had held entry kinds.Memory h = tt
-refused_entry features old had held entry kinds.Malformed h = absurd h
-refused_entry features old had held entry kinds.Operator h = absurd h
-refused_entry features old had held entry kinds.Body h = absurd h
-refused_entry features old had held entry kinds.Total h = absurd h
-refused_entry features old had held entry kinds.Order h = absurd h
-refused_entry features old had held entry kinds.Failed h = absurd h
+refused_entry features old had held entry kinds.Memory h few = few
+refused_entry features old had held entry kinds.Malformed h few = absurd h
+refused_entry features old had held entry kinds.Operator h few = absurd h
+refused_entry features old had held entry kinds.Body h few = absurd h
+refused_entry features old had held entry kinds.Total h few = absurd h
+refused_entry features old had held entry kinds.Order h few = absurd h
+refused_entry features old had held entry kinds.Failed h few = absurd h

@@ -1,5 +1,5 @@
 -- Judging entries as they are read.
-use Rattle.std.specs.Prelude.{◌≡◌, ◌⊎◌, ⊤, ℕ, ◌<◌, ◌≤◌, List, [], ◌∷◌, length, Some, None, Result, Ok, Err, Bool, true}
+use Rattle.std.specs.Prelude.{◌≡◌, ◌⊎◌, ⊤, ℕ, suc, ◌<◌, ◌≤◌, List, [], ◌∷◌, length, Some, None, Result, Ok, Err, Bool, true}
 use Rattle.std.proofs.Common.{inl, inr}
 use Rattle.std.specs.List.{AllByRecursion}
 use Rattle.std.proofs.Math.Nat.{not-le_of_lt}
@@ -8,12 +8,13 @@ use Rattle.wasm_core_read.specs.Input.{Input, IsWithin}
 use Rattle.wasm_core_read.specs.Reading.{ReadingOf, seen_at}
 use Rattle.wasm_core_read.specs.TypeReading.{items_at}
 use Rattle.wasm_spec.specs.Features.{Features}
-use Rattle.wasm_spec.specs.Limits.{Types, most, total_of_types}
+use Rattle.wasm_spec.specs.Limits.{Imports, Types, most, total_of_types}
 use Rattle.wasm_spec.specs.Syntax.{CompactItems, CompactNames}
 use Rattle.wasm_spec.specs.Trees.{DefType}
-use Rattle.wasm_validity.specs.Context.{Context, after, after_all, named_in_element, with_functions}
-use Rattle.wasm_validity.specs.Entries.{Entry, OfType, OfImport, OfElement}
-use Rattle.wasm_validity.specs.Rules.{Keeps, KeepRules, measures, Passes, PassesByTypes, IsWithin as IsWithinLimits, KeepLimits, PassLimit}
+use Rattle.wasm_validity.specs.Context.{Context, after, after_all, item_at, named_in_element, with_functions}
+use Rattle.wasm_validity.specs.Entries.{Entry, OfType, OfImport, OfFunction, OfTable, OfMemory, OfTag, OfGlobal, OfExport, OfElement, OfData}
+use Rattle.wasm_validity.specs.Rules.{Keeps, KeepRules, keeps_table, may_leave, measures, Passes, PassesByTypes, IsWithin as IsWithinLimits, KeepLimits, PassLimit}
+use Rattle.wasm_validity.specs.TypeRules.{is_value}
 use Rattle.wasmparser_error.specs.declared.error.Error.{Error}
 use Rattle.wasmparser_error.specs.declared.error.ErrorKind.{ErrorKind}
 use Rattle.wasmparser_error.specs.declared.error.ErrorKind.TheVariants as kinds
@@ -22,12 +23,33 @@ use Rattle.wasmparser_module_state.specs.History.{EnterAll, OneFindsNoRoom, Find
 use Rattle.wasmparser_readers.specs.Sections.{Left, left_items}
 use Rattle.wasmparser_types.specs.Index.{packable}
 
+-- An entry for which memory ran out keeps this. Functions, memories and tags keep all rules and limits; tables and globals the limits, and the rule on their type;
+-- exports the limits, and may name their item; segments the limits; imports are few enough; groups of types keep nothing that is said here. Other entries take no
+-- memory.
+abbrev pub IsRightSoFar : Features → Context → Entry → Type 0
+IsRightSoFar features cx (OfType group) = ⊤
+IsRightSoFar features cx (OfImport entry) = suc cx.imports ≤ most Imports
+IsRightSoFar features cx (OfFunction index) = Keeps features cx (OfFunction index) × IsWithinLimits cx (OfFunction index)
+IsRightSoFar features cx (OfTable table) = (keeps_table features cx table.type ≡ true) × IsWithinLimits cx (OfTable table)
+IsRightSoFar features cx (OfMemory type) = Keeps features cx (OfMemory type) × IsWithinLimits cx (OfMemory type)
+IsRightSoFar features cx (OfTag index) = Keeps features cx (OfTag index) × IsWithinLimits cx (OfTag index)
+IsRightSoFar features cx (OfGlobal global) = (is_value features cx global.type.value_type ≡ true) × IsWithinLimits cx (OfGlobal global)
+IsRightSoFar features cx (OfExport export) = (may_leave features (item_at cx export.kind export.index) ≡ true) × IsWithinLimits cx (OfExport export)
+IsRightSoFar features cx (OfElement segment) = IsWithinLimits cx (OfElement segment)
+IsRightSoFar features cx (OfData segment) = IsWithinLimits cx (OfData segment)
+IsRightSoFar features cx _ = ⊥
+
+-- memory ran out for one of these entries, and those before it keep all rules and limits
+abbrev pub OneRunsOut : Features → Context → List Entry → Type 0
+OneRunsOut features cx [] = ⊥
+OneRunsOut features cx (entry ∷ entries) = IsRightSoFar features cx entry ⊎ (Keeps features cx entry × IsWithinLimits cx entry × OneRunsOut features (after cx entry) entries)
+
 -- what a refusal of an entry names
 abbrev pub NamesEntry : Features → Context → List DefType → Entry → ErrorKind → Type 0
 NamesEntry features cx held entry kinds.Invalid = ¬ (Keeps features cx entry)
 NamesEntry features cx held entry (kinds.Limit l) = Passes (core.limit l) (measures cx entry) ⊎ PassesByTypes (core.limit l) cx entry
 NamesEntry features cx held entry kinds.Total = FindsNoRoom cx held entry
-NamesEntry features cx held entry kinds.Memory = ⊤
+NamesEntry features cx held entry kinds.Memory = IsRightSoFar features cx entry
 NamesEntry features cx held entry _ = ⊥
 
 -- where a refusal is: at a place, or nowhere where memory ran out
@@ -109,21 +131,21 @@ pub record Fronts (entry_at : EntryReading) (left : Left) (Holds : List Entry �
   pub reads : items_at (entry_at left.input.features) number left.input.rest ≡ Some (front, rest)
   pub holds : Holds front
 
--- what a refusal of a section's entries names
-abbrev pub NamesEntries : Features → EntryReading → Context → List DefType → Left → ErrorKind → Type 0
-NamesEntries features entry_at old held left kinds.Malformed = left_items entry_at left ≡ None
-NamesEntries features entry_at old held left kinds.Invalid = Fronts entry_at left (λ entries. ¬ (KeepRules features old entries))
-NamesEntries features entry_at old held left (kinds.Limit l) = Fronts entry_at left (λ entries. PassLimit (core.limit l) old entries)
-NamesEntries features entry_at old held left kinds.Total = Fronts entry_at left (λ entries. OneFindsNoRoom features old held entries)
-NamesEntries features entry_at old held left kinds.Memory = ⊤
-NamesEntries features entry_at old held left _ = ⊥
+-- What a refusal of a section's entries names. Where reading an entry takes memory, nothing is known of the one for which memory ran out.
+abbrev pub NamesEntries : Features → EntryReading → Type 0 → Context → List DefType → Left → ErrorKind → Type 0
+NamesEntries features entry_at takes_memory old held left kinds.Malformed = left_items entry_at left ≡ None
+NamesEntries features entry_at takes_memory old held left kinds.Invalid = Fronts entry_at left (λ entries. ¬ (KeepRules features old entries))
+NamesEntries features entry_at takes_memory old held left (kinds.Limit l) = Fronts entry_at left (λ entries. PassLimit (core.limit l) old entries)
+NamesEntries features entry_at takes_memory old held left kinds.Total = Fronts entry_at left (λ entries. OneFindsNoRoom features old held entries)
+NamesEntries features entry_at takes_memory old held left kinds.Memory = takes_memory ⊎ Fronts entry_at left (λ entries. OneRunsOut features old entries)
+NamesEntries features entry_at takes_memory old held left _ = ⊥
 
 -- where it is: within what was left, or nowhere where memory ran out
 abbrev pub IsIn : Input → ErrorKind → ℕ → Type 0
 IsIn input kinds.Memory offset = offset ≡ 0
 IsIn input _ offset = IsWithin input offset
 
--- What a call returned that judges the entries of a section one by one and adds them.
-abbrev pub AddsEntries : Features → EntryReading → Context → List DefType → Left → Result (Unit {0}) Error → Context → List DefType → Type 0
-AddsEntries features entry_at old old_held left (Ok x) new new_held = Fills features entry_at old old_held left new new_held
-AddsEntries features entry_at old old_held left (Err e) new new_held = NamesEntries features entry_at old old_held left e.kind × IsIn left.input e.kind e.offset
+-- What a call returned that judges the entries of a section one by one and adds them, which may take memory to read.
+abbrev pub AddsEntries : Features → EntryReading → Type 0 → Context → List DefType → Left → Result (Unit {0}) Error → Context → List DefType → Type 0
+AddsEntries features entry_at takes_memory old old_held left (Ok x) new new_held = Fills features entry_at old old_held left new new_held
+AddsEntries features entry_at takes_memory old old_held left (Err e) new new_held = NamesEntries features entry_at takes_memory old old_held left e.kind × IsIn left.input e.kind e.offset

@@ -1,5 +1,5 @@
 -- What the state of the code knows.
-use Rattle.std.specs.Prelude.{◌≡◌, ◌≤◌, ◌<◌, ◌+◌, ℕ, Bool, false, List, [], Option, get_or, length, option_map, map, slice_get}
+use Rattle.std.specs.Prelude.{◌≡◌, ◌≤◌, ◌<◌, ◌+◌, ℕ, Bool, false, List, [], Option, get_or, length, option_map, map, slice_get, ⊤, vec_capacity, vec_len}
 use Rattle.std.specs.List.{AllByRecursion}
 use Rattle.std.specs.Option.{option_and_then}
 use Rattle.wasm_spec.specs.Features.{Features}
@@ -13,6 +13,7 @@ use Rattle.wasmparser_readers.specs.declared.type_ref.TypeRef.{TypeRef}
 use Rattle.wasmparser_types.specs.Index.{Index, number_of}
 use Rattle.wasm_validity.specs.Context.{Context, functions_in}
 use Rattle.wasm_validity.specs.DefinedTypes.{func_type_at}
+use Rattle.wasm_validity.specs.Entries.{Entry, OfFunction, OfMemory, OfTag}
 use Rattle.wasmparser_module_types.specs.ModuleTypes.{stands_for}
 use Rattle.wasmparser_module_state.specs.declared.function_set.FunctionSet.{FunctionSet}
 use Rattle.wasmparser_module_state.specs.declared.module_state.ModuleState.{ModuleState}
@@ -69,6 +70,13 @@ context s = record (unnamed s) { imported = s.imported.imports }
 -- there is room to declare each function
 abbrev pub HasRoom : ModuleState → Type 0
 HasRoom s = length (context s).imported_functions + length (context s).own_functions ≤ room s.declared
+
+-- The vector of an entry of a kind that takes memory for nothing else has no capacity left.
+abbrev pub IsFull : ModuleState → Entry → Type 0
+IsFull s (OfFunction index) = vec_capacity s.own_functions ≤ vec_len s.own_functions
+IsFull s (OfMemory type) = vec_capacity s.memories ≤ vec_len s.memories
+IsFull s (OfTag index) = vec_capacity s.tags ≤ vec_len s.tags
+IsFull s _ = ⊤
 
 -- there is each of these functions
 abbrev pub AreThere : Context → List ℕ → Type 0

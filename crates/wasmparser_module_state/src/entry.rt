@@ -1,11 +1,12 @@
 //! Entries of sections, each of which is judged and added.
 
-ghost use Rattle.std.specs.Prelude.{◌≡◌, IfOk, true};
+ghost use Rattle.std.specs.Prelude.{◌≡◌, IfErr, IfOk, true};
 ghost use Rattle.wasm_validity.specs.Entries.{Entry};
 ghost use Rattle.wasmparser_payloads.specs.EntryReading.{EntryReading};
 ghost use Rattle.wasmparser_module_state.specs.History.{EntersEntry, grows, held};
 ghost use Rattle.wasmparser_module_state.specs.Judging.{Adds, AddsEntries, IsMadeOf};
-ghost use Rattle.wasmparser_module_state.specs.State.{context, features_of};
+ghost use Rattle.wasmparser_error.specs.declared.error.ErrorKind.TheVariants as kinds;
+ghost use Rattle.wasmparser_module_state.specs.State.{IsFull, context, features_of};
 
 use crate::module_state::ModuleState;
 use std::alloc::Global;
@@ -31,6 +32,7 @@ pub trait Entry: Item {
         requires of_module { Self.Item.IsOfModule self }
         requires grows { grows state.old ≡ true }
         ensures added { Adds (features_of state.old) (context state.old) (held state.old) (entry self) offset result (context state.new) }
+        ensures full { IfErr result (λ e. e.kind ≡ kinds.Memory → IsFull state.old (entry self)) }
         ensures entered { IfOk result (λ _. EntersEntry (features_of state.old) (context state.old) (held state.old) (entry self) (held state.new)) }
         ensures features { features_of state.new ≡ features_of state.old }
         ensures grows { grows state.new ≡ true };
@@ -50,7 +52,7 @@ pub fn add_entries<'a, T: FromReader<'a> + Entry>(
     section: SectionLimited<'a, T>,
 ) -> Result<(), Error>
     requires grows { grows state.old ≡ true }
-    ensures added { AddsEntries (features_of state.old) T.entry_at (context state.old) (held state.old) section.entry.left result (context state.new) (held state.new) }
+    ensures added { AddsEntries (features_of state.old) T.entry_at T.TakesMemory (context state.old) (held state.old) section.entry.left result (context state.new) (held state.new) }
     ensures features { features_of state.new ≡ features_of state.old }
     ensures grows { grows state.new ≡ true }
 {

@@ -1,6 +1,6 @@
 //! Sets of functions, by their indexes.
 
-ghost use Rattle.std.specs.Prelude.{◌≡◌, ◌≤◌, ◌<◌, ◌∷◌, [], IfOk, false};
+ghost use Rattle.std.specs.Prelude.{◌≡◌, ◌≤◌, ◌<◌, ◌∷◌, [], IfErr, IfOk, false, vec_capacity};
 ghost use Rattle.std.specs.List.{AllByRecursion};
 ghost use Rattle.wasm_validity.specs.Context.{named_in, with_functions};
 ghost use Rattle.wasmparser_entries.specs.ConstExprs.{expression_of};
@@ -49,6 +49,7 @@ impl FunctionSet {
     pub(crate) fn make_room(&mut self, count: usize) -> Result<(), AllocError>
         ensures room { IfOk result (λ _. count ≤ room self.new) }
         ensures same { members self.new ≡ members self.old }
+        ensures no_room { IfErr result (λ _. vec_capacity self.old.flags < count) }
     {
         if self.flags.len() < count {
             self.flags.resize(count, false)?;

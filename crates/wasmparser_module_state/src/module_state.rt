@@ -62,8 +62,8 @@ impl ModuleState {
         ModuleState::with_list(alloc, ModuleTypes::new(alloc, features))
     }
 
-    /// What is known before the first entry, with the list of types of earlier modules.
-    pub fn with_list(alloc: Global, mut types: ModuleTypes) -> ModuleState
+    // What is known before the first entry, with the list of types of earlier modules.
+    fn with_list(alloc: Global, mut types: ModuleTypes) -> ModuleState
         ensures nothing { context result ≡ at_first }
         ensures list { result.types ≡ record types { types = []; groups = 0; ids = [] } }
     {
@@ -111,13 +111,6 @@ impl ModuleState {
         let kept = mem::replace(&mut self.types, ended);
         let next = ModuleState::with_list(*self.tags.allocator(), kept);
         Ok(mem::replace(self, next))
-    }
-
-    /// The list of types, and the module's types.
-    pub fn into_types(self) -> ModuleTypes
-        ensures { result ≡ self.types }
-    {
-        self.types
     }
 
     /// The features by which entries are judged.

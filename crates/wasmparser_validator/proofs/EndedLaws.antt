@@ -1,5 +1,5 @@
 -- A module that has ended: its bodies are judged by what is known of it, with ids, and answered by what its sections say.
-use Rattle.std.proofs.Common.{◌≡◌, ℕ, false, List, length, Option, Some, None, option_map, Result, Ok, Err, refl, sym, ap, subst, ◌∙◌, slice_get, arith}
+use Rattle.std.proofs.Common.{◌≡◌, ℕ, false, List, [], length, Option, Some, None, option_map, Result, Ok, Err, refl, sym, ap, ap₂, subst, ◌∙◌, slice_get, arith}
 use Rattle.std.specs.Prelude.{IfErr, IfOk, true}
 use Rattle.wasm_bodies.specs.BodyContext.{ModuleItems, func_at}
 use Rattle.wasm_core_read.specs.Input.{Input}
@@ -22,17 +22,16 @@ use Rattle.wasmparser_module_state.specs.State.{context, features_of}
 use Rattle.wasmparser_module_state.specs.StateResources.{state_resources}
 use Rattle.wasmparser_module_state.specs.declared.module_state.ModuleState.{ModuleState}
 use Rattle.wasmparser_module_types.specs.ModuleTypes.{AreKnownTypes, KnownTypes}
-use Rattle.wasmparser_validator.specs.Sections.{AreAccepted}
-use Rattle.wasmparser_validator.specs.declared.sections.ValidSections.{ValidSections}
+use Rattle.wasmparser_validator.specs.Sections.{AreAccepted, RefusesSections}
 use Rattle.wasmparser_types.specs.Index.{Index}
 use Rattle.wasmparser_validator.specs.Bodies.{ValidatedAt, ValidatesBodies}
-use Rattle.wasmparser_validator.specs.Judges.{GoesOn}
+use Rattle.wasmparser_validator.specs.Judges.{GoesOn, Judge, JudgesAll, waiting}
 use Rattle.wasmparser_validator.specs.KnownSpaces.{KnownModule}
-use Rattle.wasmparser_validator.specs.Modules.{goes_on, verdict}
 use Rattle.wasmparser_validator.specs.Validation.{IsValidated}
-use Rattle.wasmparser_validator.specs.declared.modules.Refusal.{Refusal}
+use Rattle.wasmparser_validator.specs.declared.validator.Stage.{Stage}
+use Rattle.wasmparser_validator.specs.declared.validator.Stage.TheVariants as stages
 use Rattle.wasmparser_validator.proofs.ResourceLaws.{are_known, items_are}
-use Rattle.wasmparser_validator.proofs.VerdictLaws.{JudgeBodies, JudgedAt, OwnFunctions, accepted_module, groups_held, refused_body}
+use Rattle.wasmparser_validator.proofs.VerdictLaws.{FirstFindRoom, FrontsAreFirst, JudgeBodies, JudgedAt, LimitsInTurn, NoneWithin, OwnFunctions, RulesInTurn, accepted_module, groups_held, nothing_held, refused_body, refused_sections}
 
 -- ---- laws that are cited
 
@@ -55,66 +54,92 @@ mapped : {A B : Type 0} (f : A → B) (found : Option A) (b : B) → option_map 
 mapped f None b e = absurd cc
 mapped f (Some a) b e = (a, refl, cc)
 
-module _ (features : Features) (old_held : List DefType) (bytes : List ℕ) (m : ValidSections) (ended : ModuleState) (given : List Input) (own : OwnFunctions) (by_ids : JudgedByIds) (functions : FunctionsByIds)
-    (w : AreAccepted features old_held bytes m) (so : (context ended ≡ context m.state) × (ended.types ≡ record m.state.types { grows = false })) (known : AreKnownTypes ended.types)
-    (bodies : given ≡ m.bodies.items) where
-  abbrev cx_same : context ended ≡ context_of w.sections
-  cx_same = so.0 ∙ w.known
-
-  abbrev features_same : features_of ended ≡ features
-  features_same = ap (λ (t : KnownTypes). t.features) so.1 ∙ w.same_features
-
-  known_here : AreKnown features (context_of w.sections).types ended.types.ids ended.types.interned ended.types.sub_types
+module _ (features : Features) (old_held : List DefType) (bytes : List ℕ) (ended : KnownModule) (given : List Input) (own : OwnFunctions) (by_ids : JudgedByIds) (functions : FunctionsByIds)
+    (w : AreAccepted features old_held bytes ended given) (known : AreKnownTypes ended.state.types) where
+  known_here : AreKnown features (context_of w.sections).types ended.state.types.ids ended.state.types.interned ended.state.types.sub_types
   known_here =
-      subst (λ (cx : Context). AreKnown features cx.types ended.types.ids ended.types.interned ended.types.sub_types) cx_same
-      (subst (λ f. AreKnown f (context ended).types ended.types.ids ended.types.interned ended.types.sub_types) features_same (are_known ended known))
+      subst (λ (cx : Context). AreKnown features cx.types ended.state.types.ids ended.state.types.interned ended.state.types.sub_types) w.known
+      (subst (λ f. AreKnown f (context ended.state).types ended.state.types.ids ended.state.types.interned ended.state.types.sub_types) w.same_features (are_known ended.state known))
 
-  items_here : (state_resources ended).items ≡ items_by_ids ended.types.ids ended.types.sub_types (context_of w.sections)
-  items_here = items_are ended ∙ ap (items_by_ids ended.types.ids ended.types.sub_types) cx_same
+  items_here : (state_resources ended.state).items ≡ items_by_ids ended.state.types.ids ended.state.types.sub_types (context_of w.sections)
+  items_here = items_are ended.state ∙ ap (items_by_ids ended.state.types.ids ended.state.types.sub_types) w.known
 
-  by_module : (answer : Result (Unit {0}) Error) (place : ℕ) → ValidatedAt (features_of ended) (state_resources ended).items (context ended) given answer place
-      → JudgedAt features w.sections m.bodies.items answer place
+  by_module : (answer : Result (Unit {0}) Error) (place : ℕ) → ValidatedAt (features_of ended.state) (state_resources ended.state).items (context ended.state) given answer place
+      → JudgedAt features w.sections given answer place
   by_module answer place v =
       let o = v.own in
-      let named = sym (functions features w.sections ended.types.ids ended.types.interned ended.types.sub_types o.index w.fine.rules known_here)
+      let named = sym (functions features w.sections ended.state.types.ids ended.state.types.interned ended.state.types.sub_types o.index w.fine.rules known_here)
       ∙ ap (λ (items : ModuleItems Index). func_at items o.index) (sym items_here) ∙ o.named in
-      let type = mapped (func_map (index_at ended.types.ids)) (func_type_in (types_of w.sections) o.index) o.type named in
-      let here = subst (λ t. IsBodyValidated features (items_by_ids ended.types.ids ended.types.sub_types (context_of w.sections)) t v.body.rest v.body.position answer) (sym type.2)
+      let type = mapped (func_map (index_at ended.state.types.ids)) (func_type_in (types_of w.sections) o.index) o.type named in
+      let here = subst (λ t. IsBodyValidated features (items_by_ids ended.state.types.ids ended.state.types.sub_types (context_of w.sections)) t v.body.rest v.body.position answer) (sym type.2)
       (subst (λ (items : ModuleItems Index). IsBodyValidated features items o.type v.body.rest v.body.position answer) items_here
-      (subst (λ f. IsBodyValidated f (state_resources ended).items o.type v.body.rest v.body.position answer) features_same o.validated)) in
+      (subst (λ f. IsBodyValidated f (state_resources ended.state).items o.type v.body.rest v.body.position answer) w.same_features o.validated)) in
       record {
         index = o.index;
         type = type.0;
         body = v.body;
-        indexed = ap (λ (l : List ℕ). slice_get l place) (sym (own w.sections)) ∙ ap (λ (c : Context). slice_get c.own_functions place) (sym cx_same) ∙ o.indexed;
+        indexed = ap (λ (l : List ℕ). slice_get l place) (sym (own w.sections)) ∙ ap (λ (c : Context). slice_get c.own_functions place) (sym w.known) ∙ o.indexed;
         named = type.1;
-        has = ap (λ (l : List Input). slice_get l place) (sym bodies) ∙ v.has;
-        judged = by_ids features w.sections ended.types.ids ended.types.interned ended.types.sub_types o.index type.0 v.body.rest v.body.position answer w.fine.rules known_here type.1 here;
+        has = v.has;
+        judged = by_ids features w.sections ended.state.types.ids ended.state.types.interned ended.state.types.sub_types o.index type.0 v.body.rest v.body.position answer w.fine.rules known_here type.1 here;
       }
 
-  counted : length (context ended).own_functions ≡ length (functions_of w.sections)
-  counted = ap (λ (c : Context). length c.own_functions) cx_same ∙ ap length (own w.sections)
+  counted : length (context ended.state).own_functions ≡ length (functions_of w.sections)
+  counted = ap (λ (c : Context). length c.own_functions) w.known ∙ ap length (own w.sections)
 
-  judged_so : (answer : Result (Unit {0}) Error) → ValidatesBodies (features_of ended) (state_resources ended).items (context ended) given answer → JudgeBodies features w.sections m.bodies.items answer
+  judged_so : (answer : Result (Unit {0}) Error) → ValidatesBodies (features_of ended.state) (state_resources ended.state).items (context ended.state) given answer → JudgeBodies features w.sections given answer
   judged_so (Ok x) h = λ place lt. by_module (Ok x) place (h place (omega (arith, lt, counted)))
   judged_so (Err e) h = (h.0, omega (arith, h.1, counted), by_module (Err e) h.0 h.2)
 
   -- ---- answers
 
-  abbrev Refused : Result KnownModule Refusal → Type 0
-  Refused result = IfErr result (λ refusal. (refusal.in_body ≡ true) × ValidatesBodies (features_of ended) (state_resources ended).items (context ended) given (Err refusal.error))
+  pub validated_so : (result : Result KnownModule Error) → IfOk result (λ shown. shown ≡ ended)
+      → IfOk result (λ _. ValidatesBodies (features_of ended.state) (state_resources ended.state).items (context ended.state) given (Ok tt))
+      → IfErr result (λ e. ValidatesBodies (features_of ended.state) (state_resources ended.state).items (context ended.state) given (Err e)) → IsValidated features old_held bytes result
+  validated_so (Ok shown) shows fine refused =
+      subst (λ (k : KnownModule). IsValidated features old_held bytes (Ok k)) (sym shows) (accepted_module features old_held bytes ended given w (judged_so (Ok tt) fine))
+  validated_so (Err e) shows fine refused = refused_body features old_held bytes ended given e w (judged_so (Err e) refused)
 
-  pub shown_so : (id : ℕ) (result : Result KnownModule Refusal) → IfOk result (λ shown. shown ≡ record { id = id; state = ended })
-      → IfOk result (λ _. ValidatesBodies (features_of ended) (state_resources ended).items (context ended) given (Ok tt)) → Refused result → IsValidated features old_held bytes (verdict result)
-  shown_so id (Ok shown) shows fine refused =
-      let is = ap (λ (k : KnownModule). k.state) shows in
-      accepted_module features old_held bytes m shown w (judged_so (Ok tt) fine) (ap context is ∙ so.0) (ap (λ (s : ModuleState). s.types) is ∙ so.1)
-  shown_so id (Err refusal) shows fine refused = refused_body features old_held bytes m refusal.error w (judged_so (Err refusal.error) refused.1)
+  pub held_so : (result : Result KnownModule Error) → IfOk result (λ shown. shown ≡ ended)
+      → IfErr result (λ e. ValidatesBodies (features_of ended.state) (state_resources ended.state).items (context ended.state) given (Err e))
+      → GoesOn features old_held bytes result true (held ended.state)
+  held_so (Ok shown) shows refused = (refl, ap (λ (k : KnownModule). held k.state) (sym shows))
+  held_so (Err e) shows refused = groups_held features old_held bytes ended given e w (judged_so (Err e) refused)
 
-  pub held_so : (id : ℕ) (result : Result KnownModule Refusal) (new_held : List DefType) → IfOk result (λ shown. shown ≡ record { id = id; state = ended }) → Refused result → new_held ≡ held m.state
-      → GoesOn features old_held bytes (verdict result) (goes_on result) new_held
-  held_so id (Ok shown) new_held shows refused same =
-      (refl, same ∙ sym (ap (λ (t : KnownTypes). t.interned) (ap (λ (k : KnownModule). k.state.types) shows ∙ so.1)))
-  held_so id (Err refusal) new_held shows refused same =
-      subst (λ may. GoesOn features old_held bytes (Err refusal.error) may new_held) (sym refused.0)
-      (groups_held features old_held bytes m refusal.error new_held w (judged_so (Err refusal.error) refused.1) same)
+-- ---- a whole module
+
+named_so : (result : Result KnownModule Error) (ended : KnownModule) (id : ℕ) → IfOk result (λ shown. shown ≡ ended) → ended.id ≡ id → IfOk result (λ shown. shown.id ≡ id)
+named_so (Ok shown) ended id shows named = ap (λ (k : KnownModule). k.id) shows ∙ named
+named_so (Err e) ended id shows named = tt
+
+-- its sections are fine, and its bodies were validated
+pub bodies_validated : (old new : Judge) (bytes : List ℕ) (ended : KnownModule) (given : List Input) (result : Result KnownModule Error) → OwnFunctions → JudgedByIds → FunctionsByIds
+    → AreAccepted old.features old.held bytes ended given → AreKnownTypes ended.state.types → ended.id ≡ old.id → new ≡ record (waiting old stages.End) { held = held ended.state }
+    → IfOk result (λ shown. shown ≡ ended)
+    → IfOk result (λ _. ValidatesBodies (features_of ended.state) (state_resources ended.state).items (context ended.state) given (Ok tt))
+    → IfErr result (λ e. ValidatesBodies (features_of ended.state) (state_resources ended.state).items (context ended.state) given (Err e)) → JudgesAll stages.Header old bytes result new
+bodies_validated old new bytes ended given result own by_ids functions w known named after shows fine refused = (
+  validated_so old.features old.held bytes ended given own by_ids functions w known result shows fine refused,
+  named_so result ended old.id shows named,
+  true,
+  held ended.state,
+  held_so old.features old.held bytes ended given own by_ids functions w known result shows refused,
+  after,
+)
+
+-- its sections were refused
+pub sections_refused : (old new : Judge) (bytes : List ℕ) (e : Error) → FrontsAreFirst → RulesInTurn → LimitsInTurn → NoneWithin → FirstFindRoom → RefusesSections old.features old.held bytes e
+    → new ≡ waiting old stages.Failed → JudgesAll stages.Header old bytes (Err e) new
+sections_refused old new bytes e fronts rules bounds within room refused after = (
+  refused_sections old.features old.held bytes e fronts rules bounds within room refused.0 refused.1 refused.2,
+  tt,
+  false,
+  [],
+  nothing_held old.features old.held bytes e [] refused.0 refl,
+  after,
+)
+
+-- what is waited for alike after a refusal depends on name and features alone
+pub waiting_alike : (a b : Judge) (stage : Stage) → a.id ≡ b.id → a.features ≡ b.features → waiting a stage ≡ waiting b stage
+waiting_alike a b stage same_id same_features =
+    ap₂ (λ (id : ℕ) (features : Features). waiting (record { id = id; stage = stage; features = features; known = at_first; held = []; bodies = 0; stated = None }) stage) same_id same_features

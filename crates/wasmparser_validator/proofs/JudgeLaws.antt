@@ -10,9 +10,10 @@ use Rattle.wasmparser_payloads.specs.PieceEntries.{entries_said, items_of, said_
 use Rattle.wasmparser_error.specs.declared.error.Error.{Error}
 use Rattle.wasmparser_error.specs.declared.error.ErrorKind.{ErrorKind}
 use Rattle.wasmparser_error.specs.declared.error.ErrorKind.TheVariants as kinds
-use Rattle.wasmparser_payloads.specs.Pieces.{Piece, Body, End}
+use Rattle.wasmparser_payloads.specs.Pieces.{Piece, Version, Types, Imports, Functions, Tables, Memories, Tags, Globals, Exports, Start, Elements, DataCount, CodeStart, Body, Segments, Custom, Unknown, End}
 use Rattle.wasmparser_validator.specs.PieceJudging.{AddsPiece, IsPlaced, NamesPiece, Says}
-use Rattle.wasmparser_validator.specs.Judges.{AcceptsPiece, IsOutOfOrder, IsWaitedAt, Judge, NamesWaited, RefusesPiece, after_piece, agrees, follows_bodies, is_body, is_end, may_stand_between, is_version, place_of, waiting, waits_for, waits_in}
+use Rattle.wasmparser_validator.specs.Judges.{AcceptsPiece, IsOutOfOrder, IsWaitedAt, Judge, NamesWaited, RefusesPiece, after_piece, agrees, follows_bodies, is_body, is_end, may_stand_between, is_version, place_of, stage_after, waiting, waits_for, waits_in}
+use Rattle.wasmparser_validator.specs.Stages.{may_begin}
 use Rattle.wasmparser_validator.specs.declared.validator.Stage.{Stage}
 use Rattle.wasmparser_validator.specs.declared.validator.Stage.TheVariants as stages
 
@@ -27,6 +28,39 @@ body_waited j body w = by_stage j.stage w
     by_stage stages.Code w = grind (arith, nat_tests)
     by_stage stages.End w = absurd cc
     by_stage stages.Failed w = absurd cc
+
+-- after a piece that is waited for, a module has begun and not ended
+pub middle_after : (j : Judge) (piece : Piece) → waits_for j piece ≡ true → may_begin (stage_after piece j.stage) ≡ false
+unfolding waits_in stage_after follows_bodies is_version may_stand_between
+middle_after j piece w = by_stage j.stage piece w
+  where
+    by_stage : (stage : Stage) (piece : Piece) → waits_in stage j piece ≡ true → may_begin (stage_after piece stage) ≡ false
+    by_stage stages.Header (Version num place) w = refl
+    by_stage stages.Header (Types items) w = absurd cc
+    by_stage stages.Header (Imports items) w = absurd cc
+    by_stage stages.Header (Functions items) w = absurd cc
+    by_stage stages.Header (Tables items) w = absurd cc
+    by_stage stages.Header (Memories items) w = absurd cc
+    by_stage stages.Header (Tags items) w = absurd cc
+    by_stage stages.Header (Globals items) w = absurd cc
+    by_stage stages.Header (Exports items) w = absurd cc
+    by_stage stages.Header (Start function place) w = absurd cc
+    by_stage stages.Header (Elements items) w = absurd cc
+    by_stage stages.Header (DataCount count place) w = absurd cc
+    by_stage stages.Header (CodeStart count place size) w = absurd cc
+    by_stage stages.Header (Body body) w = absurd cc
+    by_stage stages.Header (Segments items) w = absurd cc
+    by_stage stages.Header (Custom section) w = absurd cc
+    by_stage stages.Header (Unknown id contents place) w = absurd cc
+    by_stage stages.Header (End position) w = absurd cc
+    by_stage stages.Sections (Version num place) w = refl
+    by_stage stages.Sections (CodeStart count place size) w = refl
+    by_stage stages.Sections _ w = refl
+    by_stage stages.Code (Version num place) w = refl
+    by_stage stages.Code (CodeStart count place size) w = refl
+    by_stage stages.Code _ w = refl
+    by_stage stages.End piece w = absurd cc
+    by_stage stages.Failed piece w = absurd cc
 
 pub out_of_order : (old new : Judge) (piece : Piece) (e : Error) → waits_for old piece ≡ false → IsOutOfOrder old.stage (place_of piece) old e new → RefusesPiece (waits_for old piece) old piece e new
 out_of_order old new piece e not h = rw not h

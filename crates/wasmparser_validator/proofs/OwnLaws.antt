@@ -122,3 +122,12 @@ has_function s features cx place count own ty flags resources same same_features
       same_features = flagged ∙ same_features;
       tells = tells;
     }
+
+-- the same of the place that a number is
+pub has_function_at : (s : ModuleState) (features : Features) (cx : Context) (place number count own ty : ℕ) (flags : WasmFeatures) (resources : ValidatorResources) → place ≡ number → context s ≡ cx → features_of s ≡ features
+    → AreNamed (context s) → count ≡ length (context s).imported_functions + length (context s).own_functions → own ≡ length (context s).own_functions → slice_get (context s).own_functions place ≡ Some ty
+    → feature_set flags ≡ features_of s → TellsModule features cx (resources_of resources)
+    → HasFunction features cx number (record { resources = resources; index = count - own + place; ty = ty; features = flags })
+has_function_at s features cx place number count own ty flags resources at same same_features named counted owned typed flagged tells =
+    subst (λ n. HasFunction features cx n (record { resources = resources; index = count - own + place; ty = ty; features = flags })) at
+    (has_function s features cx place count own ty flags resources same same_features named counted owned typed flagged tells)

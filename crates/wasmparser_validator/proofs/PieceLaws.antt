@@ -1,5 +1,6 @@
 -- Judging what a piece says, kind by kind.
 use Rattle.std.proofs.Common.{◌≡◌, ◌≢◌, ◌⊎◌, inl, inr, ℕ, List, [], ◌∷◌, ◌++◌, Some, None, IsSome, is_some, IfErr, refl, sym, ap, subst, ◌∙◌, Ok, Err, Result}
+use Rattle.std.specs.Prelude.{⊤}
 use Rattle.wasm_core_types.specs.Limits as core
 use Rattle.wasm_core_read.specs.Input.{Input, IsWithin}
 use Rattle.wasm_core_read.specs.PartReading.{import_at, table_at, global_at, export_at, element_at, data_at}
@@ -108,10 +109,10 @@ record HasItems {A : Type 0} (p : Piece) (first : List Entry) (made : A → Entr
   says_first : said_first p ≡ first
   said : entries_said p ≡ with_items first (Some (record { entry_at = as_entries made form_at; left = left }))
 
-adds_items : {A : Type 0} (features : Features) (old mid : Context) (held : List DefType) (p : Piece) (first : List Entry) (made : A → Entry) (form_at : Features → ReadingOf A) (left : Left)
+adds_items : {A : Type 0} (takes_memory : Type 0) (features : Features) (old mid : Context) (held : List DefType) (p : Piece) (first : List Entry) (made : A → Entry) (form_at : Features → ReadingOf A) (left : Left)
     (result : Result (Unit {0}) Error) (new : Context) (new_held : List DefType) → HasItems p first made form_at left → KeepRules features old first → KeepLimits old first → EnterAll features old held first held
-    → mid ≡ after_all old first → AddsEntries features (as_entries made form_at) mid held left result new new_held → AddsPiece features old held p result new new_held
-adds_items features old mid held p first made form_at left (Ok x) new new_held its rules limits enter known h =
+    → mid ≡ after_all old first → AddsEntries features (as_entries made form_at) takes_memory mid held left result new new_held → AddsPiece features old held p result new new_held
+adds_items takes_memory features old mid held p first made form_at left (Ok x) new new_held its rules limits enter known h =
     record {
       entries = first ++ h.entries;
       said = its.said ∙ rw h.reads refl;
@@ -120,7 +121,7 @@ adds_items features old mid held p first made form_at left (Ok x) new new_held i
       known = h.known ∙ ap (λ cx. after_all cx h.entries) known ∙ sym (after_both old first h.entries);
       entered = enter_both features old held held new_held first h.entries enter (subst (λ cx. EnterAll features cx held h.entries new_held) known h.entered);
     }
-adds_items features old mid held p first made form_at left (Err e) new new_held its rules limits enter known h = by_kind e.kind h
+adds_items takes_memory features old mid held p first made form_at left (Err e) new new_held its rules limits enter known h = by_kind e.kind h
   where
     unread : left_items (as_entries made form_at) left ≡ None → entries_said p ≡ None
     unread none = its.said ∙ rw none refl
@@ -135,7 +136,7 @@ adds_items features old mid held p first made form_at left (Err e) new new_held 
       holds = holds;
     }
 
-    by_kind : (kind : ErrorKind) → NamesEntries features (as_entries made form_at) mid held left kind × IsIn left.input kind e.offset → NamesPiece features old held p kind × IsPlaced p kind e.offset
+    by_kind : (kind : ErrorKind) → NamesEntries features (as_entries made form_at) takes_memory mid held left kind × IsIn left.input kind e.offset → NamesPiece features old held p kind × IsPlaced p kind e.offset
     by_kind kinds.Malformed h = (unread h.0, placed h.1)
     by_kind kinds.Invalid h =
         (begun _ (λ es. ¬ (KeepRules features old es)) h.0 (λ k. h.0.holds (subst (λ cx. KeepRules features cx h.0.front) (sym known) (keep_others features old first h.0.front k))), placed h.1)
@@ -149,57 +150,57 @@ adds_items features old mid held p first made form_at left (Err e) new new_held 
     by_kind kinds.Order h = absurd h.0
     by_kind kinds.Failed h = absurd h.0
 
-pub adds_types : (features : Features) (old : Context) (held : List DefType) (items : Limited) (result : Result (Unit {0}) Error) (new : Context) (new_held : List DefType) → AddsEntries features type_entry_at old held items.left result new new_held → AddsPiece features old held (Types items) result new new_held
+pub adds_types : (features : Features) (old : Context) (held : List DefType) (items : Limited) (result : Result (Unit {0}) Error) (new : Context) (new_held : List DefType) → AddsEntries features type_entry_at ⊤ old held items.left result new new_held → AddsPiece features old held (Types items) result new new_held
 unfolding said_first entries_said items_of
 adds_types features old held items result new new_held h =
-    adds_items features old old held (Types items) [] (λ x. OfType x) (λ _. rec_group_at) items.left result new new_held (record { items = refl; says_first = refl; said = refl }) tt tt refl refl h
+    adds_items ⊤ features old old held (Types items) [] (λ x. OfType x) (λ _. rec_group_at) items.left result new new_held (record { items = refl; says_first = refl; said = refl }) tt tt refl refl h
 
-pub adds_imports : (features : Features) (old : Context) (held : List DefType) (items : Limited) (result : Result (Unit {0}) Error) (new : Context) (new_held : List DefType) → AddsEntries features import_entry_at old held items.left result new new_held → AddsPiece features old held (Imports items) result new new_held
+pub adds_imports : (features : Features) (old : Context) (held : List DefType) (items : Limited) (result : Result (Unit {0}) Error) (new : Context) (new_held : List DefType) → AddsEntries features import_entry_at ⊥ old held items.left result new new_held → AddsPiece features old held (Imports items) result new new_held
 unfolding said_first entries_said items_of
 adds_imports features old held items result new new_held h =
-    adds_items features old old held (Imports items) [] (λ x. OfImport x) (λ g. import_at (has g CompactImports)) items.left result new new_held (record { items = refl; says_first = refl; said = refl }) tt tt refl refl h
+    adds_items ⊥ features old old held (Imports items) [] (λ x. OfImport x) (λ g. import_at (has g CompactImports)) items.left result new new_held (record { items = refl; says_first = refl; said = refl }) tt tt refl refl h
 
-pub adds_functions : (features : Features) (old : Context) (held : List DefType) (items : Limited) (result : Result (Unit {0}) Error) (new : Context) (new_held : List DefType) → AddsEntries features function_entry_at old held items.left result new new_held → AddsPiece features old held (Functions items) result new new_held
+pub adds_functions : (features : Features) (old : Context) (held : List DefType) (items : Limited) (result : Result (Unit {0}) Error) (new : Context) (new_held : List DefType) → AddsEntries features function_entry_at ⊥ old held items.left result new new_held → AddsPiece features old held (Functions items) result new new_held
 unfolding said_first entries_said items_of
 adds_functions features old held items result new new_held h =
-    adds_items features old old held (Functions items) [] (λ x. OfFunction x) (λ _. unsigned_at 32) items.left result new new_held (record { items = refl; says_first = refl; said = refl }) tt tt refl refl h
+    adds_items ⊥ features old old held (Functions items) [] (λ x. OfFunction x) (λ _. unsigned_at 32) items.left result new new_held (record { items = refl; says_first = refl; said = refl }) tt tt refl refl h
 
-pub adds_tables : (features : Features) (old : Context) (held : List DefType) (items : Limited) (result : Result (Unit {0}) Error) (new : Context) (new_held : List DefType) → AddsEntries features table_entry_at old held items.left result new new_held → AddsPiece features old held (Tables items) result new new_held
+pub adds_tables : (features : Features) (old : Context) (held : List DefType) (items : Limited) (result : Result (Unit {0}) Error) (new : Context) (new_held : List DefType) → AddsEntries features table_entry_at ⊥ old held items.left result new new_held → AddsPiece features old held (Tables items) result new new_held
 unfolding said_first entries_said items_of
 adds_tables features old held items result new new_held h =
-    adds_items features old old held (Tables items) [] (λ x. OfTable x) (λ _. table_at) items.left result new new_held (record { items = refl; says_first = refl; said = refl }) tt tt refl refl h
+    adds_items ⊥ features old old held (Tables items) [] (λ x. OfTable x) (λ _. table_at) items.left result new new_held (record { items = refl; says_first = refl; said = refl }) tt tt refl refl h
 
-pub adds_memories : (features : Features) (old : Context) (held : List DefType) (items : Limited) (result : Result (Unit {0}) Error) (new : Context) (new_held : List DefType) → AddsEntries features memory_entry_at old held items.left result new new_held → AddsPiece features old held (Memories items) result new new_held
+pub adds_memories : (features : Features) (old : Context) (held : List DefType) (items : Limited) (result : Result (Unit {0}) Error) (new : Context) (new_held : List DefType) → AddsEntries features memory_entry_at ⊥ old held items.left result new new_held → AddsPiece features old held (Memories items) result new new_held
 unfolding said_first entries_said items_of
 adds_memories features old held items result new new_held h =
-    adds_items features old old held (Memories items) [] (λ x. OfMemory x) (λ _. limits_at) items.left result new new_held (record { items = refl; says_first = refl; said = refl }) tt tt refl refl h
+    adds_items ⊥ features old old held (Memories items) [] (λ x. OfMemory x) (λ _. limits_at) items.left result new new_held (record { items = refl; says_first = refl; said = refl }) tt tt refl refl h
 
-pub adds_globals : (features : Features) (old : Context) (held : List DefType) (items : Limited) (result : Result (Unit {0}) Error) (new : Context) (new_held : List DefType) → AddsEntries features global_entry_at old held items.left result new new_held → AddsPiece features old held (Globals items) result new new_held
+pub adds_globals : (features : Features) (old : Context) (held : List DefType) (items : Limited) (result : Result (Unit {0}) Error) (new : Context) (new_held : List DefType) → AddsEntries features global_entry_at ⊥ old held items.left result new new_held → AddsPiece features old held (Globals items) result new new_held
 unfolding said_first entries_said items_of
 adds_globals features old held items result new new_held h =
-    adds_items features old old held (Globals items) [] (λ x. OfGlobal x) (λ _. global_at) items.left result new new_held (record { items = refl; says_first = refl; said = refl }) tt tt refl refl h
+    adds_items ⊥ features old old held (Globals items) [] (λ x. OfGlobal x) (λ _. global_at) items.left result new new_held (record { items = refl; says_first = refl; said = refl }) tt tt refl refl h
 
-pub adds_exports : (features : Features) (old : Context) (held : List DefType) (items : Limited) (result : Result (Unit {0}) Error) (new : Context) (new_held : List DefType) → AddsEntries features export_entry_at old held items.left result new new_held → AddsPiece features old held (Exports items) result new new_held
+pub adds_exports : (features : Features) (old : Context) (held : List DefType) (items : Limited) (result : Result (Unit {0}) Error) (new : Context) (new_held : List DefType) → AddsEntries features export_entry_at ⊥ old held items.left result new new_held → AddsPiece features old held (Exports items) result new new_held
 unfolding said_first entries_said items_of
 adds_exports features old held items result new new_held h =
-    adds_items features old old held (Exports items) [] (λ x. OfExport x) (λ _. export_at) items.left result new new_held (record { items = refl; says_first = refl; said = refl }) tt tt refl refl h
+    adds_items ⊥ features old old held (Exports items) [] (λ x. OfExport x) (λ _. export_at) items.left result new new_held (record { items = refl; says_first = refl; said = refl }) tt tt refl refl h
 
-pub adds_elements : (features : Features) (old : Context) (held : List DefType) (items : Limited) (result : Result (Unit {0}) Error) (new : Context) (new_held : List DefType) → AddsEntries features element_entry_at old held items.left result new new_held → AddsPiece features old held (Elements items) result new new_held
+pub adds_elements : (features : Features) (old : Context) (held : List DefType) (items : Limited) (result : Result (Unit {0}) Error) (new : Context) (new_held : List DefType) → AddsEntries features element_entry_at ⊥ old held items.left result new new_held → AddsPiece features old held (Elements items) result new new_held
 unfolding said_first entries_said items_of
 adds_elements features old held items result new new_held h =
-    adds_items features old old held (Elements items) [] (λ x. OfElement x) (λ _. element_at) items.left result new new_held (record { items = refl; says_first = refl; said = refl }) tt tt refl refl h
+    adds_items ⊥ features old old held (Elements items) [] (λ x. OfElement x) (λ _. element_at) items.left result new new_held (record { items = refl; says_first = refl; said = refl }) tt tt refl refl h
 
-pub adds_segments : (features : Features) (old : Context) (held : List DefType) (items : Limited) (result : Result (Unit {0}) Error) (new : Context) (new_held : List DefType) → AddsEntries features data_entry_at old held items.left result new new_held → AddsPiece features old held (Segments items) result new new_held
+pub adds_segments : (features : Features) (old : Context) (held : List DefType) (items : Limited) (result : Result (Unit {0}) Error) (new : Context) (new_held : List DefType) → AddsEntries features data_entry_at ⊥ old held items.left result new new_held → AddsPiece features old held (Segments items) result new new_held
 unfolding said_first entries_said items_of
 adds_segments features old held items result new new_held h =
-    adds_items features old old held (Segments items) [] (λ x. OfData x) (λ _. data_at) items.left result new new_held (record { items = refl; says_first = refl; said = refl }) tt tt refl refl h
+    adds_items ⊥ features old old held (Segments items) [] (λ x. OfData x) (λ _. data_at) items.left result new new_held (record { items = refl; says_first = refl; said = refl }) tt tt refl refl h
 
 -- a tag section was judged by itself, and then its items
 pub adds_tags : (features : Features) (old mid : Context) (held : List DefType) (items : Limited) (result : Result (Unit {0}) Error) (new : Context) (new_held : List DefType) → Accepts features old OfTags mid
-    → AddsEntries features tag_entry_at mid held items.left result new new_held → AddsPiece features old held (Tags items) result new new_held
+    → AddsEntries features tag_entry_at ⊥ mid held items.left result new new_held → AddsPiece features old held (Tags items) result new new_held
 unfolding said_first entries_said items_of
 adds_tags features old mid held items result new new_held begins h =
-    adds_items features old mid held (Tags items) (OfTags ∷ []) (λ x. OfTag x) (λ _. tag_type_at) items.left result new new_held (record { items = refl; says_first = refl; said = refl }) (begins.rule, tt) (begins.limits, tt)
+    adds_items ⊥ features old mid held (Tags items) (OfTags ∷ []) (λ x. OfTag x) (λ _. tag_type_at) items.left result new new_held (record { items = refl; says_first = refl; said = refl }) (begins.rule, tt) (begins.limits, tt)
     (held, refl, refl) begins.known h
 
 pub tags_refused : (features : Features) (old : Context) (held : List DefType) (items : Limited) (kind : ErrorKind) (offset : ℕ) → NamesEntry features old held OfTags kind × IsAt items.start kind offset → NamesPiece features old held (Tags items) kind × IsPlaced (Tags items) kind offset

@@ -16,8 +16,6 @@ use Rattle.wasmparser_module_state.specs.State.{context, features_of}
 use Rattle.wasmparser_module_state.specs.declared.module_state.ModuleState.{ModuleState}
 use Rattle.wasmparser_payloads.specs.Pieces.{Piece}
 use Rattle.wasmparser_validator.specs.PieceJudging.{Says}
-use Rattle.wasmparser_validator.specs.Sections.{AreAccepted}
-use Rattle.wasmparser_validator.specs.declared.sections.ValidSections.{ValidSections}
 use Rattle.wasmparser_validator.proofs.EntryLists.{after_both, enter_both, keep_both, within_both}
 use Rattle.wasmparser_validator.specs.Bodies.{AreNamed}
 use Rattle.wasmparser_validator.specs.KnownSpaces.{AreFew, CanBeShown, IsReached}
@@ -53,16 +51,6 @@ reached_so old new reached known types = record {
 }
 
 pub ruleset end_steps = (reached_first, reached_so)
-
-pub reached_end : (features : Features) (old_held : List DefType) (bytes : List ℕ) (m : ValidSections) → AreAccepted features old_held bytes m → IsReached m.state
-reached_end features old_held bytes m w = record {
-  before = old_held;
-  entries = entries_of w.sections;
-  rules = subst (λ f. KeepRules f at_first (entries_of w.sections)) (sym w.same_features) w.fine.rules;
-  limits = w.fine.limits;
-  known = w.known;
-  entered = subst (λ f. EnterAll f at_first old_held (entries_of w.sections) (held m.state)) (sym w.same_features) w.entered;
-}
 
 pub can_be_shown : (state : ModuleState) → ((features : Features) (entries : List Entry) → KeepRules features at_first entries → NamesTypes (spaces_in (after_all at_first entries)))
     → ((entries : List Entry) → AllByRecursion (IsThere (after_all at_first entries)) (after_all at_first entries).imported) → IsReached state → CanBeShown state

@@ -26,7 +26,8 @@ use Rattle.wasmparser_payloads.specs.Pieces.{Piece, Version, Types, Imports, Fun
 use Rattle.wasm_spec.specs.Trees.{DefType}
 use Rattle.wasmparser_module_state.specs.History.{EnterAll, OneFindsNoRoom}
 use Rattle.wasmparser_validator.specs.PieceJudging.{Says, IsFrontOf, by_itself, with_some, IsPlaced, NamesPiece, AddsPiece, body_in, count_in}
-use Rattle.wasmparser_validator.specs.Sections.{contents_of, EndBy, AreRead, NamesSections, RefusesSections}
+use Rattle.wasmparser_validator.specs.Judges.{stated_with}
+use Rattle.wasmparser_validator.specs.Sections.{contents_of, EndBy, AreRead, NamesSections, RefusesSections, latest}
 use Rattle.wasmparser_validator.proofs.EntryLists.{after_both, enter_both, keep_both, keep_others, no_room_both, within_both, past_others}
 use Rattle.wasmparser_validator.proofs.PieceItems.{body_of_piece, count_of_piece}
 use Rattle.wasmparser_validator.proofs.PiecePlaces.{PieceLies, piece_lies}
@@ -36,9 +37,9 @@ use Rattle.wasmparser_validator.proofs.SectionEntries.{body_said, bodies_said, b
 abbrev pub settings_of : Features → Settings
 settings_of features = record { offset = 0; features = features }
 
--- What is known, and held by the list of types, after some pieces of a module, which say entries that keep the rules and limits, with these bodies and data
--- counts; and what is left of it.
-pub record Progress (features : Features) (bytes : List ℕ) (first_held : List DefType) (cx : Context) (held : List DefType) (given : List Input) (stated : List ℕ) (now : Remains) : Type 0 where
+-- What is known, and held by the list of types, after some pieces of a module, which say entries that keep the rules and limits, with these bodies and this data
+-- count; and what is left of it.
+pub record Progress (features : Features) (bytes : List ℕ) (first_held : List DefType) (cx : Context) (held : List DefType) (given : List Input) (stated : Option ℕ) (now : Remains) : Type 0 where
   pub entries : List Entry
   pub reached : Reaches (whole_module (settings_of features) bytes) entries now
   pub rules : KeepRules features at_first entries
@@ -46,14 +47,14 @@ pub record Progress (features : Features) (bytes : List ℕ) (first_held : List 
   pub known : cx ≡ after_all at_first entries
   pub entered : EnterAll features at_first first_held entries held
   pub bodies : contents_of given ≡ bodies_said entries
-  pub counts : stated ≡ data_counts_said entries
+  pub count : stated ≡ latest None (data_counts_said entries)
   pub inside : EndBy (length bytes) given
   pub lie : LieBetween 0 (length bytes) now
   pub ended : now.stage ≡ Done → ReachesEnd (whole_module (settings_of features) bytes) entries
 
-pub begins : (features : Features) (bytes : List ℕ) (cx : Context) (held : List DefType) (given : List Input) (stated : List ℕ) → cx ≡ at_first → given ≡ [] → stated ≡ []
+pub begins : (features : Features) (bytes : List ℕ) (cx : Context) (held : List DefType) (given : List Input) (stated : Option ℕ) → cx ≡ at_first → given ≡ [] → stated ≡ None
     → Progress features bytes held cx held given stated (whole_module (settings_of features) bytes)
-begins features bytes cx held given stated nothing none no_counts = record {
+begins features bytes cx held given stated nothing none no_count = record {
   entries = [];
   reached = Begun;
   rules = tt;
@@ -61,13 +62,39 @@ begins features bytes cx held given stated nothing none no_counts = record {
   known = nothing;
   entered = refl;
   bodies = ap contents_of none;
-  counts = no_counts;
+  count = no_count;
   inside = subst (EndBy (length bytes)) (sym none) tt;
   lie = subst (λ n. LieBetween 0 n (whole_module (settings_of features) bytes)) (omega arith) (whole_lies (settings_of features) bytes);
   ended = λ e. absurd cc;
 }
 
 -- ---- one piece more
+
+-- the data count that is stated after a piece is the last one
+stated_last : (p : Piece) (stated : Option ℕ) → stated_with p stated ≡ latest stated (count_in p)
+unfolding stated_with count_in
+stated_last (Version num range) stated = refl
+stated_last (Types items) stated = refl
+stated_last (Imports items) stated = refl
+stated_last (Functions items) stated = refl
+stated_last (Tables items) stated = refl
+stated_last (Memories items) stated = refl
+stated_last (Tags items) stated = refl
+stated_last (Globals items) stated = refl
+stated_last (Exports items) stated = refl
+stated_last (Start function range) stated = refl
+stated_last (Elements items) stated = refl
+stated_last (DataCount count range) stated = refl
+stated_last (CodeStart count range size) stated = refl
+stated_last (Body body) stated = refl
+stated_last (Segments items) stated = refl
+stated_last (Custom section) stated = refl
+stated_last (Unknown id contents range) stated = refl
+stated_last (End place) stated = refl
+
+latest_append : (last : Option ℕ) (a b : List ℕ) → latest last (a ++ b) ≡ latest (latest last a) b
+latest_append last [] b = refl
+latest_append last (number ∷ a) b = latest_append (Some number) a b
 
 end_by_both : (last : ℕ) (a b : List Input) → EndBy last a → EndBy last b → EndBy last (a ++ b)
 end_by_both last [] b h k = k
@@ -115,8 +142,8 @@ end_reached start now new p before said reached e says done = by_end (end_in p) 
         let same : before ≡ before ++ said = sym (append-nil before) ∙ ap (λ (l : List Entry). before ++ l) (sym none) in
         subst (ReachesEnd start) same (record { now = now; reached = reached; place = place; next = new; ended = subst (λ q. next_piece now ≡ Some (q, new)) is e })
 
-pub goes_on : (features : Features) (bytes : List ℕ) (first_held : List DefType) (cx next : Context) (held next_held : List DefType) (given more : List Input) (stated others : List ℕ) (now new : Remains) (p : Piece)
-    → Progress features bytes first_held cx held given stated now → next_piece now ≡ Some (p, new) → Says features cx held p next next_held → more ≡ given ++ body_in p → others ≡ stated ++ count_in p
+pub goes_on : (features : Features) (bytes : List ℕ) (first_held : List DefType) (cx next : Context) (held next_held : List DefType) (given more : List Input) (stated others : Option ℕ) (now new : Remains) (p : Piece)
+    → Progress features bytes first_held cx held given stated now → next_piece now ≡ Some (p, new) → Says features cx held p next next_held → more ≡ given ++ body_in p → others ≡ stated_with p stated
     → Progress features bytes first_held next next_held more others new
 goes_on features bytes first_held cx next held next_held given more stated others now new p s e says added counted =
     record {
@@ -128,7 +155,8 @@ goes_on features bytes first_held cx next held next_held given more stated other
       entered = enter_both features at_first first_held held next_held s.entries says.entries s.entered (subst (λ c. EnterAll features c held says.entries next_held) s.known says.entered);
       bodies = ap contents_of added ∙ map-append (λ (b : Input). b.rest) given (body_in p) ∙ ap₂ (λ (a b : List (List ℕ)). a ++ b) s.bodies (sym (body_of_piece p says.entries says.said))
           ∙ sym (flat_map-append body_said s.entries says.entries);
-      counts = counted ∙ ap₂ (λ (a b : List ℕ). a ++ b) s.counts (sym (count_of_piece p says.entries says.said)) ∙ sym (flat_map-append count_said s.entries says.entries);
+      count = counted ∙ stated_last p stated ∙ ap₂ latest s.count (sym (count_of_piece p says.entries says.said)) ∙ sym (latest_append None (data_counts_said s.entries) (data_counts_said says.entries))
+          ∙ ap (latest None) (sym (flat_map-append count_said s.entries says.entries));
       inside = subst (EndBy (length bytes)) (sym added) (end_by_both (length bytes) given (body_in p) s.inside (piece_lies 0 (length bytes) now new p s.lie e).body);
       lie = stays 0 (length bytes) now new p s.lie e;
       ended = λ done. end_reached (whole_module (settings_of features) bytes) now new p s.entries says.entries s.reached e says.said done;
@@ -137,7 +165,7 @@ goes_on features bytes first_held cx next held next_held given more stated other
 -- ---- refusals
 
 -- a refusal of a piece refuses the module
-pub refused : (features : Features) (bytes : List ℕ) (first_held : List DefType) (cx new-cx : Context) (held new_held : List DefType) (given : List Input) (stated : List ℕ) (now new : Remains) (p : Piece) (error : Error)
+pub refused : (features : Features) (bytes : List ℕ) (first_held : List DefType) (cx new-cx : Context) (held new_held : List DefType) (given : List Input) (stated : Option ℕ) (now new : Remains) (p : Piece) (error : Error)
     → AreBytes bytes → Progress features bytes first_held cx held given stated now → next_piece now ≡ Some (p, new) → AddsPiece features cx held p (Err error) new-cx new_held → RefusesSections features first_held bytes error
 refused features bytes first_held cx new-cx held new_held given stated now new p error are s e h = by_kind error.kind h.0 h.1
   where
@@ -193,7 +221,7 @@ pub not_ended : (s new : Remains) → at_most_remaining new.stage new < at_most_
 not_ended s new less done = absurd (omega (arith, subst (λ (g : Stage). at_most_remaining new.stage new < at_most_remaining g s) done less))
 
 -- where the next piece isn't there before the end, the bytes are no module
-pub unread : (features : Features) (bytes : List ℕ) (first_held : List DefType) (cx : Context) (held : List DefType) (given : List Input) (stated : List ℕ) (now : Remains) (error : Error) → AreBytes bytes
+pub unread : (features : Features) (bytes : List ℕ) (first_held : List DefType) (cx : Context) (held : List DefType) (given : List Input) (stated : Option ℕ) (now : Remains) (error : Error) → AreBytes bytes
     → Progress features bytes first_held cx held given stated now → ¬ (now.stage ≡ Done)
     → next_piece now ≡ None → error.kind ≡ kinds.Malformed → IsInside now error.offset → RefusesSections features first_held bytes error
 unread features bytes first_held cx held given stated now error are s going none kind inside =
@@ -201,7 +229,7 @@ unread features bytes first_held cx held given stated now error are s going none
 
 -- ---- the end
 
-pub all_read : (features : Features) (bytes : List ℕ) (first_held : List DefType) (cx : Context) (held : List DefType) (given : List Input) (stated : List ℕ) (now : Remains) → AreBytes bytes
+pub all_read : (features : Features) (bytes : List ℕ) (first_held : List DefType) (cx : Context) (held : List DefType) (given : List Input) (stated : Option ℕ) (now : Remains) → AreBytes bytes
     → Progress features bytes first_held cx held given stated now → now.stage ≡ Done → AreRead features bytes first_held cx held given stated
 all_read features bytes first_held cx held given stated now are s done =
     let w = ended_is_whole (settings_of features) bytes s.entries are (s.ended done) in
@@ -212,6 +240,6 @@ all_read features bytes first_held cx held given stated now are s done =
       known = s.known ∙ ap (after_all at_first) w.2;
       entered = subst (λ es. EnterAll features at_first first_held es held) w.2 s.entered;
       bodies = s.bodies ∙ ap bodies_said w.2 ∙ bodies_of_sections w.0;
-      counts = s.counts ∙ ap data_counts_said w.2 ∙ counts_of_sections w.0;
+      count = s.count ∙ ap (λ (es : List Entry). latest None (data_counts_said es)) w.2 ∙ ap (latest None) (counts_of_sections w.0);
       inside = s.inside;
     }

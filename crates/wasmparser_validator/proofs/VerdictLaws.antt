@@ -28,9 +28,7 @@ use Rattle.wasmparser_module_state.specs.History.{EnterAll, OneFindsNoRoom, held
 use Rattle.wasmparser_module_state.specs.State.{context}
 use Rattle.wasmparser_module_types.specs.ModuleTypes.{KnownTypes}
 use Rattle.wasmparser_validator.specs.Sections.{AreAccepted, EndBy, NamesSections}
-use Rattle.wasmparser_validator.specs.declared.sections.ValidSections.{ValidSections}
 use Rattle.wasmparser_validator.specs.BodyVerdicts.{IsBodyJudged}
-use Rattle.wasmparser_validator.specs.Bodies.{AreNamed}
 use Rattle.wasmparser_validator.specs.Judges.{GoesOn, GoesOnAfter, EndsInBody}
 use Rattle.wasmparser_validator.specs.KnownSpaces.{KnownModule}
 use Rattle.wasmparser_validator.specs.Validation.{IsAccepted, IsNamed, IsValidated}
@@ -39,23 +37,23 @@ use Rattle.wasmparser_validator.proofs.LocalsLimit.{no_locals}
 -- ---- laws that are cited
 
 -- what the bytes of a module say at their front is the first part of what its sections say
-abbrev FrontsAreFirst : Type 0
+abbrev pub FrontsAreFirst : Type 0
 FrontsAreFirst = (compact : Bool) (bytes : List ℕ) (entries : List Entry) (sections : List Section) → BeginsWith compact bytes entries → IsModule compact bytes sections
     → (others : List Entry) × (entries_of sections ≡ entries ++ others)
 
-abbrev RulesInTurn : Type 0
+abbrev pub RulesInTurn : Type 0
 RulesInTurn = (features : Features) (cx : Context) (a b : List Entry) → KeepRules features cx (a ++ b) ↔ (KeepRules features cx a × KeepRules features (after_all cx a) b)
 
-abbrev LimitsInTurn : Type 0
+abbrev pub LimitsInTurn : Type 0
 LimitsInTurn = (cx : Context) (a b : List Entry) → KeepLimits cx (a ++ b) ↔ (KeepLimits cx a × KeepLimits (after_all cx a) b)
 
-abbrev NoneWithin : Type 0
+abbrev pub NoneWithin : Type 0
 NoneWithin = (limit : Limit) (cx : Context) (entries : List Entry) → KeepLimits cx entries → ¬ (PassLimit limit cx entries)
 
 abbrev pub OwnFunctions : Type 0
 OwnFunctions = (sections : List Section) → (context_of sections).own_functions ≡ functions_of sections
 
-abbrev FirstFindRoom : Type 0
+abbrev pub FirstFindRoom : Type 0
 FirstFindRoom = (features : Features) (entries : List Entry) → ¬ (OneFindsNoRoom features at_first [] entries)
 
 -- ---- refusals of sections
@@ -145,22 +143,22 @@ same_body P Q sections place a b =
 
 -- ---- a module of which all is fine
 
-pub accepted_module : (features : Features) (old_held : List DefType) (bytes : List ℕ) (m : ValidSections) (shown : KnownModule) → (w : AreAccepted features old_held bytes m)
-    → JudgeBodies features w.sections m.bodies.items (Ok tt) → context shown.state ≡ context m.state → shown.state.types ≡ record m.state.types { grows = false } → IsValidated features old_held bytes (Ok shown)
-accepted_module features old_held bytes m shown w judged shows types = record {
+pub accepted_module : (features : Features) (old_held : List DefType) (bytes : List ℕ) (ended : KnownModule) (given : List Input) → (w : AreAccepted features old_held bytes ended given)
+    → JudgeBodies features w.sections given (Ok tt) → IsValidated features old_held bytes (Ok ended)
+accepted_module features old_held bytes ended given w judged = record {
   right = (
     w.sections,
     record {
       reads = w.reads;
       valid = record {
         fine = w.fine;
-        bodies = λ place lt. let j = judged place lt in in_sections (IsTypedBody features w.sections) features w.sections m.bodies.items (Ok tt) place w.bodies j j.judged.right;
+        bodies = λ place lt. let j = judged place lt in in_sections (IsTypedBody features w.sections) features w.sections given (Ok tt) place w.bodies j j.judged.right;
       };
     },
-    ap spaces_in shows ∙ ap spaces_in w.known,
-    subst (EnterAll features at_first old_held (entries_of w.sections)) (sym (ap (λ (t : KnownTypes). t.interned) types)) w.entered,
-    ap (λ (t : KnownTypes). t.features) types ∙ w.same_features,
-    ap (λ (t : KnownTypes). t.grows) types,
+    ap spaces_in w.known,
+    w.entered,
+    w.same_features,
+    w.rests,
   );
   complete = λ sections h. tt;
   malformed = tt;
@@ -216,9 +214,9 @@ ends_by last [] place body all e = absurd cc
 ends_by last (x ∷ bodies) zero body all e = subst (λ (b : Input). end b ≤ last) (some_is x body e) all.0
 ends_by last (x ∷ bodies) (suc place) body all e = ends_by last bodies place body all.1 e
 
-module _ (features : Features) (old_held : List DefType) (bytes : List ℕ) (m : ValidSections) (e : Error) (w : AreAccepted features old_held bytes m)
-    (refused : JudgeBodies features w.sections m.bodies.items (Err e)) where
-  abbrev judged_there : JudgedAt features w.sections m.bodies.items (Err e) refused.0
+module _ (features : Features) (old_held : List DefType) (bytes : List ℕ) (ended : KnownModule) (given : List Input) (e : Error) (w : AreAccepted features old_held bytes ended given)
+    (refused : JudgeBodies features w.sections given (Err e)) where
+  abbrev judged_there : JudgedAt features w.sections given (Err e) refused.0
   judged_there = refused.2
 
   abbrev kind_there : is_of_body e.kind ≡ true
@@ -229,7 +227,7 @@ module _ (features : Features) (old_held : List DefType) (bytes : List ℕ) (m :
     sections = w.sections;
     reads = w.reads;
     fine = w.fine;
-    some = (refused.0, refused.1, in_sections (Holds w.sections) features w.sections m.bodies.items (Err e) refused.0 w.bodies judged_there holds);
+    some = (refused.0, refused.1, in_sections (Holds w.sections) features w.sections given (Err e) refused.0 w.bodies judged_there holds);
   }
 
   -- a module that is to be accepted has this body too, which is then refused only where memory runs out
@@ -238,7 +236,7 @@ module _ (features : Features) (old_held : List DefType) (bytes : List ℕ) (m :
   accepted_there sections h =
       let same : sections ≡ w.sections = module_one (has features CompactImports) bytes sections w.sections h.reads w.reads in
       let there = (subst (λ (l : List Section). (place : ℕ) → place < length (functions_of l) → BodyAt (IsTypedBody features l) l place) same h.valid.bodies) refused.0 refused.1 in
-      let here = in_sections (λ type body. Unit {0}) features w.sections m.bodies.items (Err e) refused.0 w.bodies judged_there tt in
+      let here = in_sections (λ type body. Unit {0}) features w.sections given (Err e) refused.0 w.bodies judged_there tt in
       let one = same_body _ _ w.sections refused.0 there here in
       judged_there.judged.complete (subst (λ body. IsTypedBody features w.sections judged_there.type body) one.1
       (subst (λ type. IsTypedBody features w.sections type there.body) one.0 there.holds))
@@ -246,7 +244,7 @@ module _ (features : Features) (old_held : List DefType) (bytes : List ℕ) (m :
   ends_there : e.offset ≤ length bytes
   ends_there = elim judged_there.judged.to [
     | inl memory ↦ let at : e.offset ≡ 0 = judged_there.judged.nowhere memory in omega (arith, at)
-    | inr within ↦ omega (arith, within, ends_by (length bytes) m.bodies.items refused.0 judged_there.body w.inside judged_there.has)
+    | inr within ↦ omega (arith, within, ends_by (length bytes) given refused.0 judged_there.body w.inside judged_there.has)
   ]
 
   pub refused_body : IsValidated features old_held bytes (Err e)
@@ -265,14 +263,6 @@ module _ (features : Features) (old_held : List DefType) (bytes : List ℕ) (m :
     place = ends_there;
     memory = judged_there.judged.nowhere;
   }
-
--- ---- what the code asks of what it knows
-
-pub are_named : (features : Features) (old_held : List DefType) (bytes : List ℕ) (m : ValidSections)
-    → ((features : Features) (entries : List Entry) (place index : ℕ) → KeepRules features at_first entries → slice_get (after_all at_first entries).own_functions place ≡ Some index
-    → is_some (func_type_at (after_all at_first entries).types index) ≡ true)
-    → AreAccepted features old_held bytes m → AreNamed (context m.state)
-are_named features old_held bytes m law w = subst AreNamed (sym w.known) (λ place index at. law features (entries_of w.sections) place index w.fine.rules at)
 
 -- ---- what the list holds afterwards
 
@@ -312,8 +302,7 @@ in_body features old_held bytes kinds.Order new_held of ends = absurd cc
 in_body features old_held bytes kinds.Failed new_held of ends = absurd cc
 
 -- a body was refused
-pub groups_held : (features : Features) (old_held : List DefType) (bytes : List ℕ) (m : ValidSections) (e : Error) (new_held : List DefType) (w : AreAccepted features old_held bytes m)
-    → JudgeBodies features w.sections m.bodies.items (Err e) → new_held ≡ held m.state → GoesOn features old_held bytes (Err e) true new_held
-groups_held features old_held bytes m e new_held w refused same =
-    in_body features old_held bytes e.kind new_held (of_body e.kind refused.2.judged.others)
-    (record { may = refl; sections = w.sections; reads = w.reads; entered = subst (EnterAll features at_first old_held (entries_of w.sections)) (sym same) w.entered })
+pub groups_held : (features : Features) (old_held : List DefType) (bytes : List ℕ) (ended : KnownModule) (given : List Input) (e : Error) (w : AreAccepted features old_held bytes ended given)
+    → JudgeBodies features w.sections given (Err e) → GoesOn features old_held bytes (Err e) true (held ended.state)
+groups_held features old_held bytes ended given e w refused =
+    in_body features old_held bytes e.kind (held ended.state) (of_body e.kind refused.2.judged.others) (record { may = refl; sections = w.sections; reads = w.reads; entered = w.entered })

@@ -19,13 +19,13 @@ use Rattle.wasmparser_validator.specs.PieceJudging.{IsInPiece, NamesPiece, Says,
 use Rattle.wasmparser_validator.specs.Functions.{HasFunction}
 use Rattle.wasmparser_validator.specs.KnownSpaces.{IsEndOf, KnownModule}
 use Rattle.wasmparser_validator.specs.Validation.{IsValidated}
+use Rattle.wasmparser_validator.specs.Validators.{ValidatorState}
 use Rattle.wasmparser_func_validator.specs.declared.func_to_validate.FuncToValidate.{FuncToValidate}
 use Rattle.wasmparser_validator.specs.declared.resources.ValidatorResources.{ValidatorResources}
 use Rattle.wasmparser_validator.specs.declared.valid_payload.ValidPayload.{ValidPayload}
 use Rattle.wasmparser_validator.specs.declared.valid_payload.ValidPayload.TheVariants as valid
 use Rattle.wasmparser_validator.specs.declared.validator.Stage.{Stage}
 use Rattle.wasmparser_validator.specs.declared.validator.Stage.TheVariants as stages
-use Rattle.wasmparser_validator.specs.declared.validator.Validator.{Validator}
 
 -- A validator: its name, what it waits for, the features, what it knows of the module so far, the types that it holds, how many bodies it was handed, and the
 -- data count that was stated.
@@ -38,7 +38,7 @@ pub record Judge : Type 0 where
   pub bodies : ℕ
   pub stated : Option ℕ
 
-abbrev pub judge : Validator → Judge
+abbrev pub judge : ValidatorState → Judge
 judge v = record {
   id = v.types.id;
   stage = v.stage;
@@ -203,12 +203,6 @@ abbrev pub is_middle : Stage → Bool
 is_middle stages.Sections = true
 is_middle stages.Code = true
 is_middle stage = false
-
--- another module may begin
-abbrev pub may_begin : Stage → Bool
-may_begin stages.Header = true
-may_begin stages.End = true
-may_begin stage = false
 
 -- The end is accepted where it is waited for and all numbers agree. What is shown then is all that was known of the module. Its types stay in the list, and another one
 -- may begin once the validator is reset.

@@ -5,10 +5,11 @@ pub mod Functions
 pub mod Judges
 pub mod KnownSpaces
 pub mod LaterEntries
-pub mod Modules
 pub mod PieceJudging
 pub mod Sections
 pub mod Shown
 pub mod ShownImports
+pub mod Stages
 pub mod TypesById
 pub mod Validation
+pub mod Validators

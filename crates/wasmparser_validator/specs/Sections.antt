@@ -1,5 +1,5 @@
--- Judging the sections of a module, but for what is in its bodies.
-use Rattle.std.specs.Prelude.{◌≡◌, ◌≤◌, ⊤, ℕ, true, List, map, length, Result, Ok, Err}
+-- The sections of a module, read and validated but for what is in its bodies.
+use Rattle.std.specs.Prelude.{◌≡◌, ◌≤◌, ⊤, ℕ, false, List, [], ◌∷◌, map, length, Option, Some, None, Result, Ok, Err}
 use Rattle.std.specs.List.{AllByRecursion}
 use Rattle.wasm_core_types.specs.Limits as core
 use Rattle.wasm_core_read.specs.Input.{Input, end}
@@ -17,7 +17,7 @@ use Rattle.wasmparser_error.specs.declared.error.ErrorKind.TheVariants as kinds
 use Rattle.wasmparser_payloads.specs.PieceEntries.{HasAllSections}
 use Rattle.wasmparser_module_state.specs.History.{EnterAll, OneFindsNoRoom, grows, held}
 use Rattle.wasmparser_module_state.specs.State.{context, features_of}
-use Rattle.wasmparser_validator.specs.declared.sections.ValidSections.{ValidSections}
+use Rattle.wasmparser_validator.specs.KnownSpaces.{KnownModule}
 
 -- the bytes of bodies
 abbrev pub contents_of : List Input → List (List ℕ)
@@ -27,33 +27,35 @@ contents_of bodies = map (λ (b : Input). b.rest) bodies
 abbrev pub EndBy : ℕ → List Input → Type 0
 EndBy last bodies = AllByRecursion (λ (b : Input). end b ≤ last) bodies
 
--- Sections were read to the end of the bytes, with these bodies and data counts. cx, new_held: what is known, and what the list of types holds, after them.
+-- the last of some numbers that come after another one, or after none
+abbrev pub latest : Option ℕ → List ℕ → Option ℕ
+latest last [] = last
+latest last (number ∷ numbers) = latest (Some number) numbers
+
+-- Sections were read to the end of the bytes, with these bodies and this data count. cx, new_held: what is known, and what the list of types holds, after them.
 -- Whether there are as many bodies as functions, and as many data segments as is stated, is still open.
-pub record AreRead (features : Features) (bytes : List ℕ) (old_held : List DefType) (cx : Context) (new_held : List DefType) (given : List Input) (stated : List ℕ) : Type 0 where
+pub record AreRead (features : Features) (bytes : List ℕ) (old_held : List DefType) (cx : Context) (new_held : List DefType) (given : List Input) (stated : Option ℕ) : Type 0 where
   pub sections : List Section
   pub reads : HasAllSections (has features CompactImports) bytes sections
   pub fine : AreFine features (entries_of sections)
   pub known : cx ≡ context_of sections
   pub entered : EnterAll features at_first old_held (entries_of sections) new_held
   pub bodies : contents_of given ≡ bodies_of sections
-  pub counts : stated ≡ data_counts_of sections
+  pub count : stated ≡ latest None (data_counts_of sections)
   pub inside : EndBy (length bytes) given
 
--- there are as many bodies as functions, and as many data segments as each data count states
-abbrev pub CountsAgree : Context → List Input → List ℕ → Type 0
-CountsAgree cx given stated = (length cx.own_functions ≡ length given) × AllByRecursion (λ count. count ≡ cx.segments) stated
-
--- The bytes are a module whose sections keep all rules and limits but those on what is in bodies. old_held: what the list of types held before.
-pub record AreAccepted (features : Features) (old_held : List DefType) (bytes : List ℕ) (m : ValidSections) : Type 0 where
+-- The bytes are a module whose sections keep all rules and limits but those on what is in bodies. old_held: what the list of types held before; ended, given: what
+-- is known of the module at its end, and its bodies.
+pub record AreAccepted (features : Features) (old_held : List DefType) (bytes : List ℕ) (ended : KnownModule) (given : List Input) : Type 0 where
   pub sections : List Section
   pub reads : IsModule (has features CompactImports) bytes sections
   pub fine : AreFine features (entries_of sections)
-  pub known : context m.state ≡ context_of sections
-  pub entered : EnterAll features at_first old_held (entries_of sections) (held m.state)
-  pub grows : grows m.state ≡ true
-  pub same_features : features_of m.state ≡ features
-  pub bodies : contents_of m.bodies.items ≡ bodies_of sections
-  pub inside : EndBy (length bytes) m.bodies.items
+  pub known : context ended.state ≡ context_of sections
+  pub entered : EnterAll features at_first old_held (entries_of sections) (held ended.state)
+  pub rests : grows ended.state ≡ false
+  pub same_features : features_of ended.state ≡ features
+  pub bodies : contents_of given ≡ bodies_of sections
+  pub inside : EndBy (length bytes) given
 
 -- what the bytes say at their front, as far as some point, has a group for which a list that held these types has no room
 pub record BeginsWithoutRoom (features : Features) (old_held : List DefType) (bytes : List ℕ) : Type 0 where
@@ -75,11 +77,11 @@ abbrev pub RefusesSections : Features → List DefType → List ℕ → Error �
 RefusesSections features old_held bytes e = NamesSections features old_held bytes e.kind × (e.offset ≤ length bytes) × (e.kind ≡ kinds.Memory → e.offset ≡ 0)
 
 -- What a call returned that reads all sections.
-abbrev pub ReadsSections : Features → List ℕ → List DefType → Result (Unit {0}) Error → Context → List DefType → List Input → List ℕ → Type 0
+abbrev pub ReadsSections : Features → List ℕ → List DefType → Result (Unit {0}) Error → Context → List DefType → List Input → Option ℕ → Type 0
 ReadsSections features bytes old_held (Ok x) known new_held bodies stated = AreRead features bytes old_held known new_held bodies stated
 ReadsSections features bytes old_held (Err e) known new_held bodies stated = RefusesSections features old_held bytes e
 
--- What a call returned that judges the sections of a module, by a list that held these types.
-abbrev pub JudgesSections : Features → List DefType → List ℕ → Result ValidSections Error → Type 0
-JudgesSections features old_held bytes (Ok m) = AreAccepted features old_held bytes m
-JudgesSections features old_held bytes (Err e) = RefusesSections features old_held bytes e
+-- What a call returned that validates the sections of a module, by a list that held these types.
+abbrev pub ValidatesSections : Features → List DefType → List ℕ → Result KnownModule Error → List Input → Type 0
+ValidatesSections features old_held bytes (Ok ended) given = AreAccepted features old_held bytes ended given
+ValidatesSections features old_held bytes (Err e) given = RefusesSections features old_held bytes e

@@ -3,16 +3,13 @@
 
 pub mod core_imports;
 pub mod examples;
-mod growing_types;
 pub mod laws;
-mod modules;
 mod payload;
 pub mod resources;
-mod sections;
 pub mod spaces;
 pub mod types;
-mod unknown;
 pub mod valid_payload;
-mod valid_state;
+mod validate_all;
+mod validate_bodies;
 pub mod validator;
 pub mod validator_id;

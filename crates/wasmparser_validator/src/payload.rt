@@ -7,12 +7,11 @@ ghost use Rattle.wasmparser_module_state.specs.Judging.{AddsEntries};
 ghost use Rattle.wasmparser_module_state.specs.State.{context, features_of};
 ghost use Rattle.wasmparser_payloads.specs.Parsing.{piece};
 ghost use Rattle.wasmparser_payloads.specs.Pieces.{Tags};
-ghost use Rattle.wasmparser_validator.specs.PieceJudging.{AddsPiece};
+ghost use Rattle.wasmparser_validator.specs.PieceJudging.{AddsPiece, RefusesAt};
 
-use crate::unknown::refuse;
 use std::alloc::Global;
 use wasmparser_entries::imports::Imports;
-use wasmparser_error::error::Error;
+use wasmparser_error::error::{Error, ErrorKind};
 use wasmparser_module_state::entry::{Entry, add_entries};
 use wasmparser_module_state::module_state::ModuleState;
 use wasmparser_payloads::payload::Payload;
@@ -21,21 +20,31 @@ use wasmparser_readers::from_reader::FromReader;
 use wasmparser_readers::section_limited::SectionLimited;
 use wasmparser_readers::tag_type::TagType;
 
-// A section of items of any kind, which can be read again.
+// Refuses a section of an id that the format doesn't have, whose content starts here.
+fn refuse_unknown(start: u64) -> Result<(), Error>
+    ensures { RefusesAt start result }
+{
+    Err(Error {
+        offset: start,
+        kind: ErrorKind::Malformed,
+    })
+}
+
+// Adds the items of a section, which is cloned.
 fn add_section<'a, T: FromReader<'a> + Entry>(
     alloc: Global,
     state: &mut ModuleState,
     section: &SectionLimited<'a, T>,
 ) -> Result<(), Error>
     requires grows { grows state.old ≡ true }
-    ensures added { AddsEntries (features_of state.old) T.entry_at (context state.old) (held state.old) section.now.left result (context state.new) (held state.new) }
+    ensures added { AddsEntries (features_of state.old) T.entry_at T.TakesMemory (context state.old) (held state.old) section.now.left result (context state.new) (held state.new) }
     ensures features { features_of state.new ≡ features_of state.old }
     ensures grows { grows state.new ≡ true }
 {
     add_entries(alloc, state, section.clone()?)
 }
 
-// A tag section is judged even where it is empty.
+// Adds a tag section, whose feature is checked even where it is empty.
 #[tactic(auto, using(crate::proofs::PieceLaws::tag_steps))]
 fn add_tags<'a>(
     alloc: Global,
@@ -57,7 +66,7 @@ fn add_imports<'a>(
     section: &SectionLimited<'a, Imports<'a>>,
 ) -> Result<(), Error>
     requires grows { grows state.old ≡ true }
-    ensures added { AddsEntries (features_of state.old) import_entry_at (context state.old) (held state.old) section.now.left result (context state.new) (held state.new) }
+    ensures added { AddsEntries (features_of state.old) import_entry_at ⊥ (context state.old) (held state.old) section.now.left result (context state.new) (held state.new) }
     ensures features { features_of state.new ≡ features_of state.old }
     ensures grows { grows state.new ≡ true }
 {
@@ -71,7 +80,7 @@ fn add_exports<'a>(
     section: &SectionLimited<'a, Export<'a>>,
 ) -> Result<(), Error>
     requires grows { grows state.old ≡ true }
-    ensures added { AddsEntries (features_of state.old) export_entry_at (context state.old) (held state.old) section.now.left result (context state.new) (held state.new) }
+    ensures added { AddsEntries (features_of state.old) export_entry_at ⊥ (context state.old) (held state.old) section.now.left result (context state.new) (held state.new) }
     ensures features { features_of state.new ≡ features_of state.old }
     ensures grows { grows state.new ≡ true }
 {
@@ -79,7 +88,7 @@ fn add_exports<'a>(
     add_section(alloc, state, section)
 }
 
-/// Judges a payload, and adds what it says. The bodies of functions aren't read, and no counts are compared.
+/// Validates a payload, and adds its entries. The bodies of functions aren't read, and no counts are compared.
 ///
 /// # Errors
 /// `Malformed` where items don't read or the section is unknown, `Invalid` where a rule is broken, `Limit` where one is passed, `Total` where the list of types has no
@@ -115,6 +124,6 @@ pub fn add_payload<'a>(
         Payload::CustomSection(section) => {
             state.custom_section(section.name(), section.range().start)
         }
-        Payload::UnknownSection { range, .. } => refuse(range.start),
+        Payload::UnknownSection { range, .. } => refuse_unknown(range.start),
     }
 }

@@ -1,4 +1,4 @@
-//! What a validator shows of a valid module, or of one so far.
+//! The index spaces of a valid module, or of a module so far.
 
 ghost use Rattle.std.specs.Iterator.{YieldsFirstBy, item_count};
 ghost use Rattle.std.specs.Prelude.{◌≡◌, [], ◌<◌, ◌^◌, IfErr, IfOk, IsSomeAnd, length, true};
@@ -11,49 +11,46 @@ ghost use Rattle.wasmparser_module_state.specs.StateResources.{state_resources};
 ghost use Rattle.wasmparser_payloads.specs.Parsing.{piece};
 ghost use Rattle.wasmparser_validator.specs.Bodies.{AreNamed};
 ghost use Rattle.wasmparser_validator.specs.Functions.{TellsModule};
-ghost use Rattle.wasmparser_validator.specs.KnownSpaces.{CanBeShown, IsEndOf};
+ghost use Rattle.wasmparser_validator.specs.KnownSpaces.{CanBeShown, IsEndOf, IsReached};
 ghost use Rattle.wasmparser_validator.specs.PieceJudging.{AddsPiece};
 ghost use Rattle.wasmparser_validator.specs.Shown.{exports_left, spaces};
 
-use crate::valid_state::ValidState;
+use crate::payload::add_payload;
 use crate::validator_id::ValidatorId;
 use std::alloc::{AllocError, Global};
 use std::marker::Model;
+use std::mem;
 use wasm_core_types::features::WasmFeatures;
+use wasm_validity_laws::laws::{known_imports, named_functions, named_types};
 use wasmparser_error::error::Error;
 use wasmparser_module_state::module_state::ModuleState;
-use wasmparser_module_types::module_types::ModuleTypes;
 use wasmparser_names::export_names::ExportNames;
 use wasmparser_payloads::payload::Payload;
 use wasmparser_readers::export::Export;
 
-/// The index spaces of a valid module. Contracts see who made them, and what is known of the module.
+/// The index spaces of a valid module. Contracts see who made them, and what is known of the module. A validator adds entries to its own as it reads a module.
 #[derive(Drop)]
 pub struct Types {
     id: ValidatorId,
-    state: ValidState,
+    state: ModuleState,
 }
 
 impl Model for Types {
     ghost use Rattle.wasmparser_module_state.specs.contracts.module_state.ModuleState as kept;
-    ghost use Rattle.wasmparser_validator.specs.KnownSpaces.{KnownModule, known_module_code};
+    ghost use Rattle.wasmparser_validator.specs.KnownSpaces.{IsReached, KnownModule, known_module_code};
 
     ghost Value = { KnownModule };
 
     ghost coded = { known_module_code kept.the_row.coded };
 
     ghost view = { λ t. record { id = t.id; state = t.state } };
+
+    ghost invariant = { λ t. IsReached t.state };
 }
 
 impl Types {
-    // The index spaces of a module of which this is known at its end, by the validator of this name.
-    pub(crate) fn new(id: ValidatorId, state: ValidState) -> Types
-        ensures { result ≡ record { id = id; state = state } }
-    {
-        Types { id, state }
-    }
-
-    // What is known before the first entry, under these features, with a list without types, by the validator of this name.
+    // Returns the index spaces of a module without entries, under these features, with a list without types, by the validator of this name.
+    #[tactic(auto, using(crate::proofs::ReachedLaws::reached_first))]
     pub(crate) fn without_entries(alloc: Global, features: WasmFeatures, id: ValidatorId) -> Types
         ensures nothing { context result.state ≡ at_first }
         ensures no_types { held result.state ≡ [] }
@@ -63,20 +60,27 @@ impl Types {
     {
         Types {
             id,
-            state: ValidState::new(alloc, features),
+            state: ModuleState::new(alloc, features),
         }
     }
 
-    // What is known of the module.
+    // Returns what is known of the module.
+    #[tactic(auto, using(crate::proofs::ReachedLaws::shown_steps))]
     pub(crate) fn state(&self) -> &ModuleState
         ensures same { result.now ≡ self.now.state }
+        ensures reached { IsReached result.now }
         ensures shown { CanBeShown result.now }
         ensures named { AreNamed (context result.now) }
     {
-        self.state.state()
+        // The laws that the clauses follow from, which do nothing.
+        named_functions();
+        named_types();
+        known_imports();
+        &self.state
     }
 
-    // Judges a payload, and adds what it says. After a refusal nothing is known, and the list has no types.
+    // Validates a payload, and adds its entries. After an error there are none, and the list has no types.
+    #[tactic(auto, using(crate::proofs::ReachedLaws::next_steps))]
     pub(crate) fn add(&mut self, alloc: Global, payload: &Payload<'_>) -> Result<(), Error>
         requires grows { grows self.old.state ≡ true }
         ensures added { AddsPiece (features_of self.old.state) (context self.old.state) (held self.old.state) (piece payload.now) result (context self.new.state) (held self.new.state) }
@@ -85,10 +89,19 @@ impl Types {
         ensures grows { grows self.new.state ≡ true }
         ensures id { self.new.id ≡ self.old.id }
     {
-        self.state.add(alloc, payload)
+        let features = self.state.features();
+        match add_payload(alloc, &mut self.state, payload) {
+            Ok(()) => Ok(()),
+            Err(error) => {
+                // (dropped by a call, which is cheaper to prove)
+                drop(mem::replace(&mut self.state, ModuleState::new(alloc, features)));
+                Err(error)
+            }
+        }
     }
 
-    // Gives what is known of a module that ends, with a copy of the list that doesn't grow, and goes on with the list and no module.
+    // Returns the index spaces of a module that ends, with a copy of the list that doesn't grow, and goes on with the list and no entries.
+    #[tactic(auto, using(crate::proofs::ReachedLaws::end_steps))]
     pub(crate) fn end_module(&mut self) -> Result<Types, AllocError>
         ensures ended { IfOk result (IsEndOf self.old) }
         ensures next { IfOk result (λ _. context self.new.state ≡ at_first) }
@@ -102,24 +115,13 @@ impl Types {
         })
     }
 
-    // A copy of what bodies may ask of the module, by a list that doesn't grow.
+    // Returns a copy of what bodies may ask of the module, by a list that doesn't grow.
     pub(crate) fn copy_resources(&mut self) -> Result<ModuleState, AllocError>
         ensures tells { IfOk result (λ copy. TellsModule (features_of self.old.state) (context self.old.state) (state_resources copy)) }
         ensures same { self.new ≡ self.old }
     {
+        self.state.types().are_known();
         self.state.copy_resources()
-    }
-
-    // Gives the list of types, and goes on with one without types and without a module.
-    pub(crate) fn take_list(&mut self, alloc: Global) -> ModuleTypes
-        ensures list { result ≡ self.old.state.types }
-        ensures nothing { context self.new.state ≡ at_first }
-        ensures no_types { held self.new.state ≡ [] }
-        ensures features { features_of self.new.state ≡ features_of self.old.state }
-        ensures grows { grows self.new.state ≡ true }
-        ensures id { self.new.id ≡ self.old.id }
-    {
-        self.state.take_list(alloc)
     }
 
     /// The index spaces, borrowed.
@@ -137,13 +139,13 @@ pub struct TypesRef<'a> {
 }
 
 impl<'a> TypesRef<'a> {
-    // What is known of the module.
+    // The state of the module.
     pub(crate) fn state(&self) -> &'a ModuleState
         ensures same { result.now ≡ self.now.types.now.state }
         ensures shown { CanBeShown result.now }
     {
         let types = self.types;
-        types.state.state()
+        types.state()
     }
 
     /// The name of the validator that made this.

@@ -1,27 +1,29 @@
 //! Validators, which are handed a module piece by piece.
 
-ghost use Rattle.std.specs.Prelude.{◌≡◌, ◌<◌, ◌==◌, ◌&&◌, [], IfErr, IfOk, IfSome, None, is_ok, is_some, length, true};
+ghost use Rattle.std.specs.Prelude.{◌≡◌, ◌<◌, ◌==◌, ◌&&◌, [], IfErr, IfOk, IfSome, None, is_ok, is_some, false, length, true};
 ghost use Rattle.wasm_core_types.specs.Features.{feature_set};
 ghost use Rattle.wasm_spec.specs.Features.{default_features};
 ghost use Rattle.wasm_validity.specs.Context.{at_first};
+ghost use Rattle.wasmparser_module_state.specs.StateResources.{state_resources};
 ghost use Rattle.wasmparser_payloads.specs.Parsing.{piece};
 ghost use Rattle.wasmparser_payloads.specs.Pieces as pieces;
-ghost use Rattle.wasmparser_validator.specs.Functions.{HasFunction};
-ghost use Rattle.wasmparser_validator.specs.Judges.{EndsModule, GivesFunction, IsOutOfOrder, JudgesAll, JudgesPayload, JudgesPiece, Opens, RefusesPiece, ShowsAll, after_piece, agrees, follows_bodies, is_body, is_middle, agrees_with_stated, judge, may_begin, place_of, stage_after_all, waiting, waits_for};
+ghost use Rattle.wasmparser_validator.specs.Functions.{HasFunction, TellsModule, resources_of};
+ghost use Rattle.wasmparser_validator.specs.Judges.{EndsModule, GivesFunction, IsOutOfOrder, JudgesPayload, JudgesPiece, Opens, RefusesPiece, ShowsAll, after_piece, agrees, follows_bodies, is_body, is_middle, agrees_with_stated, judge, place_of, waiting, waits_for};
 ghost use Rattle.wasmparser_validator.specs.KnownSpaces.{IsEndOf};
-ghost use Rattle.wasmparser_validator.specs.Modules.{goes_on};
+ghost use Rattle.wasmparser_validator.specs.PieceJudging.{AddsPiece};
+ghost use Rattle.wasmparser_validator.specs.Stages.{may_begin};
 ghost use Rattle.wasmparser_validator.specs.Validation.{IsValidated};
 ghost use Rattle.wasmparser_validator.specs.declared.validator.Stage.TheVariants as stages;
 
-use crate::growing_types::GrowingTypes;
-use crate::modules::{Refusal, validate_module};
 use crate::resources::ValidatorResources;
 use crate::types::{Types, TypesRef};
 use crate::valid_payload::ValidPayload;
 use crate::validator_id::ValidatorId;
 use std::alloc::{AllocError, Global};
+use std::marker::Model;
 use std::mem;
 use std::ops::Range;
+use std::rc::Rc;
 use thiserror::Error as ThisError;
 use wasm_core_types::features::WasmFeatures;
 use wasmparser_entries::data::Data;
@@ -31,6 +33,7 @@ use wasmparser_entries::imports::Imports;
 use wasmparser_entries::table::Table;
 use wasmparser_error::error::{Error, ErrorKind};
 use wasmparser_func_validator::func_to_validate::FuncToValidate;
+use wasmparser_module_state::module_state::ModuleState;
 use wasmparser_payloads::function_body::FunctionBody;
 use wasmparser_payloads::payload::Payload;
 use wasmparser_readers::export::Export;
@@ -39,9 +42,9 @@ use wasmparser_readers::section_limited::SectionLimited;
 use wasmparser_readers::tag_type::TagType;
 use wasmparser_types::sub_type::RecGroup;
 
-// What a validator waits for.
+// The payloads that a validator accepts next.
 #[derive(Clone, Copy, PartialEq, Eq)]
-enum Stage {
+pub(crate) enum Stage {
     // The header of a module.
     Header,
     // Sections.
@@ -59,19 +62,49 @@ enum Stage {
 #[error("the last module is unfinished, or was refused")]
 pub struct NotEnded;
 
-/// Judges a module that it is handed piece by piece. The order of sections is the parser's matter, but for bodies and what may follow them. After a refusal
-/// up to a module's end it answers `Failed` to every call; after the end, `Order`, until it is made ready for another module by [`reset`](Validator::reset).
+/// Validates a module piece by piece. The order of sections is the parser's matter, but for bodies and what may follow them. After a refusal
+/// up to a module's end every call returns `Failed`; after the end, `Order`, until it is made ready for another module by [`reset`](Validator::reset).
 /// The types of modules that have ended stay in its list, so that equal types of all of its modules have one id where types are canonicalized.
 ///
-/// A section call answers `Order` where no section is waited for, `Failed` after a refusal, `Malformed` where the items don't read, `Invalid` and `Limit` where
+/// A section call returns `Order` where no section is waited for, `Failed` after a refusal, `Malformed` where the items don't read, `Invalid` and `Limit` where
 /// they break a rule or pass a limit, `Total` where the list has no room for a group, each at a place of the section, and `Memory` where memory runs out.
 #[derive(Drop)]
 pub struct Validator {
-    alloc: Global,
-    types: GrowingTypes,
-    stage: Stage,
-    bodies: usize,
-    data_count: Option<u32>,
+    pub(crate) alloc: Global,
+    // The module so far, with a list to which groups can be added.
+    types: Types,
+    // The module as its bodies see it, once one was handed in.
+    resources: Option<ValidatorResources>,
+    pub(crate) stage: Stage,
+    pub(crate) bodies: usize,
+    pub(crate) data_count: Option<u32>,
+}
+
+impl Model for Validator {
+    ghost use Rattle.wasmparser_module_state.specs.contracts.module_state.ModuleState as kept;
+    ghost use Rattle.wasmparser_validator.specs.Validators.{IsWellFormed, ValidatorState, validator_code};
+
+    ghost Value = { ValidatorState };
+
+    ghost coded = { validator_code kept.the_row.coded };
+
+    ghost view = { λ v. record { types = v.types; stage = v.stage; bodies = v.bodies; data_count = v.data_count } };
+
+    ghost invariant = { λ v. IsWellFormed v.types v.stage v.resources };
+}
+
+// Shares a snapshot of the module's state among the validators of its bodies.
+fn share_copy(alloc: Global, copy: ModuleState) -> Result<ValidatorResources, AllocError>
+    ensures { IfOk result (λ r. resources_of r ≡ state_resources copy) }
+{
+    match Rc::new(alloc, copy) {
+        Ok(module) => Ok(ValidatorResources::new(module)),
+        Err(failed) => {
+            // (dropped by a call, which is cheaper to prove)
+            drop(failed);
+            Err(AllocError)
+        }
+    }
 }
 
 // The place at which a payload is refused that isn't waited for.
@@ -101,16 +134,6 @@ fn place_of(payload: &Payload<'_>) -> u64
         Payload::CustomSection(section) => section.range().start,
         Payload::CodeSectionEntry(body) => body.range().start,
         Payload::End(position) => *position,
-    }
-}
-
-// What is waited for after a whole module.
-fn stage_after(verdict: &Result<Types, Refusal>) -> Stage
-    ensures { result ≡ stage_after_all (goes_on verdict.now) }
-{
-    match verdict {
-        Err(refusal) if !refusal.in_body => Stage::Failed,
-        _ => Stage::End,
     }
 }
 
@@ -152,14 +175,15 @@ impl Validator {
     {
         Validator {
             alloc,
-            types: GrowingTypes::new(alloc, features, id),
+            types: Types::without_entries(alloc, features, id),
+            resources: None,
             stage: Stage::Header,
             bodies: 0,
             data_count: None,
         }
     }
 
-    /// The features by which modules are judged.
+    /// The features under which modules are validated.
     pub fn features(&self) -> WasmFeatures
         ensures { feature_set result ≡ (judge self.now).features }
     {
@@ -170,18 +194,19 @@ impl Validator {
     pub fn id(&self) -> ValidatorId
         ensures { result ≡ (judge self.now).id }
     {
-        self.types.id()
+        self.types.as_ref().id()
     }
 
     // Resets all state and moves to `stage`.
-    fn wait_for(&mut self, stage: Stage)
+    pub(crate) fn wait_for(&mut self, stage: Stage)
         ensures { judge self.new ≡ waiting (judge self.old) stage }
     {
         let features = self.features();
         let id = self.id();
-        let next = GrowingTypes::new(self.alloc, features, id);
+        let next = Types::without_entries(self.alloc, features, id);
         // (dropped by a call, which is cheaper to prove)
         drop(mem::replace(&mut self.types, next));
+        drop(self.resources.take());
         self.stage = stage;
         self.bodies = 0;
         self.data_count = None;
@@ -238,7 +263,7 @@ impl Validator {
     }
 
     // Refuses what isn't waited for.
-    fn refuse_order(&mut self, offset: u64) -> Error
+    pub(crate) fn refuse_order(&mut self, offset: u64) -> Error
         ensures { IsOutOfOrder (judge self.old).stage offset (judge self.old) result (judge self.new) }
     {
         match self.stage {
@@ -279,7 +304,7 @@ impl Validator {
         }
     }
 
-    // Whether a payload is waited for, and its numbers agree; else why not.
+    // Checks that a payload is waited for and its numbers agree; else returns the refusal.
     #[tactic(auto, using(crate::proofs::JudgeLaws::open_steps))]
     fn open(&mut self, payload: &Payload<'_>) -> Result<(), Error>
         ensures open { Opens (judge self.old) (piece payload.now) result (judge self.new) }
@@ -299,14 +324,30 @@ impl Validator {
         Ok(())
     }
 
-    // Judges a payload that is waited for, and adds what it says. The end adds nothing.
+    // Validates what a payload says, and adds its entries, which the end has none of. After an error nothing is known, and the list has no types.
+    pub(crate) fn add(&mut self, payload: &Payload<'_>) -> Result<(), Error>
+        requires { may_begin (judge self.old).stage ≡ false }
+        ensures added { AddsPiece (judge self.old).features (judge self.old).known (judge self.old).held (piece payload.now) result (judge self.new).known (judge self.new).held }
+        ensures others { judge self.new ≡ record (judge self.old) { known = (judge self.new).known; held = (judge self.new).held } }
+    {
+        let resources = self.resources.take();
+        self.types.add(self.alloc, payload)?;
+        // Bodies add nothing that others may ask.
+        match payload {
+            Payload::CodeSectionEntry(_) => self.resources = resources,
+            _ => drop(resources),
+        }
+        Ok(())
+    }
+
+    // Validates a payload that is waited for, and adds its entries. The end adds none.
     #[tactic(auto, using(crate::proofs::JudgeLaws::judge_steps))]
     fn judge(&mut self, payload: &Payload<'_>) -> Result<(), Error>
         ensures { JudgesPiece (judge self.old) (piece payload.now) result (judge self.new) }
     {
         self.open(payload)?;
         self.go_on(payload);
-        match self.types.add(self.alloc, payload) {
+        match self.add(payload) {
             Ok(()) => Ok(()),
             Err(error) => {
                 self.wait_for(Stage::Failed);
@@ -315,16 +356,27 @@ impl Validator {
         }
     }
 
-    // The function of the module's own at a place among these, whose body is to be validated.
-    fn function_at(
-        &mut self,
-        place: usize,
-    ) -> Result<FuncToValidate<ValidatorResources>, AllocError>
-        requires { place < length (judge self.old).known.own_functions }
-        ensures function { IfOk result (HasFunction (judge self.old).features (judge self.old).known place) }
+    // Returns what bodies may ask of the module: a copy of what is known, made for the first that asks.
+    fn resources(&mut self) -> Result<ValidatorResources, AllocError>
+        ensures tells { IfOk result (λ r. TellsModule (judge self.old).features (judge self.old).known (resources_of r)) }
         ensures same { self.new ≡ self.old }
     {
-        let resources = self.types.resources(self.alloc)?;
+        if let Some(resources) = &self.resources {
+            return resources.clone();
+        }
+        let resources = share_copy(self.alloc, self.types.copy_resources()?)?;
+        self.resources = Some(resources.clone()?);
+        Ok(resources)
+    }
+
+    // Returns the function whose body is next.
+    fn next_function(&mut self) -> Result<FuncToValidate<ValidatorResources>, AllocError>
+        requires { (judge self.old).bodies < length (judge self.old).known.own_functions }
+        ensures function { IfOk result (HasFunction (judge self.old).features (judge self.old).known (judge self.old).bodies) }
+        ensures same { self.new ≡ self.old }
+    {
+        let place = self.bodies;
+        let resources = self.resources()?;
         let state = self.types.state();
         let imported = state.function_count() - state.own_function_count();
         Ok(FuncToValidate {
@@ -349,11 +401,23 @@ impl Validator {
         }
     }
 
-    // Waits for something else; bodies and the stated count begin anew.
-    fn go_to(&mut self, stage: Stage)
-        ensures { judge self.new ≡ record (judge self.old) { stage = stage; bodies = 0; stated = None } }
+    // Waits for sections, where a module may begin: nothing is known of it yet.
+    pub(crate) fn begin(&mut self)
+        requires { may_begin (judge self.old).stage ≡ true }
+        ensures nothing { (judge self.old).known ≡ at_first }
+        ensures begun { judge self.new ≡ record (judge self.old) { stage = stages.Sections; bodies = 0; stated = None } }
     {
-        self.stage = stage;
+        self.stage = Stage::Sections;
+        self.bodies = 0;
+        self.data_count = None;
+    }
+
+    // Waits for nothing after a module that has ended, of which nothing is kept but its types.
+    fn rest(&mut self)
+        requires { (judge self.old).known ≡ at_first }
+        ensures { judge self.new ≡ record (judge self.old) { stage = stages.End; bodies = 0; stated = None } }
+    {
+        self.stage = Stage::End;
         self.bodies = 0;
         self.data_count = None;
     }
@@ -370,7 +434,7 @@ impl Validator {
         self.judge(&Payload::Version { num, range })
     }
 
-    /// Judges a type section, item by item.
+    /// Validates a type section, item by item.
     ///
     /// # Errors
     /// `Malformed`, `Invalid`, `Limit`, `Total` or `Memory`, from the first item that has such a cause; `Order` where no such section is waited for, `Failed` after a
@@ -382,7 +446,7 @@ impl Validator {
         self.judge(&Payload::TypeSection(section.clone()?))
     }
 
-    /// Judges an import section, item by item.
+    /// Validates an import section, item by item.
     ///
     /// # Errors
     /// `Malformed`, `Invalid`, `Limit` or `Memory`, from the first item that has such a cause; `Order` and `Failed` as for all sections.
@@ -396,7 +460,7 @@ impl Validator {
         self.judge(&Payload::ImportSection(section.clone()?))
     }
 
-    /// Judges a function section, item by item.
+    /// Validates a function section, item by item.
     ///
     /// # Errors
     /// `Malformed`, `Invalid`, `Limit` or `Memory`, from the first item that has such a cause; `Order` and `Failed` as for all sections.
@@ -407,7 +471,7 @@ impl Validator {
         self.judge(&Payload::FunctionSection(section.clone()?))
     }
 
-    /// Judges a table section, item by item.
+    /// Validates a table section, item by item.
     ///
     /// # Errors
     /// `Malformed`, `Invalid`, `Limit` or `Memory`, from the first item that has such a cause; `Order` and `Failed` as for all sections.
@@ -421,7 +485,7 @@ impl Validator {
         self.judge(&Payload::TableSection(section.clone()?))
     }
 
-    /// Judges a memory section, item by item.
+    /// Validates a memory section, item by item.
     ///
     /// # Errors
     /// `Malformed`, `Invalid`, `Limit` or `Memory`, from the first item that has such a cause; `Order` and `Failed` as for all sections.
@@ -432,7 +496,7 @@ impl Validator {
         self.judge(&Payload::MemorySection(section.clone()?))
     }
 
-    /// Judges a tag section, item by item.
+    /// Validates a tag section, item by item.
     ///
     /// # Errors
     /// `Malformed`, `Invalid`, `Limit` or `Memory`, from the first item that has such a cause; `Order` and `Failed` as for all sections.
@@ -443,7 +507,7 @@ impl Validator {
         self.judge(&Payload::TagSection(section.clone()?))
     }
 
-    /// Judges a global section, item by item.
+    /// Validates a global section, item by item.
     ///
     /// # Errors
     /// `Malformed`, `Invalid`, `Limit` or `Memory`, from the first item that has such a cause; `Order` and `Failed` as for all sections.
@@ -457,7 +521,7 @@ impl Validator {
         self.judge(&Payload::GlobalSection(section.clone()?))
     }
 
-    /// Judges an export section, item by item.
+    /// Validates an export section, item by item.
     ///
     /// # Errors
     /// `Malformed`, `Invalid`, `Limit` or `Memory`, from the first item that has such a cause; `Order` and `Failed` as for all sections.
@@ -471,7 +535,7 @@ impl Validator {
         self.judge(&Payload::ExportSection(section.clone()?))
     }
 
-    /// Judges an element section, item by item.
+    /// Validates an element section, item by item.
     ///
     /// # Errors
     /// `Malformed`, `Invalid`, `Limit` or `Memory`, from the first item that has such a cause; `Order` and `Failed` as for all sections.
@@ -485,7 +549,7 @@ impl Validator {
         self.judge(&Payload::ElementSection(section.clone()?))
     }
 
-    /// Judges a data section, item by item.
+    /// Validates a data section, item by item.
     ///
     /// # Errors
     /// `Malformed`, `Invalid`, `Limit` or `Memory`, from the first item that has such a cause; `Order` and `Failed` as for all sections.
@@ -496,7 +560,7 @@ impl Validator {
         self.judge(&Payload::DataSection(section.clone()?))
     }
 
-    /// Judges a start section.
+    /// Validates a start section.
     ///
     /// # Errors
     /// `Invalid` where there is no such function, or it takes or gives something; `Order` and `Failed` as for all sections.
@@ -508,7 +572,7 @@ impl Validator {
         self.judge(&Payload::StartSection { func, range })
     }
 
-    /// Judges a data count section.
+    /// Validates a data count section.
     ///
     /// # Errors
     /// `Invalid` where bulk memory is off, `Malformed` where another number was stated before; `Order` and `Failed` as for all sections.
@@ -537,7 +601,7 @@ impl Validator {
         })
     }
 
-    /// Judges the size of a body, and gives its function, by which it is to be validated.
+    /// Checks the size of a body, and returns its function, by which it is to be validated.
     ///
     /// # Errors
     /// `Limit` where the body has more bytes than its limit; `Memory` where memory runs out; `Order` before the code section begins and past the functions, `Failed`
@@ -551,7 +615,7 @@ impl Validator {
     {
         let payload = Payload::CodeSectionEntry(body.clone()?);
         self.open(&payload)?;
-        match self.function_at(self.bodies) {
+        match self.next_function() {
             Ok(function) => {
                 self.judge(&payload)?;
                 Ok(function)
@@ -587,9 +651,10 @@ impl Validator {
         ensures shown { IfOk result (IsEndOf self.old.types) }
     {
         self.open(&Payload::End(offset))?;
+        drop(self.resources.take());
         match self.types.end_module() {
             Ok(ended) => {
-                self.go_to(Stage::End);
+                self.rest();
                 Ok(ended)
             }
             Err(error) => {
@@ -599,7 +664,7 @@ impl Validator {
         }
     }
 
-    /// Judges a payload: its section, or that it may come. It gives the function of a body, which is still to be validated, and at the end what is shown
+    /// Validates a payload: its section, or that it may come. It returns the function of a body, which is still to be validated, and at the end what is shown
     /// of the module.
     ///
     /// # Errors
@@ -626,13 +691,13 @@ impl Validator {
         }
     }
 
-    /// What is known of the module so far, in the middle of one. There are no components, so no other level than 0.
+    /// The module so far, in the middle of one. There are no components, so no other level than 0.
     pub fn types(&self, level: usize) -> Option<TypesRef<'_>>
         ensures middle { is_some result ≡ ((level == 0) && is_middle (judge self.now).stage) }
         ensures shown { IfSome result (λ shown. shown.types.now ≡ self.now.types) }
     {
         match self.stage {
-            Stage::Sections | Stage::Code if level == 0 => Some(self.types.types().as_ref()),
+            Stage::Sections | Stage::Code if level == 0 => Some(self.types.as_ref()),
             _ => None,
         }
     }
@@ -652,28 +717,6 @@ impl Validator {
                 Ok(())
             }
             _ => Err(NotEnded),
-        }
-    }
-
-    /// Validates the bytes of a module, bodies after all sections, and shows the index spaces of a valid one. After a refusal of a body, running out of memory there too, the
-    /// validator can be made ready for another module. The types of a module that is valid, or refused in a body, stay in the validator's list; any other refusal
-    /// empties it.
-    ///
-    /// # Errors
-    /// `Malformed` where the bytes are no module. `Invalid` and `Limit` where what stands at their front breaks a rule or passes a limit. `Total` where the list has no
-    /// room for a group there. `Operator`, `Body` and the limit on locals, where all else is fine, for a body. `Memory` where memory runs out. `Order` at 0 where a
-    /// module has begun or the last one has ended, `Failed` at 0 after another refusal.
-    pub fn validate_all(&mut self, bytes: &[u8]) -> Result<Types, Error>
-        ensures { JudgesAll (judge self.old).stage (judge self.old) bytes.now result (judge self.new) }
-    {
-        if self.stage != Stage::Header {
-            return Err(self.refuse_order(0));
-        }
-        let verdict = validate_module(self.alloc, &mut self.types, bytes);
-        self.go_to(stage_after(&verdict));
-        match verdict {
-            Ok(types) => Ok(types),
-            Err(refusal) => Err(refusal.error),
         }
     }
 }

@@ -22,7 +22,11 @@ struct Named {
 }
 
 impl Inputs for Named {
+    ghost use Rattle.std.specs.Prelude.{None};
+
     type Input = &'static [u8];
+
+    ghost events = { λ _. None };
 
     fn open(&mut self, name: &str) -> Option<&'static [u8]> {
         match name {

@@ -7,8 +7,8 @@ use Rattle.wasm_gen_program.proofs.transfer.write_whole.Given as goal
 abbrev pub invariant-loop-written : goal.invariant-loop-written
 invariant-loop-written g l = record {
   within : l.written ≤ length l.bytes;
-  appended : Appends (g.W.Sink.contents l.initial.writer) (g.W.Sink.contents l.writer) (take l.written l.bytes);
-  counted : WritesOn (g.W.Sink.faults l.initial.writer) (g.W.Sink.faults l.writer);
+  appended : Appends (g.W.Sink.seen l.initial.writer).contents (g.W.Sink.seen l.writer).contents (take l.written l.bytes);
+  counted : WritesOn (g.W.Sink.seen l.initial.writer).faults (g.W.Sink.seen l.writer).faults;
 }
 
 abbrev pub decreases-loop-written : goal.decreases-loop-written

@@ -36,7 +36,7 @@ returns-in_err-add-clause-added g c =
     let e = entry_read _ _ _ _ _ g.met.T.Entry.is_made _ _ c.in_ok-offset.item _ n.0.reads in
     let p = err_from_is_err_and c.from_residual-in_err-add.result c.from_residual-in_err-add.ensures.1 in
     let named = subst (λ f. NamesEntry f (context c.items.state) (held c.items.state) (g.T.Entry.entry c.in_ok-offset.item) c.in_err-add.field-0.0.kind) c.items.invariant.2 c.in_err-add.ensures.added.0 in
-    rw (p.1, p.2) (refused_entry _ _ _ _ _ _ _ _ _ _ _ c.items.invariant.0 n.0.counted e _ _ _ n.0.place (named, c.in_err-add.ensures.added.1))
+    rw (p.1, p.2) (refused_entry _ _ _ _ _ _ _ _ _ _ _ _ c.items.invariant.0 n.0.counted e _ _ _ n.0.place (named, c.in_err-add.ensures.added.1))
 
 pub returns-clause-added : goal.returns-clause-added
 returns-clause-added g c = fills _ _ _ _ _ _ _ _ c.items.invariant.0 c.in_default.ensures.steps.0

@@ -4,8 +4,8 @@ use Rattle.wasmparser_validator.specs.Judges.{Judge, judge}
 use Rattle.wasmparser_validator.proofs.JudgeLaws.{body_waited}
 use Rattle.wasmparser_validator.proofs.validator.Validator.code_section_entry.Goals as goal
 
-pub function_at-requires : goal.function_at-requires
+pub next_function-requires : goal.next_function-requires
 unfolding piece
-function_at-requires c =
+next_function-requires c =
     let fewer = body_waited (judge c.args.self.now) c.in_ok-clone.field-0 c.in_ok-open.ensures.open.0 in
     subst (λ (j : Judge). j.bodies < length j.known.own_functions) (sym c.in_ok-open.ensures.open.2) fewer

@@ -17,8 +17,10 @@ pub fn tell<R: Eprint>(rt: &R, e: RunError) -> u8
 pub fn tell_of_file<R: Eprint>(rt: &R, e: RunError, name: &str) -> u8
     ensures { result ≡ 2 }
 {
+    // A name that isn't UTF-8 ends with a NUL.
+    let shown = name.strip_suffix('\0').unwrap_or(name);
     let _ = match e {
-        RunError::Read => eprintln!(rt; "wasm_gen: {e} {name}"),
+        RunError::Read => eprintln!(rt; "wasm_gen: {e} {shown}"),
         _ => eprintln!(rt; "wasm_gen: {e}"),
     };
     status_of(&[Outcome::Fault])
@@ -30,14 +32,6 @@ pub fn tell_refusal<R: Eprint>(rt: &R, e: GenerateError) -> u8
 {
     let _ = eprintln!(rt; "wasm_gen: {e}");
     status_of(&[Outcome::Refused])
-}
-
-/// The same of another fault.
-pub fn tell_text<R: Eprint>(rt: &R, text: &str) -> u8
-    ensures { result ≡ 2 }
-{
-    let _ = eprintln!(rt; "wasm_gen: {text}");
-    status_of(&[Outcome::Fault])
 }
 
 /// The same of the words of the command line, by a whole text.

@@ -9,9 +9,9 @@ mod generate;
 
 use std::process::ExitCode;
 use std::rt::{Env, Files};
-use std::{env, io};
 use wasm_gen::error::RunError;
 use wasm_gen::status::status_of;
+use wasm_gen_program::arguments::read_arguments;
 use wasm_gen_program::asked::{Asked, WordsError, read_words};
 
 fn main(rt: HostRuntime) -> ExitCode {
@@ -21,14 +21,7 @@ fn main(rt: HostRuntime) -> ExitCode {
 // Runs the command that the words name, and gives the status.
 fn run<R: Env + Files + Print + Eprint + AllocGlobal>(rt: &R) -> u8 {
     let alloc = rt.alloc();
-    let args = match env::args(rt) {
-        Ok(args) => args,
-        Err(e) if e.kind() == io::ErrorKind::OutOfMemory => {
-            return fault::tell(rt, RunError::Memory);
-        }
-        Err(_) => return fault::tell_text(rt, "cannot read the arguments"),
-    };
-    let Ok(words) = args.collect::<Vec<String>>(alloc) else {
+    let Ok(words) = read_arguments(alloc, rt) else {
         return fault::tell(rt, RunError::Memory);
     };
     match read_words(alloc, words.as_slice()) {

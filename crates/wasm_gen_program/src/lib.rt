@@ -1,6 +1,7 @@
 //! The program's commands over readers and writers, and its command line: a part of `wasm_gen`.
 #![tactic(auto)]
 
+pub mod arguments;
 pub mod asked;
 pub mod check_inputs;
 pub mod command;

@@ -195,7 +195,22 @@ impl Encoding for Symbol {
     }
 }
 
-/// What stands before the bytes of a symbol table: the id of its subsection.
+/// Returns the flags of symbols, in the order of their bits (WebAssembly tool conventions, "Linking").
+pub fn symbol_flags() -> [u32; 7]
+    ensures { result ≡ 0x01 ∷ 0x02 ∷ 0x04 ∷ 0x10 ∷ 0x20 ∷ 0x40 ∷ 0x80 ∷ [] }
+{
+    [
+        SymbolTable::WASM_SYM_BINDING_WEAK,
+        SymbolTable::WASM_SYM_BINDING_LOCAL,
+        SymbolTable::WASM_SYM_VISIBILITY_HIDDEN,
+        SymbolTable::WASM_SYM_UNDEFINED,
+        SymbolTable::WASM_SYM_EXPORTED,
+        SymbolTable::WASM_SYM_EXPLICIT_NAME,
+        SymbolTable::WASM_SYM_NO_STRIP,
+    ]
+}
+
+/// The id of the subsection of a symbol table.
 pub(crate) const SYMBOL_TABLE: u8 = 8;
 
 /// The symbols of an object file, in the order in which they were added: relocations name them by their places, counted from

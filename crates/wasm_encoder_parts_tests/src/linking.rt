@@ -140,14 +140,3 @@ fn section_row(alloc: Global, row: &str) -> Option<bool> {
 fn linking_sections(rt: HostRuntime) -> Result<(), Fail> {
     Ok(check_rows(rt.alloc(), SECTIONS, 6, section_row)?)
 }
-
-#[test]
-fn flags(rt: HostRuntime) {
-    assert!(rt; SymbolTable::WASM_SYM_BINDING_WEAK == 0x01);
-    assert!(rt; SymbolTable::WASM_SYM_BINDING_LOCAL == 0x02);
-    assert!(rt; SymbolTable::WASM_SYM_VISIBILITY_HIDDEN == 0x04);
-    assert!(rt; SymbolTable::WASM_SYM_UNDEFINED == 0x10);
-    assert!(rt; SymbolTable::WASM_SYM_EXPORTED == 0x20);
-    assert!(rt; SymbolTable::WASM_SYM_EXPLICIT_NAME == 0x40);
-    assert!(rt; SymbolTable::WASM_SYM_NO_STRIP == 0x80);
-}

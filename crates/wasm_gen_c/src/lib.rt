@@ -1,4 +1,4 @@
-//! What C can call: the functions of `include/wasm_gen.h`. Null stands for an empty slice.
+//! The functions that C can call, those of `include/wasm_gen.h`. Null stands for an empty slice.
 #![tactic(auto)]
 
 ghost use Rattle.std.specs.Prelude.{◌≡◌, length};

@@ -1,4 +1,4 @@
--- What is written into a caller's buffer.
+-- Bytes written into a caller's buffer.
 use Rattle.std.specs.Prelude.{ℕ, List, ◌++◌, drop, length, nat_le, if◌then◌else◌}
 
 -- the buffer after these bytes were to be written at its front: they are where they fit, and else nothing is

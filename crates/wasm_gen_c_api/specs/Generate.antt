@@ -1,4 +1,4 @@
--- What is made of a seed, and written into a caller's buffer.
+-- Modules made of a seed, and written into a caller's buffer.
 use Rattle.std.specs.Prelude.{◌≡◌, ◌≢◌, ℕ, List, [], length, nat_le, if◌then◌else◌, Result, Ok, Err, IfOk, IfErr}
 use Rattle.wasm_gen_sessions.specs.Asked.{IsMemoryOrLimit, MakesLists, RefusesRightly}
 use Rattle.wasm_gen_sessions.specs.Generate.{IsGeneratedFrom, IsCause}

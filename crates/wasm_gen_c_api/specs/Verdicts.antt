@@ -1,4 +1,4 @@
--- What is told of a module.
+-- Verdicts for C.
 use Rattle.std.specs.Prelude.{◌≡◌, ◌<◌, ◌≤◌, ◌^◌, ℕ, List, [], Result, Ok, Err}
 use Rattle.wasm_spec.specs.Features.{Features}
 use Rattle.wasm_spec.specs.Spaces.{Sizes}

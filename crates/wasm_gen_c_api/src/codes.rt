@@ -58,7 +58,7 @@ pub fn refusal_code(error: &GenerateError) -> u32
     }
 }
 
-/// What a code is called, in ASCII; nothing for a number that is none.
+/// Returns the name of a code, in ASCII, which is empty for a number that is none.
 pub fn code_name(code: u32) -> &'static str
     ensures { result.now ≡ code_name code }
 {

@@ -1,4 +1,4 @@
-//! What ties the calls to each other.
+//! Laws that tie the calls to each other.
 
 ghost use Rattle.std.specs.Prelude.{◌≡◌, ◌⊎◌, ℕ, List, take};
 ghost use Rattle.wasm_gen_c_api.specs.Codes.{memory, short_buffer, yes};
@@ -6,7 +6,7 @@ ghost use Rattle.wasm_gen_c_api.specs.Generate.{IsWritten, generated_features};
 ghost use Rattle.wasm_gen_c_api.specs.Verdicts.{IsChecked};
 ghost use Rattle.wasm_gen_c_api.specs.declared.verdict.Verdict.{Verdict};
 
-/// What was generated and written is judged valid under `generated_features`, unless memory runs out.
+/// A module that was generated and written is valid under `generated_features`, unless memory runs out.
 pub fn generated_is_accepted()
     ensures { (seed old new : List ℕ) (len : ℕ) (told : Verdict) → IsWritten seed old new len yes
         → IsChecked generated_features (take len new) told → (told.kind ≡ yes) ⊎ (told.kind ≡ memory) }

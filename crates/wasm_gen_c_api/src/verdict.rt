@@ -1,4 +1,4 @@
-//! What is told of a module, as a record that C can read.
+//! Verdicts, as a record that C can read.
 
 ghost use Rattle.std.specs.Prelude.{◌≡◌};
 ghost use Rattle.wasm_gen_c_api.specs.Verdicts.{refused, valid, verdict_of};
@@ -9,7 +9,7 @@ use crate::codes::{YES, kind_code};
 use wasmparser_error::error::Error;
 use wasmparser_validator::types::{Types, TypesRef};
 
-/// What is told of a module: the kind of the verdict, and the sizes of a valid module's index spaces, imported items counted.
+/// A verdict: its kind, and the sizes of a valid module's index spaces, imported items counted.
 #[repr(C)]
 #[derive(Clone, Copy, Debug, PartialEq, Eq)]
 pub struct Verdict {
@@ -71,7 +71,7 @@ fn valid(types: TypesRef<'_>) -> Verdict
     }
 }
 
-/// What is told of a validator's answer.
+/// Returns the verdict of a validator's result.
 pub fn verdict_of(answer: &Result<Types, Error>) -> Verdict
     ensures { result ≡ verdict_of answer.now }
 {

@@ -56,7 +56,7 @@ pub record ValidatesNext (old : History) (next : ℕ) (new : History) (unread le
   pub input : ReadsInput unread left result
   pub output : WritesOutput before after result
 
--- What became of an input as it was opened. One that was not is a fault, after which all is as it was.
+-- The result of opening an input. One that was not is a fault, after which all is as it was.
 abbrev pub EndsInput : Option SourceView → Result Bool RunError → History → ℕ → History → SinkView → SinkView → Type 0
 EndsInput None answer old next new before after = (answer ≡ Err Read) × (new ≡ old) × (after ≡ before)
 EndsInput (Some unread) answer old next new before after = (left : SourceView) × ValidatesNext old next new unread left before after answer

@@ -1,4 +1,4 @@
--- What contracts see of a source and a sink, and what these tell of their failures. One that tells may stop, as where a count has no room,
+-- Sources and sinks as contracts see them, and the failures that these state. One that tells may stop, as where a count has no room,
 -- and does not begin again.
 use Rattle.std.specs.Prelude.{◌≡◌, ◌≢◌, ◌≤◌, ◌+◌, ◌⊎◌, ℕ, List, Option, Some, None, ⊤, MatchResult, Result}
 use Rattle.std.specs.IoError.{error_kind}

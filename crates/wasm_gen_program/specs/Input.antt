@@ -1,4 +1,4 @@
--- What calls return that read a whole input, which has at most 2^28 bytes and takes at most 2^29 reads.
+-- Results of calls that read a whole input, which has at most 2^28 bytes and takes at most 2^29 reads.
 use Rattle.std.specs.Prelude.{◌≡◌, ◌≢◌, ◌⊎◌, ◌^◌, Result, IfErr, OnOk}
 use Rattle.std.specs.Io.KnownBytes.{Keeps}
 use Rattle.wasm_gen_sessions.specs.declared.error.GenerateError.{GenerateError}

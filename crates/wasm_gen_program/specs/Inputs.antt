@@ -1,4 +1,4 @@
--- What is done with inputs, as it is told. One that tells may stop, as where a list has no room, and does not begin again.
+-- The events that an implementation of inputs states. One that tells may stop, as where a list has no room, and does not begin again.
 use Rattle.std.specs.Prelude.{◌≡◌, ℕ, List, [], ◌∷◌, ◌++◌, Bool, Option, Result, Ok, Err}
 use Rattle.wasm_gen_program.specs.Device.{SourceView, Tells}
 use Rattle.wasm_gen_program.specs.declared.error.RunError.{RunError}

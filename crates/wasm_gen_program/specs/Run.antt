@@ -1,4 +1,4 @@
--- What a run reads, answers and writes.
+-- Runs that read a module and write its verdict.
 use Rattle.std.specs.Prelude.{◌≡◌, ◌≢◌, ◌≤◌, ◌⊎◌, ◌^◌, ℕ, List, length, Bool, Option, Result, is_ok, IfErr, IfOk, IsErrAnd}
 use Rattle.std.specs.Io.KnownBytes.{Appends}
 use Rattle.wasmparser_error.specs.declared.error.Error.{Error}

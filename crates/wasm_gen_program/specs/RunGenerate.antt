@@ -1,4 +1,4 @@
--- What a run reads, generates and writes.
+-- Runs that read a seed and write the module made of it.
 use Rattle.std.specs.Prelude.{◌≡◌, ◌≢◌, ◌≤◌, ◌^◌, ℕ, List, length, Option, Vec, Result, IfErr, IfOk, OnOk}
 use Rattle.std.specs.Io.KnownBytes.{Appends}
 use Rattle.wasm_smith.specs.Config.{sanitized}

@@ -1,4 +1,4 @@
--- What reading a whole input and writing bytes whole do to the known bytes.
+-- Reading a whole input and writing bytes whole, by the bytes that are known.
 use Rattle.std.specs.Prelude.{◌≡◌, ◌<◌, ◌≤◌, ◌++◌, ℕ, List, length, take, Option}
 use Rattle.std.specs.Io.KnownBytes.{Appends, Consumes, IsAtEnd}
 

@@ -1,4 +1,4 @@
-//! What a command line asks for.
+//! The meaning of a command line.
 
 ghost use Rattle.std.specs.Prelude.{◌≡◌, ◌≢◌, ◌⊎◌, IfOk, IfErr, Err, map, option_map};
 ghost use Rattle.std.specs.String.{string_bytes};
@@ -10,7 +10,7 @@ use clap::error::ErrorKind;
 use clap::{ArgMatches, Error};
 use std::alloc::{AllocError, Global};
 
-/// What the program is asked to do.
+/// A command of the program.
 #[derive(Debug, Drop)]
 pub enum Asked<'a> {
     /// To make the module of the seed in the file of this name.
@@ -60,7 +60,7 @@ fn file_names<'a>(alloc: Global, matches: &ArgMatches<'a>) -> Result<Vec<&'a str
     }
 }
 
-// What is asked for by words in which nothing is wrong.
+// Returns the command of words in which nothing is wrong.
 fn asked_by<'a>(alloc: Global, matches: &ArgMatches<'a>) -> Result<Asked<'a>, WordsError>
     ensures asked { IfOk result (Asks (subcommand_rows_of matches.now)) }
     ensures memory { IfErr result (λ e. e ≡ WordsError.Memory) }
@@ -89,7 +89,7 @@ fn text_of<'a>(alloc: Global, error: &Error) -> Result<Asked<'a>, WordsError>
     }
 }
 
-/// What the words of a command line ask for, the program's name being the first.
+/// Parses the words of a command line, the program's name being the first.
 ///
 /// # Errors
 /// `Wrong` where something is wrong with the words, `Memory` where memory runs out. No clause sees the texts of `Wrong` and `Help`, nor that memory did run out.

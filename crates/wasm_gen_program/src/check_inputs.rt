@@ -19,7 +19,7 @@ pub trait Inputs {
     /// An input that is read.
     type Input: Source + Drop;
 
-    // What was opened and told so far, where that is told.
+    // The inputs opened and the faults reported so far, where an implementation states them.
     ghost events: { Self → Option (List Event) };
 
     /// The input of this name, where it can be opened.

@@ -77,7 +77,7 @@ fn command<'a>(alloc: Global) -> Result<Command<'a>, AllocError>
     add(with_generate, check(alloc))
 }
 
-/// What clap finds in the words, the program's name being the first.
+/// Returns the matches that clap finds in the words, the program's name being the first.
 ///
 /// # Errors
 /// Where something is wrong with the words, where they ask for help, and where memory runs out.

@@ -19,7 +19,7 @@ pub const MAX_TURNS: u64 = 1 << 29;
 /// The most bytes that one read is asked for.
 pub const CHUNK_SIZE: usize = 1 << 14;
 
-// What one read did.
+// The result of one read.
 enum Turn {
     // It gave bytes, which are kept.
     More,

@@ -1,4 +1,4 @@
-//! What a session answers, without what it gives.
+//! Refusals of a session, without what it gives otherwise.
 
 ghost use Rattle.std.specs.Prelude.{◌≡◌, IsSomeAnd, true};
 ghost use Rattle.wasmparser_error.specs.declared.error.ErrorKind.TheVariants.{Failed};

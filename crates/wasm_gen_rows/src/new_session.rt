@@ -8,7 +8,7 @@ use wasm_core::features::WasmFeatures;
 use wasm_gen::judge::{Error, TypesRef, ValidatorId};
 use wasm_gen::session::Session;
 
-/// Whether a row holds of a new session with these features, whose first validator has the id 3.
+/// Checks a row with a new session with these features, whose first validator has the id 3.
 pub fn on_new_session<F: Fn(Global, &mut Session, &str) -> Option<bool>>(
     alloc: Global,
     features: WasmFeatures,

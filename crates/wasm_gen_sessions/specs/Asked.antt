@@ -27,7 +27,7 @@ pub record HasLists (c : Config) (groups : List (List (SubType ℕ))) (funcs : L
   pub same_functions : made.funcs ≡ funcs
   pub generated : IsGenerated c made bytes
 
--- What is generated from each spelling of a list is the module of just this list, without locals; where an even byte and any others follow, it
+-- From each spelling of a list the module of just this list is generated, without locals; where an even byte and any others follow, it
 -- is a module of this list.
 pub record MakesLists (c : Config) (seed bytes : List ℕ) : Type 0 where
   pub exactly : (groups : List (List (SubType ℕ))) (funcs : List ℕ) → IsReachable c groups funcs → Spells c groups funcs seed

@@ -33,7 +33,7 @@ told smith.TypeSize = TypeSize
 told smith.Memory = Memory
 told smith.TooLong = Limit limits.Length
 
--- What is generated from these bytes for a configuration that was put in order, and is good: a made module. Its types and functions are those that are drawn,
+-- From these bytes a made module is generated, for a configuration that was put in order and is good. Its types and functions are those that are drawn,
 -- where the draws say which they are; where nothing is left then, and nothing else is owed, it has nothing else. Its data are no longer than these bytes.
 pub record IsGeneratedFrom (c : Config) (seed bytes : List ℕ) : Type 0 where
   pub good : IsGood c

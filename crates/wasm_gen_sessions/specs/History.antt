@@ -1,4 +1,4 @@
--- What a session holds between modules.
+-- The types that a session holds between modules.
 use Rattle.std.specs.Prelude.{ℕ, Bool, List, refl}
 use Rattle.std.specs.Coded.{Coded, code_by, coded×, coded_ℕ, coded_bool, coded_list}
 use Rattle.wasm_spec.specs.Features.{Features}

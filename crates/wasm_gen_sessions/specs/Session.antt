@@ -1,4 +1,4 @@
--- What a session answers.
+-- The results of a session's calls.
 use Rattle.std.specs.Prelude.{◌≡◌, ℕ, List, true, false, not, Result, IfOk, IsErrAnd}
 use Rattle.wasmparser_validator.specs.Validation.{IsValidated}
 use Rattle.wasmparser_error.specs.declared.error.Error.{Error}

@@ -1,4 +1,4 @@
--- What it means that a made module is written.
+-- The bytes of a made module.
 use Rattle.std.specs.Prelude.{◌≡◌, ℕ, Bool, true, List}
 use Rattle.std.specs.List.{AllByRecursion}
 use Rattle.wasm_spec.specs.Features.{Features, CompactImports, has}

@@ -1,4 +1,4 @@
-//! What users of a session need of the validator.
+//! The validator's items that users of a session need.
 
 pub use wasmparser_error::error::{Error, ErrorKind};
 pub use wasmparser_validator::core_imports::CoreImports;

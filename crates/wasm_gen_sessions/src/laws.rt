@@ -1,4 +1,4 @@
-//! What ties generating to validating.
+//! Laws that tie generating to validating.
 
 ghost use Rattle.std.specs.Prelude.{◌≡◌, ◌⊎◌, ℕ, List, [], false, map, Result, Err};
 ghost use Rattle.std.specs.List.{AllByRecursion};

@@ -1,3 +1,3 @@
-//! What users of `generate` need of the generator.
+//! The generator's items that users of `generate` need.
 
 pub use wasm_smith::config::Config;

@@ -28,7 +28,7 @@ pub record ValidatedAt (features : Features) (items : ModuleItems Index) (cx : C
   pub has : slice_get bodies place ≡ Some body
   pub own : ValidatesOwn features items cx place body answer
 
--- What a call returned that validates bodies: each is fine, or one is refused.
+-- the result of a call that validates bodies: each is fine, or one is refused
 abbrev pub ValidatesBodies : Features → ModuleItems Index → Context → List Input → Result (Unit {0}) Error → Type 0
 ValidatesBodies features items cx bodies (Ok x) = (place : ℕ) → place < length cx.own_functions → ValidatedAt features items cx bodies (Ok x) place
 ValidatesBodies features items cx bodies (Err e) = (place : ℕ) × (place < length cx.own_functions) × ValidatedAt features items cx bodies (Err e) place

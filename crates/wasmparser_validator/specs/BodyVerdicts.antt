@@ -1,4 +1,4 @@
--- What a validator answers to the bytes of a module's body, in terms of the rules on modules.
+-- The verdict on the bytes of a module's body, in terms of the rules on modules.
 use Rattle.std.specs.Prelude.{◌≡◌, ◌≤◌, ◌⊎◌, ◌+◌, ℕ, List, length, Result, IfErr, OnOk}
 use Rattle.wasm_core_types.specs.declared.limits.Limit.TheVariants as core
 use Rattle.wasm_spec.specs.Features.{Features}

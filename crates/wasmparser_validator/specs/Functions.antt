@@ -14,7 +14,7 @@ use Rattle.wasmparser_bodies.specs.Resources.{Resources}
 use Rattle.wasmparser_types.specs.Index.{Index, packable}
 use Rattle.wasmparser_validator.specs.declared.resources.ValidatorResources.{ValidatorResources}
 
--- What bodies may ask of a module of which this is known, its types being named by ids that stand for them.
+-- The resources of bodies in a module of which this is known, its types being named by ids that stand for them.
 pub record TellsModule (features : Features) (cx : Context) (resources : Resources) : Type 0 where
   pub ids : List ℕ
   pub interned : List DefType

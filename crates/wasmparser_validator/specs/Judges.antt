@@ -188,12 +188,12 @@ pub record AcceptsPiece (old : Judge) (piece : Piece) (new : Judge) : Type 0 whe
   pub says : Says old.features old.known old.held piece known new_held
   pub after : new ≡ after_piece old piece known new_held
 
--- What a call returned that is handed a piece of a module.
+-- the result of a call that is handed a piece of a module
 abbrev pub JudgesPiece : {T : Type 0} → Judge → Piece → Result T Error → Judge → Type 0
 JudgesPiece old piece (Ok x) new = AcceptsPiece old piece new
 JudgesPiece old piece (Err e) new = RefusesPiece (waits_for old piece) old piece e new
 
--- What a call returned that only asks whether a piece may come.
+-- the result of a call that only checks that a piece may come
 abbrev pub Opens : Judge → Piece → Result (Unit {0}) Error → Judge → Type 0
 Opens old piece (Ok x) new = (waits_for old piece ≡ true) × (agrees old piece ≡ true) × (new ≡ old)
 Opens old piece (Err e) new = RefusesPiece (waits_for old piece) old piece e new
@@ -215,19 +215,19 @@ pub record AcceptsEnd (old : Judge) (position : ℕ) (shown : KnownModule) (new 
   pub all_types : held shown.state ≡ old.held
   pub after : new ≡ record (waiting old stages.End) { held = old.held }
 
--- What a call returned that ends a module.
+-- the result of a call that ends a module
 abbrev pub EndsModule : Judge → ℕ → Result KnownModule Error → Judge → Type 0
 EndsModule old position (Ok shown) new = AcceptsEnd old position shown new
 EndsModule old position (Err e) new = RefusesPiece (waits_for old (End position)) old (End position) e new
 
--- What a call returned that is handed a body of a function: the function next in turn, whose body it is.
+-- the result of a call that is handed a body: the function next in turn, whose body it is
 abbrev pub GivesFunction : Judge → Input → Result (FuncToValidate ValidatorResources) Error → Judge → Type 0
 GivesFunction old body (Ok function) new = AcceptsPiece old (Body body) new × HasFunction old.features old.known old.bodies function
 GivesFunction old body (Err e) new = RefusesPiece (waits_for old (Body body)) old (Body body) e new
 
 -- ---- payloads
 
--- What is given for a piece that is accepted: what is shown for the end, a body for a body, and nothing for others.
+-- the result for a piece that is accepted: the index spaces for the end, a function for a body, and nothing for others
 abbrev pub GivesValid : Judge → Piece → ValidPayload → Judge → Type 0
 GivesValid old piece valid.Ok new = AcceptsPiece old piece new × (is_end piece ≡ false) × (body_in piece ≡ [])
 GivesValid old piece (valid.Func function body) new = AcceptsPiece old piece new × (piece ≡ Body body) × HasFunction old.features old.known old.bodies function
@@ -238,7 +238,7 @@ abbrev pub ShowsAll : KnownModule → ValidPayload → Type 0
 ShowsAll known (valid.End shown) = IsEndOf known shown
 ShowsAll known given = ⊤
 
--- What a call returned that is handed a payload.
+-- the result of a call that is handed a payload
 abbrev pub JudgesPayload : Judge → Piece → Result ValidPayload Error → Judge → Type 0
 JudgesPayload old piece (Ok given) new = GivesValid old piece given new
 JudgesPayload old piece (Err e) new = RefusesPiece (waits_for old piece) old piece e new
@@ -265,7 +265,7 @@ GoesOnAfter (kinds.Limit limits.Locals) features old_held bytes goes_on new_held
 GoesOnAfter kinds.Memory features old_held bytes goes_on new_held = IsLost goes_on new_held ⊎ EndsInBody features old_held bytes goes_on new_held
 GoesOnAfter kind features old_held bytes goes_on new_held = IsLost goes_on new_held
 
--- Whether another module may come after a whole one, and which types the list holds then.
+-- the stage after a whole module, and the types that the list holds then
 abbrev pub GoesOn : Features → List DefType → List ℕ → Result KnownModule Error → Bool → List DefType → Type 0
 GoesOn features old_held bytes (Ok shown) goes_on new_held = (goes_on ≡ true) × (new_held ≡ held shown.state)
 GoesOn features old_held bytes (Err e) goes_on new_held = GoesOnAfter e.kind features old_held bytes goes_on new_held
@@ -273,7 +273,7 @@ GoesOn features old_held bytes (Err e) goes_on new_held = GoesOnAfter e.kind fea
 abbrev pub stage_after_all : Bool → Stage
 stage_after_all goes_on = if goes_on then stages.End else stages.Failed
 
--- What a call returned that is handed a whole module, which is validated where one may begin.
+-- the result of a call that is handed a whole module, which is validated where one may begin
 abbrev pub JudgesAll : Stage → Judge → List ℕ → Result KnownModule Error → Judge → Type 0
 JudgesAll stages.Header old bytes result new =
     IsValidated old.features old.held bytes result × IfOk result (λ shown. shown.id ≡ old.id)

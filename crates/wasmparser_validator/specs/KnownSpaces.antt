@@ -1,4 +1,4 @@
--- What holds of what is known of a valid module, or of the entries of one so far.
+-- Properties of what is known of a valid module, or of the entries of one so far.
 use Rattle.std.specs.Coded.{Coded, code_by, coded×, coded_ℕ}
 use Rattle.std.specs.Prelude.{◌≡◌, ◌+◌, ◌≤◌, ℕ, false, List, length, refl}
 use Rattle.std.specs.List.{AllByRecursion}

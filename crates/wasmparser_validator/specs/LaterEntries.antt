@@ -1,4 +1,4 @@
--- What may come after the bodies of a module are judged.
+-- Entries after the bodies of a module.
 use Rattle.std.specs.Prelude.{⊤}
 use Rattle.wasm_validity.specs.Entries.{Entry, OfCustom, OfBody, OfData}
 

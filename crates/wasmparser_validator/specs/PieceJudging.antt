@@ -16,7 +16,7 @@ use Rattle.wasmparser_payloads.specs.Pieces.{Piece, Version, Types, Imports, Fun
 
 -- ---- what a piece says
 
--- What a piece says keeps the rules and passes no limit. new, new_held: what is known, and what the list of types holds, after it.
+-- The entries of a piece keep the rules and pass no limit. new, new_held: what is known, and what the list of types holds, after it.
 pub record Says (features : Features) (old : Context) (old_held : List DefType) (piece : Piece) (new : Context) (new_held : List DefType) : Type 0 where
   pub entries : List Entry
   pub said : entries_said piece ≡ Some entries
@@ -93,12 +93,12 @@ NamesPiece features old held piece kinds.Total = PieceBegins piece (λ entries. 
 NamesPiece features old held piece kinds.Memory = IsSome (items_of piece)
 NamesPiece features old held piece _ = ⊥
 
--- What a call returned that judges a piece and adds what it says.
+-- the result of a call that validates a piece and adds its entries
 abbrev pub AddsPiece : Features → Context → List DefType → Piece → Result (Unit {0}) Error → Context → List DefType → Type 0
 AddsPiece features old old_held piece (Ok x) new new_held = Says features old old_held piece new new_held
 AddsPiece features old old_held piece (Err e) new new_held = NamesPiece features old old_held piece e.kind × IsPlaced piece e.kind e.offset
 
--- What a call returned that refuses what begins at a place.
+-- the result of a call that refuses what begins at a place
 abbrev pub RefusesAt : ℕ → Result (Unit {0}) Error → Type 0
 RefusesAt place (Ok x) = ⊥
 RefusesAt place (Err e) = e ≡ record { offset = place; kind = kinds.Malformed }

@@ -33,7 +33,7 @@ latest last [] = last
 latest last (number ∷ numbers) = latest (Some number) numbers
 
 -- Sections were read to the end of the bytes, with these bodies and this data count. cx, new_held: what is known, and what the list of types holds, after them.
--- Whether there are as many bodies as functions, and as many data segments as is stated, is still open.
+-- Nothing is said yet of the number of bodies, nor of that of data segments.
 pub record AreRead (features : Features) (bytes : List ℕ) (old_held : List DefType) (cx : Context) (new_held : List DefType) (given : List Input) (stated : Option ℕ) : Type 0 where
   pub sections : List Section
   pub reads : HasAllSections (has features CompactImports) bytes sections
@@ -76,12 +76,12 @@ NamesSections features old_held bytes _ = ⊥
 abbrev pub RefusesSections : Features → List DefType → List ℕ → Error → Type 0
 RefusesSections features old_held bytes e = NamesSections features old_held bytes e.kind × (e.offset ≤ length bytes) × (e.kind ≡ kinds.Memory → e.offset ≡ 0)
 
--- What a call returned that reads all sections.
+-- the result of a call that reads all sections
 abbrev pub ReadsSections : Features → List ℕ → List DefType → Result (Unit {0}) Error → Context → List DefType → List Input → Option ℕ → Type 0
 ReadsSections features bytes old_held (Ok x) known new_held bodies stated = AreRead features bytes old_held known new_held bodies stated
 ReadsSections features bytes old_held (Err e) known new_held bodies stated = RefusesSections features old_held bytes e
 
--- What a call returned that validates the sections of a module, by a list that held these types.
+-- the result of a call that validates the sections of a module, by a list that held these types
 abbrev pub ValidatesSections : Features → List DefType → List ℕ → Result KnownModule Error → List Input → Type 0
 ValidatesSections features old_held bytes (Ok ended) given = AreAccepted features old_held bytes ended given
 ValidatesSections features old_held bytes (Err e) given = RefusesSections features old_held bytes e

@@ -1,4 +1,4 @@
--- What is shown of a module.
+-- The index spaces that are shown of a module.
 use Rattle.std.specs.Prelude.{◌≡◌, ◌<◌, ℕ, List, [], ◌∷◌, Option, Some, None, drop, length, option_and_then, slice_get}
 use Rattle.wasm_spec.specs.Syntax.{Export}
 use Rattle.wasm_spec.specs.Trees.{DefType, type_at, unrolled}

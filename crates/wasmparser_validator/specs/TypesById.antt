@@ -62,7 +62,7 @@ no_sub_type = record { is_final = true; supertypes = []; composite_type = Struct
 abbrev pub named_by_id : List (SubType Index) → ℕ → NamedType Index
 named_by_id sub_types id = record { reference = Id id; composite = (get_or sub_types id no_sub_type).composite_type }
 
--- What a body may name in the context of a whole module, over ids.
+-- the items that a body may name in the context of a whole module, over ids
 abbrev pub items_by_ids : List ℕ → List (SubType Index) → Context → ModuleItems Index
 items_by_ids ids sub_types cx = record {
   types = map (named_by_id sub_types) ids;

@@ -1,4 +1,4 @@
--- What a validator answers to any bytes.
+-- The verdict on any bytes.
 use Rattle.std.specs.Prelude.{◌≡◌, ◌≢◌, ◌≤◌, ◌⊎◌, ⊤, ℕ, false, List, [], length, Result, IfOk, IfErr}
 use Rattle.wasm_core_types.specs.declared.limits.Limit.TheVariants as limits
 use Rattle.wasm_core_types.specs.Limits as core

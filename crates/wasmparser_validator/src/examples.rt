@@ -18,7 +18,7 @@ pub fn known_types()
     ensures none { index_at ids 4 ≡ Module 4 }
 {}
 
-/// What bodies may name of them.
+/// Returns that bodies may name these.
 pub fn known_items()
     ensures function { func_at (items_by_ids ids sub_types known) 3 ≡ Some (takes (value_of (to (Id 1)) ∷ [])) }
     ensures structure { fields_at (items_by_ids ids sub_types known) 1 ≡ Some [] }

@@ -26,7 +26,7 @@ ghost use Rattle.wasmparser_validator.specs.TypesById.{AreKnown, AreWritten, ind
 ghost use Rattle.wasmparser_type_relations.specs.Decision.{is_val_below};
 ghost use Rattle.wasmparser_types.specs.Index.{Index};
 
-/// What a body may name over ids is what it may name over type indexes, each of these replaced by its id.
+/// A body may name over ids just what it may name over type indexes, each of these replaced by its id.
 pub fn items()
     ensures { (features : Features) (cx : Context) (written : List (SubType ℕ)) (ids : List ℕ) (interned : List DefType) (sub_types : List (SubType Index)) (test : Below)
         → AreWritten features cx.types written → AreKnown features cx.types ids interned sub_types
@@ -41,7 +41,7 @@ pub fn agreement()
         → AgreeOn (WantedBy (is_named_under (length cx.types) features)) (index_at ids) (items_in written cx test) (is_val_below (by_id (slice_get sub_types))) }
 {}
 
-/// What is answered to a body over ids is right over type indexes, by each test that tells which types are below which; and so it is what the rules say of
+/// The verdict on a body over ids is right over type indexes, by each test that tells which types are below which; and so it is what the rules say of
 /// the body. Each of the module's own functions has a type, as it is written and so by ids.
 pub fn bodies()
     ensures written { (features : Features) (sections : List Section) → KeepRules features at_first (entries_of sections)
@@ -75,7 +75,7 @@ pub fn answers()
         → IsBodyJudged features sections type body.rest body.position answer }
 {}
 
-/// What comes after bodies changes nothing of what they are judged in, but the number of data segments, which they don't ask.
+/// Sections after the bodies change nothing that these are validated in, but the number of data segments, which they don't ask.
 pub fn later_entries()
     ensures { (features : Features) (cx : Context) (entries : List Entry) → KeepRules features cx entries → AllByRecursion IsLater entries
         → after_all cx entries ≡ record cx { segments = (after_all cx entries).segments } }

@@ -1,4 +1,4 @@
-//! What bodies ask of a module that is validated payload by payload.
+//! Resources of bodies, in a module that is validated payload by payload.
 
 ghost use Rattle.std.specs.Prelude.{◌≡◌};
 ghost use Rattle.wasmparser_module_state.specs.StateResources.{state_resources};
@@ -18,7 +18,7 @@ use wasmparser_types::ref_type::RefType;
 use wasmparser_types::sub_type::SubType;
 use wasmparser_types::val_type::ValType;
 
-/// What bodies ask of the module that they stand in. All functions of a module share it.
+/// The resources that bodies ask for, shared by all functions of a module.
 #[derive(Clone, Drop)]
 pub struct ValidatorResources {
     module: Rc<ModuleState>,
@@ -32,7 +32,7 @@ impl ValidatorResources {
     }
 }
 
-/// What bodies ask of a module whose sections are still to come: its state, as far as it is known, which is lent.
+/// The same where sections are still to come: the module's state so far, borrowed.
 pub type OperatorValidatorResources<'a> = &'a ModuleState;
 
 /// Shows nothing of the module.

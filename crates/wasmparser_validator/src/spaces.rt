@@ -1,4 +1,4 @@
-//! What stands in the index spaces of a valid module, with ids in place of type indexes.
+//! The items in the index spaces of a valid module, with ids in place of type indexes.
 
 ghost use Rattle.std.specs.Prelude.{◌≡◌, ◌<◌, IfSome, IsSome, Some, length, option_map, slice_get, true};
 ghost use Rattle.std.specs.List.{flat_map, range_with_len};
@@ -189,7 +189,7 @@ impl<'a> TypesRef<'a> {
         self.state().entity_at(kind, index)
     }
 
-    /// What an export is, or None where the module has no item of its kind with its index.
+    /// Returns the item that an export names, or `None` where the module has no item of its kind with its index.
     pub fn entity_type_from_export(&self, export: &Export<'_>) -> Option<EntityType>
         ensures same { option_map (entity_type (known self.now)) result ≡ option_map (external_map (type_at (spaces self.now).types)) (exported self.now (export_item export.now)) }
         ensures ids { IfSome result (λ entity. AreIds (known self.now) (entity_refs entity)) }
@@ -197,7 +197,7 @@ impl<'a> TypesRef<'a> {
         self.entity(export.kind, export.index)
     }
 
-    /// What an import is, or None where it is a function or a tag whose type index the module doesn't have. The types of tables and globals stay as the
+    /// Returns the item that an import declares, or `None` where it is a function or a tag whose type index the module doesn't have. The types of tables and globals stay as the
     /// import writes them.
     pub fn entity_type_from_import(&self, import: &Import<'_>) -> Option<EntityType>
         ensures { IsImported (known self.now) import.now.ty result }

@@ -1,11 +1,11 @@
-//! What a validator gives for a payload.
+//! Results of validating a payload.
 
 use crate::resources::ValidatorResources;
 use crate::types::Types;
 use wasmparser_func_validator::func_to_validate::FuncToValidate;
 use wasmparser_payloads::function_body::FunctionBody;
 
-/// What a validator gives for a payload that it accepts.
+/// The result for a payload that is accepted.
 #[derive(Drop)]
 pub enum ValidPayload<'a> {
     /// All of the payload is judged.

@@ -34,7 +34,7 @@ impl FuncValidatorAllocations {
 }
 
 /// A function whose body is to be validated.
-#[derive(Drop)]
+#[derive(Debug, Drop)]
 pub struct FuncToValidate<T> {
     /// What the module tells of itself.
     pub resources: T,

@@ -65,7 +65,7 @@ named cx old group _ types groups (passes_a_limit l (inl p)) = inl (inl (sym p.0
 named cx old group _ types groups (passes_a_limit l (inr (inl p))) = inl (inr (inl (sym p.0, rw types (past_limit Types (length (types_after old.types group)) p.1))))
 named cx old group _ types groups (passes_a_limit l (inr (inr p))) = inr (subst (λ ts. PassesGroupLimit ts group (core.limit l)) (sym types) p)
 named cx old group _ types groups (finds_no_room full) = subst (λ ts. HasNoRoom old.interned ts group) (sym types) full
-named cx old group _ types groups out_of_memory = tt
+named cx old group _ types groups (out_of_memory right) = rw (types, groups) right
 
 placed : (kind : ErrorKind) (offset place : ℕ) → place ≡ place_of kind offset → IsAt offset kind place
 placed kinds.Malformed offset place e = e

@@ -19,15 +19,16 @@ use Rattle.wasmparser_error.specs.declared.error.Error.{Error}
 use Rattle.wasmparser_error.specs.declared.error.ErrorKind.{ErrorKind}
 use Rattle.wasmparser_error.specs.declared.error.ErrorKind.TheVariants as kinds
 use Rattle.wasmparser_payloads.specs.EntryReading.{EntryReading}
+use Rattle.wasmparser_module_types.specs.ModuleTypes.{IsGroupRightSoFar}
 use Rattle.wasmparser_module_state.specs.History.{EnterAll, OneFindsNoRoom, FindsNoRoom}
 use Rattle.wasmparser_readers.specs.Sections.{Left, left_items}
 use Rattle.wasmparser_types.specs.Index.{packable}
 
 -- An entry for which memory ran out keeps this. Functions, memories and tags keep all rules and limits; tables and globals the limits, and the rule on their type;
--- exports the limits, and may name their item; segments the limits; imports are few enough; groups of types keep nothing that is said here. Other entries take no
--- memory.
+-- exports the limits, and may name their item; segments the limits; imports are few enough; groups of types keep the limits but that on depth, are allowed, and refer
+-- to types that are there. Other entries take no memory.
 abbrev pub IsRightSoFar : Features → Context → Entry → Type 0
-IsRightSoFar features cx (OfType group) = ⊤
+IsRightSoFar features cx (OfType group) = IsGroupRightSoFar features cx.types cx.groups group
 IsRightSoFar features cx (OfImport entry) = suc cx.imports ≤ most Imports
 IsRightSoFar features cx (OfFunction index) = Keeps features cx (OfFunction index) × IsWithinLimits cx (OfFunction index)
 IsRightSoFar features cx (OfTable table) = (keeps_table features cx table.type ≡ true) × IsWithinLimits cx (OfTable table)

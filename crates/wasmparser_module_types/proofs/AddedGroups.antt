@@ -12,14 +12,13 @@ use Rattle.wasm_spec.specs.TypeReferences.{sub_map}
 use Rattle.wasm_spec.specs.Trees.{AreDistinct, DefType, type_at, types_after, types_of_group, unrolled}
 use Rattle.wasm_spec.specs.Types.{RecGroup, Single, Group}
 use Rattle.wasmparser_type_relations.specs.Chains.{AreBelowEarlier}
-use Rattle.wasmparser_type_relations.specs.Canonical.{canonical_index}
 use Rattle.wasmparser_type_list.specs.TypeTables.{TablesAgree, TypeTables, committed, has_room, no_types, sub_types}
 use Rattle.wasmparser_type_list.proofs.IdLaws.{id_count, ids_distinct}
 use Rattle.wasmparser_type_list.specs.IdTypes.{AreFoundByKey, RefersToNoModule, id_types}
 use Rattle.wasmparser_module_types.specs.History.{Enters, HasRoom}
 use Rattle.wasmparser_module_types.specs.ModuleTypes.{AddsGroup, KnowsModule, all_groups, interned_types, known_types, module_types}
 use Rattle.wasmparser_rec_groups.specs.Contexts.{IsGroupOfModule, in_section}
-use Rattle.wasmparser_rec_groups.proofs.CanonicalGroups.{members_mapped}
+use Rattle.wasmparser_rec_groups.proofs.KnownIds.{canonical_count}
 use Rattle.wasmparser_rec_groups.specs.Interning.{AreKnown, NamesModuleTypes, canonical_members}
 use Rattle.wasmparser_types.specs.Index.{Index, number_of}
 use Rattle.wasmparser_types.specs.RecGroups.{members}
@@ -29,9 +28,6 @@ use Rattle.wasmparser_types.specs.RecGroups.{members}
 pub section_count : (group : RecGroup Index) → length (syntax.members (in_section group)) ≡ length (members group)
 section_count (Single type) = refl
 section_count (Group types) = length-map types (sub_map number_of)
-
-pub canonical_count : (ids : List ℕ) (group : RecGroup Index) → length (canonical_members ids group) ≡ length (members group)
-canonical_count ids group = ap length (members_mapped (canonical_index ids) group) ∙ length-map (members group) (sub_map (canonical_index ids))
 
 module_count : (list : TypeTables) (ids : List ℕ) → length (module_types list ids) ≡ length ids
 module_count list ids = length-map ids (type_at (id_types all_groups list))

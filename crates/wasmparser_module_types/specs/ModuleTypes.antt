@@ -22,7 +22,7 @@ use Rattle.wasmparser_type_list.specs.IdTypes.{AreFoundByKey, RefersToNoModule, 
 use Rattle.wasmparser_module_types.specs.History.{Enters, HasNoRoom}
 use Rattle.wasmparser_module_types.specs.ShapeCodes.{index_code, sub_code}
 use Rattle.wasmparser_module_types.specs.TreeCodes.{def_type_code}
-use Rattle.wasmparser_rec_groups.specs.Contexts.{types_of}
+use Rattle.wasmparser_rec_groups.specs.Contexts.{IsRightAsWritten, types_of}
 use Rattle.wasmparser_rec_groups.specs.Interning.{AreKnown}
 use Rattle.wasmparser_types.specs.CompositeTypes.{func_of}
 use Rattle.wasmparser_types.specs.Index.{Index, Module, RecGroup as Place, Id, number_of, packable}
@@ -160,12 +160,18 @@ abbrev pub PassesLimitOf : KnownTypes → RecGroup ℕ → Limit → Type 0
 PassesLimitOf old group l =
     ((l ≡ Groups) × IsPassedBy Groups (suc old.groups)) ⊎ (((l ≡ Types) × IsPassedBy Types (length (types_after old.types group))) ⊎ PassesGroupLimit old.types group l)
 
+-- What a group keeps for which memory ran out, after these types and so many groups: it is within the limits on groups and types, and right as it is written.
+pub record IsGroupRightSoFar (features : Features) (before : List DefType) (groups : ℕ) (group : RecGroup ℕ) : Type 0 where
+  pub few_groups : suc groups ≤ most Groups
+  pub few_types : length (types_after before group) ≤ most Types
+  pub written : IsRightAsWritten features before group
+
 -- why a group is refused with this kind
 pub data IsCause (old : KnownTypes) (group : RecGroup ℕ) : ErrorKind → Type 0 where
   breaks_a_rule : ¬ (KeepsGroupRules old.features old.types group) → IsCause old group kinds.Invalid
   passes_a_limit : (l : _) → PassesLimitOf old group (limit l) → IsCause old group (kinds.Limit l)
   finds_no_room : HasNoRoom old.interned old.types group → IsCause old group kinds.Total
-  out_of_memory : IsCause old group kinds.Memory
+  out_of_memory : IsGroupRightSoFar old.features old.types old.groups group → IsCause old group kinds.Memory
 
 -- where a refusal of this kind is told, of a group at an offset
 abbrev pub place_of : ErrorKind → ℕ → ℕ

@@ -80,7 +80,7 @@ fn intern(
     ensures accepted { IfOk result (λ _. IsWellFormedGroup (feature_set space.old.features) (module_types list.old space.old.ids.items) (in_section (spec.rec_group group))) }
     ensures added { IfOk result (λ _. module_types list.new space.new.ids.items ≡ types_after (module_types list.old space.old.ids.items) (in_section (spec.rec_group group))) }
     ensures entered { IfOk result (λ _. Enters (feature_set space.old.features) (interned_types list.old) (types_of_group (module_types list.old space.old.ids.items) (in_section (spec.rec_group group))) (interned_types list.new)) }
-    ensures refused { (groups : ℕ) → IfErr result (RefusesGroup (known_types (feature_set space.old.features) list.old space.old.ids.items groups) (in_section (spec.rec_group group)) offset) }
+    ensures refused { (groups : ℕ) → suc groups ≤ most Groups → IfErr result (RefusesGroup (known_types (feature_set space.old.features) list.old space.old.ids.items groups) (in_section (spec.rec_group group)) offset) }
 {
     // The laws that the clauses follow from, which do nothing.
     accepted_groups_are_well_formed();
@@ -108,7 +108,7 @@ fn add(
     ensures accepted { IfOk result (λ _. IsWellFormedGroup (feature_set space.old.features) (module_types list.old space.old.ids.items) (in_section (spec.rec_group group))) }
     ensures added { IfOk result (λ _. module_types list.new space.new.ids.items ≡ types_after (module_types list.old space.old.ids.items) (in_section (spec.rec_group group))) }
     ensures entered { IfOk result (λ _. Enters (feature_set space.old.features) (interned_types list.old) (types_of_group (module_types list.old space.old.ids.items) (in_section (spec.rec_group group))) (interned_types list.new)) }
-    ensures refused { (groups : ℕ) → IfErr result (RefusesGroup (known_types (feature_set space.old.features) list.old space.old.ids.items groups) (in_section (spec.rec_group group)) offset) }
+    ensures refused { (groups : ℕ) → suc groups ≤ most Groups → IfErr result (RefusesGroup (known_types (feature_set space.old.features) list.old space.old.ids.items groups) (in_section (spec.rec_group group)) offset) }
 {
     match intern(space, list, group, offset) {
         Ok(()) => Ok(()),
@@ -191,7 +191,8 @@ impl ModuleTypes {
     ///
     /// # Errors
     /// `Limit` where the group is one too many, its types are too many, or one of them passes a limit. `Invalid` where it breaks a rule. `Total` where the types of
-    /// the list and of the group are more than 1,048,576, whether or not the list has the group. These are at the offset. `Memory` where memory runs out.
+    /// the list and of the group are more than 1,048,576, whether or not the list has the group. These are at the offset. `Memory` where memory runs out, for a group
+    /// that is within all limits but that on depth, is allowed, and refers to types that are there.
     pub fn add_rec_group(&mut self, group: RecGroup, offset: u64) -> Result<(), Error>
         requires grows { self.old.grows ≡ true }
         requires indexes { NamesModuleTypes (spec.rec_group group) }

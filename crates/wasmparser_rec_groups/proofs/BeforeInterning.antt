@@ -9,6 +9,7 @@ use Rattle.wasmparser_error.specs.declared.error.Error.{Error}
 use Rattle.wasmparser_type_relations.specs.Canonical.{HaveEarlierSupertypes, IsBelow, IsNotCanonical, canonical_index, index_bound}
 use Rattle.wasmparser_type_list.specs.TypeTables.{Interns, IsNoIntern, TypeTables, has_room}
 use Rattle.wasmparser_rec_groups.specs.Interning.{CanBeInterned, Refuses, canonical_members, has_no_room, out_of_memory}
+use Rattle.wasmparser_rec_groups.specs.ItemLimits.{HaveFewItems}
 use Rattle.wasmparser_rec_groups.specs.Kinds.{HaveSupertypesOfKind, earlier_or_own}
 use Rattle.wasmparser_types.specs.Index.{Index}
 use Rattle.wasmparser_types.specs.RecGroups.{members}
@@ -42,8 +43,9 @@ module _ (features : Features) (ids : List ℕ) (tables : TypeTables) (group : R
   interns_members new needs canonical is needs_is is_new number interned =
       subst (λ b. Interns tables new b (canonical_members ids group) is_new number) needs_is (subst (λ c. Interns tables new needs (members c) is_new number) is interned)
 
-  pub no_intern : (new : TypeTables) (offset : ℕ) (canonical : RecGroup Index) → canonical ≡ group_map (canonical_index ids) group → CanBeInterned features ids tables group → new ≡ tables → (e : Error)
+  pub no_intern : (new : TypeTables) (offset : ℕ) (canonical : RecGroup Index) → canonical ≡ group_map (canonical_index ids) group → CanBeInterned features ids tables group
+      → HaveFewItems (members group) → new ≡ tables → (e : Error)
       → IsNoIntern (has_room tables (members canonical)) e offset → Refuses features ids tables new group offset e
-  no_intern new offset canonical is internable same e (inl none) =
+  no_intern new offset canonical is internable few same e (inl none) =
       subst (Refuses features ids tables new group offset) (sym none.1) (has_no_room internable (sym (ap (λ c. has_room tables (members c)) is) ∙ none.0) same)
-  no_intern new offset canonical is internable same e (inr out) = subst (Refuses features ids tables new group offset) (sym out.1) (out_of_memory same)
+  no_intern new offset canonical is internable few same e (inr out) = subst (Refuses features ids tables new group offset) (sym out.1) (out_of_memory internable few same)

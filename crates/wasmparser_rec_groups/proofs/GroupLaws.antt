@@ -4,7 +4,7 @@ use Rattle.std.proofs.lemmas.Bool.{ltb-false, ltb-true}
 use Rattle.std.specs.declared.ops.Range.{Range}
 use Rattle.wasmparser_type_list.specs.TypeTables.{TablesAgree, TypeTables}
 use Rattle.wasmparser_type_list.proofs.Agreement.{group_within}
-use Rattle.wasmparser_rec_groups.specs.Rules.{IsIn, KeepsRules, KeepsRulesAndLimits, PassesNoLimit}
+use Rattle.wasmparser_rec_groups.specs.Rules.{IsIn, IsWithinDepth, KeepsRules, KeepsRulesAndDepth}
 
 -- the ids from the first number up to the second one have a property
 abbrev pub AllTo : (ℕ → Type 0) → ℕ → ℕ → Type 0
@@ -33,10 +33,10 @@ pub whole : (Holds : ℕ → Type 0) (range : Range ℕ) (start to : ℕ) → ra
 whole Holds range start to first last all id after before = all id (omega (arith, after, first)) (omega (arith, before, last))
 
 pub whole_group : (tables : TypeTables) (group : ℕ) (range : Range ℕ) → slice_get tables.groups group ≡ Some range → AllTo (KeepsRules tables) range.start range.end
-    → AllTo (PassesNoLimit tables) range.start range.end → KeepsRulesAndLimits tables group
-whole_group tables group range at rules limits = record {
+    → AllTo (IsWithinDepth tables) range.start range.end → KeepsRulesAndDepth tables group
+whole_group tables group range at rules depth = record {
   rules = λ id is_in. let ends = bounds is_in in rules id ends.0 ends.1;
-  limits = λ id is_in. let ends = bounds is_in in limits id ends.0 ends.1;
+  depth = λ id is_in. let ends = bounds is_in in depth id ends.0 ends.1;
 } where
   bounds : {id : ℕ} → IsIn tables group id → (range.start ≤ id) × (id < range.end)
   bounds {id} is_in =

@@ -8,29 +8,32 @@ use Rattle.std.specs.Option.{option_map}
 use Rattle.wasm_spec.proofs.Carried.{carried, carried_back, limits_carried_back}
 use Rattle.wasm_spec.proofs.GroupTrees.{length-places_of}
 use Rattle.wasm_spec.proofs.MappedBack.{all_left, all_right}
-use Rattle.wasm_spec.proofs.MappedTypes.{all_map}
-use Rattle.wasm_spec.proofs.Places.{all_by_place, get_some}
+use Rattle.wasm_spec.proofs.MappedTypes.{all_map, items_in_map}
+use Rattle.wasm_spec.proofs.Places.{all_by_place, all_get, get_some}
 use Rattle.wasm_spec.proofs.TypeMaps.{group_refs-map}
 use Rattle.wasm_spec.specs.Features.{Features, FunctionReferences, Gc, StackSwitching, has, needs_type_canonicalization}
 use Rattle.wasm_spec.specs.Gates.{is_allowed_composite, is_allowed_group, is_allowed_sub}
-use Rattle.wasm_spec.specs.Groups.{AreWellFormedFrom, ContinuesFunc, ExtendsSupertypes, IsWellFormedAt, IsWithinGroupLimits, KeepsGroupRules, PassesLimit, reference_bound}
-use Rattle.wasm_spec.specs.Limits.{Limit}
+use Rattle.wasm_spec.specs.Groups.{AreWellFormedFrom, ContinuesFunc, ExtendsSupertypes, IsWellFormedAt, IsWithinGroupLimits, KeepsGroupRules, PassesLimit, items_in, reference_bound}
+use Rattle.wasm_spec.specs.Limits.{Limit, IsPassedBy}
 use Rattle.wasm_spec.specs.ReferenceMaps.{AreTypes, Carries, KeepsTypes}
 use Rattle.wasm_spec.specs.Syntax as syntax
-use Rattle.wasm_spec.specs.TypeReferences.{composite_refs, group_refs, sub_map, sub_refs, subs_map}
+use Rattle.wasm_spec.specs.TypeReferences.{composite_map, composite_refs, group_refs, sub_map, sub_refs, subs_map}
 use Rattle.wasm_spec.specs.Trees.{DefType, RefersBelow, tree_of, type_at, types_after, types_of_group, unrolled}
 use Rattle.wasm_spec.specs.Types.{Group, RecGroup, Single, SubType}
 use Rattle.wasmparser_type_relations.specs.Canonical.{IsBelow, canonical_index, index_bound}
 use Rattle.wasmparser_type_list.specs.TypeTables.{IsGroupAt, TablesAgree, TypeTables, absolute, range_after, sub_types, type_by_id}
 use Rattle.wasmparser_type_list.proofs.IdLaws.{ids_closed, ids_one_to_one, ids_unroll}
 use Rattle.wasmparser_type_list.specs.IdTypes.{AreFoundByKey, RefersToNoModule, type_of_index}
+use Rattle.wasmparser_rec_groups.proofs.ItemLaws.{few_mapped}
 use Rattle.wasmparser_rec_groups.proofs.MappedGates.{same_gate}
 use Rattle.wasmparser_rec_groups.proofs.Members.{member_same, own_by_id}
 use Rattle.wasmparser_rec_groups.proofs.OwnTypes.{all_weaker, both, places_at, section_members}
-use Rattle.wasmparser_rec_groups.specs.Contexts.{PassesGroupLimit, in_section, types_of}
+use Rattle.wasmparser_rec_groups.proofs.RuleLaws.{passes_none}
+use Rattle.wasmparser_rec_groups.specs.Contexts.{IsRightAsWritten, PassesGroupLimit, in_section, types_of}
 use Rattle.wasmparser_rec_groups.proofs.CanonicalGroups.{both_true, have_at, mapped_at, members_mapped, of_members, of_type, test_at}
 use Rattle.wasmparser_rec_groups.specs.Interning.{CanBeInterned, IsModuleIndex, NamesModuleTypes, canonical_members}
-use Rattle.wasmparser_rec_groups.specs.Rules.{IsIn, KeepsRules, KeepsRulesAndLimits}
+use Rattle.wasmparser_rec_groups.specs.ItemLimits.{HaveFewItems}
+use Rattle.wasmparser_rec_groups.specs.Rules.{IsIn, KeepsRules, KeepsRulesAndDepth}
 use Rattle.wasmparser_types.specs.Index.{Index, Module, RecGroup as Place, Id, number_of}
 use Rattle.wasmparser_types.specs.RecGroups.{members}
 
@@ -94,6 +97,27 @@ bound_is features context ids group count = go (has features Gc) refl where
   go : (gc : Bool) → has features Gc ≡ gc → reference_bound features (length context) (in_section group) ≡ index_bound (has features Gc) (length ids) (length (members group))
   go true on = rw (on, count, members_count) refl
   go false off = rw (off, count) refl
+
+pub in_range : (features : Features) (context : List DefType) (ids : List ℕ) (group : RecGroup Index) → length context ≡ length ids → NamesModuleTypes group
+    → AllByRecursion (IsBelow (index_bound (has features Gc) (length ids) (length (members group)))) (group_refs group)
+    → RefersBelow (reference_bound features (length context) (in_section group)) (in_section group)
+in_range features context ids group count names below =
+    let bound = index_bound (has features Gc) (length ids) (length (members group)) in
+    let Both : Index → Type 0 = λ r. IsModuleIndex r × IsBelow bound r in
+    subst (λ b. RefersBelow b (in_section group)) (sym (bound_is features context ids group count))
+    (subst (AllByRecursion (λ n. n < bound)) (sym (group_refs-map number_of group))
+    (all_map Both (λ n. n < bound) number_of (below_number bound) (group_refs group) (both IsModuleIndex (IsBelow bound) (group_refs group) names below)))
+
+-- what a group keeps as it is written
+pub right_as_written : (canonical : ℕ → Bool) (features : Features) (ids : List ℕ) (tables : TypeTables) (group : RecGroup Index) → NamesModuleTypes group → CanBeInterned features ids tables group
+    → HaveFewItems (members group) → IsRightAsWritten features (types_of canonical tables ids) (in_section group)
+right_as_written canonical features ids tables group names internable few =
+    let context = types_of canonical tables ids in
+    record {
+      allowed = same_gate number_of features group ∙ internable.allowed;
+      in_range = in_range features context ids group (length-map ids (type_at _)) names internable.in_range;
+      few_items = subst HaveFewItems (sym (section_members group)) (few_mapped number_of (members group) few);
+    }
 
 -- ---- where types aren't canonicalized, none has supertypes
 
@@ -195,7 +219,7 @@ module _ (canonical : ℕ → Bool) (features : Features) (ids : List ℕ) (old 
       all_map Both (λ n. n < length context + place) number_of (λ r h. let below = below_number (length ids + place) r h in omega (arith, below, context_count)) plain.supertypes
       (both IsModuleIndex (IsBelow (length ids + place)) plain.supertypes name earlier)
 
-  well_formed_at : KeepsRulesAndLimits new number → (place : ℕ) (type : SubType ℕ) → slice_get (syntax.members (in_section group)) place ≡ Some type → IsWellFormedAt section (length context + place) type
+  well_formed_at : KeepsRulesAndDepth new number → (place : ℕ) (type : SubType ℕ) → slice_get (syntax.members (in_section group)) place ≡ Some type → IsWellFormedAt section (length context + place) type
   well_formed_at kept place type is =
       let plain = plain_at place type is in
       let keeps = kept.rules (at.start + place) (is_in place (slice_get_within (members group) place plain.0 plain.1)) in
@@ -209,18 +233,10 @@ module _ (canonical : ℕ → Bool) (features : Features) (ids : List ℕ) (old 
         continues = subst (λ (t : SubType DefType). ContinuesFunc unrolled t.composite_type) mapped (carries.continuations keeps.type.composite_type keeps.continues);
       }
 
-  in_range : RefersBelow (reference_bound features (length context) (in_section group)) (in_section group)
-  in_range =
-      let bound = index_bound (has features Gc) (length ids) (length (members group)) in
-      let Both : Index → Type 0 = λ r. IsModuleIndex r × IsBelow bound r in
-      subst (λ b. RefersBelow b (in_section group)) (sym (bound_is features context ids group context_count))
-      (subst (AllByRecursion (λ n. n < bound)) (sym (group_refs-map number_of group))
-      (all_map Both (λ n. n < bound) number_of (below_number bound) (group_refs group) (both IsModuleIndex (IsBelow bound) (group_refs group) names internable.in_range)))
-
-  pub keeps_rules : KeepsRulesAndLimits new number → KeepsGroupRules features context (in_section group)
+  pub keeps_rules : KeepsRulesAndDepth new number → KeepsGroupRules features context (in_section group)
   keeps_rules kept = record {
     allowed = same_gate number_of features group ∙ internable.allowed;
-    in_range = in_range;
+    in_range = in_range features context ids group context_count names internable.in_range;
     each = each_from section (length context) (syntax.members (in_section group)) (well_formed_at kept);
   }
 
@@ -237,13 +253,20 @@ module _ (canonical : ℕ → Bool) (features : Features) (ids : List ℕ) (old 
       let one : type ≡ record { tree = tree_of context (in_section group); place = place } = cc in
       (less, one ∙ sym (own_by_id canonical new now ids group names number at own place less))
 
-  pub keeps_limits : KeepsRulesAndLimits new number → IsWithinGroupLimits context (in_section group)
-  keeps_limits kept =
+  -- a type is interned with as many items as it is written with
+  as_many : (type : SubType Index) (limit : Limit) → items_in (as_interned type).composite_type limit ≡ items_in type.composite_type limit
+  as_many type limit =
+      items_in_map (absolute at.start) (composite_map (canonical_index ids) type.composite_type) limit ∙ items_in_map (canonical_index ids) type.composite_type limit
+
+  pub keeps_limits : HaveFewItems (members group) → KeepsRulesAndDepth new number → IsWithinGroupLimits context (in_section group)
+  keeps_limits few kept =
       all_by_place (λ type. (limit : Limit) → ¬ (PassesLimit unrolled type limit)) (types_of_group context (in_section group)) (λ place type is limit passes.
       let here = own_at place type is in
       let plain = get_some (members group) place here.0 in
       let back = limits_carried_back stands_for (type_by_id new) unrolled keeps_types (ids_closed new now none) in
-      kept.limits (at.start + place) (is_in place here.0) limit
+      let few_at = all_get (λ (t : SubType Index). (l : Limit) → ¬ (IsPassedBy l (items_in t.composite_type l))) (members group) few place plain.0 plain.1 in
+      passes_none new (at.start + place) (as_interned plain.0) (interned_type place plain.0 plain.1) (λ l many. few_at l (subst (IsPassedBy l) (as_many plain.0 l) many))
+      (kept.depth (at.start + place) (is_in place here.0)) limit
       (back.limits (Id (at.start + place)) limit (as_interned plain.0, interned_type place plain.0 plain.1) (subst (λ t. PassesLimit unrolled t limit) here.1 passes)))
 
   -- ---- refused

@@ -13,7 +13,7 @@ use Rattle.wasmparser_type_list.proofs.Agreement.{group_within, now_at, range_of
 use Rattle.std.proofs.lemmas.List.FromFn.{length-range_with_len}
 use Rattle.wasmparser_type_list.specs.TypeTables.{Interns, IsGroupAt, TablesAgree, TypeTables, group_ids, ids_in, known_group}
 use Rattle.wasmparser_rec_groups.proofs.CanonicalGroups.{members_mapped, within}
-use Rattle.wasmparser_rec_groups.specs.Interning.{AreKnown, CanBeInterned, NamesModuleTypes, Refuses, breaks_a_rule, canonical_members, has_no_room, is_refused, out_of_memory}
+use Rattle.wasmparser_rec_groups.specs.Interning.{AreKnown, CanBeInterned, NamesModuleTypes, Refuses, as_written, canonical_members, has_no_room, is_refused, out_of_memory}
 use Rattle.wasmparser_types.specs.Index.{Index}
 use Rattle.wasmparser_types.specs.RecGroups.{members}
 
@@ -29,13 +29,16 @@ still_known old new ids more known = all_each (λ id. id < length old.types) (λ
 
 pub known_after_refusal : (features : Features) (ids : List ℕ) (old new : TypeTables) (group : RecGroup Index) (offset : ℕ) (e : Error) → Refuses features ids old new group offset e
     → AreKnown old ids → AreKnown new ids
-known_after_refusal features ids old new group offset e (breaks_a_rule breaks same) known = subst (λ t. AreKnown t ids) (sym same) known
+known_after_refusal features ids old new group offset e (as_written _ written same) known = subst (λ t. AreKnown t ids) (sym same) known
 known_after_refusal features ids old new group offset e (has_no_room internable none same) known = subst (λ t. AreKnown t ids) (sym same) known
 known_after_refusal features ids old new group offset e (is_refused is_new number kind internable room interned refused) known =
     still_known old new ids (no_fewer old new _ is_new _ number interned) known
-known_after_refusal features ids old new group offset e (out_of_memory same) known = subst (λ t. AreKnown t ids) (sym same) known
+known_after_refusal features ids old new group offset e (out_of_memory internable few same) known = subst (λ t. AreKnown t ids) (sym same) known
 
 -- ---- the ids of a group
+
+pub canonical_count : (ids : List ℕ) (group : RecGroup Index) → length (canonical_members ids group) ≡ length (members group)
+canonical_count ids group = ap length (members_mapped (canonical_index ids) group) ∙ length-map (members group) (sub_map (canonical_index ids))
 
 below_end : (first count limit : ℕ) → first + count ≤ limit → AllByRecursion (λ id. id < limit) (range_with_len first count)
 below_end first zero limit h = tt
@@ -61,9 +64,6 @@ module _ (features : Features) (ids : List ℕ) (old new : TypeTables) (group : 
       subst (AreKnown new) (sym is)
       (join (λ id. id < length new.types) ids (group_ids new number) (still_known old new ids (no_fewer old new _ is_new _ number interned) known) (group_known new number now))
 
-  same_count : length (canonical_members ids group) ≡ length (members group)
-  same_count = ap length (members_mapped (canonical_index ids) group) ∙ length-map (members group) (sub_map (canonical_index ids))
-
   count_at : (members : List (SubType Index)) → IsGroupAt new number members → length (group_ids new number) ≡ length members
   count_at types at =
       let counted = length-range_with_len at.start (at.start + length types - at.start) in
@@ -84,4 +84,4 @@ module _ (features : Features) (ids : List ℕ) (old new : TypeTables) (group : 
         (now.known (canonical_members ids group))
 
   pub group_count : length (group_ids new number) ≡ length (members group)
-  group_count = count_at (canonical_members ids group) group_at ∙ same_count
+  group_count = count_at (canonical_members ids group) group_at ∙ canonical_count ids group

@@ -4,6 +4,7 @@ mod GroupLaws
 mod GroupsInOrder
 mod Internable
 mod Interned
+mod ItemLaws
 mod Judged
 mod KindLaws
 pub mod KnownIds

@@ -1,10 +1,10 @@
 -- Rules on what ids stand for.
-use Rattle.std.proofs.Common.{◌≡◌, ◌↔◌, ◌≤◌, arith, ℕ, Bool, true, false, IsTrue, Some, None, not, refl, ap, subst, slice_get}
+use Rattle.std.proofs.Common.{◌≡◌, ◌↔◌, arith, ℕ, Bool, true, false, IsTrue, Some, None, not, refl, ap, subst, slice_get}
 use Rattle.wasm_spec.specs.Groups.{ContinuesFunc, ExtendsSupertypes, Links, PassesLimit, items_in, many_items, many_links}
 use Rattle.wasm_spec.specs.Limits.{Limit, IsPassedBy}
 use Rattle.wasm_spec.specs.Types.{SubType}
 use Rattle.wasmparser_type_list.specs.TypeTables.{IdMatches, TypeTables, sub_types, type_by_id}
-use Rattle.wasmparser_rec_groups.specs.Rules.{IdExtends, IsOpen, KeepsRules, PassesNoLimit}
+use Rattle.wasmparser_rec_groups.specs.Rules.{IdExtends, IsOpen, IsWithinDepth, KeepsRules}
 use Rattle.wasmparser_types.specs.Index.{Index, Id}
 
 module _ (tables : TypeTables) where
@@ -49,13 +49,9 @@ module _ (tables : TypeTables) where
   pub keeps_continues : (id : ℕ) (type : SubType Index) → slice_get (sub_types tables) id ≡ Some type → KeepsRules tables id → ContinuesFunc (type_by_id tables) type.composite_type
   keeps_continues id type is keeps = subst (λ (x : SubType Index). ContinuesFunc (type_by_id tables) x.composite_type) (same_type id keeps.type type keeps.is is) keeps.continues
 
-  -- a type that passes a limit by its items
-  pub many : (id : ℕ) (type : SubType Index) (l : Limit) → slice_get (sub_types tables) id ≡ Some type → IsPassedBy l (items_in type.composite_type l) → PassesLimit (type_by_id tables) (Id id) l
-  many id type l is passed = many_items (record { type = type; is = is; holds = passed })
-
   pub passes_none : (id : ℕ) (type : SubType Index) → slice_get (sub_types tables) id ≡ Some type
       → ((l : Limit) → ¬ (IsPassedBy l (items_in type.composite_type l)))
-      → ((links : ℕ) (above : Index) → Links (type_by_id tables) links (Id id) above → links ≤ 63) → PassesNoLimit tables id
+      → IsWithinDepth tables id → (l : Limit) → ¬ (PassesLimit (type_by_id tables) (Id id) l)
   passes_none id type is few near l passes = go passes refl where
     go : {r : Index} {m : Limit} → PassesLimit (type_by_id tables) r m → r ≡ Id id → ⊥
     go (many_items {limit} d) r_is =

@@ -1,10 +1,12 @@
 -- The context in which a module's group is judged, where ids stand for its types.
-use Rattle.std.specs.Prelude.{◌≡◌, ℕ, Bool, true, List, Some, map, slice_get}
+use Rattle.std.specs.Prelude.{◌≡◌, ℕ, Bool, true, List, Some, length, map, slice_get}
 use Rattle.wasm_core_types.specs.Limits.{limit}
 use Rattle.wasm_spec.specs.Features.{Features, needs_type_canonicalization}
-use Rattle.wasm_spec.specs.Groups.{KeepsGroupRules, PassesLimit}
+use Rattle.wasm_spec.specs.Gates.{is_allowed_group}
+use Rattle.wasm_spec.specs.Groups.{KeepsGroupRules, PassesLimit, reference_bound}
 use Rattle.wasm_spec.specs.Limits.{Limit}
-use Rattle.wasm_spec.specs.Trees.{DefType, type_at, types_of_group, unrolled}
+use Rattle.wasm_spec.specs.Syntax.{members}
+use Rattle.wasm_spec.specs.Trees.{DefType, RefersBelow, type_at, types_of_group, unrolled}
 use Rattle.wasm_spec.specs.TypeReferences.{group_map}
 use Rattle.wasm_spec.specs.Types.{RecGroup}
 use Rattle.wasmparser_error.specs.declared.error.ErrorKind.{ErrorKind}
@@ -13,6 +15,7 @@ use Rattle.wasmparser_error.specs.declared.error.ErrorKind.TheVariants.{Invalid}
 use Rattle.wasmparser_type_list.specs.TypeTables.{TablesAgree, TypeTables}
 use Rattle.wasmparser_type_list.specs.IdTypes.{AreFoundByKey, RefersToNoModule, id_types}
 use Rattle.wasmparser_rec_groups.specs.Interning.{AreKnown, NamesModuleTypes}
+use Rattle.wasmparser_rec_groups.specs.ItemLimits.{HaveFewItems}
 use Rattle.wasmparser_types.specs.Index.{Index, number_of}
 
 -- the types that these ids stand for
@@ -48,3 +51,10 @@ pub record PassesGroupLimit (before : List DefType) (group : RecGroup ℕ) (l : 
 pub data JustifiesRefusal (features : Features) (before : List DefType) (group : RecGroup ℕ) : ErrorKind → Type 0 where
   breaks_a_rule : ¬ (KeepsGroupRules features before group) → JustifiesRefusal features before group Invalid
   passes_a_limit : (l : _) → PassesGroupLimit before group (limit l) → JustifiesRefusal features before group (kinds.Limit l)
+
+-- What a group that comes after these types keeps as it is written, whatever they are: it is allowed, refers to types that are there, and none of its types has too
+-- many parameters, results or fields.
+pub record IsRightAsWritten (features : Features) (before : List DefType) (group : RecGroup ℕ) : Type 0 where
+  pub allowed : is_allowed_group features group ≡ true
+  pub in_range : RefersBelow (reference_bound features (length before) group) group
+  pub few_items : HaveFewItems (members group)

@@ -1,9 +1,9 @@
 -- Rules on the types that ids stand for (Core Specification 3.0, Validation, Types, "Recursive Types").
 use Rattle.std.specs.Prelude.{◌≡◌, ◌<◌, ◌≤◌, ℕ, false, Some, slice_get}
 use Rattle.std.specs.declared.ops.Range.{Range}
-use Rattle.wasm_core_types.specs.Limits.{limit}
-use Rattle.wasm_spec.specs.Groups.{ContinuesFunc, Extends, ExtendsSupertypes, PassesLimit}
-use Rattle.wasm_spec.specs.Limits.{Limit}
+use Rattle.wasm_core_types.specs.declared.limits.Limit.TheVariants as limits
+use Rattle.wasm_spec.specs.Groups.{ContinuesFunc, Extends, ExtendsSupertypes, Links, PassesLimit}
+use Rattle.wasm_spec.specs.Limits.{Depth, most}
 use Rattle.wasm_spec.specs.Types.{SubType}
 use Rattle.wasmparser_error.specs.declared.error.ErrorKind.{ErrorKind}
 use Rattle.wasmparser_error.specs.declared.error.ErrorKind.TheVariants as kinds
@@ -29,13 +29,14 @@ pub record KeepsRules (tables : TypeTables) (id : ℕ) : Type 0 where
   pub extends : ExtendsSupertypes (type_by_id tables) type
   pub continues : ContinuesFunc (type_by_id tables) type.composite_type
 
-abbrev pub PassesNoLimit : TypeTables → ℕ → Type 0
-PassesNoLimit tables id = (limit : Limit) → ¬ (PassesLimit (type_by_id tables) (Id id) limit)
+-- few enough declared links lead upward from what an id stands for
+abbrev pub IsWithinDepth : TypeTables → ℕ → Type 0
+IsWithinDepth tables id = (links : ℕ) (above : Index) → Links (type_by_id tables) links (Id id) above → links ≤ most Depth
 
 -- why a type is refused
 pub data IsRefused (tables : TypeTables) (id : ℕ) : ErrorKind → Type 0 where
   breaks_a_rule : ¬ (KeepsRules tables id) → IsRefused tables id kinds.Invalid
-  passes_a_limit : (l : _) → PassesLimit (type_by_id tables) (Id id) (limit l) → IsRefused tables id (kinds.Limit l)
+  is_too_deep : PassesLimit (type_by_id tables) (Id id) Depth → IsRefused tables id (kinds.Limit limits.Depth)
 
 -- ---- groups
 
@@ -46,10 +47,10 @@ pub record IsIn (tables : TypeTables) (group id : ℕ) : Type 0 where
   pub after : range.start ≤ id
   pub before : id < range.end
 
--- all types of a known group keep the rules, and pass no limit
-pub record KeepsRulesAndLimits (tables : TypeTables) (group : ℕ) : Type 0 where
+-- all types of a known group keep the rules, and are within the limit on depth
+pub record KeepsRulesAndDepth (tables : TypeTables) (group : ℕ) : Type 0 where
   pub rules : (id : ℕ) → IsIn tables group id → KeepsRules tables id
-  pub limits : (id : ℕ) → IsIn tables group id → PassesNoLimit tables id
+  pub depth : (id : ℕ) → IsIn tables group id → IsWithinDepth tables id
 
 -- why a group is refused
 abbrev pub IsRefusedGroup : TypeTables → ℕ → ErrorKind → Type 0

@@ -1,20 +1,21 @@
 //! Adding a module's recursive groups to a list of types.
 
-ghost use Rattle.std.specs.Prelude.{◌≡◌, ◌+◌, ◌++◌, ◌<◌, ◌≤◌, ◌^◌, IfErr, IfOk, IsSome, length, slice_get};
-ghost use Rattle.wasm_spec.specs.TypeReferences.{group_map};
+ghost use Rattle.std.specs.Prelude.{◌≡◌, ◌+◌, ◌++◌, ◌<◌, ◌≤◌, ◌^◌, ℕ, List, IfErr, IfOk, IsSome, length, slice_get};
+ghost use Rattle.wasm_spec.specs.Types.{RecGroup as Group};
 ghost use Rattle.wasmparser_type_relations.specs.Chains.{AreBelowEarlier};
 ghost use Rattle.wasmparser_error.specs.declared.error.ErrorKind.TheVariants as kinds;
-ghost use Rattle.wasmparser_type_relations.specs.Canonical.{canonical_index};
 ghost use Rattle.wasmparser_type_list.specs.TypeTables.{TablesAgree, group_ids, sub_types};
-ghost use Rattle.wasmparser_rec_groups.specs.Interning.{Accepts, AreKnown, CanBeInterned, InternsValid, NamesModuleTypes, Refuses};
+ghost use Rattle.wasmparser_rec_groups.specs.Interning.{Accepts, AreKnown, InternsValid, IsInCanonicalForm, NamesModuleTypes, Refuses, RefusesAsWritten};
+ghost use Rattle.wasmparser_types.specs.Index.{Index};
 ghost use Rattle.wasmparser_types.specs.RecGroups as spec;
 ghost use Rattle.wasmparser_types.specs.RecGroups.{members};
 ghost use Rattle.wasm_core_types.specs.Features.{feature_set};
 
 use crate::kinds::have_supertypes_of_kind;
-use crate::rules::check_rec_group;
+use crate::rules::{check_rec_group, passed_by_items};
 use std::alloc::AllocError;
 use wasm_core_types::features::WasmFeatures;
+use wasm_core_types::limits::Limit;
 use wasmparser_error::error::{Error, ErrorKind};
 use wasmparser_type_list::type_list::TypeList;
 use wasmparser_type_relations::canonical::canonicalize_rec_group;
@@ -82,8 +83,9 @@ pub trait InternRecGroup {
     ///
     /// # Errors
     /// `Invalid` where the group breaks a rule, and `Limit` where one of its types passes that limit. `Total` where the list's types and the group's are more
-    /// than 1,048,576, whether or not the group is known. These are at the offset. `Memory` where memory runs out. No id is added then; but the list has
-    /// interned a group that breaks the rules on open and matched supertypes or on continuations, or passes a limit.
+    /// than 1,048,576, whether or not the group is known. These are at the offset. `Memory` where memory runs out, for a group that is allowed, refers to types
+    /// that are there, and whose types have few enough parameters, results and fields. No id is added then; but the list has interned a group that breaks the
+    /// rules on open and matched supertypes or on continuations, or passes the limit on depth.
     fn canonicalize_and_intern_rec_group(
         &mut self,
         types: &mut TypeList,
@@ -105,9 +107,10 @@ pub trait InternRecGroup {
         ensures refused { IfErr result (λ e. Refuses (enabled self.old) (ids self.old) types.old types.new (spec.rec_group rec_group) offset e) }
         ensures same_ids { IfErr result (λ _. ids self.new ≡ ids self.old) }
     {
-        self.reserve_type_ids(rec_group.types().len())?;
         let features = self.features();
-        let group = intern_rec_group(features, self.type_ids(), types, rec_group, offset)?;
+        let canonical = canonical_rec_group(features, self.type_ids(), types, rec_group, offset)?;
+        self.reserve_type_ids(canonical.types().len())?;
+        let group = intern_rec_group(features, types, canonical, offset)?;
         self.add_group_ids(types, group);
         Ok(())
     }
@@ -123,7 +126,17 @@ fn invalid(offset: u64) -> Error
     }
 }
 
-// A group in canonical form, if it may be interned.
+// A limit that is passed.
+fn passed(limit: Limit, offset: u64) -> Error
+    ensures { result ≡ record { offset = offset; kind = kinds.Limit limit } }
+{
+    Error {
+        offset,
+        kind: ErrorKind::Limit(limit),
+    }
+}
+
+// A group in canonical form, if it may be interned, and its types have few enough parameters, results and fields.
 fn canonical_rec_group(
     features: WasmFeatures,
     ids: &[CoreTypeId],
@@ -135,10 +148,13 @@ fn canonical_rec_group(
     requires known { AreKnown types.now ids.now }
     requires indexes { NamesModuleTypes (spec.rec_group rec_group) }
     requires room { length ids.now + length (members (spec.rec_group rec_group)) < 2 ^ 32 }
-    ensures canonical { IfOk result (λ c. spec.rec_group c ≡ group_map (canonical_index ids.now) (spec.rec_group rec_group)) }
-    ensures internable { IfOk result (λ _. CanBeInterned (feature_set features) ids.now types.now (spec.rec_group rec_group)) }
-    ensures refused { IfErr result (λ e. (¬ (CanBeInterned (feature_set features) ids.now types.now (spec.rec_group rec_group))) × (e ≡ record { offset = offset; kind = kinds.Invalid })) }
+    ensures form { IfOk result (λ c. IsInCanonicalForm (feature_set features) ids.now types.now (spec.rec_group rec_group) (spec.rec_group c)) }
+    ensures refused { IfErr result (RefusesAsWritten (feature_set features) ids.now types.now (spec.rec_group rec_group) offset) }
 {
+    // The limits that ask for no other type come first, since a type that passes one may be too large for the memory that is left.
+    if let Some(limit) = passed_by_items(rec_group.types()) {
+        return Err(passed(limit, offset));
+    }
     if !is_allowed_group(features, &rec_group) {
         return Err(invalid(offset));
     }
@@ -149,28 +165,26 @@ fn canonical_rec_group(
     Ok(rec_group)
 }
 
-// Interns a group in canonical form, if it may be interned, and checks what is left to be checked.
+// Interns a group in canonical form, and checks what is left to be checked.
 fn intern_rec_group(
     features: WasmFeatures,
-    ids: &[CoreTypeId],
     types: &mut TypeList,
-    rec_group: RecGroup,
+    canonical: RecGroup,
     offset: u64,
 ) -> Result<RecGroupId, Error>
     requires agree { TablesAgree types.old }
     requires grows { IsSome types.old.known }
     requires earlier { AreBelowEarlier (slice_get (sub_types types.old)) }
-    requires known { AreKnown types.old ids.now }
-    requires indexes { NamesModuleTypes (spec.rec_group rec_group) }
-    requires room { length ids.now + length (members (spec.rec_group rec_group)) < 2 ^ 32 }
+    requires form { (ids : List ℕ) × (group : Group Index) × IsInCanonicalForm (feature_set features) ids types.old group (spec.rec_group canonical) }
     ensures agree { TablesAgree types.new }
     ensures grows { IsSome types.new.known }
     ensures earlier { AreBelowEarlier (slice_get (sub_types types.new)) }
     ensures known { IfOk result (λ number. number < length types.new.groups) }
-    ensures valid { IfOk result (λ number. InternsValid (feature_set features) ids.now types.old types.new (spec.rec_group rec_group) number) }
-    ensures refused { IfErr result (λ e. Refuses (feature_set features) ids.now types.old types.new (spec.rec_group rec_group) offset e) }
+    ensures valid { (ids : List ℕ) (group : Group Index) → IsInCanonicalForm (feature_set features) ids types.old group (spec.rec_group canonical)
+        → IfOk result (λ number. InternsValid (feature_set features) ids types.old types.new group number) }
+    ensures refused { (ids : List ℕ) (group : Group Index) → IsInCanonicalForm (feature_set features) ids types.old group (spec.rec_group canonical)
+        → IfErr result (λ e. Refuses (feature_set features) ids types.old types.new group offset e) }
 {
-    let canonical = canonical_rec_group(features, ids, types, rec_group, offset)?;
     let needs_canonicalization = features.needs_type_canonicalization();
     let (_, id) = types.intern_canonical_rec_group(needs_canonicalization, canonical, offset)?;
     match check_rec_group(types, id) {

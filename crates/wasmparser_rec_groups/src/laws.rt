@@ -4,16 +4,19 @@ ghost use Rattle.std.specs.Prelude.{◌≡◌, ℕ, Bool, List, [], ◌∷◌, N
 ghost use Rattle.std.specs.List.{AllByRecursion};
 ghost use Rattle.wasm_spec.specs.Features.{Features, needs_type_canonicalization};
 ghost use Rattle.wasm_spec.specs.Groups.{IsWellFormedGroup, KeepsGroupRules};
+ghost use Rattle.wasm_spec.specs.Limits.{Limit};
 ghost use Rattle.wasm_spec.specs.Trees.{types_after};
 ghost use Rattle.wasm_spec.specs.TypeReferences.{sub_refs};
 ghost use Rattle.wasm_spec.specs.Types.{FuncType, RecGroup, SubType};
 ghost use Rattle.wasmparser_type_relations.specs.Chains.{AreBelowEarlier, IsBelowEarlier};
 ghost use Rattle.wasmparser_type_list.specs.TypeTables.{Interns, TypeTables, final_func, sub_types};
 ghost use Rattle.wasmparser_type_list.specs.IdTypes.{AreFoundByKey, RefersToNoModule};
-ghost use Rattle.wasmparser_rec_groups.specs.Contexts.{CountsAsCanonical, IsGroupOfModule, JustifiesRefusal, in_section, types_of};
-ghost use Rattle.wasmparser_rec_groups.specs.Interning.{Accepts, AreKnown, CanBeInterned, canonical_members};
+ghost use Rattle.wasmparser_rec_groups.specs.Contexts.{CountsAsCanonical, IsGroupOfModule, IsRightAsWritten, JustifiesRefusal, PassesGroupLimit, in_section, types_of};
+ghost use Rattle.wasmparser_rec_groups.specs.Interning.{Accepts, AreKnown, CanBeInterned, NamesModuleTypes, canonical_members};
+ghost use Rattle.wasmparser_rec_groups.specs.ItemLimits.{HaveFewItems, HaveManyItems};
 ghost use Rattle.wasmparser_rec_groups.specs.Rules.{IsRefusedGroup};
 ghost use Rattle.wasmparser_types.specs.Index.{Index, module_index};
+ghost use Rattle.wasmparser_types.specs.RecGroups.{members};
 
 /// A group that is accepted is well-formed, and the ids that are added stand for its types.
 pub fn accepted_groups_are_well_formed()
@@ -25,8 +28,13 @@ pub fn accepted_groups_are_well_formed()
         → types_of canonical new new_ids ≡ types_after (types_of canonical old ids) (in_section group) }
 {}
 
-/// A group that is refused as `Invalid` breaks a rule, and one that is refused for a limit passes a limit.
+/// A group that is refused as `Invalid` breaks a rule, and one that is refused for a limit passes a limit. One for which memory ran out keeps what it can keep as it is
+/// written.
 pub fn refused_groups_are_ill_formed()
+    ensures many_items { (canonical : ℕ → Bool) (tables : TypeTables) (ids : List ℕ) (group : RecGroup Index) (l : Limit) → HaveManyItems (members group) l
+        → PassesGroupLimit (types_of canonical tables ids) (in_section group) l }
+    ensures out_of_memory { (canonical : ℕ → Bool) (features : Features) (ids : List ℕ) (tables : TypeTables) (group : RecGroup Index) → NamesModuleTypes group
+        → CanBeInterned features ids tables group → HaveFewItems (members group) → IsRightAsWritten features (types_of canonical tables ids) (in_section group) }
     ensures before_interning { (canonical : ℕ → Bool) (features : Features) (ids : List ℕ) (tables : TypeTables) (group : RecGroup Index) → IsGroupOfModule tables tables ids group
         → KeepsGroupRules features (types_of canonical tables ids) (in_section group) → CanBeInterned features ids tables group }
     ensures after_interning { (canonical : ℕ → Bool) (features : Features) (ids : List ℕ) (old new : TypeTables) (group : RecGroup Index) (is_new : Bool) (number : ℕ) → IsGroupOfModule old new ids group

@@ -4,4 +4,4 @@
 pub mod intern;
 mod kinds;
 pub mod laws;
-pub mod rules;
+mod rules;

@@ -1,10 +1,12 @@
 //! Rules on types that a list knows (Core Specification 3.0, Validation, Types, "Recursive Types").
 
-ghost use Rattle.std.specs.Prelude.{◌≡◌, ◌↔◌, ◌<◌, IfErr, IfOk, IsTrue, Some, length, slice_get};
+ghost use Rattle.std.specs.Prelude.{◌≡◌, ◌↔◌, ◌<◌, IfErr, IfOk, IfSome, IsTrue, None, Some, length, map, slice_get};
+ghost use Rattle.wasm_core_types.specs.Limits.{limit};
 ghost use Rattle.wasm_spec.specs.Groups.{ContinuesFunc, ExtendsSupertypes};
 ghost use Rattle.wasmparser_type_relations.specs.Chains.{AreBelowEarlier};
 ghost use Rattle.wasmparser_type_list.specs.TypeTables.{TablesAgree, sub_types, type_by_id};
-ghost use Rattle.wasmparser_rec_groups.specs.Rules.{IdExtends, IsOpen, IsRefused, IsRefusedGroup, KeepsRules, KeepsRulesAndLimits, PassesNoLimit};
+ghost use Rattle.wasmparser_rec_groups.specs.ItemLimits.{HaveFewItems, HaveManyItems};
+ghost use Rattle.wasmparser_rec_groups.specs.Rules.{IdExtends, IsOpen, IsRefused, IsRefusedGroup, IsWithinDepth, KeepsRules, KeepsRulesAndDepth};
 ghost use Rattle.wasmparser_types.specs.CompositeTypes.{composite_type};
 ghost use Rattle.wasmparser_types.specs.SubTypes.{sub_type};
 
@@ -79,24 +81,34 @@ fn keeps_rules(types: &TypeList, id: CoreTypeId, it: &SubType) -> bool
     continues_func(types, &it.composite_type)
 }
 
-// Whether a known type passes no limit.
-fn check_limits(types: &TypeList, id: CoreTypeId) -> Result<(), ErrorKind>
+// Returns a limit on parameters, results or fields that one of these types passes.
+pub(crate) fn passed_by_items(types: &[SubType]) -> Option<Limit>
+    ensures passed { IfSome result (λ l. HaveManyItems (map sub_type types.now) (limit l)) }
+    ensures none { result ≡ None → HaveFewItems (map sub_type types.now) }
+{
+    for it in types {
+        if let Some(limit) = passed_limit(&it.composite_type) {
+            return Some(limit);
+        }
+    }
+    None
+}
+
+// Checks that a known type is within the limit on depth.
+fn check_depth(types: &TypeList, id: CoreTypeId) -> Result<(), ErrorKind>
     requires agree { TablesAgree types.now }
     requires earlier { AreBelowEarlier (slice_get (sub_types types.now)) }
     requires known { id < length types.now.types }
-    ensures within { IfOk result (λ _. PassesNoLimit types.now id) }
+    ensures within { IfOk result (λ _. IsWithinDepth types.now id) }
     ensures refused { IfErr result (IsRefused types.now id) }
 {
-    if let Some(limit) = passed_limit(&types[id].composite_type) {
-        return Err(ErrorKind::Limit(limit));
-    }
     if !types.is_within_depth(id) {
         return Err(ErrorKind::Limit(Limit::Depth));
     }
     Ok(())
 }
 
-// Whether a known type keeps the rules on supertypes and continuations.
+// Checks that a known type keeps the rules on supertypes and continuations.
 fn check_rules(types: &TypeList, id: CoreTypeId) -> Result<(), ErrorKind>
     requires agree { TablesAgree types.now }
     requires earlier { AreBelowEarlier (slice_get (sub_types types.now)) }
@@ -110,21 +122,19 @@ fn check_rules(types: &TypeList, id: CoreTypeId) -> Result<(), ErrorKind>
     Ok(())
 }
 
-/// Whether all types of a known group keep the rules on supertypes and on continuations, and pass no limit on parameters, results, fields and depth.
-///
-/// # Errors
-/// `Limit` where one of the types passes a limit, `Invalid` where one breaks a rule.
-pub fn check_rec_group(types: &TypeList, group: RecGroupId) -> Result<(), ErrorKind>
+// Checks that all types of a known group keep the rules on supertypes and on continuations, and are within the limit on depth. How many parameters, results and fields
+// they have was checked before the group was interned.
+pub(crate) fn check_rec_group(types: &TypeList, group: RecGroupId) -> Result<(), ErrorKind>
     requires agree { TablesAgree types.now }
     requires earlier { AreBelowEarlier (slice_get (sub_types types.now)) }
     requires known { group < length types.now.groups }
-    ensures kept { IfOk result (λ _. KeepsRulesAndLimits types.now group) }
+    ensures kept { IfOk result (λ _. KeepsRulesAndDepth types.now group) }
     ensures refused { IfErr result (IsRefusedGroup types.now group) }
 {
     let elements = &types[group];
     // Subtyping walks from a type with more supertypes than the limit on depth allows, so none may be left where types are matched.
     for index in elements.start.index()..elements.end.index() {
-        check_limits(types, CoreTypeId::from_index(index as u32))?;
+        check_depth(types, CoreTypeId::from_index(index as u32))?;
     }
     for index in elements.start.index()..elements.end.index() {
         check_rules(types, CoreTypeId::from_index(index as u32))?;

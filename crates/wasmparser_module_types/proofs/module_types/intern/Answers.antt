@@ -83,7 +83,7 @@ returns-clause-entered c =
     told.accepted
 
 pub returns-clause-refused : goal.returns-clause-refused
-returns-clause-refused c groups =
+returns-clause-refused c groups few =
     let call = c.canonicalize_and_intern_rec_group in
     let features = feature_set c.args.space.now.features in
     let ids = c.args.space.now.ids.items in
@@ -94,9 +94,11 @@ returns-clause-refused c groups =
     let unchanged = of_module features ids old old group knows c.requires.indexes knows.agree in
     let it = of_module features ids old new group knows c.requires.indexes call.ensures.agree in
     IfErr-weaker call.result _ _
-    (refuses features ids old new group c.args.offset knows c.requires.room (c.refused_groups_are_ill_formed.ensures.before_interning all_groups features ids old group unchanged)
+    (refuses features ids old new group c.args.offset knows c.requires.room (c.refused_groups_are_ill_formed.ensures.many_items all_groups old ids group)
+    (c.refused_groups_are_ill_formed.ensures.out_of_memory all_groups features ids old group c.requires.indexes)
+    (c.refused_groups_are_ill_formed.ensures.before_interning all_groups features ids old group unchanged)
     (λ is_new number internable interned.
     c.refused_groups_are_ill_formed.ensures.after_interning all_groups features ids old new group is_new number it internable interned
     (record { own = refl; all = λ needs. c.context_stays.ensures.found all_groups features ids old new group is_new number interned (λ _. needs) (knows.found needs c.requires.grows) }))
-    groups)
+    groups few)
     call.ensures.refused

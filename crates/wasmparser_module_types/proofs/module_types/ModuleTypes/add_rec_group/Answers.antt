@@ -24,7 +24,7 @@ returns-in_err-check_counts-clause-refused c =
 pub returns-in_err-add-clause-refused : goal.returns-in_err-add-clause-refused
 returns-in_err-add-clause-refused c =
     let p = err_from_is_err_and c.from_residual-in_err-add.result c.from_residual-in_err-add.ensures.1 in
-    rw (p.1, p.2) (subst (λ known. RefusesGroup known (in_section (rec_group c.args.group)) c.args.offset c.in_err-add.field-0.0) c.self.view_is (c.in_err-add.ensures.refused c.self.inside.groups))
+    rw (p.1, p.2) (subst (λ known. RefusesGroup known (in_section (rec_group c.args.group)) c.args.offset c.in_err-add.field-0.0) c.self.view_is (c.in_err-add.ensures.refused c.self.inside.groups c.in_ok-check_counts.ensures.groups))
 
 pub returns-clause-added : goal.returns-clause-added
 returns-clause-added c =

@@ -2,7 +2,7 @@
 use Rattle.std.proofs.Common.{◌≡◌, ℕ, Bool, true, false, List, [], ◌∷◌, map, if◌then◌else◌, replicate, reverse, Option, Some, None, option_map, slice_get, refl}
 use Rattle.std.specs.List.{list_all}
 use Rattle.std.specs.Option.{unwrap_or}
-use Rattle.wasm_spec.specs.Constants.{ArrayNewFixed, StructNew, StructNewDefault}
+use Rattle.wasm_spec.specs.Constants.{ArrayNewDefault, ArrayNewFixed, StructNew, StructNewDefault}
 use Rattle.wasm_spec.specs.Features.{Features, Gc, has}
 use Rattle.wasm_spec.specs.Trees.{DefType, no_type}
 use Rattle.wasm_spec.specs.Types.{ValType, I32, I64, F32, F64, V128, Ref, Concrete}
@@ -30,11 +30,14 @@ module _ (features : Features) (cx : Context) (index : ℕ) (gc : has features G
   default_effect fields true e d = rw (gc, ← e, d, made_as cx index type made) refl
   default_effect fields false e d = rw (gc, ← e, d) refl
 
+  pub default_array_effect : (item : ValType DefType) → Some item ≡ element_at cx index → is_defaultable item ≡ true → Some (Puts (I32 ∷ []) type) ≡ effect features cx (ArrayNewDefault index)
+  default_array_effect item e d = rw (gc, ← e, d, made_as cx index type made) refl
+
   pub fixed_effect : (item : ValType DefType) (count : ℕ) → Some item ≡ element_at cx index → Some (Puts (replicate count item) type) ≡ effect features cx (ArrayNewFixed index count)
   fixed_effect item count e = rw (gc, ← e, made_as cx index type made) refl
 
 -- a type by ids has a default where what it means has
-default_meant : (known : KnownTypes) (type : ValType Index) → is_defaultable (meant_type known type) ≡ packed.is_defaultable type
+pub default_meant : (known : KnownTypes) (type : ValType Index) → is_defaultable (meant_type known type) ≡ packed.is_defaultable type
 default_meant known I32 = refl
 default_meant known I64 = refl
 default_meant known F32 = refl

@@ -1,5 +1,6 @@
 -- Constant expressions ask no more of a context than what they see.
-use Rattle.std.proofs.Common.{◌≡◌, ℕ, [], ◌∷◌, Option, Some, None, Result, slice_get, refl, subst, sym}
+use Rattle.std.proofs.Common.{◌≡◌, ℕ, [], ◌∷◌, ◌++◌, Option, Some, None, Result, slice_get, refl, subst, sym}
+use Rattle.std.specs.Prelude.{⊤}
 use Rattle.wasm_spec.specs.Constants.{ConstantOperator, I32Const, I64Const, F32Const, F64Const, V128Const, RefNull, RefFunc, GlobalGet, I32Add, I32Sub, I32Mul, I64Add, I64Sub, I64Mul, StructNew, StructNewDefault, ArrayNew, ArrayNewDefault, ArrayNewFixed, AnyConvertExtern, ExternConvertAny, RefI31, ConstantExpression}
 use Rattle.wasm_spec.specs.Features.{Features}
 use Rattle.wasm_spec.specs.Trees.{DefType}
@@ -10,7 +11,7 @@ use Rattle.wasm_validity.specs.Rules.{IsBelow}
 use Rattle.wasmparser_constants.proofs.StepLaws.{does_on}
 use Rattle.wasmparser_constants.proofs.TakingLaws.{judges_on}
 use Rattle.wasmparser_constants.specs.Scopes.{seen}
-use Rattle.wasmparser_constants.specs.Steps.{Judges}
+use Rattle.wasmparser_constants.specs.Steps.{BeginsRightly, Judges}
 use Rattle.wasmparser_error.specs.declared.error.Error.{Error}
 
 module _ (features : Features) (cx : Context) where
@@ -92,10 +93,34 @@ module _ (features : Features) (cx : Context) where
       by_found None at = let none = rw at at is in absurd none
       by_found (Some type) at = let some = rw at at is in rw at (constant_seen (Ref nullable (Concrete type)) expression some)
 
+  constant_begins : (wanted : ValType DefType) (expression : ConstantExpression) → IsConstantOf features cx wanted expression → BeginsRightly features cx expression
+  constant_begins wanted [] is = absurd is
+  constant_begins wanted (operator ∷ operators) is =
+      record { front = []; last = operator; rest = operators; parts = refl; run = does_on (λ next r. tt) (effect features cx operator) [] is }
+
+  -- an expression that gives a value begins rightly
+  pub initialiser_begins : (type : ValType ℕ) (expression : ConstantExpression) → IsConstantFor features cx type expression → BeginsRightly features cx expression
+  initialiser_begins I32 expression is = constant_begins I32 expression is
+  initialiser_begins I64 expression is = constant_begins I64 expression is
+  initialiser_begins F32 expression is = constant_begins F32 expression is
+  initialiser_begins F64 expression is = constant_begins F64 expression is
+  initialiser_begins V128 expression is = constant_begins V128 expression is
+  initialiser_begins (Ref nullable (Abstract heap)) expression is = constant_begins (Ref nullable (Abstract heap)) expression is
+  initialiser_begins (Ref nullable (Concrete index)) expression is = by_found (slice_get cx.types index) refl
+    where
+      by_found : (found : Option DefType) → slice_get cx.types index ≡ found → BeginsRightly features cx expression
+      by_found None at = let none = rw at at is in absurd none
+      by_found (Some type) at = let some = rw at at is in constant_begins (Ref nullable (Concrete type)) expression some
+
+  begins_in : (expression : ConstantExpression) → BeginsRightly features (seen cx) expression → BeginsRightly features cx expression
+  begins_in expression begins =
+      record { front = begins.front; last = begins.last; rest = begins.rest; parts = begins.parts; run = runs_in (begins.front ++ begins.last ∷ []) [] (λ operands. ⊤) begins.run }
+
   -- what a call returned that judges an initialiser
-  pub judged_in : (type : ValType ℕ) (expression : ConstantExpression) (place : ℕ) (result : Result (Unit {0}) Error) → Judges place (IsConstantFor features (seen cx) type expression) result
-      → Judges place (IsConstantFor features cx type expression) result
-  judged_in type expression place result judged = judges_on place (initialiser_in type expression) (initialiser_seen type expression) result judged
+  pub judged_in : (type : ValType ℕ) (expression : ConstantExpression) (place : ℕ) (result : Result (Unit {0}) Error)
+      → Judges place (IsConstantFor features (seen cx) type expression) (BeginsRightly features (seen cx) expression) result
+      → Judges place (IsConstantFor features cx type expression) (BeginsRightly features cx expression) result
+  judged_in type expression place result judged = judges_on place (initialiser_in type expression) (initialiser_seen type expression) (begins_in expression) result judged
 
   pub below_in : (a b : ValType ℕ) → IsBelow (seen cx) a b → IsBelow cx a b
   below_in a b is = rw (same_meaning a, same_meaning b) at is

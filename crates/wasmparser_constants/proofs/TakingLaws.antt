@@ -57,21 +57,21 @@ all_taken known all first now far = far.leads (meant known now) refl
 
 -- ---- refusals
 
-pub refuses_on : {P Q : Type 0} (place : ℕ) (kind : ErrorKind) (offset : ℕ) → (P → Q) → Refuses place P kind offset → Refuses place Q kind offset
-refuses_on place kinds.Invalid offset f r = (f r.0, r.1)
-refuses_on place kinds.Memory offset f r = r
-refuses_on place kinds.Malformed offset f r = r
-refuses_on place (kinds.Limit l) offset f r = r
-refuses_on place kinds.Operator offset f r = r
-refuses_on place kinds.Body offset f r = r
-refuses_on place kinds.Total offset f r = r
-refuses_on place kinds.Order offset f r = r
-refuses_on place kinds.Failed offset f r = r
+pub refuses_on : {P Q R S : Type 0} (place : ℕ) (kind : ErrorKind) (offset : ℕ) → (P → Q) → (R → S) → Refuses place P R kind offset → Refuses place Q S kind offset
+refuses_on place kinds.Invalid offset f g r = (f r.0, r.1)
+refuses_on place kinds.Memory offset f g r = (g r.0, r.1)
+refuses_on place kinds.Malformed offset f g r = r
+refuses_on place (kinds.Limit l) offset f g r = r
+refuses_on place kinds.Operator offset f g r = r
+refuses_on place kinds.Body offset f g r = r
+refuses_on place kinds.Total offset f g r = r
+refuses_on place kinds.Order offset f g r = r
+refuses_on place kinds.Failed offset f g r = r
 
 -- what a call returned that judges something judges what that is as good as
-pub judges_on : {P Q : Type 0} (place : ℕ) → (P → Q) → (Q → P) → (result : Result (Unit {0}) Error) → Judges place P result → Judges place Q result
-judges_on place f g (Ok x) h = f h
-judges_on place f g (Err e) h = refuses_on place e.kind e.offset (λ not q. not (g q)) h
+pub judges_on : {P Q R S : Type 0} (place : ℕ) → (P → Q) → (Q → P) → (R → S) → (result : Result (Unit {0}) Error) → Judges place P R result → Judges place Q S result
+judges_on place f g right (Ok x) h = f h
+judges_on place f g right (Err e) h = refuses_on place e.kind e.offset (λ not q. not (g q)) right h
 
 one_more : {X : Type 0} (x : X) (n i : ℕ) → i < n → replicate (n - i) x ≡ x ∷ replicate (n - suc i) x
 one_more x n i lt = ap (λ m. replicate m x) (later n i lt)
@@ -80,12 +80,12 @@ one_more x n i lt = ap (λ m. replicate m x) (later n i lt)
     later n i lt = omega (arith, lt)
 
 pub item_refused : (known : KnownTypes) (place : ℕ) (type : ValType DefType) (first now : Operands) (n i : ℕ) (e : Error)
-    → IsAsFar known (replicate n type) first (replicate (n - i) type) now → i < n → Refuses place (¬ (TakesOff (type ∷ []) (meant known now) (λ _. ⊤))) e.kind e.offset
-    → Refuses place (¬ (TakesOff (replicate n type) (meant known first) (λ _. ⊤))) e.kind e.offset
+    → IsAsFar known (replicate n type) first (replicate (n - i) type) now → i < n → Refuses place (¬ (TakesOff (type ∷ []) (meant known now) (λ _. ⊤))) ⊥ e.kind e.offset
+    → Refuses place (¬ (TakesOff (replicate n type) (meant known first) (λ _. ⊤))) ⊥ e.kind e.offset
 item_refused known place type first now n i e far lt refuses =
     refuses_on place e.kind e.offset
     (one_refused known (replicate n type) first type (replicate (n - suc i) type) now (subst (λ types. IsAsFar known (replicate n type) first types now) (one_more type n i lt) far))
-    refuses
+    (λ none. none) refuses
 
 -- ---- fields, from the last on
 

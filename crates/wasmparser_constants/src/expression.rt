@@ -9,7 +9,7 @@ ghost use Rattle.wasmparser_entries.specs.ConstExprs.{expression_of};
 ghost use Rattle.wasmparser_entries.specs.ConstOperators.{const_operator};
 ghost use Rattle.wasmparser_constants.specs.Operands.{AreKnown, meant, meant_type};
 ghost use Rattle.wasmparser_constants.specs.Scopes.{context, features_of, known};
-ghost use Rattle.wasmparser_constants.specs.Steps.{IsAlone, IsWanted, Judges, Steps};
+ghost use Rattle.wasmparser_constants.specs.Steps.{BeginsRightly, IsAlone, IsWanted, Judges, Steps};
 ghost use Rattle.wasmparser_module_types.specs.ModuleTypes.{AreIds};
 ghost use Rattle.wasmparser_types.specs.ValTypes.{val_type};
 
@@ -131,7 +131,7 @@ impl<'a> Scope<'a> {
     fn check_last(&self, operands: &mut Operands, wanted: &ValType) -> Result<(), Error>
         requires known { AreKnown (known self.now) operands.old }
         requires wanted { IsWanted (known self.now) (val_type wanted.now) }
-        ensures { Judges self.now.offset (Leaves (meant_type (known self.now) (val_type wanted.now)) (meant (known self.now) operands.old)) result }
+        ensures { Judges self.now.offset (Leaves (meant_type (known self.now) (val_type wanted.now)) (meant (known self.now) operands.old)) ⊥ result }
     {
         self.take(operands, wanted)?;
         if operands.len() > 0 {
@@ -141,6 +141,7 @@ impl<'a> Scope<'a> {
     }
 
     // Judges an expression operator by operator.
+    #[tactic(auto, using(crate::proofs::StepLaws::good_start))]
     fn check_operators(
         &self,
         operands: &mut Operands,
@@ -148,7 +149,7 @@ impl<'a> Scope<'a> {
         wanted: &ValType,
     ) -> Result<(), Error>
         requires wanted { IsWanted (known self.now) (val_type wanted.now) }
-        ensures { Judges self.now.offset (IsConstantOf (features_of self.now) (context self.now) (meant_type (known self.now) (val_type wanted.now)) (expression_of expression.now.rest)) result }
+        ensures { Judges self.now.offset (IsConstantOf (features_of self.now) (context self.now) (meant_type (known self.now) (val_type wanted.now)) (expression_of expression.now.rest)) (BeginsRightly (features_of self.now) (context self.now) (expression_of expression.now.rest)) result }
     {
         operands.clear();
         let mut operators = expression.operators();
@@ -168,7 +169,7 @@ impl<'a> Scope<'a> {
         wanted: &ValType,
     ) -> Result<(), Error>
         requires wanted { IsWanted (known self.now) (val_type wanted.now) }
-        ensures { Judges self.now.offset (IsConstantOf (features_of self.now) (context self.now) (meant_type (known self.now) (val_type wanted.now)) (expression_of expression.now.rest)) result }
+        ensures { Judges self.now.offset (IsConstantOf (features_of self.now) (context self.now) (meant_type (known self.now) (val_type wanted.now)) (expression_of expression.now.rest)) (BeginsRightly (features_of self.now) (context self.now) (expression_of expression.now.rest)) result }
     {
         match self.type_alone(expression) {
             Some(ty) if self.types.is_subtype(ty, *wanted) => Ok(()),
@@ -180,7 +181,7 @@ impl<'a> Scope<'a> {
     /// Judges that an expression gives a value of this type, which names types by ids. What the operands are afterwards is open.
     ///
     /// # Errors
-    /// `Invalid` where it doesn't, at the place of refusals; `Memory` where memory runs out.
+    /// `Invalid` where it doesn't, at the place of refusals; `Memory` where memory runs out, at an operator that may stand there, as may those before it.
     #[inline(always)]
     #[tactic(auto, using(crate::proofs::AloneLaws::alone_steps))]
     pub fn check_constant(
@@ -190,7 +191,7 @@ impl<'a> Scope<'a> {
         wanted: &ValType,
     ) -> Result<(), Error>
         requires wanted { IsWanted (known self.now) (val_type wanted.now) }
-        ensures { Judges self.now.offset (IsConstantOf (features_of self.now) (context self.now) (meant_type (known self.now) (val_type wanted.now)) (expression_of expression.now.rest)) result }
+        ensures { Judges self.now.offset (IsConstantOf (features_of self.now) (context self.now) (meant_type (known self.now) (val_type wanted.now)) (expression_of expression.now.rest)) (BeginsRightly (features_of self.now) (context self.now) (expression_of expression.now.rest)) result }
     {
         if let Some(ty) = self.type_short(expression) {
             if !self.is_below_wanted(&ty, wanted) {

@@ -6,7 +6,7 @@ ghost use Rattle.wasm_validity.specs.ConstantTyping.{IsConstantFor};
 ghost use Rattle.wasm_validity.specs.Rules.{IsBelow};
 ghost use Rattle.wasmparser_entries.specs.ConstExprs.{expression_of};
 ghost use Rattle.wasmparser_constants.specs.Scopes.{context, features_of};
-ghost use Rattle.wasmparser_constants.specs.Steps.{CanBeWanted, Judges};
+ghost use Rattle.wasmparser_constants.specs.Steps.{BeginsRightly, CanBeWanted, Judges};
 ghost use Rattle.wasmparser_types.specs.Index.{number_of};
 ghost use Rattle.wasmparser_types.specs.ValTypes.{val_type};
 
@@ -21,7 +21,8 @@ impl<'a> Scope<'a> {
     /// they are afterwards is open.
     ///
     /// # Errors
-    /// `Invalid` where it doesn't, or the type names no type, at the place of refusals; `Memory` where memory runs out.
+    /// `Invalid` where it doesn't, or the type names no type, at the place of refusals; `Memory` where memory runs out, at an operator that may stand there, as may
+    /// those before it.
     #[inline(always)]
     pub fn check_initialiser(
         &self,
@@ -30,7 +31,7 @@ impl<'a> Scope<'a> {
         ty: &ValType,
     ) -> Result<(), Error>
         requires wanted { CanBeWanted (features_of self.now) (val_type ty.now) }
-        ensures { Judges self.now.offset (IsConstantFor (features_of self.now) (context self.now) (val_map number_of (val_type ty.now)) (expression_of expression.now.rest)) result }
+        ensures { Judges self.now.offset (IsConstantFor (features_of self.now) (context self.now) (val_map number_of (val_type ty.now)) (expression_of expression.now.rest)) (BeginsRightly (features_of self.now) (context self.now) (expression_of expression.now.rest)) result }
     {
         let Some(ty) = self.by_ids(ty) else {
             return Err(self.broken());

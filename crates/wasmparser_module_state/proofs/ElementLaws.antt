@@ -1,6 +1,6 @@
 -- An element segment that is judged part by part, while the functions are declared that it names.
 use Rattle.std.proofs.Common.{◌≡◌, ℕ, Bool, List, [], ◌∷◌, ◌++◌, refl, sym, ap, subst, ◌∙◌}
-use Rattle.std.specs.Prelude.{nat_eq}
+use Rattle.std.specs.Prelude.{⊤, nat_eq}
 use Rattle.std.specs.List.{list_any}
 use Rattle.wasm_spec.specs.Features.{Features}
 use Rattle.wasm_spec.specs.Syntax.{ElementSegment}
@@ -75,12 +75,12 @@ module _ (features : Features) (old : Context) (held : List DefType) (segment : 
   abbrev IsRefused : Error → Context → Type 0
   IsRefused e new = NamesEntry features old held (OfElement segment) e.kind × IsAt place e.kind e.offset × IsLeft old (OfElement segment) new
 
-  part_refused : (Part : Type 0) (e : Error) (new : Context) → (KeepsElement features old segment → Part) → Refuses place (¬ Part) e.kind e.offset → IsLeft old (OfElement segment) new → IsRefused e new
+  part_refused : (Part : Type 0) (e : Error) (new : Context) → (KeepsElement features old segment → Part) → Refuses place (¬ Part) ⊤ e.kind e.offset → IsLeft old (OfElement segment) new → IsRefused e new
   part_refused Part e new part refuses left = by_kind e.kind refuses
     where
-      by_kind : (kind : ErrorKind) → Refuses place (¬ Part) kind e.offset → NamesEntry features old held (OfElement segment) kind × IsAt place kind e.offset × IsLeft old (OfElement segment) new
+      by_kind : (kind : ErrorKind) → Refuses place (¬ Part) ⊤ kind e.offset → NamesEntry features old held (OfElement segment) kind × IsAt place kind e.offset × IsLeft old (OfElement segment) new
       by_kind kinds.Invalid h = (λ keeps. h.0 (part keeps), h.1, left)
-      by_kind kinds.Memory h = (within, h, left)
+      by_kind kinds.Memory h = (within, h.1, left)
       by_kind kinds.Malformed h = absurd h
       by_kind (kinds.Limit limit) h = absurd h
       by_kind kinds.Operator h = absurd h
@@ -97,7 +97,7 @@ module _ (features : Features) (old : Context) (held : List DefType) (segment : 
     first_before : IsAsBefore old mid
     first_before = subst (λ (c : Context). IsAsBefore c mid) same before
 
-    pub items_refused : (e : Error) → Refuses place (¬ (KeepsItems f cx segment.items)) e.kind e.offset → MayDeclare (named_in_items segment.items) cx.declared mid.declared → IsRefused e mid
+    pub items_refused : (e : Error) → Refuses place (¬ (KeepsItems f cx segment.items)) ⊤ e.kind e.offset → MayDeclare (named_in_items segment.items) cx.declared mid.declared → IsRefused e mid
     items_refused e refuses may =
         part_refused (KeepsItems f cx segment.items) e mid
         (λ keeps. subst (λ (c : Context). KeepsItems f c segment.items) (sym same) (subst (λ (g : Features). KeepsItems g old segment.items) (sym same_features) keeps.items)) refuses
@@ -118,7 +118,7 @@ module _ (features : Features) (old : Context) (held : List DefType) (segment : 
           (subst (λ (c : Context). KeepsElementMode features c (value_of (element_type segment.items)) segment.mode) (sym first_before)
           (mode_before features old mid.declared (value_of (element_type segment.items)) segment.mode keeps)))
 
-      pub mode_refused : (e : Error) (new : Context) → Refuses place (¬ (KeepsElementMode g mid (value_of element) segment.mode)) e.kind e.offset
+      pub mode_refused : (e : Error) (new : Context) → Refuses place (¬ (KeepsElementMode g mid (value_of element) segment.mode)) ⊤ e.kind e.offset
           → MayDeclare (named_in_items segment.items) cx.declared mid.declared → new ≡ mid → IsRefused e new
       mode_refused e new refuses may stays =
           part_refused (KeepsElementMode g mid (value_of element) segment.mode) e new (λ keeps. of_mode keeps.mode) refuses

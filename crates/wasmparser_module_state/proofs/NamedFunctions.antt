@@ -10,9 +10,9 @@ use Rattle.wasm_spec.specs.Types.{Abstract, Concrete, ExternalKind, FuncKind, Ta
 use Rattle.wasm_validity.specs.ConstantTyping.{Converts, Does, Effect, IsConstantFor, IsConstantOf, Leaves, Operands, Puts, Runs, TakesOff, effect}
 use Rattle.wasm_validity.specs.Context.{Context, exported_function, functions_in, item_at, named_by, named_in}
 use Rattle.wasm_validity.specs.Rules.{FitsTable, KeepsElementMode, index_type, value_of}
-use Rattle.wasmparser_constants.proofs.SeenLaws.{below_in, below_seen, constant_in, constant_seen, initialiser_in, initialiser_seen}
+use Rattle.wasmparser_constants.proofs.SeenLaws.{below_in, below_seen, constant_in, constant_seen, initialiser_begins, initialiser_in, initialiser_seen}
 use Rattle.wasmparser_constants.specs.Scopes.{seen}
-use Rattle.wasmparser_constants.specs.Steps.{Judges}
+use Rattle.wasmparser_constants.specs.Steps.{BeginsRightly, Judges}
 use Rattle.wasmparser_error.specs.declared.error.Error.{Error}
 use Rattle.wasmparser_readers.specs.declared.type_ref.TypeRef.{TypeRef}
 use Rattle.wasmparser_module_state.proofs.DeclaredLaws.{both_parts}
@@ -96,10 +96,15 @@ module _ (features : Features) (cx : Context) where
       by_found (Some type) at = let some = rw at at is in constant_there (Ref nullable (Concrete type)) expression some
 
   -- what a call returned that judges an initialiser by what it sees
-  pub named_there : (type : ValType ℕ) (expression : ConstantExpression) (place : ℕ) (result : Result (Unit {0}) Error) → Judges place (IsConstantFor features (seen cx) type expression) result
-      → IfOk result (λ _. AreThere cx (named_in expression))
+  pub named_there : (type : ValType ℕ) (expression : ConstantExpression) (place : ℕ) (result : Result (Unit {0}) Error)
+      → Judges place (IsConstantFor features (seen cx) type expression) (BeginsRightly features (seen cx) expression) result → IfOk result (λ _. AreThere cx (named_in expression))
   named_there type expression place (Ok x) judged = initialiser_there type expression (initialiser_in features cx type expression judged)
   named_there type expression place (Err e) judged = tt
+
+  pub begins_there : (type : ValType ℕ) (expression : ConstantExpression) (place : ℕ) (result : Result (Unit {0}) Error)
+      → Judges place (IsConstantFor features (seen cx) type expression) (BeginsRightly features (seen cx) expression) result → IfOk result (λ _. BeginsRightly features cx expression)
+  begins_there type expression place (Ok x) judged = initialiser_begins features cx type expression (initialiser_in features cx type expression judged)
+  begins_there type expression place (Err e) judged = tt
 
   -- a function that an expression refers to and nothing else
   pub function_there : (type : ValType ℕ) (expression : ConstantExpression) (result : Option ℕ) → IfSome result (λ function. expression ≡ RefFunc function ∷ [])

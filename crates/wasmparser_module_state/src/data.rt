@@ -8,7 +8,7 @@ ghost use Rattle.wasm_validity.specs.Context.{named_in, named_in_data, with_func
 ghost use Rattle.wasm_validity.specs.Entries.{OfData};
 ghost use Rattle.wasm_validity.specs.Rules.{FitsMemory, KeepsData};
 ghost use Rattle.wasmparser_entries.specs.ConstExprs.{expression_of};
-ghost use Rattle.wasmparser_constants.specs.Steps.{Judges};
+ghost use Rattle.wasmparser_module_state.specs.Initialisers.{Judges};
 ghost use Rattle.wasmparser_entries.specs.Entries.{data_mode, data_segment};
 ghost use Rattle.wasmparser_payloads.specs.EntryReading.{data_entry_at};
 ghost use Rattle.wasmparser_module_state.specs.State.{HasRoom, context, features_of};

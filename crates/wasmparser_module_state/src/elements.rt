@@ -10,7 +10,8 @@ ghost use Rattle.wasm_validity.specs.Context.{element_type, named_at_element, na
 ghost use Rattle.wasm_validity.specs.Entries.{OfElement};
 ghost use Rattle.wasm_validity.specs.Rules.{FitsTable, KeepsElementMode, KeepsItems, count_of};
 ghost use Rattle.wasmparser_entries.specs.ConstExprs.{expression_of};
-ghost use Rattle.wasmparser_constants.specs.Steps.{CanBeWanted, Judges};
+ghost use Rattle.wasmparser_constants.specs.Steps.{CanBeWanted};
+ghost use Rattle.wasmparser_module_state.specs.Initialisers.{Judges};
 ghost use Rattle.wasmparser_entries.specs.Entries.{AreItemsRead, element_mode, element_of, items_of, packed_element, packed_items};
 ghost use Rattle.wasmparser_entries.specs.Lists.{expressions_of, functions_of};
 ghost use Rattle.wasmparser_error.specs.declared.error.ErrorKind.TheVariants as kinds;

@@ -64,8 +64,8 @@ impl<'a> Entry for Global<'a> {
         if state.has_all_globals() {
             return Err(refusal(offset, ErrorKind::Limit(Limit::Globals)));
         }
-        state.make_room()?;
         state.check_initialiser(&self.init_expr, &self.ty.content_type, offset)?;
+        state.make_room()?;
         state.push_own_global(self.ty.content_type, self.ty.mutable)?;
         state.declare_named(&self.init_expr);
         Ok(())

@@ -7,7 +7,7 @@ ghost use Rattle.wasm_validity.specs.ConstantTyping.{IsConstantFor};
 ghost use Rattle.wasm_validity.specs.Context.{named_in, with_functions};
 ghost use Rattle.wasm_validity.specs.Rules.{IsBelow};
 ghost use Rattle.wasmparser_entries.specs.ConstExprs.{expression_of};
-ghost use Rattle.wasmparser_constants.specs.Steps.{CanBeWanted, Judges};
+ghost use Rattle.wasmparser_constants.specs.Steps.{BeginsRightly, CanBeWanted, Judges};
 ghost use Rattle.wasmparser_module_state.specs.State.{AreThere, HasRoom, context, features_of};
 ghost use Rattle.wasmparser_types.specs.Index.{number_of};
 ghost use Rattle.wasmparser_types.specs.ValTypes.{val_type};
@@ -30,7 +30,8 @@ impl ModuleState {
         offset: u64,
     ) -> Result<(), Error>
         requires wanted { CanBeWanted (features_of self.old) (val_type ty.now) }
-        ensures judged { Judges offset (IsConstantFor (features_of self.old) (context self.old) (val_map number_of (val_type ty.now)) (expression_of expression.now.rest)) result }
+        ensures judged { Judges offset (IsConstantFor (features_of self.old) (context self.old) (val_map number_of (val_type ty.now)) (expression_of expression.now.rest)) (BeginsRightly (features_of self.old) (context self.old) (expression_of expression.now.rest)) result }
+        ensures begins { IfOk result (λ _. BeginsRightly (features_of self.old) (context self.old) (expression_of expression.now.rest)) }
         ensures named { IfOk result (λ _. AreThere (context self.old) (named_in (expression_of expression.now.rest))) }
         ensures same { context self.new ≡ context self.old }
         ensures declared { self.new.declared ≡ self.old.declared }
@@ -56,7 +57,8 @@ impl ModuleState {
         offset: u64,
     ) -> Result<(), Error>
         requires wanted { CanBeWanted (features_of self.old) (val_type ty.now) }
-        ensures judged { Judges offset (IsConstantFor (features_of self.old) (record (context self.old) { own_globals = [] }) (val_map number_of (val_type ty.now)) (expression_of expression.now.rest)) result }
+        ensures judged { Judges offset (IsConstantFor (features_of self.old) (record (context self.old) { own_globals = [] }) (val_map number_of (val_type ty.now)) (expression_of expression.now.rest)) (BeginsRightly (features_of self.old) (record (context self.old) { own_globals = [] }) (expression_of expression.now.rest)) result }
+        ensures begins { IfOk result (λ _. BeginsRightly (features_of self.old) (record (context self.old) { own_globals = [] }) (expression_of expression.now.rest)) }
         ensures named { IfOk result (λ _. AreThere (context self.old) (named_in (expression_of expression.now.rest))) }
         ensures same { context self.new ≡ context self.old }
         ensures declared { self.new.declared ≡ self.old.declared }
@@ -98,7 +100,7 @@ impl ModuleState {
     ) -> Result<(), Error>
         requires wanted { CanBeWanted (features_of self.old) (val_type ty.now) }
         requires room { HasRoom self.old }
-        ensures judged { Judges offset (IsConstantFor (features_of self.old) (context self.old) (val_map number_of (val_type ty.now)) (expression_of expression.now.rest)) result }
+        ensures judged { Judges offset (IsConstantFor (features_of self.old) (context self.old) (val_map number_of (val_type ty.now)) (expression_of expression.now.rest)) (BeginsRightly (features_of self.old) (context self.old) (expression_of expression.now.rest)) result }
         ensures declared { IfOk result (λ _. context self.new ≡ record (context self.old) { declared = with_functions (context self.old).declared (named_in (expression_of expression.now.rest)) }) }
         ensures refused { IfErr result (λ _. context self.new ≡ context self.old) }
         ensures types { self.new.types ≡ self.old.types }

@@ -7,7 +7,7 @@ ghost use Rattle.wasm_validity.specs.Rules.{keeps_table};
 ghost use Rattle.wasmparser_constants.specs.Steps.{Judges};
 ghost use Rattle.wasmparser_entries.specs.Entries.{initialiser, packed_table, table_of};
 ghost use Rattle.wasmparser_payloads.specs.EntryReading.{table_entry_at};
-ghost use Rattle.wasmparser_module_state.specs.Initialisers.{IsFilled};
+ghost use Rattle.wasmparser_module_state.specs.Initialisers.{BeginsFilled, IsFilled};
 ghost use Rattle.wasmparser_module_state.specs.LargeIndexes.{large_table};
 ghost use Rattle.wasmparser_module_state.specs.State.{AreThere, HasRoom, context, features_of, table};
 
@@ -31,7 +31,8 @@ impl ModuleState {
     // Judges what the elements of a table begin as.
     fn check_elements(&mut self, item: &Table<'_>, offset: u64) -> Result<(), Error>
         requires keeps { keeps_table (features_of self.old) (context self.old) (table item.now.ty) ≡ true }
-        ensures judged { Judges offset (IsFilled (features_of self.old) (context self.old) (table_of (packed_table item.now))) result }
+        ensures judged { Judges offset (IsFilled (features_of self.old) (context self.old) (table_of (packed_table item.now))) (BeginsFilled (features_of self.old) (context self.old) (initialiser item.now.init)) result }
+        ensures begins { IfOk result (λ _. BeginsFilled (features_of self.old) (context self.old) (initialiser item.now.init)) }
         ensures named { IfOk result (λ _. AreThere (context self.old) (named_if (initialiser item.now.init))) }
         ensures same { context self.new ≡ context self.old }
         ensures declared { self.new.declared ≡ self.old.declared }
@@ -75,8 +76,8 @@ impl<'a> Entry for Table<'a> {
         if state.tables.len() as u64 >= MAX_WASM_TABLES {
             return Err(refusal(offset, ErrorKind::Limit(Limit::Tables)));
         }
-        state.make_room()?;
         state.check_elements(&self, offset)?;
+        state.make_room()?;
         state.tables.push(self.ty)?;
         state.declare_elements(&self.init);
         Ok(())

@@ -80,7 +80,7 @@ returns-in_err-add_initialiser-clause-judged c =
     (λ holds. not (subst (λ (cx : Context). IsConstantFor (features_of c.items.self) cx type expression) (sym c.items.invariant.1)
     (subst (λ (t : KnownTypes). IsConstantFor t.features (record before { declared = members c.items.self.declared }) type expression) (sym c.items.invariant.2)
     (initialiser_before (features_of c.args.self.now) before (members c.items.self.declared) type expression holds)))))
-    refuses)
+    (λ begins. tt) refuses)
 
 pub returns-in_err-add_initialiser-clause-same : goal.returns-in_err-add_initialiser-clause-same
 returns-in_err-add_initialiser-clause-same c =

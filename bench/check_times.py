@@ -132,7 +132,8 @@ def real_modules():
 
 # A row, the module beside it, and how many times as long a byte may take. (Blocks nested less than some 700,000 deep take a third as long a byte in a process
 # that validates many times: their stack has 32 MiB at most, which the C library keeps for the next time in place of giving it back to the system.)
-LINEAR = [("one body", "small bodies", NOISE), ("twice the nested blocks", "nested blocks", NOISE), ("labels", "fewer labels", NOISE)]
+LINEAR = [("one body", "small bodies", NOISE), ("twice the nested blocks", "nested blocks", NOISE), ("labels", "fewer labels", NOISE),
+    ("bodies of 1,000 parameters", "bodies of 64 parameters", NOISE)]
 
 
 def linear_costs():

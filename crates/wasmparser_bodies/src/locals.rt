@@ -1,9 +1,12 @@
 //! The locals of a body, in runs.
 
-ghost use Rattle.std.specs.Prelude.{◌≡◌, ◌+◌, ◌-◌, ◌≤◌, ℕ, [], ◌++◌, Err, OnErr, OnOk, length, map, option_map, replicate, slice_get};
+ghost use Rattle.std.specs.Prelude.{◌≡◌, ◌+◌, ◌-◌, ◌≤◌, ℕ, List, [], ◌++◌, Err, MatchOption, None, OnErr, OnOk, Some, length, map, option_map, replicate, slice_get, take};
 ghost use Rattle.wasm_bodies.specs.Bodies.{declared_local, parameter};
 ghost use Rattle.wasm_spec.specs.Limits as limits;
-ghost use Rattle.wasmparser_bodies.specs.LocalRuns.{AreJoined, AreLaidOut, local_seen, locals_in, locals_of};
+ghost use Rattle.wasm_spec.specs.Types as types;
+ghost use Rattle.wasmparser_bodies.specs.KeptLocals.{later_at, locals_with, no_locals, type_or_i32};
+ghost use Rattle.wasmparser_bodies.specs.LocalRuns.{AreJoined, AreLaidOut, kept_of, local_seen, locals_in};
+ghost use Rattle.wasmparser_types.specs.Index.{Index};
 ghost use Rattle.wasmparser_types.specs.ValTypes.{val_type};
 
 use std::alloc::{AllocError, Global};
@@ -37,33 +40,69 @@ struct Run {
     local: Local,
 }
 
-// How many locals are kept one by one before there are runs.
-const FIRST: usize = 64;
+// How many locals are kept one by one. Of further parameters only the number is, since their types are in the function's type: a body takes time by its bytes.
+const FIRST: u32 = 64;
 
-/// The locals of a body, its parameters first: as a list in contracts. They take memory by the run.
+/// The locals of a body, its parameters first. They take memory by the run, and no more than 64 parameters are copied.
 #[derive(Drop)]
 pub struct Locals {
     first: Vec<Local>,
-    // Those after the first ones.
+    // How many parameters come after the first ones.
+    later: u32,
+    // Those after these.
     runs: Vec<Run>,
     count: u32,
 }
 
 impl Model for Locals {
-    ghost use Rattle.std.specs.Prelude.{List};
-    ghost use Rattle.wasm_bodies.specs.BodyContext as bodies;
-    ghost use Rattle.wasmparser_types.specs.Index.{Index};
+    ghost use Rattle.wasmparser_bodies.specs.KeptLocals.{KeptLocals};
 
-    ghost Value = { List (bodies.Local Index) };
+    ghost Value = { KeptLocals };
 
-    ghost use Rattle.wasmparser_bodies.specs.LocalRuns.{AreWithinLimit, locals_inside};
+    ghost use Rattle.wasmparser_bodies.specs.LocalRuns.{AreWithinLimit, kept_inside};
 
-    ghost view = { locals_inside };
+    ghost view = { kept_inside };
 
     ghost invariant = { AreWithinLimit };
 }
 
-// Adds equal locals, at the first ones as long as there is room.
+// A parameter has a value from the start.
+fn parameter(value_type: ValType) -> Local
+    ensures { local_seen result ≡ parameter (val_type value_type) }
+{
+    Local {
+        is_set: true,
+        value_type,
+    }
+}
+
+// The type of a parameter.
+fn type_at(params: &[ValType], index: u32) -> ValType
+    ensures { val_type result ≡ type_or_i32 (slice_get (map val_type params.now) index) }
+{
+    match params.get(index as usize) {
+        Some(ty) => *ty,
+        None => ValType::I32,
+    }
+}
+
+// Keeps parameters, as many as this.
+fn keep_parameters(
+    first: &mut Vec<Local>,
+    params: &[ValType],
+    count: usize,
+) -> Result<(), AllocError>
+    requires empty { first.old.items ≡ [] }
+    requires among { count ≤ length params.now }
+    ensures { OnOk result (map local_seen first.new.items ≡ map parameter (map val_type (take count params.now))) }
+{
+    for index in 0..count {
+        first.push(parameter(params[index]))?;
+    }
+    Ok(())
+}
+
+// Adds equal locals, at the first ones as long as there is capacity.
 fn add_locals(
     first: &mut Vec<Local>,
     runs: &mut Vec<Run>,
@@ -71,19 +110,19 @@ fn add_locals(
     count: u32,
     local: &Local,
 ) -> Result<(), AllocError>
-    requires laid_out { AreLaidOut first.old.items runs.old.items start }
-    requires room { start + count ≤ limits.most limits.Locals }
-    ensures ok { OnOk result (locals_of first.new.items runs.new.items ≡ locals_of first.old.items runs.old.items ++ replicate count (local_seen local.now)) }
-    ensures laid_out { OnOk result (AreLaidOut first.new.items runs.new.items (start + count)) }
+    requires few { length first.old.items ≤ 64 }
+    requires within { start + count ≤ limits.most limits.Locals }
+    ensures ok { (later : ℕ) (params : List (types.ValType Index)) → AreLaidOut first.old.items later runs.old.items start → OnOk result (locals_with params (kept_of first.new.items later runs.new.items) ≡ locals_with params (kept_of first.old.items later runs.old.items) ++ replicate count (local_seen local.now)) }
+    ensures laid_out { (later : ℕ) → AreLaidOut first.old.items later runs.old.items start → OnOk result (AreLaidOut first.new.items later runs.new.items (start + count)) }
     ensures refused { OnErr result ((first.new.items ≡ first.old.items) × (runs.new.items ≡ runs.old.items)) }
 {
-    let room = FIRST - first.len();
+    let room = FIRST as usize - first.len();
     if count as usize <= room {
         first.resize(first.len() + count as usize, *local)?;
         return Ok(());
     }
     runs.reserve(1)?;
-    first.resize(FIRST, *local)?;
+    first.resize(FIRST as usize, *local)?;
     runs.push_reserved(Run {
         count: count - room as u32,
         end: start + count,
@@ -116,64 +155,72 @@ fn run_at(runs: &[Run], index: u32) -> Option<&Run>
 impl Locals {
     /// Without a local. Nothing is allocated.
     pub fn new(alloc: Global) -> Self
-        ensures { result ≡ [] }
+        ensures { result ≡ no_locals }
     {
         Locals {
             first: Vec::new(alloc),
+            later: 0,
             runs: Vec::new(alloc),
             count: 0,
         }
     }
 
-    /// For the next body: as a new one, but the room is kept.
+    /// For the next body: as a new one, but the capacity is kept.
     pub fn reset(&mut self)
-        ensures { self.new ≡ [] }
+        ensures { self.new ≡ no_locals }
     {
         self.first.clear();
+        self.later = 0;
         self.runs.clear();
         self.count = 0;
     }
 
     fn add(&mut self, count: u32, local: &Local) -> Result<(), LocalsError>
-        ensures ok { OnOk result (self.new ≡ self.old ++ replicate count (local_seen local.now)) }
-        ensures within { OnOk result (limits.IsPassedBy limits.Locals (length self.old + count) → ⊥) }
-        ensures limit { result ≡ Err LocalsError.Limit → limits.IsPassedBy limits.Locals (length self.old + count) }
-        ensures memory { result ≡ Err LocalsError.Memory → limits.IsPassedBy limits.Locals (length self.old + count) → ⊥ }
+        ensures ok { (params : List (types.ValType Index)) → OnOk result (locals_with params self.new ≡ locals_with params self.old ++ replicate count (local_seen local.now)) }
+        ensures within { (params : List (types.ValType Index)) → OnOk result (limits.IsPassedBy limits.Locals (length (locals_with params self.old) + count) → ⊥) }
+        ensures limit { (params : List (types.ValType Index)) → result ≡ Err LocalsError.Limit → limits.IsPassedBy limits.Locals (length (locals_with params self.old) + count) }
+        ensures memory { (params : List (types.ValType Index)) → result ≡ Err LocalsError.Memory → limits.IsPassedBy limits.Locals (length (locals_with params self.old) + count) → ⊥ }
         ensures refused { OnErr result (self.new ≡ self.old) }
     {
         if u64::from(self.count) + u64::from(count) > MAX_WASM_FUNCTION_LOCALS {
             return Err(LocalsError::Limit);
         }
-        let added = add_locals(&mut self.first, &mut self.runs, self.count, count, local);
-        if added.is_err() {
-            return Err(LocalsError::Memory);
+        match add_locals(&mut self.first, &mut self.runs, self.count, count, local) {
+            Ok(()) => {
+                self.count += count;
+                Ok(())
+            }
+            Err(_) => Err(LocalsError::Memory),
         }
-        self.count += count;
-        Ok(())
     }
 
-    /// The parameters, which come first.
+    /// Begins with the parameters, of which no more than 64 are copied.
     ///
     /// # Errors
     /// `Limit` only where there are more than 50,000, and else `Memory`. No local is left then.
     pub fn define_parameters(&mut self, params: &[ValType]) -> Result<(), LocalsError>
-        requires { self.old ≡ [] }
-        ensures ok { OnOk result (self.new ≡ map parameter (map val_type params.now)) }
+        requires { self.old ≡ no_locals }
+        ensures ok { OnOk result (locals_with (map val_type params.now) self.new ≡ map parameter (map val_type params.now)) }
         ensures within { OnOk result (limits.IsPassedBy limits.Locals (length params.now) → ⊥) }
         ensures limit { result ≡ Err LocalsError.Limit → limits.IsPassedBy limits.Locals (length params.now) }
         ensures refused { OnErr result (self.new ≡ self.old) }
     {
-        for index in 0..params.len() {
-            let local = Local {
-                is_set: true,
-                value_type: params[index],
-            };
-            if let Err(error) = self.add(1, &local) {
-                self.reset();
-                return Err(error);
+        if params.len() > MAX_WASM_FUNCTION_LOCALS as usize {
+            return Err(LocalsError::Limit);
+        }
+        let count = params.len().min(FIRST as usize);
+        match keep_parameters(&mut self.first, params, count) {
+            Ok(()) => {
+                self.later = (params.len() - count) as u32;
+                self.runs.clear();
+                self.count = params.len() as u32;
+                Ok(())
+            }
+            Err(_) => {
+                self.first.clear();
+                Err(LocalsError::Memory)
             }
         }
-        Ok(())
     }
 
     /// A run of locals, which a body declares.
@@ -181,10 +228,10 @@ impl Locals {
     /// # Errors
     /// `Limit` exactly where there would be more than 50,000 locals, and else `Memory`. The locals are then as they were.
     pub fn define(&mut self, count: u32, value_type: ValType) -> Result<(), LocalsError>
-        ensures ok { OnOk result (self.new ≡ self.old ++ replicate count (declared_local (val_type value_type))) }
-        ensures within { OnOk result (limits.IsPassedBy limits.Locals (length self.old + count) → ⊥) }
-        ensures limit { result ≡ Err LocalsError.Limit → limits.IsPassedBy limits.Locals (length self.old + count) }
-        ensures memory { result ≡ Err LocalsError.Memory → limits.IsPassedBy limits.Locals (length self.old + count) → ⊥ }
+        ensures ok { (params : List (types.ValType Index)) → OnOk result (locals_with params self.new ≡ locals_with params self.old ++ replicate count (declared_local (val_type value_type))) }
+        ensures within { (params : List (types.ValType Index)) → OnOk result (limits.IsPassedBy limits.Locals (length (locals_with params self.old) + count) → ⊥) }
+        ensures limit { (params : List (types.ValType Index)) → result ≡ Err LocalsError.Limit → limits.IsPassedBy limits.Locals (length (locals_with params self.old) + count) }
+        ensures memory { (params : List (types.ValType Index)) → result ≡ Err LocalsError.Memory → limits.IsPassedBy limits.Locals (length (locals_with params self.old) + count) → ⊥ }
         ensures refused { OnErr result (self.new ≡ self.old) }
     {
         let local = Local {
@@ -196,23 +243,46 @@ impl Locals {
 
     /// How many locals there are.
     pub fn len(&self) -> u32
-        ensures count { result ≡ length self.now }
-        ensures within { length self.now ≤ limits.most limits.Locals }
+        ensures count { (params : List (types.ValType Index)) → result ≡ length (locals_with params self.now) }
+        ensures within { (params : List (types.ValType Index)) → length (locals_with params self.now) ≤ limits.most limits.Locals }
     {
         self.count
     }
 
-    /// The local of an index.
+    /// The local of an index, if it is kept: a parameter past the first 64 is not.
     #[inline(always)]
     pub fn get(&self, index: u32) -> Option<&Local>
-        ensures { option_map (λ local. local_seen local.now) result ≡ slice_get self.now index }
+        ensures { (params : List (types.ValType Index)) → MatchOption result (slice_get (locals_with params self.now) index ≡ later_at params self.now index) (λ local. slice_get (locals_with params self.now) index ≡ Some (local_seen local.now)) }
     {
         if (index as usize) < self.first.len() {
             return Some(&self.first[index as usize]);
         }
+        if index < FIRST + self.later {
+            return None;
+        }
         match run_at(&self.runs, index) {
             Some(run) => Some(&run.local),
             None => None,
+        }
+    }
+
+    // The local of an index, if it is a parameter that isn't kept.
+    fn later(&self, params: &[ValType], index: u32) -> Option<Local>
+        ensures { option_map local_seen result ≡ later_at (map val_type params.now) self.now index }
+    {
+        if index < FIRST || index >= FIRST + self.later {
+            return None;
+        }
+        Some(parameter(type_at(params, index)))
+    }
+
+    /// The local of an index, in a function with these parameters, which are those that the locals began with.
+    pub fn find(&self, params: &[ValType], index: u32) -> Option<Local>
+        ensures { option_map local_seen result ≡ slice_get (locals_with (map val_type params.now) self.now) index }
+    {
+        match self.get(index) {
+            Some(local) => Some(*local),
+            None => self.later(params, index),
         }
     }
 }

@@ -16,6 +16,7 @@ use Rattle.wasm_spec.specs.Types.{TableType, ValType, I32}
 use Rattle.wasmparser_func_validator.specs.declared.body.Body.{Body}
 use Rattle.wasmparser_func_validator.specs.declared.refusal.Refusal.{Refusal}
 use Rattle.wasmparser_func_validator.specs.declared.refusal.Refusal.TheVariants.{Invalid, Memory}
+use Rattle.wasmparser_bodies.specs.KeptLocals.{locals_with}
 use Rattle.wasmparser_bodies.specs.Resources.{Resources}
 use Rattle.wasmparser_operators.specs.declared.immediates.BlockType.{BlockType}
 use Rattle.wasmparser_types.specs.Index.{Index}
@@ -23,6 +24,17 @@ use Rattle.wasmparser_types.specs.ValTypes.{val_type}
 use Rattle.wasmparser_types.specs.declared.val_type.ValType as code
 use Rattle.wasmparser_bodies.specs.StackViews.{block_with_ids, frame_kind}
 use Rattle.wasmparser_bodies.specs.declared.frame.FrameKind.{FrameKind}
+
+-- the items that operators of a body may name, whose module is seen like this
+abbrev pub items_in : {R : Type 0} → (R → Resources) → Body R → ModuleItems Index
+items_in seen body = (seen body.resources).items
+
+-- the parameters of its function, and all its locals, of which they come first
+abbrev pub params_in : {R : Type 0} → (R → Resources) → Body R → List (ValType Index)
+params_in seen body = (frame_type (items_in seen body) (Indexed body.ty)).params
+
+unfoldable pub locals_in_body : {R : Type 0} → (R → Resources) → Body R → List (Local Index)
+locals_in_body seen body = locals_with (params_in seen body) body.locals
 
 -- the context of a body of a function whose type has this index
 abbrev pub context_of : Resources → Features → List (Local Index) → ℕ → BodyContext Index
@@ -33,13 +45,9 @@ context_of resources features locals type = record {
   results = (frame_type resources.items (Indexed type)).results;
 }
 
--- the same of a body whose module is seen like this
+-- the same of a body
 abbrev pub body_context : {R : Type 0} → (R → Resources) → Body R → BodyContext Index
-body_context seen body = context_of (seen body.resources) (feature_set body.features) body.locals body.ty
-
--- the items that its operators may name
-abbrev pub items_in : {R : Type 0} → (R → Resources) → Body R → ModuleItems Index
-items_in seen body = (seen body.resources).items
+body_context seen body = context_of (seen body.resources) (feature_set body.features) (locals_in_body seen body) body.ty
 
 -- On Ok the list that is typed is the wanted one, and the open blocks stay. Invalid comes only where there is none, and Memory only where there is one. A
 -- refusal leaves all as it was.

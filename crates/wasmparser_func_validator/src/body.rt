@@ -1,20 +1,23 @@
 //! What operators take and give.
 
-ghost use Rattle.std.specs.Prelude.{◌≡◌, ◌≢◌, ◌+◌, ◌≤◌, [], length, map, Some};
+ghost use Rattle.std.specs.Prelude.{◌≡◌, ◌≢◌, ◌+◌, ◌≤◌, [], IfSome, length, map, option_map, slice_get, Some};
 ghost use Rattle.wasm_bodies.specs.BodyContext.{are_below, provided};
 ghost use Rattle.wasm_bodies.specs.Effects.{leaves};
 ghost use Rattle.wasm_bodies.specs.Operands.{all_taken, applied, fits};
 ghost use Rattle.wasm_bodies.specs.Signatures.{after_one_more, from_to};
+ghost use Rattle.wasm_spec.specs.Limits as limits;
+ghost use Rattle.wasmparser_bodies.specs.LocalRuns.{local_seen};
 ghost use Rattle.wasmparser_bodies.specs.StackChanges.{lowered};
 ghost use Rattle.wasmparser_bodies.specs.StackViews.{operand};
-ghost use Rattle.wasmparser_func_validator.specs.Steps.{Takes, items_in};
+ghost use Rattle.wasmparser_func_validator.specs.Steps.{Takes, items_in, locals_in_body};
 ghost use Rattle.wasmparser_types.specs.ValTypes.{val_type};
 
+use crate::lookups::params_at;
 use crate::refusal::Refusal;
 use crate::type_list::{TypeList, Types};
 use std::slice;
 use wasm_core_types::features::WasmFeatures;
-use wasmparser_bodies::locals::Locals;
+use wasmparser_bodies::locals::{Local, Locals};
 use wasmparser_bodies::module_resources::WasmModuleResources;
 use wasmparser_bodies::operand::Operand;
 use wasmparser_bodies::stacks::Stacks;
@@ -31,6 +34,33 @@ pub struct Body<R> {
 }
 
 impl<R: WasmModuleResources> Body<R> {
+    // How many locals there are.
+    pub(crate) fn local_count(&self) -> u32
+        ensures count { result ≡ length (locals_in_body R.resources self.now) }
+        ensures within { length (locals_in_body R.resources self.now) ≤ limits.most limits.Locals }
+    {
+        self.locals.len()
+    }
+
+    // The local of an index, if it is at hand: a parameter past the first 64 is not.
+    #[inline(always)]
+    pub(crate) fn kept_local(&self, index: u32) -> Option<&Local>
+        ensures { IfSome result (λ local. slice_get (locals_in_body R.resources self.now) index ≡ Some (local_seen local.now)) }
+    {
+        self.locals.get(index)
+    }
+
+    // The local of an index.
+    #[tactic(auto, unfolding(crate::specs::Steps::locals_in_body))]
+    pub(crate) fn local_at(&self, index: u32) -> Option<Local>
+        ensures { option_map local_seen result ≡ slice_get (locals_in_body R.resources self.now) index }
+    {
+        match self.kept_local(index) {
+            Some(local) => Some(*local),
+            None => self.locals.find(params_at(&self.resources, self.ty), index),
+        }
+    }
+
     // Checks that an operand may stand where one of the type is wanted.
     fn fits(&self, wanted: ValType, x: &Operand) -> bool
         ensures { result ≡ fits (items_in R.resources self.now) (val_type wanted) (operand x.now) }

@@ -10,9 +10,9 @@ use wasmparser_types::val_type::ValType;
 impl<T: WasmModuleResources> BodyValidator for FuncValidator<T> {
     ghost use Rattle.wasm_core_types.specs.Features.{feature_set};
     ghost use Rattle.wasmparser_func_validator.specs.FromBytes.{Given, state_of};
-    ghost use Rattle.wasmparser_func_validator.specs.Steps.{items_in};
+    ghost use Rattle.wasmparser_func_validator.specs.Steps.{items_in, locals_in_body};
 
-    ghost state = { λ v. state_of (feature_set v.body.features) (items_in T.resources v.body) v.body.ty v.body.locals v.stacks v.failed };
+    ghost state = { λ v. state_of (feature_set v.body.features) (items_in T.resources v.body) v.body.ty (locals_in_body T.resources v.body) v.stacks v.failed };
 
     ghost Kept = { Given T };
 

@@ -9,7 +9,7 @@ ghost use Rattle.wasmparser_bodies.specs.BodyAnswers.{AnswersOutcome, IsBodyVali
 ghost use Rattle.wasmparser_bodies.specs.LocalsAnswers.{ReadsLocals};
 ghost use Rattle.wasmparser_bodies.specs.BodyStates.{IsAtStart, rest_outcome};
 ghost use Rattle.wasmparser_func_validator.specs.FromBytes.{ReadsDeclared, failed_at, past_types};
-ghost use Rattle.wasmparser_func_validator.specs.Steps.{items_in};
+ghost use Rattle.wasmparser_func_validator.specs.Steps.{items_in, locals_in_body};
 ghost use Rattle.wasmparser_func_validator.specs.Validation.{is_refused};
 ghost use Rattle.wasmparser_types.specs.Index.{Index, packable};
 
@@ -57,7 +57,7 @@ impl<T: WasmModuleResources> FuncValidator<T> {
     /// more of them than the 2^20 that types of locals can name.
     pub fn read_locals(&mut self, reader: &mut BinaryReader<'_>) -> Result<(), Error>
         ensures read { self.old.failed ≡ false → length (items_in T.resources self.old.body).types ≤ packable → ReadsLocals (⟦<FuncValidator<T> as BodyValidator>⟧.state self.old) (⟦<FuncValidator<T> as BodyValidator>⟧.state self.new) reader.old reader.new result }
-        ensures declared { self.old.failed ≡ false → length (items_in T.resources self.old.body).types ≤ packable → (type : types.FuncType Index) → self.old.body.locals ≡ map parameter type.params → ReadsDeclared (feature_set self.old.body.features) (items_in T.resources self.old.body) type reader.old reader.new self.new.body.locals result }
+        ensures declared { self.old.failed ≡ false → length (items_in T.resources self.old.body).types ≤ packable → (type : types.FuncType Index) → locals_in_body T.resources self.old.body ≡ map parameter type.params → ReadsDeclared (feature_set self.old.body.features) (items_in T.resources self.old.body) type reader.old reader.new (locals_in_body T.resources self.new.body) result }
         ensures many_types { self.old.failed ≡ false → packable < length (items_in T.resources self.old.body).types → result ≡ Err (past_types reader.old.position) }
         ensures after_refusal { self.old.failed ≡ true → (result ≡ Err (failed_at reader.old.position)) × (self.new ≡ self.old) }
         ensures failed { self.new.failed ≡ is_refused result }
@@ -72,7 +72,7 @@ impl<T: WasmModuleResources> FuncValidator<T> {
             return Err(past_types(reader.original_position()));
         }
         // (there are no more locals than the limit lets through)
-        let _ = self.body.locals.len();
+        let _ = self.body.local_count();
         let start = fork(reader);
         let result = read_locals(reader, self);
         self.failed = result.is_err();
@@ -106,7 +106,7 @@ impl<T: WasmModuleResources> FuncValidator<T> {
             return Err(past_types(reader.original_position()));
         }
         // (there are no more locals than the limit lets through)
-        let _ = self.body.locals.len();
+        let _ = self.body.local_count();
         reader.set_features(self.body.features);
         let result = read_body(&mut reader, self);
         self.failed = result.is_err();

@@ -5,6 +5,7 @@ ghost use Rattle.wasm_bodies.specs.BodyContext.{func_at};
 ghost use Rattle.wasm_bodies.specs.Bodies.{parameter};
 ghost use Rattle.wasm_bodies_laws.specs.Machine.{at_start, frame_type};
 ghost use Rattle.wasm_bodies.specs.Operators.{Indexed};
+ghost use Rattle.wasmparser_func_validator.specs.Steps.{locals_in_body};
 ghost use Rattle.wasmparser_func_validator.specs.Validation.{IsRefusedStart};
 
 use crate::body::Body;
@@ -54,7 +55,7 @@ impl<T: WasmModuleResources + Drop> FuncToValidate<T> {
     pub fn into_validator(self, allocs: FuncValidatorAllocations) -> Result<FuncValidator<T>, Error>
         requires { IsSome (func_at (T.resources self.resources).items self.ty) }
         ensures stacks { IfOk result (λ v. v.stacks ≡ at_start self.ty) }
-        ensures locals { IfOk result (λ v. v.body.locals ≡ map parameter (frame_type (T.resources self.resources).items (Indexed self.ty)).params) }
+        ensures locals { IfOk result (λ v. locals_in_body T.resources v.body ≡ map parameter (frame_type (T.resources self.resources).items (Indexed self.ty)).params) }
         ensures given { IfOk result (λ v. (v.body.resources ≡ self.resources) × (v.body.features ≡ self.features) × (v.body.ty ≡ self.ty) × (v.index ≡ self.index) × (v.failed ≡ false)) }
         ensures refused { IfErr result (λ e. IsRefusedStart (frame_type (T.resources self.resources).items (Indexed self.ty)).params e.kind e.offset) }
     {

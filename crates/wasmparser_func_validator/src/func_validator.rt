@@ -7,17 +7,16 @@ ghost use Rattle.wasm_bodies.specs.Operators.{Indexed};
 ghost use Rattle.wasm_bodies_laws.specs.Machine.{at_start, frame_type, stepped};
 ghost use Rattle.wasm_core_types.specs.Features.{feature_set};
 ghost use Rattle.wasmparser_error.specs.declared.error.ErrorKind.TheVariants as kinds;
-ghost use Rattle.wasmparser_func_validator.specs.Steps.{body_context, items_in};
+ghost use Rattle.wasmparser_func_validator.specs.Steps.{body_context, items_in, locals_in_body, params_in};
 ghost use Rattle.wasmparser_func_validator.specs.Validation.{Defines, IsRefusedStart, Tries, Validates, is_refused, known_type, locals_error, type_seen, unless_failed};
 ghost use Rattle.wasmparser_operators.specs.OperatorValues as code;
-ghost use Rattle.wasmparser_bodies.specs.LocalRuns.{local_seen};
 ghost use Rattle.wasmparser_bodies.specs.StackChanges.{all_known, places_of};
 ghost use Rattle.wasmparser_bodies.specs.StackViews.{block_kept, block_seen, place_kept};
 ghost use Rattle.wasmparser_types.specs.ValTypes.{val_type};
 
 use crate::body::Body;
 use crate::func_to_validate::FuncValidatorAllocations;
-use crate::lookups::func_type_in;
+use crate::lookups::params_at;
 use crate::refusal::Refusal;
 use wasm_core_types::features::WasmFeatures;
 use wasm_core_types::limits::Limit;
@@ -48,16 +47,6 @@ pub(crate) fn failed(offset: u64) -> Error
     Error {
         offset,
         kind: ErrorKind::Failed,
-    }
-}
-
-// The parameters of a type index, none where it is no function type's.
-fn params_at<T: WasmModuleResources>(resources: &T, index: u32) -> &[ValType]
-    ensures { map val_type result.now ≡ (frame_type (T.resources resources.now).items (Indexed index)).params }
-{
-    match func_type_in(resources, index) {
-        Some(it) => it.params(),
-        None => &[],
     }
 }
 
@@ -119,11 +108,12 @@ impl<T: WasmModuleResources> FuncValidator<T> {
     }
 
     // Opens the body as a block, and begins its locals with the parameters.
+    #[tactic(auto, unfolding(crate::specs::Steps::locals_in_body))]
     pub(crate) fn begin(&mut self) -> Result<(), Error>
         ensures stacks { OnOk result (self.new.stacks ≡ at_start self.old.body.ty) }
-        ensures locals { OnOk result (self.new.body.locals ≡ map parameter (frame_type (items_in T.resources self.old.body) (Indexed self.old.body.ty)).params) }
+        ensures locals { OnOk result (locals_in_body T.resources self.new.body ≡ map parameter (params_in T.resources self.old.body)) }
         ensures given { OnOk result ((self.new.body.resources ≡ self.old.body.resources) × (self.new.body.features ≡ self.old.body.features) × (self.new.body.ty ≡ self.old.body.ty) × (self.new.index ≡ self.old.index) × (self.new.failed ≡ self.old.failed)) }
-        ensures refused { IfErr result (λ e. IsRefusedStart (frame_type (items_in T.resources self.old.body) (Indexed self.old.body.ty)).params e.kind e.offset) }
+        ensures refused { IfErr result (λ e. IsRefusedStart (params_in T.resources self.old.body) e.kind e.offset) }
     {
         self.stacks.reset();
         let ty = BlockType::FuncType(self.body.ty);
@@ -139,9 +129,10 @@ impl<T: WasmModuleResources> FuncValidator<T> {
     }
 
     // Defines locals, as `define_locals` does, where nothing was refused.
+    #[tactic(auto, unfolding(crate::specs::Steps::locals_in_body))]
     fn add_locals(&mut self, offset: u64, count: u32, ty: &ValType) -> Result<(), Error>
         requires { code.IsOfModule ty.now }
-        ensures defined { Defines false offset count (written (feature_set self.old.body.features) (items_in T.resources self.old.body) (code.module_type ty.now)) self.old.body.locals self.new.body.locals (is_refused result) result }
+        ensures defined { Defines false offset count (written (feature_set self.old.body.features) (items_in T.resources self.old.body) (code.module_type ty.now)) (locals_in_body T.resources self.old.body) (locals_in_body T.resources self.new.body) (is_refused result) result }
         ensures stacks { self.new.stacks ≡ self.old.stacks }
         ensures others { (self.new.body.ty ≡ self.old.body.ty) × (self.new.body.features ≡ self.old.body.features) × (self.new.body.resources ≡ self.old.body.resources) × (self.new.index ≡ self.old.index) × (self.new.failed ≡ self.old.failed) }
     {
@@ -164,7 +155,7 @@ impl<T: WasmModuleResources> FuncValidator<T> {
     /// locals, `Memory`, or `Failed` at the offset after a refusal.
     pub fn define_locals(&mut self, offset: u64, count: u32, ty: ValType) -> Result<(), Error>
         requires { code.IsOfModule ty }
-        ensures defined { Defines self.old.failed offset count (written (feature_set self.old.body.features) (items_in T.resources self.old.body) (code.module_type ty)) self.old.body.locals self.new.body.locals self.new.failed result }
+        ensures defined { Defines self.old.failed offset count (written (feature_set self.old.body.features) (items_in T.resources self.old.body) (code.module_type ty)) (locals_in_body T.resources self.old.body) (locals_in_body T.resources self.new.body) self.new.failed result }
         ensures stacks { self.new.stacks ≡ self.old.stacks }
         ensures others { (self.new.body.ty ≡ self.old.body.ty) × (self.new.body.features ≡ self.old.body.features) × (self.new.body.resources ≡ self.old.body.resources) × (self.new.index ≡ self.old.index) }
     {
@@ -201,22 +192,22 @@ impl<T: WasmModuleResources> FuncValidator<T> {
 
     /// How many locals there are, parameters counted.
     pub fn len_locals(&self) -> u32
-        ensures { result ≡ unless_failed self.now.failed 0 (length self.now.body.locals) }
+        ensures { result ≡ unless_failed self.now.failed 0 (length (locals_in_body T.resources self.now.body)) }
     {
         if self.failed {
             return 0;
         }
-        self.body.locals.len()
+        self.body.local_count()
     }
 
     /// The type of a local.
     pub fn get_local_type(&self, index: u32) -> Option<ValType>
-        ensures { option_map val_type result ≡ unless_failed self.now.failed None (option_map (λ local. local.type) (slice_get self.now.body.locals index)) }
+        ensures { option_map val_type result ≡ unless_failed self.now.failed None (option_map (λ local. local.type) (slice_get (locals_in_body T.resources self.now.body) index)) }
     {
         if self.failed {
             return None;
         }
-        match self.body.locals.get(index) {
+        match self.body.local_at(index) {
             Some(local) => Some(local.value_type),
             None => None,
         }

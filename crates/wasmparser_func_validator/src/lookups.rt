@@ -56,6 +56,16 @@ pub(crate) fn func_type_in<R: WasmModuleResources>(resources: &R, index: u32) ->
     }
 }
 
+// The parameters of a type index, none where it is no function type's.
+pub(crate) fn params_at<R: WasmModuleResources>(resources: &R, index: u32) -> &[ValType]
+    ensures { map val_type result.now ≡ (frame_type (R.resources resources.now).items (Indexed index)).params }
+{
+    match func_type_in(resources, index) {
+        Some(it) => it.params(),
+        None => &[],
+    }
+}
+
 // Checks that a memory has this address.
 #[inline(always)]
 fn is_offset(is_64: bool, offset: u64) -> bool

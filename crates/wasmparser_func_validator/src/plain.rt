@@ -49,7 +49,7 @@ impl<R: WasmModuleResources> Body<R> {
         requires fit { NumbersFit (items_in R.resources self.now) }
         ensures { TriesEffect (effect_of (body_context R.resources self.now) (labels_of (items_in R.resources self.now) stacks.old.frames) stacks.old.now (spec.LocalSet index)) stacks.old stacks.new result }
     {
-        let Some(local) = self.locals.get(index) else {
+        let Some(local) = self.kept_local(index) else {
             return false;
         };
         if !local.is_set || !is_number(&local.value_type) {
@@ -63,7 +63,7 @@ impl<R: WasmModuleResources> Body<R> {
         requires fit { NumbersFit (items_in R.resources self.now) }
         ensures { TriesEffect (effect_of (body_context R.resources self.now) (labels_of (items_in R.resources self.now) stacks.old.frames) stacks.old.now (spec.LocalTee index)) stacks.old stacks.new result }
     {
-        let Some(local) = self.locals.get(index) else {
+        let Some(local) = self.kept_local(index) else {
             return false;
         };
         if !local.is_set || !is_number(&local.value_type) {

@@ -40,7 +40,7 @@ impl<R: WasmModuleResources> Body<R> {
     fn push_local(&self, stacks: &mut Stacks, index: u32) -> bool
         ensures { TriesEffect (effect_of (body_context R.resources self.now) (labels_of (items_in R.resources self.now) stacks.old.frames) stacks.old.now (spec.LocalGet index)) stacks.old stacks.new result }
     {
-        let Some(local) = self.locals.get(index) else {
+        let Some(local) = self.kept_local(index) else {
             return false;
         };
         local.is_set && stacks.push_within_capacity(local.value_type)

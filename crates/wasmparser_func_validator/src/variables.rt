@@ -16,7 +16,7 @@ impl<R: WasmModuleResources> Body<R> {
     pub(crate) fn local_get(&self, stacks: &mut Stacks, index: u32) -> Result<(), Refusal>
         ensures { HasEffect (body_context R.resources self.now) (spec.LocalGet index) stacks.old stacks.new result }
     {
-        let Some(local) = self.locals.get(index) else {
+        let Some(local) = self.local_at(index) else {
             return Err(Refusal::Invalid);
         };
         if !local.is_set && !stacks.is_assigned(index) {
@@ -29,7 +29,7 @@ impl<R: WasmModuleResources> Body<R> {
     pub(crate) fn local_set(&self, stacks: &mut Stacks, index: u32) -> Result<(), Refusal>
         ensures { HasEffect (body_context R.resources self.now) (spec.LocalSet index) stacks.old stacks.new result }
     {
-        let Some(local) = self.locals.get(index) else {
+        let Some(local) = self.local_at(index) else {
             return Err(Refusal::Invalid);
         };
         if !self.accepts(stacks, 0, &Types(slice::from_ref(&local.value_type))) {
@@ -45,7 +45,7 @@ impl<R: WasmModuleResources> Body<R> {
     pub(crate) fn local_tee(&self, stacks: &mut Stacks, index: u32) -> Result<(), Refusal>
         ensures { HasEffect (body_context R.resources self.now) (spec.LocalTee index) stacks.old stacks.new result }
     {
-        let Some(local) = self.locals.get(index) else {
+        let Some(local) = self.local_at(index) else {
             return Err(Refusal::Invalid);
         };
         let types = slice::from_ref(&local.value_type);

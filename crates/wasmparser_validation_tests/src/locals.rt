@@ -18,7 +18,7 @@ fn type_of(letter: char) -> ValType {
 }
 
 // The letter of a local's type, a capital where it has no value at the start, and `-` where there is no local.
-fn letter_of(local: Option<&Local>) -> char {
+fn letter_of(local: Option<Local>) -> char {
     let Some(local) = local else {
         return '-';
     };
@@ -50,6 +50,9 @@ const LOCALS: &str = "
      | 64l 1g | 65 | 63l 64G 65-
      | 65l | 65 | 0l 63l 64l 65-
      | 63l 2g 3i | 68 | 62l 63G 64G 65i 67i 68-
+    iiiiiiiiiiiiiiiiiiiiiiiiiiiiiiiiiiiiiiiiiiiiiiiiiiiiiiiiiiiiiiil | 1g | 65 | 62i 63l 64G 65-
+    iiiiiiiiiiiiiiiiiiiiiiiiiiiiiiiiiiiiiiiiiiiiiiiiiiiiiiiiiiiiiiillf | 1g | 67 | 62i 63l 64l 65f 66G 67-
+    iiiiiiiiiiiiiiiiiiiiiiiiiiiiiiiiiiiiiiiiiiiiiiiiiiiiiiiiiiiiiiillfg | 2i 0l 1g | 70 | 63l 64l 65f 66g 67i 68i 69G 70- 4294967295-
     ig | 50000l | limit | 0i 1g 2-
     ig | 49998l | 50000 | 0i 1g 2l 64l 49999l 50000-
     ig | 49998l 0g | 50000 | 49999l 50000-
@@ -79,37 +82,37 @@ fn define_all(locals: &mut Locals, runs: &str) -> Option<bool> {
     Some(false)
 }
 
-fn finds(locals: &Locals, place: &str) -> Option<bool> {
+fn finds(locals: &Locals, params: &[ValType], place: &str) -> Option<bool> {
     let letter = place.chars().next_back()?;
     let index = place.trim_end_matches(letter).parse().ok()?;
-    Some(letter_of(locals.get(index)) == letter)
+    Some(letter_of(locals.find(params, index)) == letter)
 }
 
-fn finds_all(locals: &Locals, places: &str) -> Option<bool> {
+fn finds_all(locals: &Locals, params: &[ValType], places: &str) -> Option<bool> {
     for place in places.split_whitespace() {
-        if !finds(locals, place)? {
+        if !finds(locals, params, place)? {
             return Some(false);
         }
     }
     Some(true)
 }
 
-// Parameters are defined first, and so of locals that are none.
-fn define_parameters(alloc: Global, locals: &mut Locals, params: &str) -> Option<()> {
+fn types_of(alloc: Global, letters: &str) -> Option<Vec<ValType>> {
     let mut types = Vec::new(alloc);
-    for letter in params.chars() {
+    for letter in letters.chars() {
         types.push(type_of(letter)).ok()?;
     }
-    locals.reset();
-    locals.define_parameters(&types).ok()
+    Some(types)
 }
 
 fn row_holds(alloc: Global, locals: &mut Locals, row: &str) -> Option<bool> {
     let (params, runs, count, places) = four_fields(row)?;
-    define_parameters(alloc, locals, params)?;
+    let params = types_of(alloc, params)?;
+    locals.reset();
+    locals.define_parameters(&params).ok()?;
     let is_past = define_all(locals, runs)?;
     let is_counted = is_past || count.parse::<u32>().ok() == Some(locals.len());
-    let are_found = finds_all(locals, places)?;
+    let are_found = finds_all(locals, &params, places)?;
     locals.reset();
     Some(is_past == (count == "limit") && is_counted && are_found && locals.len() == 0)
 }
@@ -123,5 +126,5 @@ fn holds(alloc: Global, row: &str) -> Option<bool> {
 
 #[test]
 fn locals_are_found(rt: HostRuntime) -> Result<(), Fail> {
-    Ok(check_rows(rt.alloc(), LOCALS, 21, holds)?)
+    Ok(check_rows(rt.alloc(), LOCALS, 24, holds)?)
 }

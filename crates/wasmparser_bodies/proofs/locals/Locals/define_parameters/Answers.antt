@@ -1,12 +1,15 @@
-use Rattle.std.proofs.Common.{◌≡◌, length, arith}
-use Rattle.wasmparser_bodies.proofs.LocalLaws.{added_more, length_added}
+use Rattle.std.proofs.Common.{◌-◌, ◌≤◌, ap, length, map, refl, ◌∙◌, arith}
+use Rattle.wasmparser_types.specs.ValTypes.{val_type}
+use Rattle.wasmparser_bodies.specs.KeptLocals.{locals_with}
+use Rattle.wasmparser_bodies.specs.LocalRuns.{kept_of}
+use Rattle.wasmparser_bodies.proofs.LocalLaws.{all_parameters}
 use Rattle.wasmparser_bodies.proofs.locals.Locals.define_parameters.Goals as goal
 
-pub loop-index-preserved : goal.loop-index-preserved
-loop-index-preserved c =
-    added_more c.loop-index.self c.add.new.self c.args.params.now c.loop-index.index c.index-params-index.result c.loop-index.invariant c.loop-index-test.true c.index-params-index.is c.in_default.ensures.ok c.in_default.ensures.within
-
-pub returns-in-Err-clause-limit : goal.returns-in-Err-clause-limit
-returns-in-Err-clause-limit c = λ e.
-    let n : length c.loop-index.self ≡ c.loop-index.index = length_added c.loop-index.self c.args.params.now c.loop-index.index c.loop-index.invariant (omega arith) in
-    omega (arith, c.in-Err.ensures.limit e)
+pub returns-in-Ok-clause-ok : goal.returns-in-Ok-clause-ok
+returns-in-Ok-clause-ok c =
+    let types = c.args.params.now in
+    let first = c.keep_parameters.new.first.items in
+    let count = c.min-count.result in
+    let few : c.min-count.result ≤ 64 = omega (arith, c.min-count.ensures) in
+    ap (λ runs. locals_with (map val_type types) (kept_of first (length types - count) runs)) c.clear.ensures.items
+    ∙ all_parameters types first (length types - count) count c.in-Ok.ensures refl few (λ lt. omega (arith, lt, c.min-count.ensures))

@@ -162,15 +162,10 @@ impl<R: WasmModuleResources> Body<R> {
         ensures { TriesBare (body_context R.resources self.now) stacks.old stacks.new code result }
     {
         match code {
-            0x00 => {
-                stacks.mark_unreachable();
-                true
-            }
             0x01 => true,
             0x05 => self.else_(stacks).is_ok(),
             0x0b => stacks.frame_count() > 1 && self.close(stacks).is_ok(),
             0x0f => self.return_(stacks).is_ok(),
-            0x1a => self.drop_one(stacks).is_ok(),
             0x1b => self.select(stacks).is_ok(),
             _ => false,
         }
@@ -238,7 +233,7 @@ impl<R: WasmModuleResources> Body<R> {
             return None;
         };
         match *first {
-            0x00 | 0x01 | 0x05 | 0x0b | 0x0f | 0x1a | 0x1b => self.plain_bare(*first, stacks, rest),
+            0x01 | 0x05 | 0x0b | 0x0f | 0x1b => self.plain_bare(*first, stacks, rest),
             0x02 | 0x03 | 0x04 => self.plain_block(*first, stacks, rest),
             0x41 | 0x42 => self.plain_constant(*first, stacks, rest),
             _ => self.plain_number(*first, stacks, rest),

@@ -1,11 +1,9 @@
-use Rattle.std.proofs.Common.{◌<◌, Some, length, true, refl, sym, ap, arith}
-use Rattle.wasm_bodies.specs.Operators.{Unreachable, Nop, Else, End, Return, Drop, Select}
-use Rattle.wasm_bodies_laws.specs.Machine.{Machine}
-use Rattle.wasmparser_types.specs.Index.{Index}
+use Rattle.std.proofs.Common.{◌<◌, Some, length, true, refl, arith}
+use Rattle.wasm_bodies.specs.Operators.{Nop, Else, End, Return, Select}
 use Rattle.wasmparser_operators.specs.OperatorReading.{Bare, shape_of}
 use Rattle.wasmparser_func_validator.specs.Plain.{IsCoded}
 use Rattle.wasmparser_func_validator.specs.Steps.{body_context}
-use Rattle.wasmparser_func_validator.proofs.PlainCodes.{drop_coded, end_coded, unreachable_coded}
+use Rattle.wasmparser_func_validator.proofs.PlainCodes.{end_coded}
 use Rattle.wasmparser_func_validator.proofs.PlainLaws.{bare_tried, ended_inside, stepped_tried, tried, else_inside}
 use Rattle.wasmparser_func_validator.proofs.body.Body.bare.Goals as goal
 
@@ -24,11 +22,6 @@ return_coded = (refl, refl)
 select_coded : IsCoded 27 (Bare Select)
 unfolding shape_of
 select_coded = (refl, refl)
-
-pub returns-in-0 : goal.returns-in-0
-returns-in-0 g c =
-    let cx = body_context g.R.WasmModuleResources.resources c.args.self.now in
-    rw c.in-0.is (bare_tried cx c.args.stacks.now c.mark_unreachable.new.self 0 Unreachable true unreachable_coded refl refl c.requires.inside (ap (λ (m : Machine Index). Some m.now) (sym c.mark_unreachable.ensures), ap (λ (m : Machine Index). m.frames) c.mark_unreachable.ensures))
 
 pub returns-in-1 : goal.returns-in-1
 returns-in-1 g c =
@@ -50,11 +43,6 @@ pub returns-in-15 : goal.returns-in-15
 returns-in-15 g c =
     let cx = body_context g.R.WasmModuleResources.resources c.args.self.now in
     rw c.in-15.is (bare_tried cx c.args.stacks.now c.return_.new.stacks 15 Return c.is_ok-in-15.result return_coded refl refl c.requires.inside (tried _ _ _ c.return_.result c.is_ok-in-15.result c.is_ok-in-15.ensures.value c.return_.ensures))
-
-pub returns-in-26 : goal.returns-in-26
-returns-in-26 g c =
-    let cx = body_context g.R.WasmModuleResources.resources c.args.self.now in
-    rw c.in-26.is (bare_tried cx c.args.stacks.now c.drop_one.new.stacks 26 Drop c.is_ok-in-26.result drop_coded refl refl c.requires.inside (tried _ _ _ c.drop_one.result c.is_ok-in-26.result c.is_ok-in-26.ensures.value c.drop_one.ensures))
 
 pub returns-in-27 : goal.returns-in-27
 returns-in-27 g c =

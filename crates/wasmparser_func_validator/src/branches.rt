@@ -1,6 +1,6 @@
 //! Jumps and calls (Core Specification 3.0, Validation, "Control Instructions").
 
-ghost use Rattle.std.specs.Prelude.{◌≡◌, ◌≢◌, [], IsTrue, Some, if◌then◌else◌, length, map, option_map, reverse, slice_get};
+ghost use Rattle.std.specs.Prelude.{◌≡◌, ◌≢◌, [], IsTrue, Some, if◌then◌else◌, length, map, option_map, reverse, slice_get, true};
 ghost use Rattle.std.specs.List.{list_all};
 ghost use Rattle.std.specs.Option.{option_and_then};
 ghost use Rattle.wasm_bodies.specs.BodyContext.{provided, value_of};
@@ -99,36 +99,23 @@ impl<R: WasmModuleResources> Body<R> {
         }
     }
 
-    // Checks a `br_table` label, reusing the previous answer if both labels have the same type.
-    fn accepts_beside(
-        &self,
-        stacks: &Stacks,
-        arity: usize,
-        label: u32,
-        other: u32,
-        is_accepted: bool,
-    ) -> bool
-        ensures { is_accepted ≡ accepts (items_in R.resources self.now) arity (lowered 1 stacks.now.now) (slice_get (labels_of (items_in R.resources self.now) stacks.now.frames) other) → result ≡ accepts (items_in R.resources self.now) arity (lowered 1 stacks.now.now) (slice_get (labels_of (items_in R.resources self.now) stacks.now.frames) label) }
+    // Checks a `br_table` label beside one that accepts the operands, which is enough if both have the same type.
+    fn accepts_beside(&self, stacks: &Stacks, arity: usize, label: u32, other: u32) -> bool
+        ensures { true ≡ accepts (items_in R.resources self.now) arity (lowered 1 stacks.now.now) (slice_get (labels_of (items_in R.resources self.now) stacks.now.frames) other) → result ≡ accepts (items_in R.resources self.now) arity (lowered 1 stacks.now.now) (slice_get (labels_of (items_in R.resources self.now) stacks.now.frames) label) }
     {
         if self.are_alike(stacks, label, other) {
-            return is_accepted;
+            return true;
         }
         self.accepts_label(stacks, arity, label)
     }
 
-    // Checks that each of several labels accepts the operands, where it is known of the default one.
-    fn accepts_labels(
-        &self,
-        stacks: &Stacks,
-        arity: usize,
-        targets: &BrTable<'_>,
-        is_accepted: bool,
-    ) -> bool
-        requires { is_accepted ≡ accepts (items_in R.resources self.now) arity (lowered 1 stacks.now.now) (slice_get (labels_of (items_in R.resources self.now) stacks.now.frames) targets.now.default) }
+    // Checks that each of several labels accepts the operands, as the default one does.
+    fn accepts_labels(&self, stacks: &Stacks, arity: usize, targets: &BrTable<'_>) -> bool
+        requires { true ≡ accepts (items_in R.resources self.now) arity (lowered 1 stacks.now.now) (slice_get (labels_of (items_in R.resources self.now) stacks.now.frames) targets.now.default) }
         ensures { result ≡ list_all (λ label. accepts (items_in R.resources self.now) arity (lowered 1 stacks.now.now) (slice_get (labels_of (items_in R.resources self.now) stacks.now.frames) label)) targets.now.labels }
     {
         targets.targets().all(|label| {
-            self.accepts_beside(stacks, arity, label, targets.default(), is_accepted)
+            self.accepts_beside(stacks, arity, label, targets.default())
         })
     }
 
@@ -141,8 +128,10 @@ impl<R: WasmModuleResources> Body<R> {
             return false;
         };
         let arity = self.label(kind, &block_type).len();
-        let is_accepted = self.accepts_label(stacks, arity, targets.default());
-        is_accepted && self.accepts_labels(stacks, arity, targets, is_accepted)
+        if !self.accepts_label(stacks, arity, targets.default()) {
+            return false;
+        }
+        self.accepts_labels(stacks, arity, targets)
     }
 
     pub(crate) fn br_table(&self, stacks: &mut Stacks, targets: &BrTable<'_>) -> Result<(), Refusal>

@@ -1,4 +1,4 @@
-use Rattle.std.proofs.Common.{◌<◌, Some, length, true, refl, arith}
+use Rattle.std.proofs.Common.{◌<◌, length, true, refl, arith}
 use Rattle.wasm_bodies.specs.Operators.{Nop, Else, End, Return, Select}
 use Rattle.wasmparser_operators.specs.OperatorReading.{Bare, shape_of}
 use Rattle.wasmparser_func_validator.specs.Plain.{IsCoded}

@@ -1,6 +1,6 @@
 //! Data segments (Core Specification 3.0, Validation, "Data Segments").
 
-ghost use Rattle.std.specs.Prelude.{◌≡◌, refl, IfErr, IfOk, if◌then◌else◌, slice_get, true};
+ghost use Rattle.std.specs.Prelude.{◌≡◌, refl, IfErr, IfOk, if◌then◌else◌, slice_get, true, false};
 ghost use Rattle.wasm_spec.specs.Features.{BulkMemory, has};
 ghost use Rattle.wasm_spec.specs.TypeReferences.{val_map};
 ghost use Rattle.wasm_spec.specs.Types as spec;
@@ -83,6 +83,8 @@ impl<'a> Entry for Data<'a> {
     ghost entry = { λ x. OfData (data_segment x) };
 
     ghost entry_at = { data_entry_at };
+
+    ghost adds_types = { false };
 
     ghost is_made = { record { made = λ x. OfData x; is = λ x. refl; reads = λ _ bytes. refl; breaks = λ _ _ _ _ large _. large } };
 

@@ -1,6 +1,6 @@
 //! Element segments (Core Specification 3.0, Validation, "Element Segments").
 
-ghost use Rattle.std.specs.Prelude.{◌≡◌, ◌≤◌, ◌<◌, ◌++◌, ◌∷◌, [], refl, IfErr, IfOk, Some, option_map, slice_get};
+ghost use Rattle.std.specs.Prelude.{◌≡◌, ◌≤◌, ◌<◌, ◌++◌, ◌∷◌, [], refl, IfErr, IfOk, Some, option_map, slice_get, false};
 ghost use Rattle.std.specs.List.{AllByRecursion, flat_map};
 ghost use Rattle.wasm_core_read.specs.ConstantReading.{expression_at};
 ghost use Rattle.wasm_core_read.specs.Reading.{unsigned_at};
@@ -209,6 +209,8 @@ impl<'a> Entry for Element<'a> {
     ghost entry = { λ x. OfElement (element_of (packed_element x)) };
 
     ghost entry_at = { element_entry_at };
+
+    ghost adds_types = { false };
 
     ghost is_made = { record { made = λ x. OfElement x; is = λ x. refl; reads = λ _ bytes. refl; breaks = large_element } };
 

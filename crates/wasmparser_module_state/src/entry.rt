@@ -1,6 +1,6 @@
 //! Entries of sections, each of which is judged and added.
 
-ghost use Rattle.std.specs.Prelude.{◌≡◌, IfErr, IfOk, true};
+ghost use Rattle.std.specs.Prelude.{◌≡◌, Bool, IfErr, IfOk, false, true};
 ghost use Rattle.wasm_validity.specs.Entries.{Entry};
 ghost use Rattle.wasmparser_payloads.specs.EntryReading.{EntryReading};
 ghost use Rattle.wasmparser_module_state.specs.History.{EntersEntry, grows, held};
@@ -22,6 +22,9 @@ pub trait Entry: Item {
     // How bytes read as such an entry.
     ghost entry_at: { EntryReading };
 
+    // Such entries are groups of types.
+    ghost adds_types: { Bool };
+
     /// Judges the item, which stands at this offset, after the entries before it, and adds it to them.
     ///
     /// # Errors
@@ -35,6 +38,7 @@ pub trait Entry: Item {
         ensures full { IfErr result (λ e. e.kind ≡ kinds.Memory → IsFull state.old (entry self)) }
         ensures entered { IfOk result (λ _. EntersEntry (features_of state.old) (context state.old) (held state.old) (entry self) (held state.new)) }
         ensures features { features_of state.new ≡ features_of state.old }
+        ensures types { adds_types ≡ false → state.new.types ≡ state.old.types }
         ensures grows { grows state.new ≡ true };
 
     // The entry is made of what contracts see of the item, and so reads as the item does.
@@ -54,6 +58,7 @@ pub fn add_entries<'a, T: FromReader<'a> + Entry>(
     requires grows { grows state.old ≡ true }
     ensures added { AddsEntries (features_of state.old) T.entry_at T.TakesMemory (context state.old) (held state.old) section.entry.left result (context state.new) (held state.new) }
     ensures features { features_of state.new ≡ features_of state.old }
+    ensures types { T.adds_types ≡ false → state.new.types ≡ state.old.types }
     ensures grows { grows state.new ≡ true }
 {
     // (what a proof knows of the number of types it knows by this call)

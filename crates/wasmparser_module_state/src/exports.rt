@@ -101,6 +101,8 @@ impl<'a> Entry for Export<'a> {
 
     ghost entry_at = { export_entry_at };
 
+    ghost adds_types = { false };
+
     ghost is_made = { record { made = λ x. OfExport x; is = λ x. refl; reads = λ _ bytes. refl; breaks = λ _ _ _ _ large _. large } };
 
     #[tactic(auto, using(crate::proofs::ExportLaws::export_steps))]

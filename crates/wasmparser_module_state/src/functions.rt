@@ -1,6 +1,6 @@
 //! Functions of a module's own (Core Specification 3.0, Validation, "Functions").
 
-ghost use Rattle.std.specs.Prelude.{◌≡◌, ◌+◌, refl, IfSome, is_some, length, nat_le, option_map, slice_get};
+ghost use Rattle.std.specs.Prelude.{◌≡◌, ◌+◌, refl, IfSome, is_some, length, nat_le, option_map, slice_get, false};
 ghost use Rattle.std.specs.Option.{option_copied};
 ghost use Rattle.wasm_spec.specs.TypeReferences.{func_refs};
 ghost use Rattle.wasm_validity.specs.DefinedTypes.{func_type_at};
@@ -65,6 +65,8 @@ impl Entry for u32 {
     ghost entry = { λ x. OfFunction x };
 
     ghost entry_at = { function_entry_at };
+
+    ghost adds_types = { false };
 
     ghost is_made = { record { made = λ x. OfFunction x; is = λ x. refl; reads = λ _ bytes. refl; breaks = λ _ _ _ _ large _. large } };
 

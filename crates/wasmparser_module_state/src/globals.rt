@@ -1,6 +1,6 @@
 //! The space of globals (Core Specification 3.0, Validation, "Globals").
 
-ghost use Rattle.std.specs.Prelude.{◌≡◌, ◌+◌, ◌++◌, ◌∷◌, [], refl, IfErr, IfOk, length, nat_le, option_map, slice_get};
+ghost use Rattle.std.specs.Prelude.{◌≡◌, ◌+◌, ◌++◌, ◌∷◌, [], refl, IfErr, IfOk, length, nat_le, option_map, slice_get, false};
 ghost use Rattle.wasm_validity.specs.Context.{globals_in};
 ghost use Rattle.wasm_validity.specs.Entries.{OfGlobal};
 ghost use Rattle.wasmparser_entries.specs.Entries.{global_of, packed_global};
@@ -54,6 +54,8 @@ impl<'a> Entry for Global<'a> {
     ghost entry = { λ x. OfGlobal (global_of (packed_global x)) };
 
     ghost entry_at = { global_entry_at };
+
+    ghost adds_types = { false };
 
     ghost is_made = { record { made = λ x. OfGlobal x; is = λ x. refl; reads = λ _ bytes. refl; breaks = large_global } };
 

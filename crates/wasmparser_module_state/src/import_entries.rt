@@ -1,6 +1,6 @@
 //! Entries of import sections: an import, or a group of imports, which are judged one after the other.
 
-ghost use Rattle.std.specs.Prelude.{◌≡◌, ◌≤◌, ◌<◌, refl, suc, IfErr, IfOk, length, map};
+ghost use Rattle.std.specs.Prelude.{◌≡◌, ◌≤◌, ◌<◌, refl, suc, IfErr, IfOk, length, map, false};
 ghost use Rattle.std.specs.List.{AllByRecursion};
 ghost use Rattle.wasm_core_types.specs.declared.limits.Limit.TheVariants as limits;
 ghost use Rattle.wasm_core_read.specs.PartReading.{import_item_at};
@@ -145,6 +145,8 @@ impl<'a> Entry for Imports<'a> {
     ghost entry = { λ x. OfImport (import_entry x) };
 
     ghost entry_at = { import_entry_at };
+
+    ghost adds_types = { false };
 
     ghost is_made = { record { made = λ x. OfImport x; is = λ x. refl; reads = λ _ bytes. refl; breaks = large_import } };
 

@@ -1,6 +1,6 @@
 //! Memories, and those of a module's own (Core Specification 3.0, Validation, "Memory Types" and "Memories").
 
-ghost use Rattle.std.specs.Prelude.{◌≡◌, refl, option_map, slice_get};
+ghost use Rattle.std.specs.Prelude.{◌≡◌, refl, option_map, slice_get, false};
 ghost use Rattle.wasm_core_types.specs.Features.{feature_set};
 ghost use Rattle.wasm_validity.specs.Entries.{OfMemory};
 ghost use Rattle.wasm_validity.specs.Rules.{keeps_memory};
@@ -69,6 +69,8 @@ impl Entry for MemoryType {
     ghost entry = { λ x. OfMemory (memory_type x) };
 
     ghost entry_at = { memory_entry_at };
+
+    ghost adds_types = { false };
 
     ghost is_made = { record { made = λ x. OfMemory x; is = λ x. refl; reads = λ _ bytes. refl; breaks = λ _ _ _ _ large _. large } };
 

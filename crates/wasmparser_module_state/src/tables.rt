@@ -1,6 +1,6 @@
 //! Tables of a module's own (Core Specification 3.0, Validation, "Tables").
 
-ghost use Rattle.std.specs.Prelude.{◌≡◌, refl, true, IfOk, option_map, slice_get};
+ghost use Rattle.std.specs.Prelude.{◌≡◌, refl, true, IfOk, option_map, slice_get, false};
 ghost use Rattle.wasm_validity.specs.Context.{named_if, with_functions};
 ghost use Rattle.wasm_validity.specs.Entries.{OfTable};
 ghost use Rattle.wasm_validity.specs.Rules.{keeps_table};
@@ -66,6 +66,8 @@ impl<'a> Entry for Table<'a> {
     ghost entry = { λ x. OfTable (table_of (packed_table x)) };
 
     ghost entry_at = { table_entry_at };
+
+    ghost adds_types = { false };
 
     ghost is_made = { record { made = λ x. OfTable x; is = λ x. refl; reads = λ _ bytes. refl; breaks = large_table } };
 

@@ -1,6 +1,6 @@
 //! Tags of a module's own (Core Specification 3.0, Validation, "Tags").
 
-ghost use Rattle.std.specs.Prelude.{◌≡◌, ◌≢◌, refl, IfErr, slice_get};
+ghost use Rattle.std.specs.Prelude.{◌≡◌, ◌≢◌, refl, IfErr, slice_get, false};
 ghost use Rattle.wasm_validity.specs.Entries.{OfTag, OfTags};
 ghost use Rattle.wasmparser_readers.specs.ItemTypes.{tag_type};
 ghost use Rattle.wasmparser_payloads.specs.EntryReading.{tag_entry_at};
@@ -42,6 +42,8 @@ impl Entry for TagType {
     ghost entry = { λ x. OfTag (tag_type x) };
 
     ghost entry_at = { tag_entry_at };
+
+    ghost adds_types = { false };
 
     ghost is_made = { record { made = λ x. OfTag x; is = λ x. refl; reads = λ _ bytes. refl; breaks = λ _ _ _ _ large _. large } };
 

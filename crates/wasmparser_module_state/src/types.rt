@@ -1,6 +1,6 @@
 //! Recursive groups of a module.
 
-ghost use Rattle.std.specs.Prelude.{refl};
+ghost use Rattle.std.specs.Prelude.{refl, true};
 ghost use Rattle.wasm_spec.specs.TypeReferences.{group_refs};
 ghost use Rattle.wasm_validity.specs.Entries.{OfType};
 ghost use Rattle.wasmparser_payloads.specs.EntryReading.{type_entry_at};
@@ -17,6 +17,8 @@ impl Entry for RecGroup {
     ghost entry = { λ x. OfType (in_section (rec_group x)) };
 
     ghost entry_at = { type_entry_at };
+
+    ghost adds_types = { true };
 
     ghost is_made = { record { made = λ x. OfType x; is = λ x. refl; reads = λ _ bytes. refl; breaks = λ _ _ group _ large keeps. has_none (group_refs group) keeps.small large } };
 

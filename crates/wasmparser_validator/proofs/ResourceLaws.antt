@@ -17,7 +17,7 @@ use Rattle.wasmparser_type_relations.specs.Chains.{by_id}
 use Rattle.wasmparser_validator.specs.TypesById as by_ids
 use Rattle.wasmparser_validator.specs.TypesById.{AreKnown, IsIdBelow, items_by_ids, named_by_id}
 use Rattle.wasmparser_module_state.specs.State.{context, features_of}
-use Rattle.wasmparser_module_state.specs.StateResources.{named_type, no_sub_type, state_resources}
+use Rattle.wasmparser_module_state.specs.StateResources.{named_type, no_sub_type, resources_in, state_resources}
 use Rattle.wasmparser_module_state.specs.declared.module_state.ModuleState.{ModuleState}
 use Rattle.wasmparser_module_types.specs.ModuleTypes.{AreKnownTypes, IsIdOf, KnownTypes, stands_for}
 use Rattle.wasmparser_module_types.specs.WithIds as with_ids
@@ -120,10 +120,11 @@ pub is_function : (s : ModuleState) → AreKnownTypes s.types → (index : ℕ) 
 is_function s are index named =
     some_back (func_map (stands_for s.types)) (func_at (state_resources s).items index) (subst (λ found. is_some found ≡ true) (function_types s are index) named)
 
--- ---- what is copied and shared
+-- ---- resources of a module
 
-pub copied : (s : ModuleState) (copy : ModuleState) → AreKnownTypes s.types → state_resources copy ≡ state_resources s → TellsModule (features_of s) (context s) (state_resources copy)
-copied s copy known same = record {
+-- what tells of a module is just its items by the ids of its types
+pub told : (s : ModuleState) (resources : Resources) → AreKnownTypes s.types → resources ≡ state_resources s → TellsModule (features_of s) (context s) resources
+told s resources known same = record {
   ids = s.types.ids;
   interned = s.types.interned;
   sub_types = s.types.sub_types;
@@ -133,29 +134,19 @@ copied s copy known same = record {
   few = subst (λ (r : Resources). length r.items.types ≤ packable) (sym same) (few_types s known);
 }
 
-pub copied_ok : {E : Type 0} (result : Result ModuleState E) (s there : ModuleState) → there ≡ s → AreKnownTypes there.types → IfOk result (λ copy. state_resources copy ≡ state_resources there)
-    → IfOk result (λ copy. TellsModule (features_of s) (context s) (state_resources copy))
-copied_ok (Ok copy) s there same known resources = subst (λ (x : ModuleState). TellsModule (features_of x) (context x) (state_resources copy)) same (copied there copy known resources)
-copied_ok (Err e) s there same known resources = tt
+-- what shares resources asks for the same
+pub shared_asks : {E : Type 0} (s : ModuleState) (resources : ValidatorResources) (result : Result ValidatorResources E) (Other : E → Type 0) → MatchResult result (λ copy. copy.module.value ≡ resources.module.value) Other
+    → resources_of resources ≡ state_resources s → IfOk result (λ r. resources_of r ≡ state_resources s)
+shared_asks s resources (Ok copy) Other same asks = ap state_resources same ∙ asks
+shared_asks s resources (Err e) Other same asks = tt
 
--- resources that tell of what is known of a module
-abbrev pub Tells : KnownModule → ValidatorResources → Type 0
-Tells known resources = TellsModule (features_of known.state) (context known.state) (resources_of resources)
-
--- so does what shares them
-pub shared_tells : {E : Type 0} (known : KnownModule) (resources : ValidatorResources) (result : Result ValidatorResources E) (Other : E → Type 0) → MatchResult result (λ copy. copy.module.value ≡ resources.module.value) Other
-    → Tells known resources → IfOk result (Tells known)
-shared_tells known resources (Ok copy) Other same told =
-    subst (λ (s : ModuleState). TellsModule (features_of known.state) (context known.state) (state_resources s)) (sym same) told
-shared_tells known resources (Err e) Other same told = tt
-
--- what tells of a module tells of all of which the same is known
-pub kept_tells : (old new : KnownModule) (found there : Option ValidatorResources) → found ≡ there → features_of new.state ≡ features_of old.state → context new.state ≡ context old.state
-    → IfSome there (λ r. TellsModule (features_of old.state) (context old.state) (resources_of r)) → IfSome found (λ r. TellsModule (features_of new.state) (context new.state) (resources_of r))
-kept_tells old new found there same features known told =
-    subst (λ (f : Features). IfSome found (λ r. TellsModule f (context new.state) (resources_of r))) (sym features)
-    (subst (λ (cx : Context). IfSome found (λ r. TellsModule (features_of old.state) cx (resources_of r))) (sym known)
-    (subst (λ (o : Option ValidatorResources). IfSome o (λ r. TellsModule (features_of old.state) (context old.state) (resources_of r))) (sym same) told))
+-- resources of a module are those of one with the same types of which the same is known
+pub kept_asks : (old new : ModuleState) (found there : Option ValidatorResources) → found ≡ there → new.types ≡ old.types → context new ≡ context old
+    → IfSome there (λ r. resources_of r ≡ state_resources old) → IfSome found (λ r. resources_of r ≡ state_resources new)
+kept_asks old new found there same types known asks =
+    subst (λ (t : KnownTypes). IfSome found (λ r. resources_of r ≡ resources_in t (context new))) (sym types)
+    (subst (λ (cx : Context). IfSome found (λ r. resources_of r ≡ resources_in old.types cx)) (sym known)
+    (subst (λ (o : Option ValidatorResources). IfSome o (λ r. resources_of r ≡ state_resources old)) (sym same) asks))
 
 -- ---- parameters
 

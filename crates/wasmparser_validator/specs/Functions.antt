@@ -12,6 +12,7 @@ use Rattle.wasmparser_validator.specs.TypesById.{AreKnown, items_by_ids}
 use Rattle.wasmparser_module_state.specs.StateResources.{state_resources}
 use Rattle.wasmparser_bodies.specs.Resources.{Resources}
 use Rattle.wasmparser_types.specs.Index.{Index, packable}
+use Rattle.wasmparser_validator.specs.KnownSpaces.{KnownModule}
 use Rattle.wasmparser_validator.specs.declared.resources.ValidatorResources.{ValidatorResources}
 
 -- The resources of bodies in a module of which this is known, its types being named by ids that stand for them.
@@ -28,6 +29,10 @@ pub record TellsModule (features : Features) (cx : Context) (resources : Resourc
 
 abbrev pub resources_of : ValidatorResources → Resources
 resources_of resources = state_resources resources.module.value
+
+-- its body asks for the items of the module that is known, with the ids of its types
+abbrev pub AsksFor : KnownModule → FuncToValidate ValidatorResources → Type 0
+AsksFor known function = resources_of function.resources ≡ state_resources known.state
 
 -- It is the function of the module's own at a place among these, has a function type, and knows all that its body may ask of the module.
 pub record HasFunction (features : Features) (cx : Context) (place : ℕ) (function : FuncToValidate ValidatorResources) : Type 0 where

@@ -16,7 +16,7 @@ use Rattle.wasmparser_module_state.specs.History.{EnterAll, held}
 use Rattle.wasmparser_module_state.specs.State.{context, features_of}
 use Rattle.wasmparser_payloads.specs.Pieces.{Piece, Version, Types, Imports, Functions, Tables, Memories, Tags, Globals, Exports, Start, Elements, DataCount, CodeStart, Body, Segments, Custom, Unknown, End}
 use Rattle.wasmparser_validator.specs.PieceJudging.{IsInPiece, NamesPiece, Says, body_in}
-use Rattle.wasmparser_validator.specs.Functions.{HasFunction}
+use Rattle.wasmparser_validator.specs.Functions.{AsksFor, HasFunction}
 use Rattle.wasmparser_validator.specs.KnownSpaces.{IsEndOf, KnownModule}
 use Rattle.wasmparser_validator.specs.Validation.{IsValidated}
 use Rattle.wasmparser_validator.specs.Validators.{ValidatorState}
@@ -233,9 +233,10 @@ GivesValid old piece valid.Ok new = AcceptsPiece old piece new × (is_end piece 
 GivesValid old piece (valid.Func function body) new = AcceptsPiece old piece new × (piece ≡ Body body) × HasFunction old.features old.known old.bodies function
 GivesValid old piece (valid.End shown) new = (position : ℕ) × (piece ≡ End position) × AcceptsEnd old position shown new
 
--- what is shown at the end is just what is known
+-- at the end just what is known is shown, and bodies ask for just that, by the same ids
 abbrev pub ShowsAll : KnownModule → ValidPayload → Type 0
 ShowsAll known (valid.End shown) = IsEndOf known shown
+ShowsAll known (valid.Func function body) = AsksFor known function
 ShowsAll known given = ⊤
 
 -- the result of a call that is handed a payload

@@ -1,5 +1,5 @@
 -- Judging the pieces of a module.
-use Rattle.std.specs.Prelude.{◌≡◌, ◌⊎◌, ℕ, List, [], ◌∷◌, ◌++◌, Option, Some, None, IsSome, Result, Ok, Err}
+use Rattle.std.specs.Prelude.{◌≡◌, ◌⊎◌, ℕ, Bool, true, false, List, [], ◌∷◌, ◌++◌, Option, Some, None, IsSome, Result, Ok, Err}
 use Rattle.wasm_core_types.specs.Limits as core
 use Rattle.wasm_core_read.specs.Input.{Input, IsWithin}
 use Rattle.wasm_spec.specs.Features.{Features}
@@ -15,6 +15,11 @@ use Rattle.wasmparser_module_state.specs.History.{EnterAll, OneFindsNoRoom}
 use Rattle.wasmparser_payloads.specs.Pieces.{Piece, Version, Types, Imports, Functions, Tables, Memories, Tags, Globals, Exports, Start, Elements, DataCount, CodeStart, Body, Segments, Custom, Unknown, End}
 
 -- ---- what a piece says
+
+-- whether a piece has groups of types
+unfoldable pub has_groups : Piece → Bool
+has_groups (Types items) = true
+has_groups piece = false
 
 -- The entries of a piece keep the rules and pass no limit. new, new_held: what is known, and what the list of types holds, after it.
 pub record Says (features : Features) (old : Context) (old_held : List DefType) (piece : Piece) (new : Context) (new_held : List DefType) : Type 0 where

@@ -3,9 +3,10 @@ use Rattle.std.specs.Coded.{Coded, code_by, coded×, coded_ℕ, coded_option}
 use Rattle.std.specs.Prelude.{◌≡◌, ℕ, zero, suc, true, IfSome, Option, refl}
 use Rattle.wasm_validity.specs.Context.{at_first}
 use Rattle.wasmparser_module_state.specs.History.{grows}
-use Rattle.wasmparser_module_state.specs.State.{context, features_of}
+use Rattle.wasmparser_module_state.specs.State.{context}
+use Rattle.wasmparser_module_state.specs.StateResources.{state_resources}
 use Rattle.wasmparser_module_state.specs.declared.module_state.ModuleState.{ModuleState}
-use Rattle.wasmparser_validator.specs.Functions.{TellsModule, resources_of}
+use Rattle.wasmparser_validator.specs.Functions.{resources_of}
 use Rattle.wasmparser_validator.specs.KnownSpaces.{KnownModule, known_module_code}
 use Rattle.wasmparser_validator.specs.Stages.{may_begin, stage_code}
 use Rattle.wasmparser_validator.specs.declared.resources.ValidatorResources.{ValidatorResources}
@@ -27,4 +28,4 @@ validator_code state_code =
 pub record IsWellFormed (known : KnownModule) (stage : Stage) (kept : Option ValidatorResources) : Type 0 where
   pub growing : grows known.state ≡ true
   pub nothing : may_begin stage ≡ true → context known.state ≡ at_first
-  pub tells : IfSome kept (λ r. TellsModule (features_of known.state) (context known.state) (resources_of r))
+  pub asks : IfSome kept (λ r. resources_of r ≡ state_resources known.state)

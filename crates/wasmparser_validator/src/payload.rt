@@ -1,13 +1,13 @@
 //! Judging the payloads of a module.
 
-ghost use Rattle.std.specs.Prelude.{◌≡◌, true};
+ghost use Rattle.std.specs.Prelude.{◌≡◌, false, true};
 ghost use Rattle.wasmparser_payloads.specs.EntryReading.{export_entry_at, import_entry_at};
 ghost use Rattle.wasmparser_module_state.specs.History.{grows, held};
 ghost use Rattle.wasmparser_module_state.specs.Judging.{AddsEntries};
 ghost use Rattle.wasmparser_module_state.specs.State.{context, features_of};
 ghost use Rattle.wasmparser_payloads.specs.Parsing.{piece};
 ghost use Rattle.wasmparser_payloads.specs.Pieces.{Tags};
-ghost use Rattle.wasmparser_validator.specs.PieceJudging.{AddsPiece, RefusesAt};
+ghost use Rattle.wasmparser_validator.specs.PieceJudging.{AddsPiece, RefusesAt, has_groups};
 
 use std::alloc::Global;
 use wasmparser_entries::imports::Imports;
@@ -39,6 +39,7 @@ fn add_section<'a, T: FromReader<'a> + Entry>(
     requires grows { grows state.old ≡ true }
     ensures added { AddsEntries (features_of state.old) T.entry_at T.TakesMemory (context state.old) (held state.old) section.now.left result (context state.new) (held state.new) }
     ensures features { features_of state.new ≡ features_of state.old }
+    ensures types { T.adds_types ≡ false → state.new.types ≡ state.old.types }
     ensures grows { grows state.new ≡ true }
 {
     add_entries(alloc, state, section.clone()?)
@@ -54,6 +55,7 @@ fn add_tags<'a>(
     requires grows { grows state.old ≡ true }
     ensures added { AddsPiece (features_of state.old) (context state.old) (held state.old) (Tags section.now) result (context state.new) (held state.new) }
     ensures features { features_of state.new ≡ features_of state.old }
+    ensures types { state.new.types ≡ state.old.types }
     ensures grows { grows state.new ≡ true }
 {
     state.tag_section(section.range().start)?;
@@ -68,6 +70,7 @@ fn add_imports<'a>(
     requires grows { grows state.old ≡ true }
     ensures added { AddsEntries (features_of state.old) import_entry_at ⊥ (context state.old) (held state.old) section.now.left result (context state.new) (held state.new) }
     ensures features { features_of state.new ≡ features_of state.old }
+    ensures types { state.new.types ≡ state.old.types }
     ensures grows { grows state.new ≡ true }
 {
     state.start_imports(section);
@@ -82,6 +85,7 @@ fn add_exports<'a>(
     requires grows { grows state.old ≡ true }
     ensures added { AddsEntries (features_of state.old) export_entry_at ⊥ (context state.old) (held state.old) section.now.left result (context state.new) (held state.new) }
     ensures features { features_of state.new ≡ features_of state.old }
+    ensures types { state.new.types ≡ state.old.types }
     ensures grows { grows state.new ≡ true }
 {
     state.start_exports(section);
@@ -93,7 +97,7 @@ fn add_exports<'a>(
 /// # Errors
 /// `Malformed` where items don't read or the section is unknown, `Invalid` where a rule is broken, `Limit` where one is passed, `Total` where the list of types has no
 /// room for a group, each at a place of the payload; `Memory` where memory runs out. Then it is open what the state holds.
-#[tactic(auto, using(crate::proofs::PieceLaws::piece_steps), unfolding(wasmparser_payloads::specs::Parsing::piece))]
+#[tactic(auto, using(crate::proofs::PieceLaws::piece_steps), unfolding(wasmparser_payloads::specs::Parsing::piece, crate::specs::PieceJudging::has_groups))]
 pub fn add_payload<'a>(
     alloc: Global,
     state: &mut ModuleState,
@@ -102,6 +106,7 @@ pub fn add_payload<'a>(
     requires grows { grows state.old ≡ true }
     ensures added { AddsPiece (features_of state.old) (context state.old) (held state.old) (piece payload.now) result (context state.new) (held state.new) }
     ensures features { features_of state.new ≡ features_of state.old }
+    ensures types { has_groups (piece payload.now) ≡ false → state.new.types ≡ state.old.types }
     ensures grows { grows state.new ≡ true }
 {
     match payload {

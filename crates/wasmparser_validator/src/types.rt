@@ -1,7 +1,7 @@
 //! The index spaces of a valid module, or of a module so far.
 
 ghost use Rattle.std.specs.Iterator.{YieldsFirstBy, item_count};
-ghost use Rattle.std.specs.Prelude.{◌≡◌, [], ◌<◌, ◌^◌, IfErr, IfOk, IsSomeAnd, length, true};
+ghost use Rattle.std.specs.Prelude.{◌≡◌, [], ◌<◌, ◌^◌, IfErr, IfOk, IsSomeAnd, false, length, true};
 ghost use Rattle.wasm_core_types.specs.Features.{feature_set};
 ghost use Rattle.wasm_validity.specs.Context.{at_first};
 ghost use Rattle.wasmparser_readers.specs.Exports.{export_item};
@@ -10,9 +10,8 @@ ghost use Rattle.wasmparser_module_state.specs.State.{context, features_of};
 ghost use Rattle.wasmparser_module_state.specs.StateResources.{state_resources};
 ghost use Rattle.wasmparser_payloads.specs.Parsing.{piece};
 ghost use Rattle.wasmparser_validator.specs.Bodies.{AreNamed};
-ghost use Rattle.wasmparser_validator.specs.Functions.{TellsModule};
 ghost use Rattle.wasmparser_validator.specs.KnownSpaces.{CanBeShown, IsEndOf, IsReached};
-ghost use Rattle.wasmparser_validator.specs.PieceJudging.{AddsPiece};
+ghost use Rattle.wasmparser_validator.specs.PieceJudging.{AddsPiece, has_groups};
 ghost use Rattle.wasmparser_validator.specs.Shown.{exports_left, spaces};
 
 use crate::payload::add_payload;
@@ -84,6 +83,7 @@ impl Types {
     pub(crate) fn add(&mut self, alloc: Global, payload: &Payload<'_>) -> Result<(), Error>
         requires grows { grows self.old.state ≡ true }
         ensures added { AddsPiece (features_of self.old.state) (context self.old.state) (held self.old.state) (piece payload.now) result (context self.new.state) (held self.new.state) }
+        ensures types { has_groups (piece payload.now) ≡ false → IfOk result (λ _. self.new.state.types ≡ self.old.state.types) }
         ensures lost { IfErr result (λ _. (context self.new.state ≡ at_first) × (held self.new.state ≡ [])) }
         ensures features { features_of self.new.state ≡ features_of self.old.state }
         ensures grows { grows self.new.state ≡ true }
@@ -117,10 +117,9 @@ impl Types {
 
     // Returns a copy of what bodies may ask of the module, by a list that doesn't grow.
     pub(crate) fn copy_resources(&mut self) -> Result<ModuleState, AllocError>
-        ensures tells { IfOk result (λ copy. TellsModule (features_of self.old.state) (context self.old.state) (state_resources copy)) }
+        ensures asks { IfOk result (λ copy. state_resources copy ≡ state_resources self.old.state) }
         ensures same { self.new ≡ self.old }
     {
-        self.state.types().are_known();
         self.state.copy_resources()
     }
 

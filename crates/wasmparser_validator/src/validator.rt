@@ -7,10 +7,10 @@ ghost use Rattle.wasm_validity.specs.Context.{at_first};
 ghost use Rattle.wasmparser_module_state.specs.StateResources.{state_resources};
 ghost use Rattle.wasmparser_payloads.specs.Parsing.{piece};
 ghost use Rattle.wasmparser_payloads.specs.Pieces as pieces;
-ghost use Rattle.wasmparser_validator.specs.Functions.{HasFunction, TellsModule, resources_of};
-ghost use Rattle.wasmparser_validator.specs.Judges.{EndsModule, GivesFunction, IsOutOfOrder, JudgesPayload, JudgesPiece, Opens, RefusesPiece, ShowsAll, after_piece, agrees, follows_bodies, is_body, is_middle, agrees_with_stated, judge, place_of, waiting, waits_for};
+ghost use Rattle.wasmparser_validator.specs.Functions.{AsksFor, HasFunction, resources_of};
+ghost use Rattle.wasmparser_validator.specs.Judges.{EndsModule, GivesFunction, IsOutOfOrder, JudgesPayload, JudgesPiece, Opens, RefusesPiece, ShowsAll, after_piece, agrees, follows_bodies, is_body, is_end, is_middle, agrees_with_stated, judge, place_of, waiting, waits_for};
 ghost use Rattle.wasmparser_validator.specs.KnownSpaces.{IsEndOf};
-ghost use Rattle.wasmparser_validator.specs.PieceJudging.{AddsPiece};
+ghost use Rattle.wasmparser_validator.specs.PieceJudging.{AddsPiece, has_groups};
 ghost use Rattle.wasmparser_validator.specs.Stages.{may_begin};
 ghost use Rattle.wasmparser_validator.specs.Validation.{IsValidated};
 ghost use Rattle.wasmparser_validator.specs.declared.validator.Stage.TheVariants as stages;
@@ -289,7 +289,8 @@ impl Validator {
     #[tactic(auto, using(crate::proofs::JudgeLaws::body_waited), unfolding(wasmparser_payloads::specs::Parsing::piece, crate::specs::Judges::bodies_with, crate::specs::Judges::stated_with, crate::specs::Judges::stage_after))]
     fn go_on(&mut self, payload: &Payload<'_>)
         requires { waits_for (judge self.old) (piece payload.now) ≡ true }
-        ensures { judge self.new ≡ after_piece (judge self.old) (piece payload.now) (judge self.old).known (judge self.old).held }
+        ensures judged { judge self.new ≡ after_piece (judge self.old) (piece payload.now) (judge self.old).known (judge self.old).held }
+        ensures types { self.new.types ≡ self.old.types }
     {
         match payload {
             Payload::Version { .. } => self.stage = Stage::Sections,
@@ -328,6 +329,7 @@ impl Validator {
     pub(crate) fn add(&mut self, payload: &Payload<'_>) -> Result<(), Error>
         requires { may_begin (judge self.old).stage ≡ false }
         ensures added { AddsPiece (judge self.old).features (judge self.old).known (judge self.old).held (piece payload.now) result (judge self.new).known (judge self.new).held }
+        ensures types { has_groups (piece payload.now) ≡ false → IfOk result (λ _. self.new.types.state.types ≡ self.old.types.state.types) }
         ensures others { judge self.new ≡ record (judge self.old) { known = (judge self.new).known; held = (judge self.new).held } }
     {
         let resources = self.resources.take();
@@ -343,7 +345,8 @@ impl Validator {
     // Validates a payload that is waited for, and adds its entries. The end adds none.
     #[tactic(auto, using(crate::proofs::JudgeLaws::judge_steps))]
     fn judge(&mut self, payload: &Payload<'_>) -> Result<(), Error>
-        ensures { JudgesPiece (judge self.old) (piece payload.now) result (judge self.new) }
+        ensures judged { JudgesPiece (judge self.old) (piece payload.now) result (judge self.new) }
+        ensures types { has_groups (piece payload.now) ≡ false → IfOk result (λ _. self.new.types.state.types ≡ self.old.types.state.types) }
     {
         self.open(payload)?;
         self.go_on(payload);
@@ -358,7 +361,7 @@ impl Validator {
 
     // Returns what bodies may ask of the module: a copy of what is known, made for the first that asks.
     fn resources(&mut self) -> Result<ValidatorResources, AllocError>
-        ensures tells { IfOk result (λ r. TellsModule (judge self.old).features (judge self.old).known (resources_of r)) }
+        ensures asks { IfOk result (λ r. resources_of r ≡ state_resources self.old.types.state) }
         ensures same { self.new ≡ self.old }
     {
         if let Some(resources) = &self.resources {
@@ -373,11 +376,14 @@ impl Validator {
     fn next_function(&mut self) -> Result<FuncToValidate<ValidatorResources>, AllocError>
         requires { (judge self.old).bodies < length (judge self.old).known.own_functions }
         ensures function { IfOk result (HasFunction (judge self.old).features (judge self.old).known (judge self.old).bodies) }
+        ensures asks { IfOk result (AsksFor self.old.types) }
         ensures same { self.new ≡ self.old }
     {
         let place = self.bodies;
         let resources = self.resources()?;
         let state = self.types.state();
+        // (what is known of the types' ids, a proof knows by this call)
+        state.types().are_known();
         let imported = state.function_count() - state.own_function_count();
         Ok(FuncToValidate {
             resources,
@@ -553,9 +559,10 @@ impl Validator {
     ///
     /// # Errors
     /// `Malformed`, `Invalid`, `Limit` or `Memory`, from the first item that has such a cause; `Order` and `Failed` as for all sections.
-    #[tactic(auto, unfolding(wasmparser_payloads::specs::Parsing::piece))]
+    #[tactic(auto, unfolding(wasmparser_payloads::specs::Parsing::piece, crate::specs::PieceJudging::has_groups))]
     pub fn data_section<'a>(&mut self, section: &SectionLimited<'a, Data<'a>>) -> Result<(), Error>
-        ensures { JudgesPiece (judge self.old) (pieces.Segments section.now) result (judge self.new) }
+        ensures judged { JudgesPiece (judge self.old) (pieces.Segments section.now) result (judge self.new) }
+        ensures types { IfOk result (λ _. self.new.types.state.types ≡ self.old.types.state.types) }
     {
         self.judge(&Payload::DataSection(section.clone()?))
     }
@@ -606,12 +613,14 @@ impl Validator {
     /// # Errors
     /// `Limit` where the body has more bytes than its limit; `Memory` where memory runs out; `Order` before the code section begins and past the functions, `Failed`
     /// after a refusal.
-    #[tactic(auto, using(crate::proofs::JudgeLaws::body_steps), unfolding(wasmparser_payloads::specs::Parsing::piece, crate::specs::Judges::is_body))]
+    #[tactic(auto, using(crate::proofs::JudgeLaws::body_steps), unfolding(wasmparser_payloads::specs::Parsing::piece, crate::specs::Judges::is_body, crate::specs::PieceJudging::has_groups))]
     pub fn code_section_entry(
         &mut self,
         body: &FunctionBody<'_>,
     ) -> Result<FuncToValidate<ValidatorResources>, Error>
-        ensures { GivesFunction (judge self.old) body.now result (judge self.new) }
+        ensures given { GivesFunction (judge self.old) body.now result (judge self.new) }
+        ensures asks { IfOk result (AsksFor self.old.types) }
+        ensures types { IfOk result (λ _. self.new.types.state.types ≡ self.old.types.state.types) }
     {
         let payload = Payload::CodeSectionEntry(body.clone()?);
         self.open(&payload)?;
@@ -670,10 +679,11 @@ impl Validator {
     /// # Errors
     /// Those of the calls for each kind of payload. `Malformed` where a code section states another number of bodies than there are functions. `Order` where a
     /// payload isn't waited for, and `Failed` after a refusal.
-    #[tactic(auto, unfolding(wasmparser_payloads::specs::Parsing::piece, crate::specs::PieceJudging::body_in, crate::specs::Judges::is_end))]
+    #[tactic(auto, unfolding(wasmparser_payloads::specs::Parsing::piece, crate::specs::PieceJudging::body_in, crate::specs::PieceJudging::has_groups, crate::specs::Judges::is_end))]
     pub fn payload<'a>(&mut self, payload: &Payload<'a>) -> Result<ValidPayload<'a>, Error>
         ensures judged { JudgesPayload (judge self.old) (piece payload.now) result (judge self.new) }
         ensures shown { IfOk result (ShowsAll self.old.types) }
+        ensures types { has_groups (piece payload.now) ≡ false → is_end (piece payload.now) ≡ false → IfOk result (λ _. self.new.types.state.types ≡ self.old.types.state.types) }
     {
         match payload {
             Payload::End(position) => {

@@ -9,7 +9,7 @@ use Rattle.wasmparser_module_state.proofs.TypeCounts.{types_within}
 use Rattle.wasmparser_module_state.proofs.entry.add_entries.Goals as goal
 
 pub items-init : goal.items-init
-items-init g c = rw c.into_iter_with_offsets-items.ensures (begins_entered _ _ _ _ _, subst (λ n. n ≤ most Types) c.type_count.ensures.count c.type_count.ensures.few, refl, c.requires.grows)
+items-init g c = rw c.into_iter_with_offsets-items.ensures (begins_entered _ _ _ _ _, subst (λ n. n ≤ most Types) c.type_count.ensures.count c.type_count.ensures.few, refl, c.requires.grows, λ untyped. refl)
 
 pub returns-in_err-offset-clause-added : goal.returns-in_err-offset-clause-added
 returns-in_err-offset-clause-added g c =
@@ -28,6 +28,7 @@ items-preserved g c =
       subst (λ cx. length cx.types ≤ most Types) (sym accepts.known) (types_within _ _ accepts.limits c.items.invariant.1),
       c.in_ok-add.ensures.features ∙ c.items.invariant.2,
       c.in_ok-add.ensures.grows,
+      λ untyped. c.in_ok-add.ensures.types untyped ∙ c.items.invariant.4 untyped,
     )
 
 pub returns-in_err-add-clause-added : goal.returns-in_err-add-clause-added

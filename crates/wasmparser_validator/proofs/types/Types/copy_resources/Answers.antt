@@ -1,8 +1,8 @@
-use Rattle.std.proofs.Common.{ap, subst}
-use Rattle.wasmparser_module_types.specs.ModuleTypes.{AreKnownTypes}
+use Rattle.std.proofs.Common.{◌≡◌, IfOk, subst}
+use Rattle.wasmparser_module_state.specs.StateResources.{state_resources}
 use Rattle.wasmparser_validator.specs.KnownSpaces.{KnownModule}
-use Rattle.wasmparser_validator.proofs.ResourceLaws.{copied_ok}
 use Rattle.wasmparser_validator.proofs.types.Types.copy_resources.Goals as goal
 
-pub returns-clause-tells : goal.returns-clause-tells
-returns-clause-tells c = copied_ok c.copy_resources.result c.args.self.now.state c.self.inside.state (ap (λ (k : KnownModule). k.state) c.self.view_is) (subst AreKnownTypes c.types.ensures c.are_known.ensures) c.copy_resources.ensures.resources
+pub returns-clause-asks : goal.returns-clause-asks
+returns-clause-asks c =
+    subst (λ (k : KnownModule). IfOk c.copy_resources.result (λ copy. state_resources copy ≡ state_resources k.state)) c.self.view_is c.copy_resources.ensures.resources

@@ -1,6 +1,8 @@
-use Rattle.std.proofs.Common.{◌<◌, length, sym, subst}
+use Rattle.std.proofs.Common.{◌<◌, length, ap, sym, subst, ◌∙◌}
+use Rattle.wasmparser_module_state.specs.StateResources.{state_resources}
 use Rattle.wasmparser_payloads.specs.Parsing.{piece}
 use Rattle.wasmparser_validator.specs.Judges.{Judge, judge}
+use Rattle.wasmparser_validator.specs.Validators.{ValidatorState}
 use Rattle.wasmparser_validator.proofs.JudgeLaws.{body_waited}
 use Rattle.wasmparser_validator.proofs.validator.Validator.code_section_entry.Goals as goal
 
@@ -9,3 +11,6 @@ unfolding piece
 next_function-requires c =
     let fewer = body_waited (judge c.args.self.now) c.in_ok-clone.field-0 c.in_ok-open.ensures.open.0 in
     subst (λ (j : Judge). j.bodies < length j.known.own_functions) (sym c.in_ok-open.ensures.open.2) fewer
+
+pub returns-in_ok-judge-in-Ok-clause-asks : goal.returns-in_ok-judge-in-Ok-clause-asks
+returns-in_ok-judge-in-Ok-clause-asks c = c.in-Ok.ensures.asks ∙ ap (λ (v : ValidatorState). state_resources v.types.state) c.in_ok-open.ensures.same

@@ -2,8 +2,6 @@
 #![tactic(auto)]
 
 #[cfg(test)]
-mod code;
-#[cfg(test)]
 mod const_expr;
 #[cfg(test)]
 mod custom;

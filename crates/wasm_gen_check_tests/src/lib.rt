@@ -30,8 +30,6 @@ mod kept_types;
 #[cfg(test)]
 mod lines;
 #[cfg(test)]
-mod other_limits;
-#[cfg(test)]
 mod other_sections;
 #[cfg(test)]
 mod readme;

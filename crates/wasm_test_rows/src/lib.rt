@@ -4,7 +4,6 @@
 
 pub mod fields;
 pub mod limits;
-mod numbered;
 pub mod rows;
 pub mod shown;
 pub mod values;

@@ -21,7 +21,7 @@ use Rattle.wasmparser_types.specs.Index.{packable}
 use Rattle.wasmparser_payloads.specs.EntryReading.{EntryReading}
 use Rattle.wasm_spec.specs.Trees.{DefType}
 use Rattle.wasmparser_module_state.specs.History.{EnterAll, EntersEntry, OneFindsNoRoom, FindsNoRoom}
-use Rattle.wasmparser_module_state.specs.Judging.{Accepts, Fills, Fronts, HasLarge, IsMadeOf, IsRightSoFar, NamesEntry, NamesEntries, OneRunsOut, RunsOut, IsAt, IsIn}
+use Rattle.wasmparser_module_state.specs.Judging.{Accepts, Fills, Fronts, HasLarge, IsMadeOf, IsRightSoFar, NamesEntry, NamesEntries, OneRunsOut, IsAt, IsIn}
 use Rattle.wasm_validity.specs.Context.{Context, after, after_all}
 use Rattle.wasm_validity.specs.Entries.{Entry}
 use Rattle.wasm_validity.specs.Rules.{Keeps, KeepRules, measures, Passes, PassesByTypes, IsWithin as IsWithinLimits, KeepLimits, PassLimit}
@@ -312,19 +312,3 @@ refused_entry TakesMemory features entry_at old held left cx now_held now v coun
 refused_entry TakesMemory features entry_at old held left cx now_held now v count rest s counted e kinds.Total place offset p h = (full features entry_at old held left cx now_held now v count rest s counted e h.0, at_place left.input now.input offset s.0.goes_on (h.1 ∙ p))
 refused_entry TakesMemory features entry_at old held left cx now_held now v count rest s counted e kinds.Order place offset p h = absurd h.0
 refused_entry TakesMemory features entry_at old held left cx now_held now v count rest s counted e kinds.Failed place offset p h = absurd h.0
-
--- ---- out of memory
-
-pub read_runs_out : {A : Type 0} (TakesMemory : Type 0) (indexes : A → List ℕ) (form_at : Features → ReadingOf A) (features : Features) (entry_at : EntryReading) (old : Context) (held : List DefType) (left : Left)
-    (cx : Context) (now_held : List DefType) (now : Left) → StandsEntered features entry_at old held left cx now_held now → (e : Error) → IsNextRefusal TakesMemory indexes form_at now e → e.kind ≡ kinds.Memory
-    → RunsOut features entry_at TakesMemory old held left cx now_held
-read_runs_out TakesMemory indexes form_at features entry_at old held left cx now_held now (s, entered) e h is =
-    let took = subst (λ kind. IsItemRefusal kind e.offset TakesMemory (IsUnread form_at now × IsWithin now.input e.offset)
-    ((0 < now.count) × HasLargeIndex indexes (form_at now.input.features now.input.rest) × (e.offset ≡ now.input.position))) is h in
-    inl (took.0, record { front = s.front; number = s.number; rest = now.input.rest; among = omega (arith, s.counted); reads = s.reads; holds = (s.rules, s.limits, s.known, entered) })
-
-pub entry_runs_out : (TakesMemory : Type 0) (features : Features) (entry_at : EntryReading) (old : Context) (held : List DefType) (left : Left) (cx : Context) (now_held : List DefType) (now : Left) (v : Entry) (count : ℕ) (rest : List ℕ)
-    (new : Context) (new_held : List DefType) → StandsEntered features entry_at old held left cx now_held now → now.count ≡ suc count → entry_at now.input.features now.input.rest ≡ Some (v, rest)
-    → (kind : ErrorKind) → NamesEntry features cx now_held v kind → kind ≡ kinds.Memory → RunsOut features entry_at TakesMemory old held left new new_held
-entry_runs_out TakesMemory features entry_at old held left cx now_held now v count rest new new_held s counted e kind named is =
-    inr (ran_out features entry_at old left cx now v count rest s.0 counted e (subst (NamesEntry features cx now_held v) is named))

@@ -1,5 +1,5 @@
 -- Judging entries as they are read.
-use Rattle.std.specs.Prelude.{◌≡◌, ◌⊎◌, ℕ, suc, ◌<◌, ◌≤◌, List, [], ◌∷◌, length, Some, None, Result, Ok, Err, Bool, true}
+use Rattle.std.specs.Prelude.{◌≡◌, ◌⊎◌, ⊤, ℕ, suc, ◌<◌, ◌≤◌, List, [], ◌∷◌, length, Some, None, Result, Ok, Err, Bool, true}
 use Rattle.std.proofs.Common.{inl, inr}
 use Rattle.std.specs.List.{AllByRecursion}
 use Rattle.std.proofs.Math.Nat.{not-le_of_lt}
@@ -142,13 +142,6 @@ NamesEntries features entry_at takes_memory old held left (kinds.Limit l) = Fron
 NamesEntries features entry_at takes_memory old held left kinds.Total = Fronts entry_at left (λ entries. OneFindsNoRoom features old held entries)
 NamesEntries features entry_at takes_memory old held left kinds.Memory = takes_memory ⊎ Fronts entry_at left (λ entries. OneRunsOut features old entries)
 NamesEntries features entry_at takes_memory old held left _ = ⊥
-
--- Memory ran out for one of the entries of a section: as it was read, and then those before it keep all rules and limits, and are what is known and held now; or as it
--- was added, after entries that keep all.
-abbrev pub RunsOut : Features → EntryReading → Type 0 → Context → List DefType → Left → Context → List DefType → Type 0
-RunsOut features entry_at takes_memory old old_held left new new_held =
-    (takes_memory × Fronts entry_at left (λ entries. KeepRules features old entries × KeepLimits old entries × (new ≡ after_all old entries) × EnterAll features old old_held entries new_held))
-    ⊎ Fronts entry_at left (λ entries. OneRunsOut features old entries)
 
 -- where it is: within what was left, or nowhere where memory ran out
 abbrev pub IsIn : Input → ErrorKind → ℕ → Type 0

@@ -4,7 +4,7 @@ ghost use Rattle.std.specs.Prelude.{◌≡◌, Bool, IfErr, IfOk, false, true};
 ghost use Rattle.wasm_validity.specs.Entries.{Entry};
 ghost use Rattle.wasmparser_payloads.specs.EntryReading.{EntryReading};
 ghost use Rattle.wasmparser_module_state.specs.History.{EntersEntry, grows, held};
-ghost use Rattle.wasmparser_module_state.specs.Judging.{Adds, AddsEntries, IsMadeOf, RunsOut};
+ghost use Rattle.wasmparser_module_state.specs.Judging.{Adds, AddsEntries, IsMadeOf};
 ghost use Rattle.wasmparser_error.specs.declared.error.ErrorKind.TheVariants as kinds;
 ghost use Rattle.wasmparser_module_state.specs.State.{IsFull, context, features_of};
 
@@ -49,8 +49,7 @@ pub trait Entry: Item {
 ///
 /// # Errors
 /// `Malformed` where the items don't read or bytes are left after them, `Invalid` where an item breaks a rule, `Limit` where one passes that limit, `Total` where the
-/// list of types has no room for one, each at a place of the section; `Memory` where memory runs out. Then it is open what the state holds, but where it ran out as an
-/// item was read: that is what the items before it added.
+/// list of types has no room for one, each at a place of the section; `Memory` where memory runs out. Then it is open what the state holds.
 pub fn add_entries<'a, T: FromReader<'a> + Entry>(
     alloc: Global,
     state: &mut ModuleState,
@@ -58,7 +57,6 @@ pub fn add_entries<'a, T: FromReader<'a> + Entry>(
 ) -> Result<(), Error>
     requires grows { grows state.old ≡ true }
     ensures added { AddsEntries (features_of state.old) T.entry_at T.TakesMemory (context state.old) (held state.old) section.entry.left result (context state.new) (held state.new) }
-    ensures memory { IfErr result (λ e. e.kind ≡ kinds.Memory → RunsOut (features_of state.old) T.entry_at T.TakesMemory (context state.old) (held state.old) section.entry.left (context state.new) (held state.new)) }
     ensures features { features_of state.new ≡ features_of state.old }
     ensures types { T.adds_types ≡ false → state.new.types ≡ state.old.types }
     ensures grows { grows state.new ≡ true }

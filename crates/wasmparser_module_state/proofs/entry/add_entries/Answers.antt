@@ -1,7 +1,7 @@
 use Rattle.std.proofs.Common.{◌≤◌, length, refl, subst, sym, ◌∙◌}
 use Rattle.wasm_spec.specs.Limits.{Types, most}
 use Rattle.std.proofs.lemmas.Result.{err_from_is_err_and}
-use Rattle.wasmparser_module_state.proofs.EntryLaws.{begins_entered, entry_read, entry_runs_out, fills, goes_on_entered, read_runs_out, refused_entry, refused_read}
+use Rattle.wasmparser_module_state.proofs.EntryLaws.{begins_entered, goes_on_entered, fills, entry_read, refused_read, refused_entry}
 use Rattle.wasmparser_module_state.specs.History.{EntersEntry, held}
 use Rattle.wasmparser_module_state.specs.Judging.{Accepts, NamesEntry}
 use Rattle.wasmparser_module_state.specs.State.{context}
@@ -41,17 +41,3 @@ returns-in_err-add-clause-added g c =
 
 pub returns-clause-added : goal.returns-clause-added
 returns-clause-added g c = fills _ _ _ _ _ _ _ _ c.items.invariant.0 c.in_default.ensures.steps.0
-
-pub returns-in_err-offset-clause-memory : goal.returns-in_err-offset-clause-memory
-returns-in_err-offset-clause-memory g c =
-    let n = rw c.in_err-offset.was at c.in-Some.ensures.steps in
-    let p = err_from_is_err_and c.from_residual.result c.from_residual.ensures.1 in
-    rw (p.1, p.2) (read_runs_out _ g.T.Item.indexes g.T.Item.form_at _ _ _ _ _ _ _ _ c.items.invariant.0 _ n.0)
-
-pub returns-in_err-add-clause-memory : goal.returns-in_err-add-clause-memory
-returns-in_err-add-clause-memory g c =
-    let n = rw c.in_ok-offset.was at c.in-Some.ensures.steps in
-    let e = entry_read _ _ _ _ _ g.met.T.Entry.is_made _ _ c.in_ok-offset.item _ n.0.reads in
-    let p = err_from_is_err_and c.from_residual-in_err-add.result c.from_residual-in_err-add.ensures.1 in
-    let named = subst (λ f. NamesEntry f (context c.items.state) (held c.items.state) (g.T.Entry.entry c.in_ok-offset.item) c.in_err-add.field-0.0.kind) c.items.invariant.2 c.in_err-add.ensures.added.0 in
-    rw (p.1, p.2) (entry_runs_out _ _ _ _ _ _ _ _ _ _ _ _ _ _ c.items.invariant.0 n.0.counted e _ named)

@@ -18,7 +18,7 @@ fn type_of(letter: char) -> ValType {
 }
 
 // The letter of a local's type, a capital where it has no value at the start, and `-` where there is no local.
-fn letter_of(local: Option<Local>) -> char {
+fn letter_of(local: Option<&Local>) -> char {
     let Some(local) = local else {
         return '-';
     };
@@ -85,7 +85,11 @@ fn define_all(locals: &mut Locals, runs: &str) -> Option<bool> {
 fn finds(locals: &Locals, params: &[ValType], place: &str) -> Option<bool> {
     let letter = place.chars().next_back()?;
     let index = place.trim_end_matches(letter).parse().ok()?;
-    Some(letter_of(locals.find(params, index)) == letter)
+    let found = match locals.find(params, index) {
+        Some(local) => letter_of(Some(&local)),
+        None => letter_of(None),
+    };
+    Some(found == letter)
 }
 
 fn finds_all(locals: &Locals, params: &[ValType], places: &str) -> Option<bool> {

@@ -40,7 +40,8 @@ struct Run {
     local: Local,
 }
 
-// How many locals are kept one by one. Of further parameters only the number is, since their types are in the function's type: a body takes time by its bytes.
+// How many locals are kept one by one. Of further parameters only the number is kept, since their types are in the function's type: a body takes time by its
+// bytes, not by its parameters.
 const FIRST: u32 = 64;
 
 /// The locals of a body, its parameters first. They take memory by the run, and no more than 64 parameters are copied.
@@ -66,7 +67,7 @@ impl Model for Locals {
     ghost invariant = { AreWithinLimit };
 }
 
-// A parameter has a value from the start.
+// Returns the local of a parameter, which has a value from the start.
 fn parameter(value_type: ValType) -> Local
     ensures { local_seen result ≡ parameter (val_type value_type) }
 {
@@ -76,7 +77,7 @@ fn parameter(value_type: ValType) -> Local
     }
 }
 
-// The type of a parameter.
+// Returns the type of a parameter, i32 where there is none.
 fn type_at(params: &[ValType], index: u32) -> ValType
     ensures { val_type result ≡ type_or_i32 (slice_get (map val_type params.now) index) }
 {
@@ -249,7 +250,7 @@ impl Locals {
         self.count
     }
 
-    /// The local of an index, if it is kept: a parameter past the first 64 is not.
+    /// Returns the local of an index, if it is kept: a parameter past the first 64 is not.
     #[inline(always)]
     pub fn get(&self, index: u32) -> Option<&Local>
         ensures { (params : List (types.ValType Index)) → MatchOption result (slice_get (locals_with params self.now) index ≡ later_at params self.now index) (λ local. slice_get (locals_with params self.now) index ≡ Some (local_seen local.now)) }
@@ -266,7 +267,7 @@ impl Locals {
         }
     }
 
-    // The local of an index, if it is a parameter that isn't kept.
+    // Returns the local of an index, if it is a parameter that isn't kept.
     fn later(&self, params: &[ValType], index: u32) -> Option<Local>
         ensures { option_map local_seen result ≡ later_at (map val_type params.now) self.now index }
     {
@@ -276,7 +277,7 @@ impl Locals {
         Some(parameter(type_at(params, index)))
     }
 
-    /// The local of an index, in a function with these parameters, which are those that the locals began with.
+    /// Returns the local of an index, in a function with these parameters: those that the locals began with.
     pub fn find(&self, params: &[ValType], index: u32) -> Option<Local>
         ensures { option_map local_seen result ≡ slice_get (locals_with (map val_type params.now) self.now) index }
     {

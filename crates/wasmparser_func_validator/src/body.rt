@@ -1,4 +1,4 @@
-//! What operators take and give.
+//! What operators take and give, and the locals of a body.
 
 ghost use Rattle.std.specs.Prelude.{◌≡◌, ◌≢◌, ◌+◌, ◌≤◌, [], IfSome, length, map, option_map, slice_get, Some};
 ghost use Rattle.wasm_bodies.specs.BodyContext.{are_below, provided};
@@ -34,7 +34,7 @@ pub struct Body<R> {
 }
 
 impl<R: WasmModuleResources> Body<R> {
-    // How many locals there are.
+    // Returns how many locals there are.
     pub(crate) fn local_count(&self) -> u32
         ensures count { result ≡ length (locals_in_body R.resources self.now) }
         ensures within { length (locals_in_body R.resources self.now) ≤ limits.most limits.Locals }
@@ -42,7 +42,7 @@ impl<R: WasmModuleResources> Body<R> {
         self.locals.len()
     }
 
-    // The local of an index, if it is at hand: a parameter past the first 64 is not.
+    // Returns the local of an index, if it is kept: a parameter past the first 64 is not.
     #[inline(always)]
     pub(crate) fn kept_local(&self, index: u32) -> Option<&Local>
         ensures { IfSome result (λ local. slice_get (locals_in_body R.resources self.now) index ≡ Some (local_seen local.now)) }
@@ -50,7 +50,7 @@ impl<R: WasmModuleResources> Body<R> {
         self.locals.get(index)
     }
 
-    // The local of an index.
+    // Returns the local of an index.
     #[tactic(auto, unfolding(crate::specs::Steps::locals_in_body))]
     pub(crate) fn local_at(&self, index: u32) -> Option<Local>
         ensures { option_map local_seen result ≡ slice_get (locals_in_body R.resources self.now) index }

@@ -32,7 +32,7 @@ CanBeWanted features type = (is_allowed features type ≡ true) ⊎ (val_refs ty
 
 -- ---- operands that are taken off
 
--- What a call returned that takes operands of these types off, the last one first, which takes no memory.
+-- the result of a call that takes operands of these types off, the last one first, which takes no memory
 abbrev pub TakesAll : KnownTypes → ℕ → List (spec.ValType DefType) → Operands → Result (Unit {0}) Error → Operands → Type 0
 TakesAll known place types old (Ok x) new = TakesOff types (meant known old) (λ others. others ≡ meant known new) × AreKnown known new
 TakesAll known place types old (Err e) new = Refuses place (¬ (TakesOff types (meant known old) (λ others. ⊤))) ⊥ e.kind e.offset
@@ -59,7 +59,7 @@ MayStand effect old = Does effect old (λ next. ⊤)
 abbrev pub IsStuck : Option Effect → Standing → Type 0
 IsStuck effect old = ¬ (MayStand effect old)
 
--- What a call returned that does what an operator does. Memory runs out only for one that may stand there.
+-- The result of a call that does what an operator does. Memory runs out only for one that may stand there.
 abbrev pub Steps : KnownTypes → ℕ → Option Effect → Operands → Result (Unit {0}) Error → Operands → Type 0
 Steps known place effect old (Ok x) new = Leads effect (meant known old) (meant known new) × AreKnown known new
 Steps known place effect old (Err e) new = Refuses place (IsStuck effect (meant known old)) (MayStand effect (meant known old)) e.kind e.offset
@@ -77,7 +77,7 @@ pub record BeginsRightly (features : Features) (cx : Context) (expression : Cons
   pub parts : expression ≡ front ++ last ∷ rest
   pub run : Runs features cx (front ++ last ∷ []) [] (λ operands. ⊤)
 
--- What a call returned that judges whether something holds, and runs out of memory only where it is right so far.
+-- The result of a call that checks that something holds, and runs out of memory only where it is right so far.
 abbrev pub Judges : ℕ → Type 0 → Type 0 → Result (Unit {0}) Error → Type 0
 Judges place Holds Right (Ok x) = Holds
 Judges place Holds Right (Err e) = Refuses place (¬ Holds) Right e.kind e.offset

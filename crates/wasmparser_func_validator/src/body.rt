@@ -1,4 +1,4 @@
-//! What operators take and give, and the locals of a body.
+//! Operands that operators take and give, and the locals of a body.
 
 ghost use Rattle.std.specs.Prelude.{◌≡◌, ◌≢◌, ◌+◌, ◌≤◌, [], IfSome, length, map, option_map, slice_get, Some};
 ghost use Rattle.wasm_bodies.specs.BodyContext.{are_below, provided};

@@ -19,6 +19,6 @@ abbrev pub BeginsFilled : Features → Context → Option ConstantExpression →
 BeginsFilled features cx None = ⊤
 BeginsFilled features cx (Some initialiser) = BeginsRightly features (record cx { own_globals = [] }) initialiser
 
--- What a call returned that judges whether something holds. It says nothing of what is right where memory ran out.
+-- The result of a call that checks that something holds. Nothing is said of what is right where memory ran out.
 abbrev pub Judges : ℕ → Type 0 → Result (Unit {0}) Error → Type 0
 Judges place Holds result = steps.Judges place Holds ⊤ result

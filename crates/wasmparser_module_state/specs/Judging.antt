@@ -134,7 +134,7 @@ pub record Fronts (entry_at : EntryReading) (left : Left) (Holds : List Entry �
   pub reads : items_at (entry_at left.input.features) number left.input.rest ≡ Some (front, rest)
   pub holds : Holds front
 
--- What a refusal of a section's entries names. Where reading an entry takes memory, nothing is known of the one for which memory ran out.
+-- The cause that a refusal of a section's entries names. Where reading an entry takes memory, nothing is known of the one for which memory ran out.
 abbrev pub NamesEntries : Features → EntryReading → Type 0 → Context → List DefType → Left → ErrorKind → Type 0
 NamesEntries features entry_at takes_memory old held left kinds.Malformed = left_items entry_at left ≡ None
 NamesEntries features entry_at takes_memory old held left kinds.Invalid = Fronts entry_at left (λ entries. ¬ (KeepRules features old entries))
@@ -148,7 +148,7 @@ abbrev pub IsIn : Input → ErrorKind → ℕ → Type 0
 IsIn input kinds.Memory offset = offset ≡ 0
 IsIn input _ offset = IsWithin input offset
 
--- What a call returned that judges the entries of a section one by one and adds them, which may take memory to read.
+-- The result of a call that validates the entries of a section one by one and adds them, which may take memory to read.
 abbrev pub AddsEntries : Features → EntryReading → Type 0 → Context → List DefType → Left → Result (Unit {0}) Error → Context → List DefType → Type 0
 AddsEntries features entry_at takes_memory old old_held left (Ok x) new new_held = Fills features entry_at old old_held left new new_held
 AddsEntries features entry_at takes_memory old old_held left (Err e) new new_held = NamesEntries features entry_at takes_memory old old_held left e.kind × IsIn left.input e.kind e.offset

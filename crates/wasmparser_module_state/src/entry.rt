@@ -22,7 +22,7 @@ pub trait Entry: Item {
     // How bytes read as such an entry.
     ghost entry_at: { EntryReading };
 
-    // Such entries are groups of types.
+    // True if such entries are groups of types.
     ghost adds_types: { Bool };
 
     /// Judges the item, which stands at this offset, after the entries before it, and adds it to them.

@@ -62,7 +62,7 @@ impl ModuleState {
         ModuleState::with_list(alloc, ModuleTypes::new(alloc, features))
     }
 
-    // What is known before the first entry, with the list of types of earlier modules.
+    // Returns the state before the first entry, with the list of types of earlier modules.
     fn with_list(alloc: Global, mut types: ModuleTypes) -> ModuleState
         ensures nothing { context result ≡ at_first }
         ensures list { result.types ≡ record types { types = []; groups = 0; ids = [] } }

@@ -160,7 +160,7 @@ abbrev pub PassesLimitOf : KnownTypes → RecGroup ℕ → Limit → Type 0
 PassesLimitOf old group l =
     ((l ≡ Groups) × IsPassedBy Groups (suc old.groups)) ⊎ (((l ≡ Types) × IsPassedBy Types (length (types_after old.types group))) ⊎ PassesGroupLimit old.types group l)
 
--- What a group keeps for which memory ran out, after these types and so many groups: it is within the limits on groups and types, and right as it is written.
+-- A group for which memory ran out, after these types and so many groups: it is within the limits on groups and types, and right as it is written.
 pub record IsGroupRightSoFar (features : Features) (before : List DefType) (groups : ℕ) (group : RecGroup ℕ) : Type 0 where
   pub few_groups : suc groups ≤ most Groups
   pub few_types : length (types_after before group) ≤ most Types

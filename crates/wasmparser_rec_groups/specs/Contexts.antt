@@ -52,7 +52,7 @@ pub data JustifiesRefusal (features : Features) (before : List DefType) (group :
   breaks_a_rule : ¬ (KeepsGroupRules features before group) → JustifiesRefusal features before group Invalid
   passes_a_limit : (l : _) → PassesGroupLimit before group (limit l) → JustifiesRefusal features before group (kinds.Limit l)
 
--- What a group that comes after these types keeps as it is written, whatever they are: it is allowed, refers to types that are there, and none of its types has too
+-- A group after these types that is right as it is written, whatever they are: it is allowed, refers to types that are there, and none of its types has too
 -- many parameters, results or fields.
 pub record IsRightAsWritten (features : Features) (before : List DefType) (group : RecGroup ℕ) : Type 0 where
   pub allowed : is_allowed_group features group ≡ true

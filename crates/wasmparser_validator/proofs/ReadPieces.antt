@@ -37,7 +37,7 @@ use Rattle.wasmparser_validator.proofs.SectionEntries.{body_said, bodies_said, b
 abbrev pub settings_of : Features → Settings
 settings_of features = record { offset = 0; features = features }
 
--- What is known, and held by the list of types, after some pieces of a module, which say entries that keep the rules and limits, with these bodies and this data
+-- The context, and the types that the list holds, after some pieces of a module, which say entries that keep the rules and limits, with these bodies and this data
 -- count; and what is left of it.
 pub record Progress (features : Features) (bytes : List ℕ) (first_held : List DefType) (cx : Context) (held : List DefType) (given : List Input) (stated : Option ℕ) (now : Remains) : Type 0 where
   pub entries : List Entry

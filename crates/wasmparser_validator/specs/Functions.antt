@@ -30,7 +30,7 @@ pub record TellsModule (features : Features) (cx : Context) (resources : Resourc
 abbrev pub resources_of : ValidatorResources → Resources
 resources_of resources = state_resources resources.module.value
 
--- its body asks for the items of the module that is known, with the ids of its types
+-- its body asks for just the items of the known module, by the ids of its types
 abbrev pub AsksFor : KnownModule → FuncToValidate ValidatorResources → Type 0
 AsksFor known function = resources_of function.resources ≡ state_resources known.state
 

@@ -16,7 +16,7 @@ use Rattle.wasmparser_payloads.specs.Pieces.{Piece, Version, Types, Imports, Fun
 
 -- ---- what a piece says
 
--- whether a piece has groups of types
+-- a piece with groups of types
 unfoldable pub has_groups : Piece → Bool
 has_groups (Types items) = true
 has_groups piece = false

@@ -382,7 +382,7 @@ impl Validator {
         let place = self.bodies;
         let resources = self.resources()?;
         let state = self.types.state();
-        // (what is known of the types' ids, a proof knows by this call)
+        // (by this call a proof knows that the ids stand for types)
         state.types().are_known();
         let imported = state.function_count() - state.own_function_count();
         Ok(FuncToValidate {

@@ -141,6 +141,7 @@ fn writes(alloc: Global, section: &TypeSection, bytes: &[u8]) -> bool {
 const SECTIONS: &str = "
     | | 01 00
     func -> | 3 | 04 01 60 00 00
+    func i32 i64 -> i32 ; func i64 i32 -> | 6 5 | 0c 02 60 02 7f 7e 01 7f 60 02 7e 7f 00
     func -> ; func i32 i64 f32 f64 v128 -> i64 | 3 9 | 0d 02 60 00 00 60 05 7f 7e 7d 7c 7b 01 7e
     // A group of two structures, each with a reference to the other.
     rec struct 1?, struct 0? | 12 | 0d 01 4e 02 5f 01 63 01 00 5f 01 63 00 00
@@ -182,7 +183,7 @@ fn holds(alloc: Global, row: &str) -> Option<bool> {
 
 #[test]
 fn sections_write_their_entries(rt: HostRuntime) -> Result<(), Fail> {
-    Ok(check_rows(rt.alloc(), SECTIONS, 25, holds)?)
+    Ok(check_rows(rt.alloc(), SECTIONS, 26, holds)?)
 }
 
 // Adds a group of one type, the type itself, and an empty group, each to what the call before answers.

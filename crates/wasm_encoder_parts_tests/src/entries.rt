@@ -3,6 +3,7 @@
 use crate::written::writes;
 use std::alloc::Global;
 use wasm_core_write::encode::Section;
+use wasm_encoder_expression_sections::code_section::CodeSection;
 use wasm_encoder_expression_sections::data_section::DataSection;
 use wasm_encoder_expression_sections::element_section::ElementSection;
 use wasm_encoder_expression_sections::global_section::GlobalSection;
@@ -47,6 +48,12 @@ impl Entries for MemorySection {
 }
 
 impl Entries for TagSection {
+    fn entry(&self, i: u32) -> (u32, bool, Option<u64>) {
+        (self.len(), self.is_empty(), self.item_len(i))
+    }
+}
+
+impl Entries for CodeSection {
     fn entry(&self, i: u32) -> (u32, bool, Option<u64>) {
         (self.len(), self.is_empty(), self.item_len(i))
     }

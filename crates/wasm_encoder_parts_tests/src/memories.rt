@@ -40,6 +40,7 @@ impl Rows for MemorySection {
 
 const MEMORIES: &str = "
     1 - no no - | 2 | 05 03 01 00 01
+    1 5 no no - | 3 | 05 04 01 01 01 05
     1 2 yes no - ; 0 - no yes - | 3 2 | 05 06 02 03 01 02 04 00
     1 - no no 0 ; 0 65536 no no 16 | 3 6 | 05 0a 02 08 01 00 09 00 80 80 04 10
     18446744073709551615 18446744073709551615 yes yes 4294967295 | 26 | 05 1b 01 0f ff*9 01 ff*9 01 ff*4 0f
@@ -47,7 +48,7 @@ const MEMORIES: &str = "
 
 #[test]
 fn memory_sections(rt: HostRuntime) -> Result<(), Fail> {
-    check_rows(rt.alloc(), MEMORIES, 4, row::<MemorySection>)?;
+    check_rows(rt.alloc(), MEMORIES, 5, row::<MemorySection>)?;
     Ok(())
 }
 

@@ -31,6 +31,8 @@ pub const ROWS: &str = "
     default                | 0b c5 9a 0c a1 8d 06 0100*100001                               | Limit(DataSegments) | one more
     // Data counts, and as many segments, more or fewer.
     default                | 0c 01 01 0b 03 01 01 00                                        | yes                 | one of one
+    default                | 05 03 01 00 01 0c 01 01 0b 03 01 01 00                         | yes                 | beside a memory
+    default                | 05 03 01 00 01 0c 01 02 0b 03 01 01 00                         | Malformed           | one less there
     default                | 0c 01 00 0b 03 01 01 00                                        | Malformed           | one more
     default                | 0c 01 02 0b 03 01 01 00                                        | Malformed           | one less
     default                | 0c 01 01 0b 05 02 01 00 01 00                                  | Malformed           | two

@@ -194,6 +194,46 @@ const EACH_SPACE: &str =
     04 04 01 70 00 0a 05 04 01 01 01 05 0d 03 01 00 01 06 06 01 7f 01 41 00 0b 09 07 01 05 70 01 d2 00 0b \
     0a 06 01 04 00 41 00 0b";
 
+// A body that traps.
+fn trap(alloc: Global) -> Result<Function, EncodeError> {
+    let mut body = Function::new(alloc, [])?;
+    body.push(&Instruction::Unreachable)?;
+    body.push(&Instruction::End)?;
+    Ok(body)
+}
+
+// A code section of this body, or of its bytes.
+fn push_code(
+    alloc: Global,
+    module: &mut Module,
+    body: Function,
+    is_raw: bool,
+) -> Result<(), EncodeError> {
+    let mut code = CodeSection::new(alloc);
+    if is_raw {
+        code.raw(&body.into_raw_body())?;
+    } else {
+        code.function(&body)?;
+    }
+    module.push(&code)
+}
+
+fn push_function(alloc: Global, module: &mut Module, is_raw: bool) -> Result<(), EncodeError> {
+    push_bare_type(alloc, module)?;
+    push_functions(alloc, module)?;
+    push_code(alloc, module, trap(alloc)?, is_raw)
+}
+
+// A module of one function.
+fn one_function(alloc: Global, is_raw: bool) -> Result<Vec<u8>, EncodeError> {
+    let mut module = Module::new(alloc)?;
+    push_function(alloc, &mut module, is_raw)?;
+    Ok(module.finish())
+}
+
+const ONE_FUNCTION: &str =
+    "00 61 73 6d 01 00 00 00 01 04 01 60 00 00 03 02 01 00 0a 05 01 03 00 00 0b";
+
 fn is_made(alloc: Global, made: Result<Vec<u8>, EncodeError>, expected: &str) -> bool {
     match made {
         Ok(bytes) => are_bytes(alloc, expected, &bytes),
@@ -205,4 +245,6 @@ fn is_made(alloc: Global, made: Result<Vec<u8>, EncodeError>, expected: &str) ->
 fn worked_modules(rt: HostRuntime) {
     assert!(rt; is_made(rt.alloc(), greeting(rt.alloc()), GREETING));
     assert!(rt; is_made(rt.alloc(), each_space(rt.alloc()), EACH_SPACE));
+    assert!(rt; is_made(rt.alloc(), one_function(rt.alloc(), false), ONE_FUNCTION));
+    assert!(rt; is_made(rt.alloc(), one_function(rt.alloc(), true), ONE_FUNCTION));
 }

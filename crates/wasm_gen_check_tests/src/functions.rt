@@ -29,6 +29,15 @@ pub const ROWS: &str = "
     // The size of a section is padded to five bytes, and to six.
     default | 01 84 80 80 80 00 01 60 00 00            | yes
     default | 01 84 80 80 80 80 00 01 60 00 00         | Malformed
+    // Unused bits of a size, and of a number in a body, which are zero or the sign, and aren't.
+    default | 01 84 80 80 80 10 01 60 00 00            | Malformed
+    default | types functions 0a 0b 01 09 00 41 ff ff ff ff 7f 1a 0b | yes
+    default | types functions 0a 0b 01 09 00 41 ff ff ff ff 0f 1a 0b | Body
+    // A body names a function that an export names too, or none does.
+    default | types functions 07 05 01 01 66 00 00 0a 07 01 05 00 d2 00 1a 0b | yes
+    default | types functions 0a 07 01 05 00 d2 00 1a 0b | Body
+    // As many items of an array as a number can say, where no code is reached.
+    default | 01 09 02 5e 7f 00 60 00 01 64 00 03 02 01 01 0a 16 01 14 00 00 fb 08 00 ff ff ff ff 0f 00 fb 08 00 ff ff ff ff 0f 0b | yes
     // Custom sections come anywhere.
     default | custom types custom custom functions custom code custom | yes
     // A type that is written out.

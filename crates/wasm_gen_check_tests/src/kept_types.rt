@@ -1,12 +1,11 @@
-//! The types of many modules in one session: what their ids are, and how many there is room for.
+//! The types of many modules in one session: what their ids are.
 
 use std::alloc::Global;
 use std::test::Fail;
 use wasm_core::features::{Flags, WasmFeatures};
-use wasm_gen::judge::{ErrorKind, TypesRef, ValidatorId};
+use wasm_gen::judge::{ErrorKind, TypesRef};
 use wasm_gen::session::Session;
-use wasm_gen_rows::answers::answers;
-use wasm_gen_rows::modules::{module_of, parts_of};
+use wasm_gen_rows::modules::module_of;
 use wasm_gen_rows::new_session::{on_new_session, on_types_after, on_types_of_both, renew};
 use wasm_test_rows::fields::{is_row, two_fields};
 use wasm_test_rows::rows::check_rows;
@@ -200,8 +199,8 @@ fn equal_types_have_one_id(alloc: Global, first: &str) -> Option<bool> {
     on_new_session(alloc, features, first, are_one_in_each_order)
 }
 
-// Features under which each definition is a type of its own.
-fn features_of_own_ids() -> WasmFeatures {
+/// Features under which each definition is a type of its own.
+pub fn features_of_own_ids() -> WasmFeatures {
     let canonical = WasmFeatures::GC
         .union(WasmFeatures::FUNCTION_REFERENCES)
         .union(WasmFeatures::STACK_SWITCHING);
@@ -220,51 +219,6 @@ fn each_definition_has_an_id(alloc: Global, first: &str) -> Option<bool> {
 fn types_have_their_ids_in_each_order_of_modules(rt: HostRuntime) -> Result<(), Fail> {
     check_rows(rt.alloc(), MODULES, 23, equal_types_have_one_id)?;
     Ok(check_rows(rt.alloc(), FUNCTIONS, 6, each_definition_has_an_id)?)
-}
-
-// Checks that a session answers so on modules of function types that are all kept.
-fn is_full(alloc: Global, session: &mut Session, types: &str, expected: &str) -> bool {
-    match parts_of(alloc, types) {
-        Some(bytes) => answers(alloc, session, &bytes, expected),
-        None => false,
-    }
-}
-
-// Whether a list holds 1,048,576 types, and no more.
-fn fills_up(alloc: Global, session: &mut Session, _row: &str) -> Option<bool> {
-    let million = "header 01 c38db701 c0843d 600000*1000000";
-    let others = "header 01 c3f208 c0fb02 600000*48576";
-    let one = "header types";
-    let holds = is_full(alloc, session, million, "yes")
-        && is_full(alloc, session, others, "yes")
-        && is_full(alloc, session, one, "Total")
-        && is_full(alloc, session, one, "Failed");
-    session.restart(ValidatorId::new(1));
-    Some(holds && is_full(alloc, session, one, "yes"))
-}
-
-// The same of groups that are held already.
-fn fills_up_by_known_groups(alloc: Global, session: &mut Session, _row: &str) -> Option<bool> {
-    let million = "header 01 85897a 01 4ec0843d 5f00*1000000";
-    let others = "header 01 85f705 01 4ec0fb02 5f00*48576";
-    Some(
-        is_full(alloc, session, million, "yes")
-            && is_full(alloc, session, others, "yes")
-            && is_full(alloc, session, others, "Total"),
-    )
-}
-
-#[test]
-fn list_of_types_fills_up(rt: HostRuntime) {
-    let holds = on_new_session(rt.alloc(), features_of_own_ids(), "", fills_up);
-    assert!(rt; holds == Some(true));
-}
-
-#[test]
-fn known_groups_find_no_room_either(rt: HostRuntime) {
-    let features = WasmFeatures::default().union(WasmFeatures::GC);
-    let holds = on_new_session(rt.alloc(), features, "", fills_up_by_known_groups);
-    assert!(rt; holds == Some(true));
 }
 
 // Checks that the types of a module are what they were, and know no id of a later one.

@@ -30,6 +30,8 @@ mod kept_types;
 #[cfg(test)]
 mod lines;
 #[cfg(test)]
+mod other_limits;
+#[cfg(test)]
 mod other_sections;
 #[cfg(test)]
 mod readme;

@@ -23,6 +23,7 @@ pub const ROWS: &str = "
     default              | 02 06 01 00 00 05 00 00           | Malformed
     // Groups of imports, and those of none.
     all                  | 02 0b 01 01 6d 00 7f 01 01 61 02 00 01 | yes
+    all                  | types 02 05 01 00 00 00 00        | yes
     default              | 02 0b 01 01 6d 00 7f 01 01 61 02 00 01 | Malformed
     all                  | 02 0d 01 01 6d 00 7e 02 00 01 02 01 61 01 62 | yes
     default              | 02 0d 01 01 6d 00 7e 02 00 01 02 01 61 01 62 | Malformed
@@ -34,6 +35,8 @@ pub const ROWS: &str = "
     default              | 05 04 01 01 02 01                 | Invalid
     default              | 05 05 01 00 81 80 04              | Invalid
     default              | 05 05 01 00 80 80 04              | yes
+    default              | 05 08 01 00 81 80 80 80 80 00     | yes
+    default              | 05 07 01 00 80 80 80 80 10        | Invalid
     default              | 05 05 02 00 01 00 01              | yes
     all but MULTI_MEMORY | 05 05 02 00 01 00 01              | Invalid
     default              | 05 03 01 04 01                    | yes
@@ -56,6 +59,9 @@ pub const ROWS: &str = "
     default              | types 0d 03 01 01 00              | Malformed
     default              | 01 05 01 60 00 01 7f 0d 03 01 00 00 | Invalid
     all                  | 01 05 01 60 00 01 7f 0d 03 01 00 00 | yes
+    // A body that copies a data segment into a memory, with a data count and without one.
+    default              | types functions 05 03 01 00 01 0c 01 01 0a 0e 01 0c 00 41 00 41 00 41 00 fc 08 00 00 0b 0b 03 01 01 00 | yes
+    default              | types functions 05 03 01 00 01 0a 0e 01 0c 00 41 00 41 00 41 00 fc 08 00 00 0b 0b 03 01 01 00 | Body
     // The start function: there is one, there is none of this index, it has a parameter, a result.
     default              | types functions 08 01 00 code     | yes
     default              | types functions 08 01 01 code     | Invalid

@@ -3,7 +3,7 @@
 use crate::views::{has_exports, has_line};
 use crate::{
     custom_sections, cuts, data_segments, elements, exports, function_limits, functions, globals,
-    lines, other_sections, tables, types, value_types,
+    lines, other_limits, other_sections, tables, types, value_types,
 };
 use std::alloc::Global;
 use std::test::Fail;
@@ -11,7 +11,7 @@ use wasm_core::features::{Flags, WasmFeatures};
 use wasm_gen_rows::answers::answers_under;
 use wasm_gen_rows::modules::module_of;
 use wasm_gen_rows::new_session::on_new_session;
-use wasm_test_rows::fields::{has_word, three_fields};
+use wasm_test_rows::fields::{has_word, three_fields, word_and_rest};
 use wasm_test_rows::rows::check_rows;
 use wasm_test_rows::values::number_of;
 
@@ -27,13 +27,18 @@ fn all_but(name: &str) -> Option<WasmFeatures> {
     Some(WasmFeatures::all().difference(WasmFeatures::from_name(name)?))
 }
 
-// The features of a field: `default`, `all`, or all but one.
-fn features_of(field: &str) -> Option<WasmFeatures> {
-    match field {
-        "default" => Some(WasmFeatures::default()),
-        "all" => Some(WasmFeatures::all()),
-        _ => all_but(field.strip_prefix("all but ")?),
+/// The features of a field: `default` or `all`, or one of them `but` for some. The default ones stand for none too.
+pub fn features_of(field: &str) -> Option<WasmFeatures> {
+    let (most, others) = field.split_once(" but ").unwrap_or((field, ""));
+    let mut features = match most {
+        "default" | "" => WasmFeatures::default(),
+        "all" => WasmFeatures::all(),
+        _ => return None,
+    };
+    for name in others.split_whitespace() {
+        features = features.difference(WasmFeatures::from_name(name)?);
     }
+    Some(features)
 }
 
 // Whether a module is valid under all features, and invalid without any of those that are asked for.
@@ -70,11 +75,11 @@ fn expected_at(field: &str, place: usize) -> &'static str {
 }
 
 // Checks that the bytes are a module up to each of these ends, and malformed up to any other place.
-fn is_cut_at(alloc: Global, bytes: &[u8], ends: &str) -> bool {
+fn is_cut_at(alloc: Global, features: WasmFeatures, bytes: &[u8], ends: &str) -> bool {
     let mut holds = true;
     for end in 0..=bytes.len() {
         let expected = expected_at(ends, end);
-        holds = holds && answers_under(alloc, WasmFeatures::default(), &bytes[..end], expected);
+        holds = holds && answers_under(alloc, features, &bytes[..end], expected);
     }
     holds
 }
@@ -105,12 +110,13 @@ fn answer_in(field: &str) -> &str {
     }
 }
 
-// Whether new sessions answer so on a module: features, or what is to be done; the sections of the module; and what comes of it.
+// Whether new sessions answer so on a module: features, or what is to be done under these; the sections of the module; and what comes of it.
 fn are_answers(alloc: Global, way: &str, sections: &str, expected: &str) -> Option<bool> {
     let mut bytes = module_of(alloc, sections)?;
-    match way {
+    let (word, features) = word_and_rest(way);
+    match word {
         "each" => asks_for(alloc, &bytes, expected),
-        "cuts" => Some(is_cut_at(alloc, &bytes, expected)),
+        "cuts" => Some(is_cut_at(alloc, features_of(features)?, &bytes, expected)),
         "ids" => has_ids(alloc, &mut bytes, expected),
         _ => Some(answers_under(alloc, features_of(way)?, &bytes, answer_in(expected))),
     }
@@ -119,9 +125,10 @@ fn are_answers(alloc: Global, way: &str, sections: &str, expected: &str) -> Opti
 // Whether a row holds.
 fn holds(alloc: Global, row: &str) -> Option<bool> {
     let (way, sections, expected) = three_fields(row)?;
-    match way {
-        "line" => on_new_session(alloc, WasmFeatures::default(), row, has_line),
-        "exports" => on_new_session(alloc, WasmFeatures::default(), row, has_exports),
+    let (word, features) = word_and_rest(way);
+    match word {
+        "line" => on_new_session(alloc, features_of(features)?, row, has_line),
+        "exports" => on_new_session(alloc, features_of(features)?, row, has_exports),
         _ => are_answers(alloc, way, sections, expected),
     }
 }
@@ -130,17 +137,18 @@ fn holds(alloc: Global, row: &str) -> Option<bool> {
 fn new_sessions_give_these_answers(rt: HostRuntime) -> Result<(), Fail> {
     for (table, count) in [
         (custom_sections::ROWS, 45),
-        (cuts::ROWS, 3),
-        (data_segments::ROWS, 41),
+        (cuts::ROWS, 43),
+        (data_segments::ROWS, 43),
         (elements::ROWS, 43),
         (exports::ROWS, 53),
         (function_limits::ROWS, 20),
-        (functions::ROWS, 52),
+        (functions::ROWS, 58),
         (globals::ROWS, 57),
-        (lines::ROWS, 12),
-        (other_sections::ROWS, 59),
+        (lines::ROWS, 18),
+        (other_limits::ROWS, 26),
+        (other_sections::ROWS, 64),
         (tables::ROWS, 34),
-        (types::ROWS, 31),
+        (types::ROWS, 41),
         (value_types::ROWS, 38),
     ] {
         check_rows(rt.alloc(), table, count, holds)?;

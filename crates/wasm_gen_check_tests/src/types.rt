@@ -40,6 +40,17 @@ pub const ROWS: &str = "
     default    | 01 03 01 5f 00 functions code               | Invalid
     // A body of a function whose type is of a group.
     default    | 01 06 01 4e 01 60 00 00 functions code      | yes
+    // Continuations: of a function type, and of a structure; null of none of them, of any of them and of one.
+    all        | 01 06 02 60 00 00 5d 00                     | yes
+    default    | 01 06 02 60 00 00 5d 00                     | Invalid
+    all        | 01 05 02 5f 00 5d 00                        | Invalid
+    default    | 01 05 02 5f 00 5d 00                        | Invalid
+    all        | 06 06 01 68 00 d0 75 0b                     | yes
+    default    | 06 06 01 68 00 d0 75 0b                     | Invalid
+    all        | 06 06 01 75 00 d0 68 0b                     | Invalid
+    default    | 06 06 01 75 00 d0 68 0b                     | Invalid
+    all        | 01 06 02 60 00 00 5d 00 06 06 01 68 00 d0 01 0b | yes
+    default    | 01 06 02 60 00 00 5d 00 06 06 01 68 00 d0 01 0b | Invalid
     // An index that is past every type there can be.
     default    | 01 0a 01 60 01 63 80 80 c0 80 00 00         | Invalid
 ";

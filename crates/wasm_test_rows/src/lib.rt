@@ -4,6 +4,7 @@
 
 pub mod fields;
 pub mod limits;
+mod numbered;
 pub mod rows;
 pub mod shown;
 pub mod values;

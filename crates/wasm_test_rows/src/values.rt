@@ -2,6 +2,7 @@
 
 ghost use Rattle.std.specs.Prelude.{◌≡◌, IfSome, if◌then◌else◌, codes};
 
+use crate::numbered::{mark_in, push_numbered};
 use std::alloc::Global;
 
 // Appends bytes in hexadecimal digits so many times.
@@ -13,12 +14,17 @@ fn push_bytes(alloc: Global, bytes: &mut Vec<u8>, digits: &str, count: u32) -> O
     Some(())
 }
 
-/// Bytes in hexadecimal digits, two for each, with spaces between them or none. They may be followed by how often they stand there: `00*254`.
+/// Bytes in hexadecimal digits, two for each, with spaces between them or none. They may be followed by how often they stand there: `00*254`. A word with `#`
+/// or `@` stands there once for each number up to one, or of a range: `21#*50000`, `06@0200*5..9`. The number stands in place of `#`, and six letters that no
+/// other number has in place of `@`.
 pub fn bytes_of(alloc: Global, field: &str) -> Option<Vec<u8>> {
     let mut bytes = Vec::new(alloc);
     for word in field.split_whitespace() {
         let (digits, count) = word.split_once('*').unwrap_or((word, "1"));
-        push_bytes(alloc, &mut bytes, digits, count.parse().ok()?)?;
+        match mark_in(digits) {
+            Some(mark) => push_numbered(alloc, &mut bytes, digits, mark, count)?,
+            None => push_bytes(alloc, &mut bytes, digits, count.parse().ok()?)?,
+        }
     }
     Some(bytes)
 }

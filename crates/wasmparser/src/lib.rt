@@ -14,8 +14,15 @@ pub use wasmparser_payloads::{custom_section, function_body, parser, payload, pa
 pub use wasmparser_readers::{
     export, from_reader, global_type, memory_type, section_limited, table_type, tag_type, type_ref,
 };
-pub use wasmparser_type_list::rec_group_elements;
-pub use wasmparser_types::{composite_type, heap_type, index, ref_type, sub_type, val_type};
+pub use wasmparser_rec_groups::intern;
+pub use wasmparser_type_list::{
+    maybe_owned, read_counter, rec_group_elements, type_alloc, type_data, type_identifier,
+    type_info, type_list,
+};
+pub use wasmparser_type_relations::{
+    canonical, chain, known_types, lookup, matches, snapshot_list, with_rec_group,
+};
+pub use wasmparser_types::{composite_type, heap_type, index, ref_type, remap, sub_type, val_type};
 pub use wasmparser_validator::{
     core_imports, resources, types, valid_payload, validator, validator_id,
 };

@@ -15,6 +15,8 @@ mod large_bodies;
 #[cfg(test)]
 mod new_validator;
 #[cfg(test)]
+mod operators;
+#[cfg(test)]
 mod print_sections;
 #[cfg(test)]
 mod spaces;

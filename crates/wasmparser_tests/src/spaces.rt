@@ -14,10 +14,13 @@ use wasmparser::imports::Imports;
 use wasmparser::index::CoreTypeId;
 use wasmparser::parser::Parser;
 use wasmparser::payload::Payload;
+use wasmparser::ref_type::RefType;
 use wasmparser::types::TypesRef;
+use wasmparser::val_type::ValType;
 
-// What is shown of a module: the kinds of its types, the ids of its types, whether the items of its element segments may be null, what it exports and
-// imports, or its imports with their names. A function and a tag show how many parameters and results they have. In rows of own ids types aren't canonicalized.
+// What is shown of a module: the kinds of its types, the ids of its types and of their supertypes, the types of its element segments, the first item of each index
+// space, what it exports and imports, or its imports with their names. A function and a tag show the id of their type, and how many parameters and results it has.
+// In rows of own ids types aren't canonicalized.
 const SHOWN: &str = "
     types | 0061736d01000000 01 0b 03 60 00 00 5f 01 7f 00 5e 7f 00 | func struct array
     types | 0061736d01000000 | 
@@ -30,22 +33,52 @@ const SHOWN: &str = "
     ids | 0061736d01000000 01 09 02 60 00 00 50 00 60 00 00 | 0 1
     ids | 0061736d01000000 01 0b 02 5f 01 63 00 00 5f 01 63 01 00 | 0 0
     ids | 0061736d01000000 01 0b 02 5f 01 63 00 00 5f 01 63 00 00 | 0 1
-    elements | 0061736d01000000 01 04 01 60 00 00 03 02 01 00 09 0b 02 01 00 01 00 05 70 01 d0 70 0b 0a 05 01 03 00 00 0b | ref refnull
+    ids | 0061736d01000000 01 0a 02 5f 00 4e 02 5f 00 5e 7f 00 | 0 1 2
+    ids | 0061736d01000000 01 07 02 5f 00 4e 01 5f 00 | 0 0
+    ids | 0061736d01000000 01 19 02 4e 02 5f 01 63 01 00 5f 01 63 00 00 4e 02 5f 01 63 03 00 5f 01 63 02 00 | 0 1 0 1
+    ids | 0061736d01000000 01 0c 02 60 02 7f 7e 01 7f 60 02 7e 7f 00 03 02 01 00 04 04 01 70 00 0a 05 04 01 01 01 05 0d 03 01 00 01 06 06 01 7f 01 41 00 0b 09 07 01 05 70 01 d2 00 0b 0a 06 01 04 00 41 00 0b | 0 1
+    supertypes | 0061736d01000000 01 0c 02 50 00 5f 00 50 01 00 5f 01 7f 00 | - 0
+    supertypes | 0061736d01000000 01 15 03 50 00 5f 00 50 00 5f 00 4e 02 50 01 01 5f 00 4f 01 02 5f 00 | - - 0 1
+    items | 0061736d01000000 01 0c 02 60 02 7f 7e 01 7f 60 02 7e 7f 00 03 02 01 00 04 04 01 70 00 0a 05 04 01 01 01 05 0d 03 01 00 01 06 06 01 7f 01 41 00 0b 09 07 01 05 70 01 d2 00 0b 0a 06 01 04 00 41 00 0b | func #0 2 1; table funcref 10 None; memory 1 Some(5); global i32 true; tag #1 2 0
+    elements | 0061736d01000000 01 0c 02 60 02 7f 7e 01 7f 60 02 7e 7f 00 03 02 01 00 04 04 01 70 00 0a 05 04 01 01 01 05 0d 03 01 00 01 06 06 01 7f 01 41 00 0b 09 07 01 05 70 01 d2 00 0b 0a 06 01 04 00 41 00 0b | funcref
+    elements | 0061736d01000000 01 04 01 60 00 00 03 02 01 00 09 0b 02 01 00 01 00 05 70 01 d0 70 0b 0a 05 01 03 00 00 0b | ref funcref
     elements | 0061736d01000000 01 04 01 60 00 00 09 08 01 05 63 00 01 d0 00 0b | refnull
     exports | 0061736d01000000 05 03 01 00 01 07 09 02 01 61 02 00 01 62 02 00 | a memory 1 None; b memory 1 None
-    exports | 0061736d01000000 01 0b 02 60 02 7f 7e 01 7d 60 01 7f 00 02 07 01 01 6d 01 66 00 01 03 02 01 00 04 05 01 70 01 02 05 05 04 01 01 01 03 0d 03 01 00 01 06 06 01 7e 01 42 00 0b 07 19 06 01 61 00 00 01 62 00 01 01 74 01 00 01 6d 02 00 01 67 03 00 01 65 04 00 0a 05 01 03 00 00 0b | a func 1 0; b func 2 1; t table 2 Some(5) true; m memory 1 Some(3); g global false true; e tag 1 0
-    exports | 0061736d01000000 01 03 01 5f 00 06 07 01 63 00 00 d0 00 0b 07 05 01 01 67 03 00 | g global true false
-    imports | 0061736d01000000 01 0b 02 60 02 7f 7e 01 7d 60 01 7f 00 02 24 05 01 6d 01 66 00 01 01 6d 01 74 01 6f 00 04 01 6d 01 6d 02 00 03 01 6d 01 67 03 7f 00 01 6d 01 65 04 00 01 | func 1 0; table 4 None true; memory 3 None; global false false; tag 1 0
+    exports | 0061736d01000000 01 0b 02 60 02 7f 7e 01 7d 60 01 7f 00 02 07 01 01 6d 01 66 00 01 03 02 01 00 04 05 01 70 01 02 05 05 04 01 01 01 03 0d 03 01 00 01 06 06 01 7e 01 42 00 0b 07 19 06 01 61 00 00 01 62 00 01 01 74 01 00 01 6d 02 00 01 67 03 00 01 65 04 00 0a 05 01 03 00 00 0b | a func #1 1 0; b func #0 2 1; t table funcref 2 Some(5); m memory 1 Some(3); g global i64 true; e tag #1 1 0
+    exports | 0061736d01000000 01 03 01 5f 00 06 07 01 63 00 00 d0 00 0b 07 05 01 01 67 03 00 | g global refnull false
+    imports | 0061736d01000000 01 0b 02 60 02 7f 7e 01 7d 60 01 7f 00 02 24 05 01 6d 01 66 00 01 01 6d 01 74 01 6f 00 04 01 6d 01 6d 02 00 03 01 6d 01 67 03 7f 00 01 6d 01 65 04 00 01 | func #1 1 0; table externref 4 None; memory 3 None; global i32 false; tag #1 1 0
     named | 0061736d01000000 | 
-    named | 0061736d01000000 01 04 01 60 00 00 02 15 03 01 6d 01 61 00 00 01 6e 01 62 02 00 01 01 6d 01 61 03 7f 00 | m.a func 0 0; m.a global false false; n.b memory 1 None
-    named | 0061736d01000000 02 19 03 01 61 02 62 63 02 00 01 02 61 62 01 63 03 7f 00 01 61 02 62 63 03 7f 01 | a.bc memory 1 None; a.bc global false true; ab.c global false false
-    named | 0061736d01000000 01 04 01 60 00 00 02 0f 01 01 6d 00 7f 02 01 61 00 00 01 62 02 00 01 | m.a func 0 0; m.b memory 1 None
-    named | 0061736d01000000 02 14 02 01 6d 00 7e 03 7f 00 02 01 61 01 62 01 6d 01 61 02 00 01 | m.a global false false; m.a memory 1 None; m.b global false false
+    named | 0061736d01000000 01 04 01 60 00 00 02 15 03 01 6d 01 61 00 00 01 6e 01 62 02 00 01 01 6d 01 61 03 7f 00 | m.a func #0 0 0; m.a global i32 false; n.b memory 1 None
+    named | 0061736d01000000 02 19 03 01 61 02 62 63 02 00 01 02 61 62 01 63 03 7f 00 01 61 02 62 63 03 7f 01 | a.bc memory 1 None; a.bc global i32 true; ab.c global i32 false
+    named | 0061736d01000000 01 04 01 60 00 00 02 0f 01 01 6d 00 7f 02 01 61 00 00 01 62 02 00 01 | m.a func #0 0 0; m.b memory 1 None
+    named | 0061736d01000000 02 14 02 01 6d 00 7e 03 7f 00 02 01 61 01 62 01 6d 01 61 02 00 01 | m.a global i32 false; m.a memory 1 None; m.b global i32 false
 ";
 
 fn type_text(alloc: Global, view: TypesRef<'_>, word: &str, id: CoreTypeId) -> Option<String> {
     let ty = view.get(id)?.composite_type.as_func()?;
-    format!(in alloc; "{word} {} {}", ty.params().len(), ty.results().len()).ok()
+    let (params, results) = (ty.params().len(), ty.results().len());
+    format!(in alloc; "{word} #{} {params} {results}", id.index()).ok()
+}
+
+fn word_of(ty: ValType) -> &'static str {
+    match ty {
+        ValType::I32 => "i32",
+        ValType::I64 => "i64",
+        ValType::Ref(ty) => word_of_reference(ty),
+        _ => "another",
+    }
+}
+
+fn word_of_reference(ty: RefType) -> &'static str {
+    if ty == RefType::FUNCREF {
+        "funcref"
+    } else if ty == RefType::EXTERNREF {
+        "externref"
+    } else if ty.is_nullable() {
+        "refnull"
+    } else {
+        "ref"
+    }
 }
 
 fn entity_text(alloc: Global, view: TypesRef<'_>, entity: EntityType) -> Option<String> {
@@ -53,13 +86,13 @@ fn entity_text(alloc: Global, view: TypesRef<'_>, entity: EntityType) -> Option<
         EntityType::Func(id) => return type_text(alloc, view, "func", id),
         EntityType::Tag(id) => return type_text(alloc, view, "tag", id),
         EntityType::Table(ty) => {
-            let is_nullable = ty.element_type.is_nullable();
-            format!(in alloc; "table {} {:?} {}", ty.initial, ty.maximum, is_nullable)
+            let word = word_of_reference(ty.element_type);
+            format!(in alloc; "table {word} {} {:?}", ty.initial, ty.maximum)
         }
         EntityType::Memory(ty) => format!(in alloc; "memory {} {:?}", ty.initial, ty.maximum),
         EntityType::Global(ty) => {
-            let is_reference = ty.content_type.is_reference_type();
-            format!(in alloc; "global {} {}", is_reference, ty.mutable)
+            let word = word_of(ty.content_type);
+            format!(in alloc; "global {word} {}", ty.mutable)
         }
     };
     text.ok()
@@ -88,6 +121,29 @@ fn entity_at(view: TypesRef<'_>, kind: ExternalKind, index: u32) -> Option<Entit
 // Checks that an item is what the text says.
 fn is_shown(alloc: Global, view: TypesRef<'_>, entity: EntityType, text: &str) -> bool {
     entity_text(alloc, view, entity).is_some_and(|shown| shown.as_str() == text)
+}
+
+// Checks that the first item of each index space that has one is what the text says.
+fn has_items(alloc: Global, view: TypesRef<'_>, expected: &str) -> bool {
+    let mut texts = expected.split("; ");
+    for kind in [
+        ExternalKind::Func,
+        ExternalKind::Table,
+        ExternalKind::Memory,
+        ExternalKind::Global,
+        ExternalKind::Tag,
+    ] {
+        let Some(entity) = entity_at(view, kind, 0) else {
+            continue;
+        };
+        let Some(text) = texts.next() else {
+            return false;
+        };
+        if !is_shown(alloc, view, entity, text) {
+            return false;
+        }
+    }
+    texts.next().is_none()
 }
 
 // Checks that an export is what the text says, a name and what it stands for.
@@ -203,11 +259,25 @@ fn has_ids(view: TypesRef<'_>, expected: &str) -> Option<bool> {
     Some(words.next().is_none())
 }
 
+// Whether the supertypes of the types have these ids, `-` where a type has none.
+fn has_supertypes(view: TypesRef<'_>, expected: &str) -> Option<bool> {
+    let mut words = expected.split_whitespace();
+    for index in 0..view.core_type_count_in_module() {
+        let above = match view.supertype_of(view.core_type_at_in_module(index)) {
+            Some(id) => Some(id.index() as u64),
+            None => None,
+        };
+        if number_of(words.next()?) != above {
+            return Some(false);
+        }
+    }
+    Some(words.next().is_none())
+}
+
 fn has_elements(view: TypesRef<'_>, expected: &str) -> bool {
     let mut words = expected.split_whitespace();
     for index in 0..view.element_count() {
-        let is_nullable = view.element_at(index).is_nullable();
-        if words.next() != Some(if is_nullable { "refnull" } else { "ref" }) {
+        if words.next() != Some(word_of_reference(view.element_at(index))) {
             return false;
         }
     }
@@ -230,6 +300,8 @@ fn has(alloc: Global, view: TypesRef<'_>, bytes: &[u8], row: &str) -> Option<boo
     match kind {
         "types" => has_types(view, expected),
         "ids" | "own ids" => has_ids(view, expected),
+        "supertypes" => has_supertypes(view, expected),
+        "items" => Some(has_items(alloc, view, expected)),
         "elements" => Some(has_elements(view, expected)),
         "exports" => Some(has_exports(alloc, view, expected)),
         "imports" => has_imports(alloc, view, bytes, expected),
@@ -251,5 +323,5 @@ fn holds(alloc: Global, row: &str) -> Option<bool> {
 
 #[test]
 fn modules_show_what_they_have(rt: HostRuntime) -> Result<(), Fail> {
-    Ok(check_rows(rt.alloc(), SHOWN, 22, holds)?)
+    Ok(check_rows(rt.alloc(), SHOWN, 30, holds)?)
 }

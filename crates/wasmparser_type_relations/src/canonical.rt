@@ -45,6 +45,17 @@ pub struct TypeCanonicalizer<'a> {
     offset: u64,
 }
 
+impl<'a> TypeCanonicalizer<'a> {
+    /// One for a group after types with these ids, whose type indexes are below a bound. An index that isn't is refused at the offset.
+    pub fn new(ids: &'a [CoreTypeId], bound: usize, offset: u64) -> TypeCanonicalizer<'a>
+        ensures ids { result.ids.now ≡ ids.now }
+        ensures bound { result.bound ≡ bound }
+        ensures offset { result.offset ≡ offset }
+    {
+        TypeCanonicalizer { ids, bound, offset }
+    }
+}
+
 impl<'a> RemapIndex for TypeCanonicalizer<'a> {
     ghost use Rattle.std.specs.Prelude.{◌≡◌, ◌<◌};
     ghost use Rattle.std.specs.List.{AllByRecursion};

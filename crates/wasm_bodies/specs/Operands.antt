@@ -86,10 +86,10 @@ are_same_plain F64 F64 = true
 are_same_plain V128 V128 = true
 are_same_plain _ _ = false
 
--- Of two operands, what a choice without a type gives: they are numbers or vectors of one type. An unknown reference is none.
+-- Of two operands, what a choice without a type gives: they are numbers or vectors of one type. An unknown reference is none. The second is on top, and no unknown
+-- operand is on top of a known one.
 abbrev pub selected : {R : Type 0} → Operand R → Operand R → Option (Operand R)
 selected (Known a) (Known b) = provided (are_same_plain a b) (Some (Known a))
-selected (Known a) Unknown = provided (is_plain a) (Some (Known a))
 selected Unknown (Known b) = provided (is_plain b) (Some (Known b))
 selected Unknown Unknown = Some Unknown
 selected _ _ = None

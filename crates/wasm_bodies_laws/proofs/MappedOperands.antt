@@ -35,7 +35,6 @@ module _ {R S : Type 0} (f : R → S) where
 
   pub selected_is : (x y : Operand R) → selected (operand_map f x) (operand_map f y) ≡ option_map (operand_map f) (selected x y)
   selected_is (Known a) (Known b) = rw (are_same_is a b) (provided_map (operand_map f) (are_same_plain a b) (Some (Known a)))
-  selected_is (Known a) Unknown = rw (is_ref_is a) (provided_map (operand_map f) (is_plain a) (Some (Known a)))
   selected_is Unknown (Known b) = rw (is_ref_is b) (provided_map (operand_map f) (is_plain b) (Some (Known b)))
   selected_is Unknown Unknown = refl
   selected_is _ _ = refl

@@ -204,6 +204,7 @@ impl Locals {
         ensures ok { OnOk result (locals_with (map val_type params.now) self.new ≡ map parameter (map val_type params.now)) }
         ensures within { OnOk result (limits.IsPassedBy limits.Locals (length params.now) → ⊥) }
         ensures limit { result ≡ Err LocalsError.Limit → limits.IsPassedBy limits.Locals (length params.now) }
+        ensures memory { result ≡ Err LocalsError.Memory → limits.IsPassedBy limits.Locals (length params.now) → ⊥ }
         ensures refused { OnErr result (self.new ≡ self.old) }
     {
         if params.len() > MAX_WASM_FUNCTION_LOCALS as usize {

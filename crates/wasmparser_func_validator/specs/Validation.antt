@@ -67,7 +67,7 @@ locals_error locals.Memory offset = record { offset = 0; kind = kinds.Memory }
 -- a body that isn't begun
 abbrev pub IsRefusedStart : List (ValType Index) → ErrorKind → ℕ → Type 0
 IsRefusedStart params (kinds.Limit Locals) at = limits.IsPassedBy limits.Locals (length params) × (at ≡ 0)
-IsRefusedStart params kinds.Memory at = at ≡ 0
+IsRefusedStart params kinds.Memory at = (limits.IsPassedBy limits.Locals (length params) → ⊥) × (at ≡ 0)
 IsRefusedStart params kind at = ⊥
 
 -- the type of an operand, if it is known

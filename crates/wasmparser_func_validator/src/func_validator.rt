@@ -115,16 +115,16 @@ impl<T: WasmModuleResources> FuncValidator<T> {
         ensures given { OnOk result ((self.new.body.resources ≡ self.old.body.resources) × (self.new.body.features ≡ self.old.body.features) × (self.new.body.ty ≡ self.old.body.ty) × (self.new.index ≡ self.old.index) × (self.new.failed ≡ self.old.failed)) }
         ensures refused { IfErr result (λ e. IsRefusedStart (params_in T.resources self.old.body) e.kind e.offset) }
     {
-        self.stacks.reset();
-        let ty = BlockType::FuncType(self.body.ty);
-        if self.stacks.enter(FrameKind::Block, ty, 0, &[]).is_err() {
-            return Err(Refusal::Memory.at(0));
-        }
         self.body.locals.reset();
         let params = params_at(&self.body.resources, self.body.ty);
-        match self.body.locals.define_parameters(params) {
+        if let Err(error) = self.body.locals.define_parameters(params) {
+            return Err(locals_refusal(error, 0));
+        }
+        self.stacks.reset();
+        let ty = BlockType::FuncType(self.body.ty);
+        match self.stacks.enter(FrameKind::Block, ty, 0, &[]) {
             Ok(()) => Ok(()),
-            Err(error) => Err(locals_refusal(error, 0)),
+            Err(_) => Err(Refusal::Memory.at(0)),
         }
     }
 

@@ -46,13 +46,6 @@ fn selected(a: &Operand, b: &Operand) -> Option<Operand>
                 None
             }
         }
-        (Operand::Known(x), Operand::Unknown) => {
-            if x.is_ref() {
-                None
-            } else {
-                Some(Operand::Known(*x))
-            }
-        }
         (Operand::Unknown, Operand::Known(y)) => {
             if y.is_ref() {
                 None
@@ -62,6 +55,7 @@ fn selected(a: &Operand, b: &Operand) -> Option<Operand>
         }
         (Operand::Unknown, Operand::Unknown) => Some(Operand::Unknown),
         (Operand::UnknownRef, _) => None,
+        (Operand::Known(_), Operand::Unknown) => None,
         (Operand::Known(_), Operand::UnknownRef) => None,
         (Operand::Unknown, Operand::UnknownRef) => None,
     }

@@ -1,6 +1,6 @@
 //! What ids in a list of types stand for.
 
-ghost use Rattle.std.specs.Prelude.{◌≡◌, ◌<◌, ◌^◌, [], ◌∷◌, ◌++◌, length, IfErr, IfOk};
+ghost use Rattle.std.specs.Prelude.{◌≡◌, ◌<◌, ◌^◌, [], ◌∷◌, ◌++◌, length, IfErr, IfOk, true};
 ghost use Rattle.wasmparser_type_list.specs.TypeSizes.{size_of};
 ghost use Rattle.wasmparser_types.specs.CompositeTypes.{composite_type};
 
@@ -66,13 +66,23 @@ impl TypeData for Range<CoreTypeId> {
 
     type Id = RecGroupId;
 
-    const IS_CORE_SUB_TYPE: bool = true;
+    const IS_CORE_SUB_TYPE: bool = <SubType as TypeData>::IS_CORE_SUB_TYPE;
 
     ghost size = { group_size };
 
     fn type_info(&self, _types: &TypeList) -> TypeInfo {
         TypeInfo::core(self.end.index().saturating_sub(self.start.index()) as u32)
     }
+}
+
+/// Returns that types and groups of them are both of core modules.
+pub fn are_of_core_modules() -> [bool; 2]
+    ensures { result ≡ true ∷ true ∷ [] }
+{
+    [
+        <SubType as TypeData>::IS_CORE_SUB_TYPE,
+        <Range<CoreTypeId> as TypeData>::IS_CORE_SUB_TYPE,
+    ]
 }
 
 impl TypeList {

@@ -75,7 +75,7 @@ only_memory type (kinds.Limit l) at few refused = by_limit l refused
     by_limit : (l : core.Limit) → IsRefusedStart type.params (kinds.Limit l) at → (kinds.Limit l ≡ kinds.Memory) × (at ≡ 0)
     by_limit limits.Locals refused = absurd (omega (arith, few, refused.0))
     by_limit _ refused = absurd refused
-only_memory type kinds.Memory at few refused = (refl, refused)
+only_memory type kinds.Memory at few refused = (refl, refused.1)
 only_memory type kinds.Malformed at few refused = absurd refused
 only_memory type kinds.Invalid at few refused = absurd refused
 only_memory type kinds.Operator at few refused = absurd refused

@@ -17,21 +17,21 @@ pub struct Verdict {
     pub kind: u32,
     /// A place in the bytes of a refused module, or their end; 0 where it is valid, and where memory ran out.
     pub offset: u64,
-    /// How many types there are. All of these numbers are 0 after a refusal.
+    /// Number of types. All of these numbers are 0 after a refusal.
     pub types: u64,
-    /// How many functions there are.
+    /// Number of functions.
     pub functions: u64,
-    /// How many tables there are.
+    /// Number of tables.
     pub tables: u64,
-    /// How many memories there are.
+    /// Number of memories.
     pub memories: u64,
-    /// How many globals there are.
+    /// Number of globals.
     pub globals: u64,
-    /// How many tags there are.
+    /// Number of tags.
     pub tags: u64,
-    /// How many element segments there are.
+    /// Number of element segments.
     pub elements: u64,
-    /// How many exports there are.
+    /// Number of exports.
     pub exports: u64,
 }
 

@@ -30,7 +30,7 @@ fn long_group(alloc: Global) -> Result<Vec<u8>, AllocError> {
     Ok(bytes)
 }
 
-// How many of the next imports have this name, one after the other.
+// Counts the next imports that have this name, one after the other.
 fn count_named(imports: &mut CoreImports<'_>, letter: u8, most: u32) -> u32 {
     for count in 0..most {
         let name = match imports.next() {
@@ -57,7 +57,7 @@ fn has_all_functions(_alloc: Global, view: TypesRef<'_>, _row: &str) -> bool {
     imports.next().is_none() && view.function_count() == 200_000
 }
 
-// Whether a session shows all functions of the group.
+// Checks that a session shows all functions of the group.
 fn is_shared(alloc: Global, session: &mut Session, row: &str) -> Option<bool> {
     let bytes = long_group(alloc).ok()?;
     let answer = on_types(alloc, session, &bytes, row, has_all_functions);

@@ -48,7 +48,7 @@ const FUNCTIONS: &str = "
     bab!    | 01 0e 03 60017f017c 600000 60017f017c functions 0a03010100
 ";
 
-// How many types a group has.
+// Returns the number of types of a group.
 fn size_of(letter: u8) -> u32 {
     if (letter >= b'e' && letter <= b'g') || letter == b'i' {
         2
@@ -66,7 +66,7 @@ fn groups_of(module: &str) -> &[u8] {
     module.trim_end_matches('!').as_bytes()
 }
 
-// Whether the type at a place has this id, and its group these many ids from the first one on.
+// Checks that the type at a place has this id, and its group these many ids from the first one on.
 fn is_of_group(types: TypesRef<'_>, place: u32, id: u32, first: u32, size: u32) -> Option<bool> {
     if place >= types.core_type_count_in_module() {
         return Some(false);
@@ -121,7 +121,7 @@ impl Met {
         Some(kind == ErrorKind::Body)
     }
 
-    // Whether the types of these groups have the ids that they are to have.
+    // Checks that the types of these groups have the ids that they are to have.
     fn agrees(&mut self, types: TypesRef<'_>, groups: &[u8]) -> Option<bool> {
         let mut place = 0u32;
         for letter in groups {
@@ -142,7 +142,7 @@ fn agrees(met: &mut Met, types: TypesRef<'_>, module: &str) -> bool {
     met.agrees(types, groups_of(module)) == Some(true)
 }
 
-// Whether the session answers on a row's module as it is to.
+// Checks that the session answers on a row's module as it is to.
 fn is_met(alloc: Global, session: &mut Session, met: &mut Met, row: &str) -> Option<bool> {
     let (module, sections) = two_fields(row)?;
     let bytes = module_of(alloc, sections)?;
@@ -154,7 +154,7 @@ fn is_met(alloc: Global, session: &mut Session, met: &mut Met, row: &str) -> Opt
     }
 }
 
-// Whether a session answers so on three modules, one after the other.
+// Checks that a session answers so on three modules, one after the other.
 fn are_all_met(
     alloc: Global,
     session: &mut Session,
@@ -176,7 +176,7 @@ fn are_met(alloc: Global, session: &mut Session, modules: [&str; 3]) -> Option<b
     are_all_met(alloc, session, &mut met, modules)
 }
 
-// In how many orders of three modules of a table, of which this is the first, the answers are as they are to be.
+// Counts the orders of three modules of a table, of which this is the first, in which the answers are as they are to be.
 fn count_after(alloc: Global, session: &mut Session, table: &str, first: &str) -> usize {
     let mut count = 0usize;
     for second in table.lines() {
@@ -234,7 +234,7 @@ fn stay(first: TypesRef<'_>, second: TypesRef<'_>) -> bool {
         && second.get(new).is_some()
 }
 
-// Whether the types of one module are kept while the session checks another.
+// Checks that the types of one module are kept while the session checks another.
 fn keeps_types(alloc: Global, session: &mut Session, _row: &str) -> Option<bool> {
     let one = module_of(alloc, "01 06 01 60017f017c")?;
     let both = module_of(alloc, "01 09 02 600000 60017f017c")?;

@@ -22,7 +22,7 @@ const NAMES: &str = "
     CUSTOM_PAGE_SIZES COMPACT_IMPORTS WIDE_ARITHMETIC STACK_SWITCHING
 ";
 
-// All features but that of this name.
+// Returns all features but that of this name.
 fn all_but(name: &str) -> Option<WasmFeatures> {
     Some(WasmFeatures::all().difference(WasmFeatures::from_name(name)?))
 }
@@ -41,7 +41,7 @@ pub fn features_of(field: &str) -> Option<WasmFeatures> {
     Some(features)
 }
 
-// Whether a module is valid under all features, and invalid without any of those that are asked for.
+// Checks that a module is valid under all features, and invalid without any of those that are asked for.
 fn asks_for(alloc: Global, bytes: &[u8], asked: &str) -> Option<bool> {
     let mut holds = answers_under(alloc, WasmFeatures::all(), bytes, "yes");
     for name in NAMES.split_whitespace() {
@@ -84,8 +84,8 @@ fn is_cut_at(alloc: Global, features: WasmFeatures, bytes: &[u8], ends: &str) ->
     holds
 }
 
-// Whether the bytes are a module where the first section has one of these ids, invalid at others that the field names after a comma, and malformed where
-// it has any other but 0.
+// Checks that the bytes are a module where the first section has one of these ids, invalid at others that the field names after a comma, and malformed
+// where it has any other but 0.
 fn has_ids(alloc: Global, bytes: &mut [u8], field: &str) -> Option<bool> {
     let (ids, invalid) = field.split_once(", but Invalid")?;
     let mut holds = true;
@@ -110,7 +110,7 @@ fn answer_in(field: &str) -> &str {
     }
 }
 
-// Whether new sessions answer so on a module: features, or what is to be done under these; the sections of the module; and what comes of it.
+// Checks that new sessions answer so on a module: features, or the check to make under these; the sections of the module; and its outcome.
 fn are_answers(alloc: Global, way: &str, sections: &str, expected: &str) -> Option<bool> {
     let mut bytes = module_of(alloc, sections)?;
     let (word, features) = word_and_rest(way);
@@ -122,7 +122,7 @@ fn are_answers(alloc: Global, way: &str, sections: &str, expected: &str) -> Opti
     }
 }
 
-// Whether a row holds.
+// Checks that a row holds.
 fn holds(alloc: Global, row: &str) -> Option<bool> {
     let (way, sections, expected) = three_fields(row)?;
     let (word, features) = word_and_rest(way);

@@ -1,4 +1,4 @@
-//! What a session holds between modules.
+//! State that a session keeps between modules.
 
 use crate::kept_types::features_of_own_ids;
 use std::alloc::Global;
@@ -103,7 +103,7 @@ fn ready(alloc: Global, session: &mut Session, state: &str) -> Option<()> {
     Some(())
 }
 
-// Whether a row holds.
+// Checks that a row holds.
 fn holds(alloc: Global, session: &mut Session, row: &str) -> Option<bool> {
     let (state, input, expected, has_failed) = four_fields(row)?;
     let has_failed = bool_of(has_failed)?;
@@ -113,7 +113,7 @@ fn holds(alloc: Global, session: &mut Session, row: &str) -> Option<bool> {
     Some(is_answer && session.has_failed() == has_failed)
 }
 
-// How many rows hold, one after the other, before one that doesn't.
+// Counts the rows that hold, one after the other, before one that doesn't.
 fn count_of_true_rows(alloc: Global, session: &mut Session, table: &str) -> usize {
     let mut count = 0usize;
     for row in table.lines() {
@@ -153,7 +153,7 @@ fn has(session: &Session, id: usize) -> bool {
     session.features() == handed_features() && session.id() == ValidatorId::new(id)
 }
 
-// Whether it keeps them, also after a refusal and a restart.
+// Checks that it keeps them, also after a refusal and a restart.
 fn keeps(alloc: Global, session: &mut Session, _row: &str) -> Option<bool> {
     let is_kept = has(session, 3) && answers(alloc, session, &[], "Malformed") && has(session, 3);
     session.restart(ValidatorId::new(4));
@@ -166,7 +166,7 @@ fn session_keeps_what_it_was_handed(rt: HostRuntime) {
     assert!(rt; is_kept == Some(true));
 }
 
-// Whether a section that is cut is refused within the bytes.
+// Checks that a section that is cut is refused within the bytes.
 fn is_refused_within(alloc: Global, session: &mut Session, cut: &str) -> Option<bool> {
     let bytes = parts_of(alloc, cut)?;
     match refusal_of(session, &bytes) {

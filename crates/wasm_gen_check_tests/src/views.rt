@@ -1,4 +1,4 @@
-//! What is written of modules, and what their views count.
+//! Lines that are written of modules, and counts of their views.
 
 use std::alloc::Global;
 use wasm_gen::judge::{CoreExports, TypesRef};
@@ -48,7 +48,7 @@ fn are_exported(alloc: Global, view: TypesRef<'_>, expected: &str) -> bool {
     exports.next().is_none()
 }
 
-/// Whether the module of a row is valid and exports what the row says: names, kinds and indexes.
+/// Checks that the module of a row is valid and has the exports of the row: names, kinds and indexes.
 pub fn has_exports(alloc: Global, session: &mut Session, row: &str) -> Option<bool> {
     let (_, sections, expected) = three_fields(row)?;
     let bytes = module_of(alloc, sections)?;
@@ -83,7 +83,7 @@ fn is_shown(alloc: Global, session: &mut Session, bytes: &[u8], line: &str) -> b
     }
 }
 
-/// Whether the line of a row is written of its module, and the module's view counts what the line says.
+/// Checks that the line of a row is written of its module, and that the module's view counts what the line says.
 pub fn has_line(alloc: Global, session: &mut Session, row: &str) -> Option<bool> {
     let (_, sections, line) = three_fields(row)?;
     let bytes = module_of(alloc, sections)?;

@@ -8,7 +8,7 @@ ghost use Rattle.std.specs.String.{string_bytes};
 use std::alloc::{AllocError, Global};
 use std::env::{Env, FillError};
 
-// How many bytes of an argument are read at first.
+// Number of bytes of an argument that are read at first.
 const LEAST_CAPACITY: usize = 256;
 
 // Reads an argument into so many bytes; `Err` where it is longer, or there is none.

@@ -21,7 +21,7 @@ pub enum Asked<'a> {
     Help(String),
 }
 
-/// Why the words ask for nothing.
+/// The reason why the words ask for nothing.
 #[derive(Debug, Drop)]
 pub enum WordsError {
     /// They are wrong, as this text says.
@@ -71,7 +71,7 @@ fn asked_by<'a>(alloc: Global, matches: &ArgMatches<'a>) -> Result<Asked<'a>, Wo
     }
 }
 
-// Help where that was asked for, and else what is wrong with the words, or that memory ran out.
+// Returns the help where that was asked for, and else the fault of the words, or that memory ran out.
 fn text_of<'a>(alloc: Global, error: &Error) -> Result<Asked<'a>, WordsError>
     ensures help { IfOk result (λ asked. IsHelp asked × ((kind_of error.now ≡ ErrorKind.DisplayHelp) ⊎ (kind_of error.now ≡ ErrorKind.DisplayVersion))) }
     ensures wrong { IfErr result (λ e. e ≢ WordsError.Memory

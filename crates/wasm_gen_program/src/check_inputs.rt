@@ -13,7 +13,7 @@ use wasm_core::features::WasmFeatures;
 use wasm_gen_sessions::judge::ValidatorId;
 use wasm_gen_sessions::session::Session;
 
-/// Where inputs are found by their names, and where faults are told. Std has no model of files and of standard error, so an
+/// Inputs, which are found by their names, and reports of their faults. Std has no model of files and of standard error, so an
 /// implementation over them tells contracts nothing; `check_inputs` is the same for all.
 pub trait Inputs {
     /// An input that is read.
@@ -38,7 +38,7 @@ pub fn first_session(alloc: Global) -> Session
     Session::new(alloc, WasmFeatures::default(), ValidatorId::new(0))
 }
 
-/// How the run on an input ended.
+/// Returns the outcome of the run on an input.
 pub fn outcome_of(answer: Result<bool, RunError>) -> Outcome
     ensures { result ≡ outcome answer }
 {

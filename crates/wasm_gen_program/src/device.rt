@@ -1,4 +1,4 @@
-//! Where bytes come from and go to, and what is told of failures there.
+//! Sources and sinks of bytes, and their counts of failures.
 ghost use Rattle.std.specs.Prelude.{None};
 ghost use Rattle.std.specs.Io.{ReadsAtMost, WritesAtMost};
 ghost use Rattle.std.specs.Io.KnownBytes.{ReadConsumes, WriteAppends};

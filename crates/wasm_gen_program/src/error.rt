@@ -3,7 +3,7 @@
 use thiserror::Error;
 use wasm_gen_sessions::error::GenerateError;
 
-/// Why a run ends with no answer.
+/// The reason why a run ends with no answer.
 #[derive(Clone, Copy, Debug, PartialEq, Eq, Error)]
 pub enum RunError {
     /// A read failed, or the input had not ended when the last turn was over.

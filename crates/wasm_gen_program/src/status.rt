@@ -1,7 +1,7 @@
 //! The status that the program ends with.
 ghost use Rattle.std.specs.Prelude.{◌≡◌, ◌↔◌, ◌⊎◌, All, Contains};
 
-/// How one file or one run ended.
+/// The outcome of one file or one run.
 #[derive(Clone, Copy, Debug, PartialEq, Eq)]
 pub enum Outcome {
     /// The answer is yes.

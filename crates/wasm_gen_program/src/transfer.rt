@@ -29,7 +29,7 @@ enum Turn {
     Nothing,
 }
 
-// One read into the chunk, whose bytes are then kept at the end of `bytes`.
+// Reads once into the chunk, whose bytes are then kept at the end of `bytes`.
 fn read_turn<R: Source>(
     reader: &mut R,
     chunk: &mut [u8],
@@ -65,7 +65,7 @@ fn read_turn<R: Source>(
     }
 }
 
-/// All that a source has, where that is at most `most` bytes and takes at most `turns` reads. A read
+/// Reads all that a source has, where that is at most `most` bytes and takes at most `turns` reads. A read
 /// that a signal cut short is tried again.
 ///
 /// # Errors

@@ -1,4 +1,4 @@
-//! What runs are to write.
+//! Checks of the output of runs.
 
 /// Checks that these bytes are the first of a whole, and so many.
 pub fn is_front(written: &[u8], whole: &[u8], len: usize) -> bool {

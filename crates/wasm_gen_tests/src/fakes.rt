@@ -54,7 +54,7 @@ impl Read for ScriptedReader<'_> {
     }
 }
 
-/// How many reads there were, and what came of them.
+/// Counts of reads: all of them, and those that failed or gave no byte.
 #[derive(Clone, Copy, Default, PartialEq, Eq)]
 pub struct Told {
     /// The reads.
@@ -85,16 +85,16 @@ impl Told {
 pub struct TellingReader<'a> {
     /// The bytes that are left.
     pub rest: &'a [u8],
-    /// How many are left where it fails.
+    /// Number of the bytes that are left where it fails.
     pub fails_with: Option<usize>,
-    /// How it fails there.
+    /// The kind of that failure.
     pub kind: ErrorKind,
-    /// What it was asked.
+    /// The counts of its reads.
     pub told: Option<Told>,
 }
 
 impl TellingReader<'_> {
-    // One more read, which is no longer told where there is no room for it.
+    // Counts one more read. The counts are dropped where one of them has no room for it.
     fn count(&mut self, failures: u64, ends: u64)
         ensures kept { self.new ≡ record self.old { told = self.new.told } }
         ensures told { Tells (λ old new. (new.asked ≡ old.asked + 1)
@@ -138,7 +138,7 @@ impl Source for TellingReader<'_> {
     }
 }
 
-/// What a [`NarrowWriter`] does at a call once it is full.
+/// The behaviour of a [`NarrowWriter`] at a call once it is full.
 #[derive(Clone, Copy)]
 pub enum WhenFull {
     /// It fails.
@@ -152,7 +152,7 @@ pub enum WhenFull {
 pub struct NarrowWriter {
     /// The bytes that it took.
     pub taken: Vec<u8>,
-    /// How often it failed or took none.
+    /// The number of calls at which it failed or took no byte.
     pub faults: Option<u64>,
     room: usize,
     when_full: WhenFull,
@@ -169,7 +169,7 @@ impl NarrowWriter {
         }
     }
 
-    // One more fault, which is no longer told where there is no room for it.
+    // Counts one more fault, and fails or takes no byte. The count is dropped where it has no room for one more.
     fn fail(&mut self) -> io::Result<usize>
         ensures none { IfOk result (λ n. n ≡ 0) }
         ensures kept { self.new.taken.items ≡ self.old.taken.items }

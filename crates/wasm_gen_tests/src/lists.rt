@@ -7,7 +7,7 @@ use wasm_core::types::{
 
 const HEADER: &[u8] = b"\0asm\x01\0\0\0";
 
-// How many value types are no references.
+// Number of value types that are no references.
 const NUMBERS_AND_VECTORS: u8 = 5;
 
 fn reference(heap: AbstractHeapType) -> ValType {
@@ -42,7 +42,7 @@ pub struct Drawing {
     pub seed: Vec<u8>,
     /// The module, whose bodies are `unreachable` without locals.
     pub module: Vec<u8>,
-    /// How many bytes of the module stand before its bodies.
+    /// Number of bytes of the module before its bodies.
     pub front_len: usize,
     // The entries of the section that is written.
     entries: Vec<u8>,
@@ -95,7 +95,7 @@ impl Drawing {
         value_type
     }
 
-    // Each value type after a true, and a false.
+    // Writes value types, each after a true, and a false, and returns them.
     fn value_types(&mut self, alloc: Global) -> Vec<ValType> {
         let count = self.below(5);
         put(&mut self.entries, count);

@@ -1,4 +1,4 @@
-//! What the types of modules have, counted.
+//! Counts of modules by marks of their types.
 
 use crate::lists::put;
 use crate::narrowings::{is_narrowed_field, some_are_narrowed, some_fields_are_narrowed};
@@ -52,12 +52,12 @@ const MARKS: &[Mark] = &[
     Mark::Back,
 ];
 
-/// How many modules have a mark.
+/// The number of modules that have a mark.
 #[derive(Clone, Copy, Debug)]
 pub struct Count {
     /// The mark.
     pub mark: Mark,
-    /// How many modules have it.
+    /// Number of modules that have it.
     pub modules: u32,
 }
 

@@ -1,4 +1,4 @@
-//! What modules have besides their types, counted.
+//! Counts of modules by their parts besides the types.
 
 use crate::lists::put;
 use std::alloc::Global;
@@ -120,12 +120,12 @@ const PARTS: &[Part] = &[
     Part::PassiveData,
 ];
 
-/// How many modules have a part.
+/// The number of modules that have a part.
 #[derive(Clone, Copy, Debug)]
 pub struct PartCount {
     /// The part.
     pub part: Part,
-    /// How many modules have it.
+    /// Number of modules that have it.
     pub modules: u32,
 }
 

@@ -60,7 +60,7 @@ fn fills(alloc: Global, session: &mut Session, room: usize, when_full: WhenFull)
     answer == expected && is_front(&writer.taken, YES.as_bytes(), room)
 }
 
-// Whether it does so in a new session for each room.
+// Checks that it does so in a new session for each room.
 fn fills_each(alloc: Global, session: &mut Session, line: &str) -> Option<bool> {
     for room in 0..=line.len() {
         for when_full in [WhenFull::Fails, WhenFull::TakesNone] {
@@ -79,7 +79,7 @@ fn writes_as_much_as_there_is_room(rt: HostRuntime) {
     assert!(rt; holds == Some(true));
 }
 
-// Whether a read that fails is told, where nothing is written, and the session is as it was.
+// Checks that a read that fails is returned as an error, that nothing is written, and that the session is as it was.
 fn fails_after(alloc: Global, session: &mut Session, script: &str) -> Option<bool> {
     let mut reader = ScriptedReader::new(script);
     let mut written = Vec::new(alloc);

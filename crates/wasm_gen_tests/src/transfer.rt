@@ -55,7 +55,7 @@ const SCRIPTS: &str = "
     a      | 10        | 536870912 | TooLong
 ";
 
-// Whether this comes of reading a script: the bytes, or the error.
+// Checks that reading a script gives this: the bytes, or the error.
 fn reads(alloc: Global, script: &str, most: u64, turns: u64, expected: &str) -> Option<bool> {
     let mut reader = ScriptedReader::new(script);
     match read_whole(alloc, &mut reader, usize::try_from(most).ok()?, turns) {
@@ -66,7 +66,7 @@ fn reads(alloc: Global, script: &str, most: u64, turns: u64, expected: &str) -> 
     }
 }
 
-// Whether a row holds.
+// Checks that a row holds.
 fn holds(alloc: Global, row: &str) -> Option<bool> {
     let (script, most, turns, expected) = four_fields(row)?;
     reads(alloc, script, number_of(most)?, number_of(turns)?, expected)

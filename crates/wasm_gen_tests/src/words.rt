@@ -8,7 +8,7 @@ use wasm_gen_program::command::matches_of;
 use wasm_test_rows::fields::three_fields;
 use wasm_test_rows::rows::check_rows;
 
-// What is asked about words, the words after the program's name, and the answer.
+// A question about words, the words after the program's name, and the answer.
 const ROWS: &str = "
     // What clap refuses them for, and the status that they end with.
     refusal  | check a        | none

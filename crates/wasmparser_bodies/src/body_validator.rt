@@ -1,4 +1,4 @@
-//! What validates a body, as `read_body` sees it: `FuncValidator` of `wasmparser_func_validator`, which implements it in its own `body_validator.rt`.
+//! The validator of a body, as `read_body` sees it: `FuncValidator` of `wasmparser_func_validator`, which implements it in its own `body_validator.rt`.
 
 ghost use Rattle.std.specs.Prelude.{◌≡◌, ◌≢◌, ◌↔◌, [], IsTrue, true};
 ghost use Rattle.wasm_bodies.specs.BodyContext.{written};
@@ -15,10 +15,10 @@ use wasmparser_types::val_type::ValType;
 /// Validates a body: first its locals, run by run, and then its operators. After a refusal it is done with. This is a trait, though it has one
 /// implementation, so that reading is proved over the state of a body alone, without the stacks and the rules behind it.
 pub trait BodyValidator {
-    // What the body is validated in, and what was validated of it.
+    // The context in which the body is validated, and the part of it that was validated.
     ghost state: { Self → BodyState };
 
-    // What stays the same, whatever is answered.
+    // The part that stays the same, whatever is returned.
     ghost Kept: { Type 0 };
 
     ghost kept: { Self → Kept };

@@ -2,7 +2,7 @@
 
 use wasmparser_operators::immediates::BlockType;
 
-/// What opened a block.
+/// The kind of a block, by the operator that opened it.
 #[derive(Clone, Copy, Debug, PartialEq, Eq)]
 pub enum FrameKind {
     /// A `block`, or the body itself.
@@ -18,14 +18,14 @@ pub enum FrameKind {
 /// An open block.
 #[derive(Clone, Copy, Debug, PartialEq, Eq)]
 pub struct Frame {
-    /// What opened it.
+    /// Its kind.
     pub kind: FrameKind,
-    /// What it takes and gives. A value type has ids.
+    /// Its type: the operands that it takes and the results that it gives. A value type has ids.
     pub block_type: BlockType,
-    /// How many operands are below its list.
+    /// Number of operands below its list.
     pub height: usize,
-    /// Whether what follows is never reached.
+    /// `true` if the code that follows is never reached.
     pub unreachable: bool,
-    // How many locals were assigned before it.
+    // Number of locals that were assigned before it.
     pub(crate) init_height: usize,
 }

@@ -17,13 +17,13 @@ use wasmparser_types::val_type::ValType;
 /// A local.
 #[derive(Clone, Copy, Debug, PartialEq, Eq)]
 pub struct Local {
-    /// Whether it has a value from the start, as parameters do and what is of a type with a default.
+    /// `true` if it has a value from the start, as parameters and locals of a type with a default do.
     pub is_set: bool,
     /// Its type, with ids.
     pub value_type: ValType,
 }
 
-/// Why locals weren't added.
+/// The reason why locals weren't added.
 #[derive(Clone, Copy, Debug, PartialEq, Eq)]
 pub enum LocalsError {
     /// There would be more than the limit lets through.
@@ -40,15 +40,15 @@ struct Run {
     local: Local,
 }
 
-// How many locals are kept one by one. Of further parameters only the number is kept, since their types are in the function's type: a body takes time by its
-// bytes, not by its parameters.
+// Number of locals that are kept one by one. Of further parameters only the number is kept, since their types are in the function's type: a body takes time by
+// its bytes, not by its parameters.
 const FIRST: u32 = 64;
 
 /// The locals of a body, its parameters first. They take memory by the run, and no more than 64 parameters are copied.
 #[derive(Drop)]
 pub struct Locals {
     first: Vec<Local>,
-    // How many parameters come after the first ones.
+    // Number of parameters after the first ones.
     later: u32,
     // Those after these.
     runs: Vec<Run>,
@@ -154,7 +154,7 @@ fn run_at(runs: &[Run], index: u32) -> Option<&Run>
 }
 
 impl Locals {
-    /// Without a local. Nothing is allocated.
+    /// Creates a list without a local. Nothing is allocated.
     pub fn new(alloc: Global) -> Self
         ensures { result ≡ no_locals }
     {
@@ -166,7 +166,7 @@ impl Locals {
         }
     }
 
-    /// For the next body: as a new one, but the capacity is kept.
+    /// Clears it for the next body: as a new one, but the capacity is kept.
     pub fn reset(&mut self)
         ensures { self.new ≡ no_locals }
     {
@@ -243,7 +243,7 @@ impl Locals {
         self.add(count, &local)
     }
 
-    /// How many locals there are.
+    /// Returns the number of locals.
     pub fn len(&self) -> u32
         ensures count { (params : List (types.ValType Index)) → result ≡ length (locals_with params self.now) }
         ensures within { (params : List (types.ValType Index)) → length (locals_with params self.now) ≤ limits.most limits.Locals }

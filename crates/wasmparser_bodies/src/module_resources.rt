@@ -31,8 +31,8 @@ use wasmparser_types::ref_type::RefType;
 use wasmparser_types::sub_type::SubType;
 use wasmparser_types::val_type::ValType;
 
-/// What a module tells of itself when its bodies are validated. Types that it tells have ids in place of type indexes. An index past the
-/// end of its index space is answered with None.
+/// The resources of a module by which its bodies are validated. The types that it returns have ids in place of type indexes. For an index past the
+/// end of its index space it returns None.
 pub trait WasmModuleResources {
     // All that can be asked.
     ghost resources: { Self → Resources };
@@ -131,11 +131,11 @@ pub trait WasmModuleResources {
     fn top_type(&self, heap_type: &HeapType) -> HeapType
         ensures { heaps.heap_type result ≡ (resources self.now).top_of (heaps.heap_type heap_type.now) };
 
-    /// How many element segments there are.
+    /// Returns the number of element segments.
     fn element_count(&self) -> u32
         ensures { result ≡ length (resources self.now).items.elements };
 
-    /// How many data segments there are, where a data count section says it.
+    /// Returns the number of data segments, where a data count section states it.
     fn data_count(&self) -> Option<u32>
         ensures { result ≡ (resources self.now).items.data_count };
 

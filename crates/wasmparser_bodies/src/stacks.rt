@@ -45,7 +45,7 @@ impl Model for Stacks {
     ghost invariant = { IsWithin };
 }
 
-// How many operands are below the innermost list.
+// Returns the number of operands below the innermost list.
 #[inline(always)]
 fn base(frames: &[Frame]) -> usize
     ensures { result ≡ base_of (reverse frames.now) }
@@ -67,7 +67,7 @@ fn is_open(frames: &[Frame]) -> bool
     }
 }
 
-// Where the last operands begin, as many as are known of the innermost list.
+// Returns the index where the last operands begin, as many as are known of the innermost list.
 #[inline(always)]
 fn start_of(frames: &[Frame], len: usize, count: usize) -> usize
     requires { base_of (reverse frames.now) ≤ len }
@@ -105,7 +105,7 @@ fn grow(places: &mut Vec<usize>, index: u32) -> Result<(), AllocError>
 }
 
 impl Stacks {
-    /// Without an operand, a block or an assigned local. Nothing is allocated.
+    /// Creates stacks without an operand, a block or an assigned local. Nothing is allocated.
     pub fn new(alloc: Global) -> Self
         ensures { result ≡ record { now = fresh [] []; frames = [] } }
     {
@@ -117,7 +117,7 @@ impl Stacks {
         }
     }
 
-    /// For the next body: as a new one, but the room is kept.
+    /// Clears them for the next body: as new ones, but the capacity is kept.
     pub fn reset(&mut self)
         ensures { self.new ≡ record { now = fresh [] []; frames = [] } }
     {
@@ -236,7 +236,7 @@ impl Stacks {
         Ok(())
     }
 
-    /// As `replace`, with one operand more on top.
+    /// Does the same as `replace`, with one operand more on top.
     ///
     /// # Errors
     /// Where memory runs out. The stacks are then as they were.
@@ -339,7 +339,7 @@ impl Stacks {
         Ok(())
     }
 
-    /// As `leave` without operands that are given. Nothing is allocated.
+    /// Does the same as `leave` without results. Nothing is allocated.
     #[inline(always)]
     pub fn leave_empty(&mut self)
         ensures { self.new ≡ left_with [] self.old }
@@ -379,7 +379,7 @@ impl Stacks {
         Ok(())
     }
 
-    /// What follows in the innermost list is never reached.
+    /// Marks the code that follows in the innermost list as never reached.
     #[inline(always)]
     pub fn mark_unreachable(&mut self)
         requires { self.old.frames ≢ [] }
@@ -398,7 +398,7 @@ impl Stacks {
         self.operands.truncate(height);
     }
 
-    /// How many operands of the innermost list are known.
+    /// Returns the number of operands of the innermost list that are known.
     #[inline(always)]
     pub fn known_len(&self) -> usize
         ensures { result ≡ length self.now.now.known }
@@ -427,7 +427,7 @@ impl Stacks {
         self.frames.is_empty()
     }
 
-    /// How many blocks are open, the body itself among them.
+    /// Returns the number of open blocks, the body itself among them.
     #[inline(always)]
     pub fn frame_count(&self) -> usize
         ensures { result ≡ length self.now.frames }
@@ -448,7 +448,7 @@ impl Stacks {
         }
     }
 
-    /// How many operands are known, in all lists.
+    /// Returns the number of operands that are known, in all lists.
     pub fn operand_count(&self) -> usize
         ensures { result ≡ length (all_known self.now) }
     {

@@ -1,4 +1,4 @@
-//! Whether a constant expression gives a value of a type (Core Specification 3.0, Validation, "Constant Expressions").
+//! Validation of a constant expression that has to give a value of a type (Core Specification 3.0, Validation, "Constant Expressions").
 
 ghost use Rattle.std.specs.Prelude.{◌≡◌, ◌↔◌, IfSome, IsTrue, Some};
 ghost use Rattle.wasm_spec.specs.Subtyping.{ValBelow};
@@ -127,7 +127,7 @@ impl<'a> Scope<'a> {
         }
     }
 
-    // One operand is left, below this type.
+    // Checks that one operand is left, below this type.
     fn check_last(&self, operands: &mut Operands, wanted: &ValType) -> Result<(), Error>
         requires known { AreKnown (known self.now) operands.old }
         requires wanted { IsWanted (known self.now) (val_type wanted.now) }

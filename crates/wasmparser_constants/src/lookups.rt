@@ -1,4 +1,4 @@
-//! What constant expressions look up: types, globals, fields.
+//! Lookups of constant expressions: types, globals, fields.
 
 ghost use Rattle.std.specs.Prelude.{◌≡◌, false, true, IfSome, map, option_map};
 ghost use Rattle.std.specs.List.{AllByRecursion};
@@ -89,7 +89,7 @@ impl<'a> Scope<'a> {
         self.by_ids(&ty)
     }
 
-    // What a global holds that an expression may see, by type indexes.
+    // Returns the type of a global by type indexes, if an expression may see the global.
     pub(crate) fn visible_global(&self, index: u32) -> Option<ValType>
         ensures { option_map (λ ty. val_map number_of (val_type ty)) result ≡ option_map (λ type. type.value_type) (visible_global (features_of self.now) (context self.now) index) }
     {
@@ -115,7 +115,7 @@ impl<'a> Scope<'a> {
         Some(&ty.fields)
     }
 
-    // What an item of the array is that an index names, as an operand, if it names one.
+    // Returns the type of the items of the array that an index names, as an operand, if it names one.
     pub(crate) fn element(&self, index: u32) -> Option<ValType>
         ensures same { option_map (λ item. meant_type (known self.now) (val_type item)) result ≡ element_at (context self.now) index }
         ensures ids { IfSome result (λ item. AreIds (known self.now) (val_refs (val_type item))) }

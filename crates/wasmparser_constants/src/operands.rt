@@ -30,7 +30,7 @@ impl Operands {
     ghost use Rattle.wasmparser_error.specs.declared.error.ErrorKind.TheVariants as kinds;
     ghost use Rattle.wasmparser_types.specs.ValTypes.{val_type};
 
-    /// No operands.
+    /// Creates a list without operands.
     pub fn new(alloc: Global) -> Operands
         ensures { result ≡ [] }
     {

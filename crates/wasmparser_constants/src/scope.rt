@@ -1,4 +1,4 @@
-//! What constant expressions see of a module.
+//! The part of a module that constant expressions see.
 
 ghost use Rattle.std.specs.Prelude.{◌≡◌, ◌++◌, slice_get};
 

@@ -1,4 +1,4 @@
-//! What operators of a constant expression do with the operands (Core Specification 3.0, Validation, "Constant Expressions").
+//! Steps of the operators of a constant expression on the operands (Core Specification 3.0, Validation, "Constant Expressions").
 
 ghost use Rattle.std.specs.Prelude.{◌≡◌, Bool, IfSome, IsSome, Option, Some, map, option_map, replicate, reverse};
 ghost use Rattle.std.specs.List.{AllByRecursion};

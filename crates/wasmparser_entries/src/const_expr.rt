@@ -19,7 +19,7 @@ use wasmparser_error::error::Error;
 use wasmparser_readers::from_reader::{FromReader, Item};
 use wasmparser_readers::passing::{Pass, fork, passed_part};
 
-// What an expression ends with.
+// The last byte of an expression.
 const END: u8 = 0x0b;
 
 // Reads the next operator of an expression, or none at its end.

@@ -49,7 +49,7 @@ pub enum ConstOperator {
     RefFunc {
         function_index: u32,
     },
-    /// What a global holds.
+    /// Gets the value of a global.
     GlobalGet {
         global_index: u32,
     },
@@ -94,7 +94,7 @@ pub enum ConstOperator {
     RefI31,
 }
 
-// What operators of structures, arrays and references begin with, and those of vectors.
+// The first bytes of operators of structures, arrays and references, and of those of vectors.
 const AGGREGATE: u8 = 0xfb;
 
 const VECTOR: u8 = 0xfd;

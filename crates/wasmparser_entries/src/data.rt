@@ -16,7 +16,7 @@ use wasm_core_read::malformed::Malformed;
 use wasmparser_error::error::Error;
 use wasmparser_readers::from_reader::{FromReader, Item};
 
-/// When a data segment is used.
+/// The use of a data segment.
 #[derive(Debug, Drop)]
 pub enum DataKind<'a> {
     /// By instructions.
@@ -25,7 +25,7 @@ pub enum DataKind<'a> {
     Active {
         /// The index of the memory, where it is written: else it is memory 0.
         memory_index: Option<u32>,
-        /// What gives the place in the memory.
+        /// The expression that gives the place in the memory.
         offset_expr: ConstExpr<'a>,
     },
 }
@@ -33,7 +33,7 @@ pub enum DataKind<'a> {
 /// A data segment.
 #[derive(Debug, Drop)]
 pub struct Data<'a> {
-    /// When it is used.
+    /// Its use.
     pub kind: DataKind<'a>,
     /// Its bytes.
     pub data: &'a [u8],

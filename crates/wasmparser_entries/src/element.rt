@@ -26,7 +26,7 @@ use wasmparser_readers::section_limited::SectionLimited;
 use wasmparser_readers::val_type::{read_ref_type, ref_is_of_module};
 use wasmparser_types::ref_type::RefType;
 
-/// When an element segment is used.
+/// The use of an element segment.
 #[derive(Debug, Drop)]
 pub enum ElementKind<'a> {
     /// By instructions.
@@ -35,7 +35,7 @@ pub enum ElementKind<'a> {
     Active {
         /// The index of the table, where it is written: else it is table 0.
         table_index: Option<u32>,
-        /// What gives the place in the table.
+        /// The expression that gives the place in the table.
         offset_expr: ConstExpr<'a>,
     },
     /// Never: its functions may be referred to.
@@ -54,7 +54,7 @@ pub enum ElementItems<'a> {
 /// An element segment.
 #[derive(Debug, Drop)]
 pub struct Element<'a> {
-    /// When it is used.
+    /// Its use.
     pub kind: ElementKind<'a>,
     /// Its items.
     pub items: ElementItems<'a>,

@@ -27,7 +27,7 @@ use wasmparser_readers::val_type::val_is_of_module;
 pub struct Global<'a> {
     /// Its type.
     pub ty: GlobalType,
-    /// What gives the value that it begins with.
+    /// The expression that gives its first value.
     pub init_expr: ConstExpr<'a>,
 }
 

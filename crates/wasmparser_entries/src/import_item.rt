@@ -20,7 +20,7 @@ use wasmparser_readers::type_ref::{TypeRef, external_is_of_module, read_external
 pub struct ImportItemCompact<'a> {
     /// Its name in the module that the group names.
     pub name: &'a str,
-    /// What is imported.
+    /// The type of the item.
     pub ty: TypeRef,
 }
 

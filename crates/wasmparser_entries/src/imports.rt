@@ -25,7 +25,7 @@ pub struct Import<'a> {
     pub module: &'a str,
     /// Its name there.
     pub name: &'a str,
-    /// What is imported.
+    /// The type of the item.
     pub ty: TypeRef,
 }
 
@@ -45,14 +45,14 @@ pub enum Imports<'a> {
     Compact2 {
         /// The module's name.
         module: &'a str,
-        /// What each of them is.
+        /// The type of each of them.
         ty: TypeRef,
         /// Their names.
         names: SectionLimited<'a, &'a str>,
     },
 }
 
-// What stands after the module's name and a byte 0 in a group of imports.
+// The byte after the module's name and a byte 0 in a group of imports.
 const ITEMS: u8 = 0x7f;
 
 // The same where the imports have one type.

@@ -21,15 +21,15 @@ use wasmparser_readers::from_reader::{FromReader, Item};
 use wasmparser_readers::table_type::{TableType, read_packed_table, read_table_type_from};
 use wasmparser_readers::val_type::ref_is_of_module;
 
-// What a table with an initialiser begins with.
+// The first byte of a table with an initialiser.
 const INITIALISED: u8 = 0x40;
 
-/// What the elements of a table begin as.
+/// The first value of a table's elements.
 #[derive(Debug, Drop)]
 pub enum TableInit<'a> {
     /// Null: no initialiser is written.
     RefNull,
-    /// What this gives.
+    /// The value of this expression.
     Expr(ConstExpr<'a>),
 }
 
@@ -38,7 +38,7 @@ pub enum TableInit<'a> {
 pub struct Table<'a> {
     /// Its type.
     pub ty: TableType,
-    /// What its elements begin as.
+    /// The first value of its elements.
     pub init: TableInit<'a>,
 }
 

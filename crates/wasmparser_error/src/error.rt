@@ -1,4 +1,4 @@
-//! What a validator answers when it refuses a module.
+//! The error that a validator returns when it refuses a module.
 
 ghost use Rattle.std.specs.Prelude.{◌≡◌};
 ghost use Rattle.wasmparser_error.specs.declared.error.ErrorKind.TheVariants as kinds;
@@ -8,13 +8,13 @@ use thiserror::Error;
 use wasm_core_read::malformed::Malformed;
 use wasm_core_types::limits::Limit;
 
-/// Why a module is refused. It is shown as its kind in lower case, without the case of a limit.
+/// The reason why a module is refused. It is shown as its kind in lower case, without the case of a limit.
 #[derive(Clone, Copy, Debug, PartialEq, Eq, Hash, Error)]
 #[error("{}", self.name())]
 pub enum ErrorKind {
     /// The bytes do not read.
     Malformed,
-    /// What they read breaks a rule of validity.
+    /// The bytes read as something that breaks a rule of validity.
     Invalid,
     /// A count, a size, a depth or a sum passes a limit.
     Limit(Limit),
@@ -60,7 +60,7 @@ impl ErrorKind {
 pub struct Error {
     /// A place in the bytes that were handed in, or their end; 0 where memory ran out.
     pub offset: u64,
-    /// Why the module is refused. Where it has several faults, any of them may be named.
+    /// The reason for the refusal. Where the module has several faults, any of them may be named.
     pub kind: ErrorKind,
 }
 

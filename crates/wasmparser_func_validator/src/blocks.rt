@@ -83,7 +83,7 @@ impl<R: WasmModuleResources> Body<R> {
         Ok(())
     }
 
-    // `else`: the first list of an `if` ends, and the second begins.
+    // Validates an `else`: the first list of an `if` ends, and the second begins.
     pub(crate) fn else_(&self, stacks: &mut Stacks) -> Result<(), Refusal>
         ensures { Steps (stepped_in (body_context R.resources self.now) stacks.old.frames stacks.old.now spec.Else) stacks.old stacks.new result }
     {
@@ -100,7 +100,7 @@ impl<R: WasmModuleResources> Body<R> {
         Ok(())
     }
 
-    // `end`: the innermost list ends, and what it gives goes on top of what lies below.
+    // Validates an `end`: the innermost list ends, and its results go on top of the operands below.
     pub(crate) fn close(&self, stacks: &mut Stacks) -> Result<(), Refusal>
         ensures { Steps (stepped_in (body_context R.resources self.now) stacks.old.frames stacks.old.now spec.End) stacks.old stacks.new result }
     {

@@ -23,7 +23,7 @@ use wasmparser_bodies::operand::Operand;
 use wasmparser_bodies::stacks::Stacks;
 use wasmparser_types::val_type::ValType;
 
-/// What stays the same while a body is validated, its locals aside.
+/// The part of a validator that stays the same while a body is validated, its locals aside.
 #[derive(Drop)]
 pub struct Body<R> {
     pub(crate) resources: R,
@@ -170,7 +170,7 @@ impl<R: WasmModuleResources> Body<R> {
         Ok(())
     }
 
-    // True if both lists have equal length and each type is a subtype of its counterpart.
+    // Checks that both lists have equal length and each type is a subtype of its counterpart.
     pub(crate) fn are_below(&self, types: &[ValType], wanted: &[ValType]) -> bool
         ensures { result ≡ are_below (items_in R.resources self.now) (map val_type types.now) (map val_type wanted.now) }
     {

@@ -164,7 +164,7 @@ impl<R: WasmModuleResources> Body<R> {
         }
     }
 
-    // What a table of functions is indexed by.
+    // Returns the type of the indexes of a table of functions.
     fn index_of_functions(&self, table: u32) -> Option<ValType>
         ensures { option_map val_type result ≡ option_and_then (λ t. provided ((items_in R.resources self.now).is_below (table_item t) (value_of funcref)) (Some (table_index t))) (slice_get (items_in R.resources self.now).tables table) }
     {

@@ -27,7 +27,7 @@ use wasmparser_readers::passing::fork;
 // The first type index that can't be packed. A module that the limits let through has fewer types.
 const FIRST_UNPACKED: u32 = 1 << 20;
 
-// What is refused where there are more types than indexes that can be packed.
+// Creates the error for a module with more types than indexes that can be packed.
 fn past_types(offset: u64) -> Error
     ensures { result ≡ past_types offset }
 {

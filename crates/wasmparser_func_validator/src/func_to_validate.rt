@@ -1,4 +1,4 @@
-//! What is needed to validate a body.
+//! A function to validate, and the memory that its validator takes.
 
 ghost use Rattle.std.specs.Prelude.{◌≡◌, IfErr, IfOk, IsSome, false, map};
 ghost use Rattle.wasm_bodies.specs.BodyContext.{func_at};
@@ -25,7 +25,7 @@ pub struct FuncValidatorAllocations {
 }
 
 impl FuncValidatorAllocations {
-    /// No room yet. Nothing is allocated.
+    /// Creates an instance without capacity. Nothing is allocated.
     pub fn new(alloc: Global) -> FuncValidatorAllocations {
         FuncValidatorAllocations {
             stacks: Stacks::new(alloc),
@@ -37,7 +37,7 @@ impl FuncValidatorAllocations {
 /// A function whose body is to be validated.
 #[derive(Debug, Drop)]
 pub struct FuncToValidate<T> {
-    /// What the module tells of itself.
+    /// The resources of the module.
     pub resources: T,
     /// The index of the function.
     pub index: u32,

@@ -40,7 +40,7 @@ pub struct FuncValidator<T> {
     pub(crate) failed: bool,
 }
 
-// What is refused after a refusal.
+// Creates the error for a call after a refusal.
 pub(crate) fn failed(offset: u64) -> Error
     ensures { result ≡ record { offset = offset; kind = kinds.Failed } }
 {
@@ -88,7 +88,7 @@ impl<T: WasmModuleResources> FuncValidator<T> {
         }
     }
 
-    /// As `op`, but a refusal changes nothing.
+    /// Does the same as `op`, but a refusal changes nothing.
     ///
     /// # Errors
     /// Those of `op`.
@@ -148,7 +148,7 @@ impl<T: WasmModuleResources> FuncValidator<T> {
         }
     }
 
-    /// So many more locals of a type, whose type index, if it has one, is one of the module.
+    /// Adds so many locals of a type, whose type index, if it has one, is one of the module.
     ///
     /// # Errors
     /// `Body` at the offset, where the type is not allowed or there is no such type, `Limit` at the offset, where there are too many
@@ -176,7 +176,7 @@ impl<T: WasmModuleResources> FuncValidator<T> {
         &self.body.features
     }
 
-    /// What the module tells of itself.
+    /// Returns the resources of the module.
     pub fn resources(&self) -> &T
         ensures { result.now ≡ self.now.body.resources }
     {
@@ -190,7 +190,7 @@ impl<T: WasmModuleResources> FuncValidator<T> {
         self.index
     }
 
-    /// How many locals there are, parameters counted.
+    /// Returns the number of locals, parameters counted.
     pub fn len_locals(&self) -> u32
         ensures { result ≡ unless_failed self.now.failed 0 (length (locals_in_body T.resources self.now.body)) }
     {
@@ -213,7 +213,7 @@ impl<T: WasmModuleResources> FuncValidator<T> {
         }
     }
 
-    /// How many operands are known, in all open blocks.
+    /// Returns the number of operands that are known, in all open blocks.
     pub fn operand_stack_height(&self) -> usize
         ensures { result ≡ unless_failed self.now.failed 0 (length (all_known self.now.stacks)) }
     {
@@ -238,7 +238,7 @@ impl<T: WasmModuleResources> FuncValidator<T> {
         }
     }
 
-    /// How many blocks are open, the body itself counted.
+    /// Returns the number of open blocks, the body itself counted.
     pub fn control_stack_height(&self) -> usize
         ensures { result ≡ unless_failed self.now.failed 0 (length self.now.stacks.frames) }
     {

@@ -1,4 +1,4 @@
-//! Which operators features allow.
+//! Operators that features allow.
 
 ghost use Rattle.std.specs.Prelude.{◌≡◌, ◌∷◌, ◌++◌, []};
 ghost use Rattle.std.specs.List.{list_all};

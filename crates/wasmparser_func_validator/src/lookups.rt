@@ -1,4 +1,4 @@
-//! What indexes in bodies name.
+//! Lookups of the indexes in bodies.
 
 ghost use Rattle.std.specs.Prelude.{◌≡◌, ◌∷◌, [], ◌&&◌, ◌^◌, Some, map, nat_le, nat_lt, option_map, slice_get, true, false, if◌then◌else◌};
 ghost use Rattle.std.specs.Option.{option_and_then, option_copied};
@@ -38,7 +38,7 @@ pub(crate) fn address_type(is_64: bool) -> ValType
     if is_64 { ValType::I64 } else { ValType::I32 }
 }
 
-// What filling a part of a memory or a table takes.
+// Returns the types of the operands that filling a part of a memory or a table takes.
 pub(crate) fn fill_types(index: &ValType, item: &ValType) -> [ValType; 3]
     ensures { map val_type result ≡ val_type index.now ∷ val_type item.now ∷ val_type index.now ∷ [] }
 {
@@ -106,7 +106,7 @@ impl<R: WasmModuleResources> Body<R> {
         }
     }
 
-    // What an element holds, as an operand, if the type index is an array's.
+    // Returns the type of an element, as an operand, if the type index is an array's.
     #[tactic(auto, using(crate::proofs::LookupLaws::composites))]
     pub(crate) fn element_at(&self, index: u32) -> Option<ValType>
         ensures { option_map val_type result ≡ option_map unpacked (element_at (items_in R.resources self.now) index) }
@@ -237,7 +237,7 @@ impl<R: WasmModuleResources> Body<R> {
 
     // ---- memories and tables
 
-    // What a memory is addressed by.
+    // Returns the type of the addresses of a memory.
     pub(crate) fn address_of(&self, memory: u32) -> Option<ValType>
         ensures { option_map val_type result ≡ option_map memory_index (slice_get (items_in R.resources self.now).memories memory) }
     {
@@ -247,7 +247,7 @@ impl<R: WasmModuleResources> Body<R> {
         }
     }
 
-    // What an access to a memory is addressed by, whose greatest alignment this is.
+    // Returns the type of the address of an access to a memory with this greatest alignment.
     #[inline(always)]
     pub(crate) fn accessed(&self, memarg: &MemArg, max_align: u8) -> Option<ValType>
         ensures { option_map val_type result ≡ accessed (items_in R.resources self.now) (access 0 Int32 max_align) (memory_argument memarg.now) }
@@ -263,7 +263,7 @@ impl<R: WasmModuleResources> Body<R> {
         }
     }
 
-    // What a table is indexed by, and what it holds.
+    // Returns the type of a table's indexes, and that of its elements.
     pub(crate) fn table_types(&self, table: u32) -> Option<(ValType, ValType)>
         ensures { option_map pair_kept result ≡ option_map table_seen (slice_get (items_in R.resources self.now).tables table) }
     {

@@ -17,7 +17,7 @@ pub(crate) enum NumberType {
 }
 
 impl NumberType {
-    // It as a value type.
+    // Returns it as a value type.
     #[inline(always)]
     pub(crate) fn val_type(self) -> ValType
         ensures { val_type result ≡ value_type (number self) }

@@ -14,7 +14,7 @@ use crate::number_type::NumberType;
 use wasm_core_types::features::WasmFeatures;
 use wasm_core_types::scalar_operator::ScalarOperator;
 
-// What an operator on numbers takes and gives.
+// The form of an operator on numbers: the operands that it takes and the result that it gives.
 #[derive(Clone, Copy, Debug, PartialEq, Eq)]
 pub(crate) enum NumericForm {
     // One operand of the first type, and a result of the second.
@@ -23,7 +23,7 @@ pub(crate) enum NumericForm {
     Binary(NumberType, NumberType),
 }
 
-// What the operator takes and gives.
+// Returns the form of the operator.
 #[tactic(auto, unfolding(wasmparser_operators::specs::CodeTables::row_of))]
 pub(crate) fn form_of(operator: ScalarOperator) -> NumericForm
     ensures takes { form_takes result ≡ (scalar_row operator).takes }

@@ -240,7 +240,7 @@ impl<R: WasmModuleResources> Body<R> {
         }
     }
 
-    // Plain operators at the front, and the bytes that are left.
+    // Validates plain operators at the front, and returns the bytes that are left.
     pub(crate) fn run<'a>(&self, stacks: &mut Stacks, code: &'a [u8]) -> &'a [u8]
         requires inside { stacks.old.frames ≢ [] }
         ensures { LeadsOn (body_context R.resources self.now) stacks.old stacks.new code.now result.now }

@@ -1,7 +1,7 @@
-//! How the most frequent operators are validated, by their codes. A code that stands in a wrong class is left to other ways, so that nothing has to
-//! be proved of the table.
+//! Classes of the most frequent operators, by their codes, for their validation. A code that stands in a wrong class is left to other ways, so that
+//! nothing has to be proved of the table.
 
-// How an operator is validated.
+// The class of an operator, by which it is validated.
 #[derive(Clone, Copy)]
 pub(crate) enum Class {
     // A number follows: each of these operators is an arm of its own.

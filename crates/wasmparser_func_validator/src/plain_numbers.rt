@@ -197,7 +197,7 @@ fn past_six_bytes(bits: u32, code: &[u8]) -> Option<&[u8]>
     }
 }
 
-// How many bits an offset has.
+// Returns the number of bits of an offset.
 #[inline(always)]
 pub(crate) fn offset_bits(features: WasmFeatures) -> u32
     ensures { result ≡ reading.offset_bits (feature_set features) }

@@ -1,4 +1,4 @@
-//! What plain loads, stores and blocks are, by their codes (Core Specification 3.0, Binary Format, "Memory Instructions" and "Control Instructions").
+//! Plain loads, stores and blocks, by their codes (Core Specification 3.0, Binary Format, "Memory Instructions" and "Control Instructions").
 
 ghost use Rattle.std.specs.Prelude.{IfSome};
 ghost use Rattle.wasm_bodies.specs.Operators as spec;

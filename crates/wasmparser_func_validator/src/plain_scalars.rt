@@ -1,4 +1,4 @@
-//! What plain operators on numbers take and give, by their codes (Core Specification 3.0, Binary Format, "Numeric Instructions"). None is an
+//! Operands and results of plain operators on numbers, by their codes (Core Specification 3.0, Binary Format, "Numeric Instructions"). None is an
 //! operator that a proposal brought.
 
 ghost use Rattle.std.specs.Prelude.{IfSome};

@@ -143,7 +143,7 @@ impl<R: WasmModuleResources> Body<R> {
         true
     }
 
-    // What an operator on numbers does.
+    // Validates an operator on numbers by its form.
     #[inline(always)]
     fn compute(&self, stacks: &mut Stacks, form: NumericForm) -> bool
         requires fit { NumbersFit (items_in R.resources self.now) }
@@ -238,7 +238,7 @@ impl<R: WasmModuleResources> Body<R> {
 
     // ---- memories
 
-    // Where in a memory an operator goes, and the bytes after that.
+    // Reads the memory argument of an operator, and returns it with the bytes after it.
     #[inline(always)]
     fn memarg<'a>(&self, max_align: u8, code: &'a [u8]) -> Option<(MemArg, &'a [u8])>
         ensures { IfSome result (λ x. memory_argument_at (feature_set self.now.features) code.now ≡ Some (memory_argument x.0, x.1.now)) }
@@ -437,7 +437,7 @@ impl<R: WasmModuleResources> Body<R> {
         }
     }
 
-    // These operators at the front, and the bytes that are left.
+    // Validates these operators at the front, and returns the bytes that are left.
     #[inline(never)]
     pub(crate) fn run_quickly<'a>(&self, stacks: &mut Stacks, code: &'a [u8]) -> &'a [u8]
         requires inside { stacks.old.frames ≢ [] }

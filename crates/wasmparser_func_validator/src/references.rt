@@ -22,7 +22,7 @@ use wasmparser_types::heap_type::{AbstractHeapType, HeapType};
 use wasmparser_types::ref_type::RefType;
 use wasmparser_types::val_type::ValType;
 
-// What a choice between two operands of a type takes.
+// Returns the types of the operands of a choice between two operands of a type.
 fn select_types(ty: &ValType) -> [ValType; 3]
     ensures { map val_type result ≡ val_type ty.now ∷ val_type ty.now ∷ types.I32 ∷ [] }
 {

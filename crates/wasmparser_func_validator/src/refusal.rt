@@ -1,4 +1,4 @@
-//! Why an operator is refused.
+//! The reason why an operator is refused.
 
 ghost use Rattle.std.specs.Prelude.{◌≡◌};
 ghost use Rattle.wasmparser_func_validator.specs.declared.refusal.Refusal.TheVariants as refusals;
@@ -6,7 +6,7 @@ ghost use Rattle.wasmparser_func_validator.specs.declared.refusal.Refusal.TheVar
 use std::alloc::AllocError;
 use wasmparser_error::error::{Error, ErrorKind};
 
-// Why an operator is refused.
+// The reason why an operator is refused.
 #[derive(Clone, Copy, Debug, PartialEq, Eq)]
 pub(crate) enum Refusal {
     // It may not stand where it does.

@@ -34,7 +34,7 @@ fn are_same_plain(a: &ValType, b: &ValType) -> bool
     }
 }
 
-// What a choice without a type gives of two operands.
+// Returns the result of a choice without a type between two operands.
 fn selected(a: &Operand, b: &Operand) -> Option<Operand>
     ensures { option_map operand result ≡ operands.selected (operand a.now) (operand b.now) }
 {

@@ -161,7 +161,7 @@ impl<R: WasmModuleResources> Body<R> {
         }
     }
 
-    // One operator. None may come after the end of the body.
+    // Validates one operator. None may come after the end of the body.
     pub(crate) fn step(&self, stacks: &mut Stacks, op: &Operator<'_>) -> Result<(), Refusal>
         requires { IsWhole op.now }
         ensures { Steps (stepped (body_context R.resources self.now) stacks.old (operator op.now)) stacks.old stacks.new result }

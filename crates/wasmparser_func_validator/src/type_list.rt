@@ -24,11 +24,11 @@ pub(crate) trait TypeList {
 #[derive(Drop)]
 pub(crate) struct Types<'a>(pub(crate) &'a [ValType]);
 
-// What fields hold, as operands.
+// The types of fields, as operands.
 #[derive(Drop)]
 pub(crate) struct Fields<'a>(pub(crate) &'a [FieldType]);
 
-// One type, so many times.
+// One type, repeated so many times.
 #[derive(Drop)]
 pub(crate) struct Copies {
     pub(crate) count: u32,

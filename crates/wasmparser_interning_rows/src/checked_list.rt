@@ -16,7 +16,7 @@ use wasmparser_types::sub_type::{RecGroup, SubType};
 pub struct CheckedList {
     alloc: Global,
     list: TypeList,
-    // Whether it is no committed copy.
+    // `true` if it is no committed copy.
     grows: bool,
 }
 
@@ -53,12 +53,12 @@ impl CheckedList {
         &self.list
     }
 
-    /// How many types there are.
+    /// Returns the number of types.
     pub fn len(&self) -> usize {
         CoreTypeId::list(&self.list).len()
     }
 
-    /// How many groups there are.
+    /// Returns the number of groups.
     pub fn group_count(&self) -> usize {
         RecGroupId::list(&self.list).len()
     }
@@ -68,7 +68,7 @@ impl CheckedList {
         self.list.get(id)
     }
 
-    /// What `TypeList`'s `Index` gives for a known id.
+    /// Returns the data that `TypeList`'s `Index` gives for a known id.
     pub fn at<T: TypeIdentifier>(&self, id: T) -> Option<&T::Data> {
         if id.index() < T::list(&self.list).len() {
             Some(&self.list[id])

@@ -47,7 +47,7 @@ impl CheckedSection {
         self.space.type_ids()
     }
 
-    /// How many types the list has.
+    /// Returns the number of types in the list.
     pub fn list_len(&self) -> usize {
         CoreTypeId::list(&self.list).len()
     }
@@ -70,7 +70,7 @@ impl CheckedSection {
     }
 }
 
-/// What holds of a new section. Who owns a section proves how each of its parts is let go of, so the tests leave that to this call.
+/// Checks that a row holds of a new section. Who owns a section proves how each of its parts is let go of, so the tests leave that to this call.
 pub fn on_new_section<F: Fn(Global, &mut CheckedSection, &str) -> Option<bool>>(
     alloc: Global,
     features: WasmFeatures,

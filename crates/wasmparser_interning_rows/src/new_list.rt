@@ -4,7 +4,7 @@ use crate::checked_list::CheckedList;
 use crate::steps::steps_hold;
 use std::alloc::Global;
 
-/// Whether a row holds of a new list.
+/// Checks that a row holds of a new list.
 pub fn on_new_list<F: Fn(Global, &mut CheckedList, &str) -> Option<bool>>(
     alloc: Global,
     row: &str,

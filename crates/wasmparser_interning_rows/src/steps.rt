@@ -16,7 +16,7 @@ use wasmparser_types::sub_type::SubType;
 // The place in the bytes that each call is handed.
 const OFFSET: u64 = 7;
 
-/// What interning answers.
+/// The answer of interning.
 #[derive(Clone, Copy)]
 pub enum Answer {
     Beyond,
@@ -73,7 +73,7 @@ fn is_id(answer: Result<CoreTypeId, Error>, expected: &str) -> bool {
     }
 }
 
-// Whether a group has these ids, and no place after them.
+// Checks that a group has these ids, and no place after them.
 fn has_ids(list: &CheckedList, group: RecGroupId, ids: &str) -> Option<bool> {
     let mut place: u32 = 0;
     for word in ids.split_whitespace() {
@@ -88,7 +88,7 @@ fn has_ids(list: &CheckedList, group: RecGroupId, ids: &str) -> Option<bool> {
     Some(is_id(list.rec_group_local_id(group, place, OFFSET)?, "invalid"))
 }
 
-/// Whether interning answered so.
+/// Checks that interning answered so.
 pub fn is_answer(list: &CheckedList, answer: Answer, expected: &str) -> Option<bool> {
     match answer {
         Answer::Beyond => Some(expected == "beyond"),
@@ -115,7 +115,7 @@ fn is_type(alloc: Global, found: Option<&SubType>, expected: &str) -> bool {
     }
 }
 
-// Whether the type of an id is this one, or `none`.
+// Checks that the type of an id is this one, or `none`.
 fn has_type(alloc: Global, list: &CheckedList, word: &str, expected: &str) -> Option<bool> {
     let id = id_of(word)?;
     Some(is_type(alloc, list.get(id), expected) && is_type(alloc, list.at(id), expected))
@@ -136,13 +136,13 @@ fn group_id_of(word: &str) -> Option<RecGroupId> {
     Some(RecGroupId::from_index(word.parse().ok()?))
 }
 
-// Whether the ids of a group begin and end there, or are `none`.
+// Checks that the ids of a group begin and end there, or are `none`.
 fn has_range(list: &CheckedList, word: &str, expected: &str) -> Option<bool> {
     let group = group_id_of(word)?;
     Some(is_range(list.get(group), expected) && is_range(list.at(group), expected))
 }
 
-// Whether the supertype of an id is this one, or `none`.
+// Checks that the supertype of an id is this one, or `none`.
 fn has_supertype(list: &CheckedList, word: &str, expected: &str) -> Option<bool> {
     match list.supertype_of(id_of(word)?) {
         Some(id) => Some(id_of(expected)? == id),
@@ -150,7 +150,7 @@ fn has_supertype(list: &CheckedList, word: &str, expected: &str) -> Option<bool>
     }
 }
 
-// Whether the group of an id is this one, or `none`.
+// Checks that the group of an id is this one, or `none`.
 fn is_of_group(list: &CheckedList, word: &str, expected: &str) -> Option<bool> {
     match list.rec_group_id_of(id_of(word)?) {
         Some(group) => Some(group_id_of(expected)? == group),
@@ -158,7 +158,7 @@ fn is_of_group(list: &CheckedList, word: &str, expected: &str) -> Option<bool> {
     }
 }
 
-// Whether an index in a group stands for this id, packed and unpacked.
+// Checks that an index in a group stands for this id, packed and unpacked.
 fn stands_for(list: &CheckedList, field: &str, expected: &str) -> Option<bool> {
     let (group, word) = word_and_rest(field);
     let (group, index) = (group_id_of(group)?, index_of(word)?);
@@ -167,7 +167,7 @@ fn stands_for(list: &CheckedList, field: &str, expected: &str) -> Option<bool> {
     Some(is_id(packed, expected) && is_id(unpacked, expected))
 }
 
-// Whether a question has this answer.
+// Checks that a question has this answer.
 fn is_so(alloc: Global, list: &CheckedList, question: &str, expected: &str) -> Option<bool> {
     let (word, rest) = word_and_rest(question);
     match word {
@@ -182,7 +182,7 @@ fn is_so(alloc: Global, list: &CheckedList, question: &str, expected: &str) -> O
     }
 }
 
-// Whether a step's call answers as it says.
+// Checks that a step's call answers as it says.
 fn step_holds(alloc: Global, list: &mut CheckedList, step: &str) -> Option<bool> {
     let (call, expected) = step.split_once('=')?;
     let expected = expected.trim();

@@ -15,9 +15,9 @@ use wasmparser_types::sub_type::{RecGroup, SubType};
 // Replaces nothing, and refuses what such a group may not refer to.
 #[derive(Drop)]
 struct Within {
-    // How many types there are before the group.
+    // Number of types before the group.
     before: usize,
-    // How many it has.
+    // Number of its types.
     count: usize,
 }
 

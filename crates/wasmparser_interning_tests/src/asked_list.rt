@@ -76,7 +76,7 @@ impl<'a> AskedList<'a> {
         Some(self.list.get_subtyping_depth(id))
     }
 
-    /// What `id_is_subtype_counted` answers of types that have a depth, and how often it read.
+    /// Returns the answer of `id_is_subtype_counted` for types that have a depth, and the number of its reads.
     pub fn counted(&self, a: CoreTypeId, b: CoreTypeId) -> Option<(bool, u64)> {
         self.depth(a)?;
         self.depth(b)?;

@@ -42,7 +42,7 @@ fn add_chain(alloc: Global, list: &mut CheckedList, count: u32) -> Option<()> {
     Some(())
 }
 
-// How many supertypes a type has, of which there are at most so many.
+// Returns the number of supertypes of a type, or `most` where it has more.
 fn links_above(list: &CheckedList, id: u32, most: u32) -> u32 {
     let (mut at, mut links) = (CoreTypeId::from_index(id), 0u32);
     for _ in 0..most {
@@ -96,7 +96,7 @@ fn are_placed(list: &CheckedList, count: u32) -> bool {
     }
 }
 
-// What depth a type has.
+// Returns the depth of a type.
 fn depth(list: &CheckedList, id: CoreTypeId) -> Option<u8>
     ensures { IfSome result (IsDepth (slice_get (sub_types list.now)) id) }
 {

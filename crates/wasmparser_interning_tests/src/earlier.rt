@@ -1,4 +1,4 @@
-//! Whether each type of a list is below nothing, or below one earlier type of its own kind, as calls about subtyping ask.
+//! Tests that each type of a list is below nothing, or below one earlier type of its own kind, as calls about subtyping ask.
 
 ghost use Rattle.std.specs.Prelude.{◌≡◌, IsTrue, slice_get};
 ghost use Rattle.wasm_spec.specs.Subtyping.{IsOfKind, abstract_of};

@@ -1,4 +1,4 @@
-//! What a validator fills and shares.
+//! Values that a validator fills and shares.
 
 use std::alloc::{AllocError, Global};
 use std::test::Fail;

@@ -46,7 +46,7 @@ fn reference(alloc: Global, index: PackedIndex) -> Option<SubType> {
     Some(structure(alloc, vec![in alloc; field].ok()?))
 }
 
-// As many structures. The first refers to the last of the types before them, or to itself where there is none, and the others have no field.
+// Creates so many structures. The first refers to the last of the types before them, or to itself where there is none, and the others have no field.
 fn structures(alloc: Global, before: usize, count: u32) -> Option<RecGroup> {
     let index = match before.checked_sub(1) {
         Some(last) => PackedIndex::from_id(CoreTypeId::from_index(u32::try_from(last).ok()?))?,
@@ -59,7 +59,7 @@ fn structures(alloc: Global, before: usize, count: u32) -> Option<RecGroup> {
     Some(RecGroup::explicit(types))
 }
 
-// Whether groups of these sizes are all new.
+// Checks that groups of these sizes are all new.
 fn are_new(
     alloc: Global,
     list: &mut CheckedList,
@@ -97,7 +97,7 @@ fn groups_fill_a_list(rt: HostRuntime) -> Result<(), Fail> {
     Ok(check_rows(rt.alloc(), SIZES, 6, holds)?)
 }
 
-// Whether a group of so many types is refused at the offset, and the list stays as it was.
+// Checks that a group of so many types is refused at the offset, and the list stays as it was.
 fn refuses(alloc: Global, list: &mut CheckedList, count: u32) -> Option<bool> {
     let before = (list.len(), list.group_count());
     let group = structures(alloc, 0, count)?;

@@ -1,4 +1,4 @@
-//! Which types match which, in a list of types.
+//! Matching of types in a list of types.
 
 use crate::asked_list::AskedList;
 use std::alloc::Global;
@@ -10,7 +10,7 @@ use wasmparser_interning_rows::new_list::on_new_list;
 use wasmparser_interning_rows::steps::steps_hold;
 use wasmparser_type_words::types::id_of;
 
-// What each row's list begins with: a structure, and one that is declared below it.
+// The steps at the front of each row's list: a structure, and one that is declared below it.
 const STRUCTURES: &str = "lone open : struct = #0; lone #0 : struct i32 = #1";
 
 // Steps on that list, pairs of which the first type matches the second, and pairs of which it doesn't.
@@ -69,7 +69,7 @@ const MATCHES: &str = "
     types = 2 | #0<#0 | #2<#2 #2<#0 #0<#2
 ";
 
-// Whether the first type of a pair matches the second.
+// Checks that the first type of a pair matches the second.
 fn matches(asked: &AskedList, pair: &str) -> Option<bool> {
     let (a, b) = pair.split_once('<')?;
     Some(asked.matches(id_of(a)?, id_of(b)?))

@@ -149,7 +149,7 @@ fn adds(section: &mut CheckedSection, group: RecGroup, expected: &str) -> bool {
     }
 }
 
-// Whether adding types that are counted answers so, each time.
+// Checks that adding types that are counted answers so, each time.
 fn add_counted(
     alloc: Global,
     section: &mut CheckedSection,

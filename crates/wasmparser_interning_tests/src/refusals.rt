@@ -1,5 +1,5 @@
-//! What lists and sections of types do where memory runs out: tests that `.ci/refusals` runs with each allocation refused in turn. What refuses is as it
-//! was, and takes the same call again.
+//! Lists and sections of types where memory runs out: tests that `.ci/refusals` runs with each allocation refused in turn. A list or section that refuses is
+//! as it was, and takes the same call again.
 
 mod rec_group;
 mod snapshot_list;

@@ -1,4 +1,4 @@
-//! How large types count.
+//! Effective sizes of types.
 
 ghost use Rattle.std.specs.Prelude.{◌<◌, ◌^◌, IsTrue};
 ghost use Rattle.wasmparser_type_list.specs.TypeSizes.{size_of};

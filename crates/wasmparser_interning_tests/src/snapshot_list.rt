@@ -4,7 +4,7 @@ use std::alloc::{AllocError, Global};
 use std::test::Fail;
 use wasmparser_type_relations::snapshot_list::SnapshotList;
 
-// Whether a list and a copy of it, which was made when it had one number, each grow by themselves.
+// Checks that a list and a copy of it, which was made when it had one number, each grow by themselves.
 fn grow_apart(
     list: &mut SnapshotList<usize>,
     kept: &mut SnapshotList<usize>,
@@ -30,7 +30,7 @@ fn copy_stays_as_it_was(rt: HostRuntime) -> Result<(), Fail> {
     Ok(())
 }
 
-// Two numbers after a first one that was committed, in room that was made for them, and two more in room for as many.
+// Pushes two numbers after a first one that was committed, within reserved capacity, and appends two more within capacity for as many.
 fn in_room(alloc: Global) -> Result<SnapshotList<usize>, AllocError> {
     let mut list = SnapshotList::new(alloc);
     list.push(0)?;
@@ -92,7 +92,7 @@ fn are_counted(
     are_kept && copies.len() == len / step.max(1)
 }
 
-// Whether copies that are taken after each so many numbers stay as they were.
+// Checks that copies that are taken after each so many numbers stay as they were.
 fn keeps_copies(alloc: Global, len: usize, step: usize) -> Result<bool, AllocError> {
     let (mut list, mut copies) = (SnapshotList::new(alloc), Vec::new(alloc));
     push_numbers(&mut list, &mut copies, len, step)?;

@@ -1,4 +1,4 @@
-//! Which heap types, references and value types are below which, and what is above all.
+//! Subtyping of heap types, references and value types, and the tops above them.
 
 use crate::asked_list::AskedList;
 use crate::references::ref_type_of;
@@ -22,7 +22,7 @@ const TYPES: &str = "
     lone array i8 = #5; lone open : cont #3 = #6; lone #6 : cont #4 = #7; lone struct i8 = #8
 ";
 
-// What is asked about: all abstract heap types, all of these types, an id that none of them has, and a place in a group.
+// The heap types that are asked about: all abstract ones, all of these types, an id that none of them has, and a place in a group.
 const HEAP_TYPES: &str = "
     any eq i31 struct array none func nofunc extern noextern exn noexn cont nocont #0 #1 #2 #3 #4 #5 #6 #7 #8 #9 own.0
 ";
@@ -62,7 +62,7 @@ fn is_ref(asked: &AskedList, a: RefType, b: RefType, is_below: bool) -> bool {
         && asked.valtype_is_subtype(ValType::Ref(a), ValType::Ref(b)) == is_below
 }
 
-// Whether references to one heap type are below those to another. With null they are below none without.
+// Checks that references to one heap type are below those to another. With null they are below none without.
 fn are_refs(asked: &AskedList, a: &str, b: &str, is_below: bool) -> Option<bool> {
     let (from, to) = (ref_type_of(false, a)?, ref_type_of(false, b)?);
     let (null_from, null_to) = (from.nullable(), to.nullable());

@@ -11,7 +11,7 @@ use crate::module_state::{ModuleState, refusal};
 use wasmparser_error::error::{Error, ErrorKind};
 
 impl ModuleState {
-    /// How many data segments a data count section says there are, where there was one.
+    /// Returns the number of data segments that a data count section states, where there was one.
     pub fn stated_data_count(&self) -> Option<u32>
         ensures { result ≡ (context self.now).data_count }
     {

@@ -25,7 +25,7 @@ impl Model for ElementTypes {
 }
 
 impl ElementTypes {
-    /// None.
+    /// Creates a list without types.
     pub(crate) fn new(alloc: Global) -> ElementTypes
         ensures { result ≡ [] }
     {
@@ -34,7 +34,7 @@ impl ElementTypes {
         }
     }
 
-    /// How many there are.
+    /// Returns the number of types.
     pub(crate) fn len(&self) -> u32
         ensures { result ≡ length self.now }
     {

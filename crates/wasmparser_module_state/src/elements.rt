@@ -37,7 +37,7 @@ use wasmparser_readers::section_limited::SectionLimited;
 use wasmparser_types::ref_type::RefType;
 use wasmparser_types::val_type::ValType;
 
-// How many items a segment has.
+// Returns the number of items of a segment.
 fn count_of(items: &ElementItems<'_>) -> u32
     requires read { AreItemsRead items.now }
     ensures { result ≡ count_of (items_of (packed_items items.now)) }
@@ -48,7 +48,7 @@ fn count_of(items: &ElementItems<'_>) -> u32
     }
 }
 
-// What the items of a segment are: functions as references that aren't null.
+// Returns the type of the items of a segment: functions are references that aren't null.
 fn element_type(items: &ElementItems<'_>) -> RefType
     ensures { reference result ≡ element_type (items_of (packed_items items.now)) }
 {

@@ -1,4 +1,4 @@
-//! What is imported and exported.
+//! Types of imported and exported items.
 
 ghost use Rattle.std.specs.Prelude.{◌≡◌, IfSome, option_map};
 ghost use Rattle.std.specs.Option.{option_and_then};
@@ -17,7 +17,7 @@ use wasmparser_readers::table_type::TableType;
 use wasmparser_readers::type_ref::TypeRef;
 use wasmparser_types::index::CoreTypeId;
 
-/// What is imported or exported.
+/// The type of an imported or exported item.
 #[derive(Clone, Copy, Debug, PartialEq, Eq)]
 pub enum EntityType {
     /// A function of the type with this id.

@@ -19,7 +19,7 @@ pub trait Entry: Item {
     // The item as an entry of the specification.
     ghost entry: { Self → Entry };
 
-    // How bytes read as such an entry.
+    // The reading of bytes as such an entry.
     ghost entry_at: { EntryReading };
 
     // True if such entries are groups of types.

@@ -42,7 +42,7 @@ impl ModuleState {
         }
     }
 
-    // What is exported, which the item of a kind with this index is.
+    // Returns the type of an exported item: that of the item of a kind with this index.
     #[tactic(auto, using(crate::proofs::ExportLaws::item_steps))]
     pub(crate) fn exported_type(&self, kind: ExternalKind, index: u32) -> Option<TypeRef>
         ensures { option_map item result ≡ item_at (context self.now) (external_kind kind) index }
@@ -59,7 +59,7 @@ impl ModuleState {
         }
     }
 
-    // How large the type of an item counts, or what is too large: for a function or a tag as its function type does, or 0 where its index names none,
+    // Returns the size of an item's type, or one that is too large: for a function or a tag that of its function type, or 0 where its index names none,
     // and for any other item 1.
     #[tactic(auto, using(crate::proofs::ExportLaws::size_steps))]
     fn size_of_item(&self, ty: &TypeRef) -> u64

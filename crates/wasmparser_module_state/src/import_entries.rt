@@ -32,7 +32,7 @@ use wasmparser_readers::section_limited::SectionLimited;
 use wasmparser_readers::type_ref::TypeRef;
 
 impl ModuleState {
-    // How many entries of import sections there are with one more.
+    // Returns the number of entries of import sections with one more.
     fn grown_imports(&self, offset: u64) -> Result<u32, Error>
         ensures grown { IfOk result (λ grown. (grown ≡ suc (context self.now).imports) × (grown ≤ 1000000)) }
         ensures full { IfErr result (λ e. (e ≡ record { offset = offset; kind = kinds.Limit limits.Imports }) × (1000000 < suc (context self.now).imports)) }

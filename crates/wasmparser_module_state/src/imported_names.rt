@@ -21,7 +21,7 @@ use wasmparser_readers::export::ExternalKind;
 use wasmparser_readers::section_limited::SectionLimited;
 use wasmparser_readers::type_ref::TypeRef;
 
-// How many bytes an entry of the section takes at least: the lengths of two names, a kind and a byte of a type.
+// The least number of bytes of an entry of the section: the lengths of two names, a kind and a byte of a type.
 const LEAST_LEN: usize = 4;
 
 // The kind of an imported item.

@@ -25,7 +25,7 @@ use wasmparser_types::val_type::ValType;
 // A size that no type within the limit on sizes has.
 const LARGE: u64 = MAX_WASM_TYPE_SIZE + 1;
 
-// How large a function type counts, or what is too large.
+// Returns the size of a function type, or one that is too large.
 #[tactic(auto, using(crate::proofs::Sizes::size_steps))]
 fn size_of(ty: &FuncType) -> u64
     ensures { IsSizeUpTo (func_type ty.now) result }
@@ -39,7 +39,7 @@ fn size_of(ty: &FuncType) -> u64
 }
 
 impl ModuleState {
-    // How large the types of all imports and exports count with one of this size more.
+    // Returns the size of the types of all imports and exports, with one of this size more.
     pub(crate) fn grown_size(&self, size: u64, offset: u64) -> Result<u32, Error>
         ensures grown { IfOk result (λ grown. (grown ≡ (context self.now).type_size + size) × (grown ≤ 999999)) }
         ensures large { IfErr result (λ e. (e ≡ record { offset = offset; kind = kinds.Limit limits.TypeSize }) × (999999 < (context self.now).type_size + size)) }
@@ -115,7 +115,7 @@ impl ModuleState {
         Ok(())
     }
 
-    // How large the function type of an index counts, or what is too large; `None` where the index names no function type.
+    // Returns the size of the function type of an index, or one that is too large; `None` where the index names no function type.
     #[tactic(auto, using(crate::proofs::Sizes::type_steps))]
     pub(crate) fn size_of_type(&self, index: u32) -> Option<u64>
         ensures { IsTypeSize (func_type_at (context self.now).types index) result }

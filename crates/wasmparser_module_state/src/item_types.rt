@@ -1,4 +1,4 @@
-//! Whether types of items keep the rules, in the context of a module's types (Core Specification 3.0, Validation, "Types").
+//! Validation of types of items in the context of a module's types (Core Specification 3.0, Validation, "Types").
 
 ghost use Rattle.std.specs.Prelude.{◌≡◌, false, nat_lt, if◌then◌else◌, ◌-◌, ◌^◌};
 ghost use Rattle.wasm_core_types.specs.Features.{feature_set};

@@ -1,4 +1,4 @@
-//! What a validator knows of a module while it reads its sections, and judging an item by it: a part of `wasmparser`.
+//! The state of a module while its sections are read, and the validation of an item by it: a part of `wasmparser`.
 #![tactic(auto)]
 
 pub mod body;

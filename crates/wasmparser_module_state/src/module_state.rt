@@ -1,4 +1,4 @@
-//! What a validator knows of a module after some of its entries.
+//! The state of a module after some of its entries.
 
 ghost use Rattle.std.specs.Prelude.{◌≡◌, ◌+◌, ◌≤◌, [], IfErr, IfOk, false, length, true};
 ghost use Rattle.wasm_core_types.specs.Features.{feature_set};
@@ -52,7 +52,7 @@ pub(crate) fn refusal(offset: u64, kind: ErrorKind) -> Error
 }
 
 impl ModuleState {
-    /// What is known before the first entry, under these features, with a list without types.
+    /// Creates the state before the first entry, under these features, with a list without types.
     pub fn new(alloc: Global, features: WasmFeatures) -> ModuleState
         ensures nothing { context result ≡ at_first }
         ensures no_types { held result ≡ [] }
@@ -71,7 +71,7 @@ impl ModuleState {
         ModuleState::with_types(alloc, types)
     }
 
-    // What is known of a module that has these types alone.
+    // Creates the state of a module that has these types alone.
     pub(crate) fn with_types(alloc: Global, types: ModuleTypes) -> ModuleState
         ensures types_alone { context result ≡ record at_first { types = types.types; groups = types.groups } }
         ensures types { result.types ≡ types }

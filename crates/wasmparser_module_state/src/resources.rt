@@ -1,4 +1,4 @@
-//! What bodies ask of a module's state.
+//! The resources that bodies look up in a module's state.
 
 ghost use Rattle.wasmparser_module_state.specs.StateResources.{state_resources};
 

@@ -47,7 +47,7 @@ fn passed(limit: Limit, offset: u64) -> Error
     }
 }
 
-// Whether a module may have one group more, when it has so many groups, and so many types more.
+// Checks that a module with so many groups and types may have one group more, of so many types.
 fn check_counts(groups: u32, types: usize, added: usize, offset: u64) -> Result<(), Error>
     requires { types ≤ most Types }
     ensures groups { IfOk result (λ _. suc groups ≤ most Groups) }
@@ -247,7 +247,7 @@ impl ModuleTypes {
         })
     }
 
-    /// What is always so, which the contract tells.
+    /// Does nothing: its contract states what always holds.
     pub fn are_known(&self)
         ensures { AreKnownTypes self.now }
     {
@@ -396,8 +396,8 @@ impl ModuleTypes {
         Some(composite_top(&ty.composite_type))
     }
 
-    /// Whether a value type is below another one, where both name types by ids. Where types aren't canonicalized, equal types may have several ids, which count as
-    /// several types here.
+    /// Checks that a value type is below another one, where both name types by ids. Where types aren't canonicalized, equal types may have several ids, which
+    /// count as several types here.
     pub fn is_subtype(&self, a: ValType, b: ValType) -> bool
         ensures below { IsTrue result → ValBelow unrolled (val_map (stands_for self.now) (val_type a)) (val_map (stands_for self.now) (val_type b)) }
         ensures all { AreIds self.now (val_refs (val_type a)) → AreIds self.now (val_refs (val_type b)) → CanCompare self.now.features (val_refs (val_type a)) (val_refs (val_type b))
@@ -407,7 +407,7 @@ impl ModuleTypes {
         self.list.valtype_is_subtype(a, b)
     }
 
-    /// How many types the module has.
+    /// Returns the number of types of the module.
     pub fn len(&self) -> usize
         ensures count { result ≡ length self.now.types }
         ensures few { result ≤ most Types }

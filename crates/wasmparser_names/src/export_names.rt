@@ -16,10 +16,10 @@ use wasm_core_types::limits::{MAX_WASM_EXPORTS, MAX_WASM_STRING_SIZE};
 use wasmparser_readers::export::{Export, ExternalKind};
 use wasmparser_readers::section_limited::SectionLimited;
 
-// How many bytes an export takes at least: the length of its name, its kind and its index.
+// The least number of bytes of an export: the length of its name, its kind and its index.
 const LEAST_LEN: usize = 3;
 
-// So few names are soon told apart, however they are hashed.
+// A number of names so small that they are soon told apart, however they are hashed.
 const FEW_NAMES: usize = 16;
 
 // An export as it is kept. Its name stands among those of all exports, after that of the one before.
@@ -56,7 +56,7 @@ fn has_name(names: &[u8], exports: &[KeptExport], name: &str) -> bool
     false
 }
 
-// Where the name of the export at a place begins.
+// Returns the place where the name of the export at a place begins.
 fn start_of(exports: &[KeptExport], place: usize) -> usize
     requires { place < length exports.now }
     ensures { result ≡ start_at 0 exports.now place }
@@ -90,7 +90,7 @@ impl Model for ExportNames {
 }
 
 impl ExportNames {
-    /// No exports.
+    /// Creates a list without exports.
     pub fn new(alloc: Global) -> ExportNames
         ensures { result ≡ [] }
     {
@@ -102,8 +102,8 @@ impl ExportNames {
         }
     }
 
-    /// No exports, ready for those of a section: with room for them and their names if there is memory for it, and with a hasher for which these can hardly be
-    /// chosen. Telling them apart takes less time where each comes after the one before it, in the order of their bytes.
+    /// Creates a list without exports, for those of a section: with capacity for them and their names if there is memory for it, and with a hasher for which
+    /// these can hardly be chosen. Telling them apart takes less time where each comes after the one before it, in the order of their bytes.
     pub fn for_section<'a>(alloc: Global, section: &SectionLimited<'a, Export<'a>>) -> ExportNames
         ensures { result ≡ [] }
     {
@@ -121,7 +121,7 @@ impl ExportNames {
         }
     }
 
-    /// How many exports there are.
+    /// Returns the number of exports.
     pub fn len(&self) -> usize
         ensures { result ≡ length self.now }
     {
@@ -190,7 +190,7 @@ fn make_room(names: &mut Vec<u8>, exports: &mut Vec<KeptExport>, count: usize, b
     let _ = names.reserve_exact(longest.min(bytes.len() - LEAST_LEN * count));
 }
 
-// Whether no export has this one's name. Then this one may be added. Hashes are kept from the first name on that doesn't come after the one before it.
+// Checks that no export has this one's name, so that it may be added. Hashes are kept from the first name on that doesn't come after the one before it.
 fn is_new(
     names: &[u8],
     exports: &[KeptExport],
@@ -230,7 +230,7 @@ fn is_after(names: &[u8], exports: &[KeptExport], name: &str) -> bool
     name_at(names, start_of(exports, last), &exports[last]) < name
 }
 
-// Whether no export has this name: its hash is new, or no name is the same. The hash is kept.
+// Checks that no export has this name: its hash is new, or no name is the same. The hash is kept.
 fn keep_hash(
     names: &[u8],
     exports: &[KeptExport],

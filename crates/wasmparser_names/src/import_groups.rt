@@ -42,7 +42,7 @@ impl<'a> Model for ImportGroups<'a> {
 }
 
 impl<'a> ImportGroups<'a> {
-    /// No imports from these modules.
+    /// Creates a list without imports, for these modules.
     pub(crate) fn new(alloc: Global, modules: &'a ModuleNames) -> ImportGroups<'a>
         requires { IsDistinct bytes_eq modules.now.names }
         ensures modules { result.modules ≡ modules.now.names }

@@ -1,4 +1,4 @@
-//! What imports are grouped by.
+//! The key by which imports are grouped.
 
 /// The two names of an import: the number of that of its module, and its own.
 #[derive(Clone, Copy, Debug, PartialEq, Eq, Hash)]

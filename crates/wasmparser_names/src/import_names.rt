@@ -52,7 +52,7 @@ impl Model for ImportNames {
 }
 
 impl ImportNames {
-    /// No imports.
+    /// Creates a list without imports.
     pub fn new(alloc: Global) -> ImportNames
         ensures modules { result.modules ≡ [] }
         ensures imports { result.imports ≡ [] }

@@ -6,7 +6,7 @@ use std::alloc::{AllocError, Global};
 use std::marker::Model;
 use wasmparser_readers::export::ExternalKind;
 
-/// Which item an import is.
+/// The item that an import is.
 #[derive(Clone, Copy, Debug, PartialEq, Eq)]
 pub struct ImportedItem {
     /// Its kind.
@@ -33,7 +33,7 @@ impl Model for ImportedItems {
 }
 
 impl ImportedItems {
-    /// One item.
+    /// Creates a list of one item.
     pub fn new(item: ImportedItem) -> ImportedItems
         ensures { result ≡ item ∷ [] }
     {
@@ -70,7 +70,7 @@ impl ImportedItems {
     }
 }
 
-// One item alone.
+// Allocates a list of one item.
 fn only(alloc: Global, item: ImportedItem) -> Result<Box<Vec<ImportedItem>>, AllocError>
     ensures { IfOk result (λ items. items.value.items ≡ item ∷ []) }
 {

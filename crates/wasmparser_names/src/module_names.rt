@@ -36,7 +36,7 @@ impl Model for ModuleNames {
 }
 
 impl ModuleNames {
-    /// No names.
+    /// Creates a list without names.
     pub fn new(alloc: Global, hasher: NameHasher) -> ModuleNames
         ensures names { result.names ≡ [] }
         ensures hashed { result.hasher ≡ hasher }
@@ -49,7 +49,7 @@ impl ModuleNames {
         }
     }
 
-    /// What the names are hashed by.
+    /// Returns the hasher of the names.
     pub(crate) fn hasher(&self) -> NameHasher
         ensures { result ≡ self.now.hasher }
     {

@@ -14,7 +14,7 @@ pub struct NameHasher {
 }
 
 impl NameHasher {
-    /// For names that stand in no section.
+    /// Creates a hasher for names that stand in no section.
     pub fn new() -> NameHasher
         ensures { result ≡ first_hasher }
     {
@@ -23,7 +23,7 @@ impl NameHasher {
         }
     }
 
-    /// For names that stand among these bytes.
+    /// Creates a hasher for names that stand among these bytes.
     pub fn after(bytes: &[u8]) -> NameHasher
         ensures { result ≡ hasher_after bytes.now }
     {

@@ -12,7 +12,7 @@ pub struct NamedImport<'a> {
     pub module: &'a str,
     /// Its name there.
     pub name: &'a str,
-    /// What is imported.
+    /// The imported item.
     pub item: ImportedItem,
 }
 

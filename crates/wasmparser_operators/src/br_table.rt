@@ -35,7 +35,7 @@ impl<'a> BrTable<'a> {
         self.default
     }
 
-    /// How many labels are counted.
+    /// Returns the number of labels that are counted, without the default one.
     #[tactic(auto, using(crate::proofs::BorrowedLaws::label_counts))]
     pub fn len(&self) -> u32
         ensures { result ≡ length self.now.labels }

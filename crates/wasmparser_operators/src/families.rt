@@ -1,5 +1,5 @@
 //! Reading operators of one index or of a block's type by their bytes (Core Specification 3.0, Binary Format, "Instructions").
-//! What stands after the byte is read before the byte is looked at again, since it is read alike for a whole family.
+//! The bytes after the first one are read before that one is looked at again, since they are read alike for a whole family.
 
 ghost use Rattle.std.specs.Prelude.{◌≡◌, ◌≤◌, ◌==◌, true, [], ◌∷◌, IfOk};
 ghost use Rattle.std.specs.List.{list_any};

@@ -1,4 +1,4 @@
-//! What stands after the codes of operators (Core Specification 3.0, Binary Format, "Instructions").
+//! Reading of immediates, which follow the codes of operators (Core Specification 3.0, Binary Format, "Instructions").
 
 ghost use Rattle.std.specs.Prelude.{◌≡◌, IfOk};
 ghost use Rattle.wasm_core_read.specs.Reading.{Answers, bytes_at, pair_at, unsigned_at};
@@ -17,31 +17,31 @@ use wasmparser_readers::val_type::{read_val_type, val_is_of_module};
 use wasmparser_types::heap_type::HeapType;
 use wasmparser_types::val_type::ValType;
 
-/// What a block takes and gives.
+/// The type of a block: the operands that it takes and the results that it gives.
 #[derive(Clone, Copy, Debug, PartialEq, Eq)]
 pub enum BlockType {
-    /// Nothing.
+    /// It takes and gives nothing.
     Empty,
     /// It takes nothing and gives one value.
     Type(ValType),
-    /// What the function type of this index says.
+    /// The function type with this index.
     FuncType(u32),
 }
 
-/// Where in a memory a load or a store goes.
+/// The place in a memory that a load or a store accesses.
 #[derive(Clone, Copy, Debug, PartialEq, Eq)]
 pub struct MemArg {
     /// The power of two that is said to divide the address.
     pub align: u8,
     /// The power of two that is the width of the access in bytes: a greater `align` is not valid.
     pub max_align: u8,
-    /// What is added to the address.
+    /// The offset that is added to the address.
     pub offset: u64,
     /// The memory.
     pub memory: u32,
 }
 
-// What a block begins with that takes and gives nothing.
+// The type of a block that takes and gives nothing.
 const EMPTY: u8 = 0x40;
 
 // Reads a value type whose index, if it has one, can be packed.

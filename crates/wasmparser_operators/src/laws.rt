@@ -5,7 +5,7 @@ ghost use Rattle.wasm_core_read.specs.Laws.{IsPrefixFree, ReadsExactly};
 ghost use Rattle.wasm_spec.specs.Features.{Features};
 ghost use Rattle.wasmparser_operators.specs.OperatorReading.{All, block_type_at, code_at, memory_argument_at, operator_at};
 
-/// What is read from bytes is an operator, and each operator is read, whatever follows it; and so of its code and of its parts.
+/// All that is read from bytes is an operator, and each operator is read, whatever follows it; and so of its code and of its parts.
 pub fn reads_exactly()
     ensures operator { (features : Features) → ReadsExactly (IsOperator features) (operator_at features) }
     ensures code { ReadsExactly IsCode code_at }

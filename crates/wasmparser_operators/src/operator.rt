@@ -73,9 +73,9 @@ pub enum Operator<'a> {
     },
     /// Drops an operand.
     Drop,
-    /// One of two numbers or vectors.
+    /// Selects one of two numbers or vectors.
     Select,
-    /// One of two operands of this type.
+    /// Selects one of two operands of this type.
     TypedSelect {
         ty: ValType,
     },
@@ -83,7 +83,7 @@ pub enum Operator<'a> {
     TypedSelectMulti {
         tys: SelectTypes<'a>,
     },
-    /// What a local holds.
+    /// Gets the value of a local.
     LocalGet {
         local_index: u32,
     },
@@ -95,7 +95,7 @@ pub enum Operator<'a> {
     LocalTee {
         local_index: u32,
     },
-    /// What a global holds.
+    /// Gets the value of a global.
     GlobalGet {
         global_index: u32,
     },
@@ -233,13 +233,13 @@ pub enum Operator<'a> {
     RefNull {
         hty: HeapType,
     },
-    /// Whether a reference is null.
+    /// Tests if a reference is null.
     RefIsNull,
     /// A reference to a function.
     RefFunc {
         function_index: u32,
     },
-    /// Whether two references are one.
+    /// Tests if two references are the same.
     RefEq,
     /// A reference that traps where it is null.
     RefAsNonNull,

@@ -28,7 +28,7 @@ fn begins_with_end(reader: &BinaryReader<'_>) -> bool
     }
 }
 
-// Why no operator is read.
+// Creates the error for bytes from which no operator is read.
 #[inline(never)]
 #[tactic(auto, using(crate::proofs::KeptLaws::refusals))]
 fn refusal(malformed: Malformed, reader: &BinaryReader<'_>) -> Error
@@ -136,7 +136,7 @@ impl<'a> OperatorsReader<'a> {
         next_operator(&mut self.reader, &mut self.is_ended)
     }
 
-    /// Whether all is read: the last operator that was read is an end, and no bytes are left. That each block has an end, and the
+    /// Checks that all is read: the last operator that was read is an end, and no bytes are left. That each block has an end, and the
     /// body one, is a matter of typing.
     ///
     /// # Errors

@@ -14,7 +14,7 @@ use wasm_core_read::binary_reader::BinaryReader;
 use wasm_core_read::malformed::Malformed;
 use wasm_core_types::scalar_operator::ScalarOperator;
 
-// What a reader answers after a code that no operator has.
+// Creates the error for a code that no operator has, at the place of the reader.
 pub(crate) fn no_operator(reader: &BinaryReader<'_>) -> Malformed
     ensures { IsWithin reader.now result.offset }
 {

@@ -36,7 +36,7 @@ impl<'a> Model for SelectTypes<'a> {
 }
 
 impl<'a> SelectTypes<'a> {
-    /// How many types are listed.
+    /// Returns the number of types in the list.
     #[tactic(auto, using(crate::proofs::BorrowedLaws::type_counts))]
     pub fn len(&self) -> u32
         ensures { result ≡ length self.now }

@@ -53,7 +53,7 @@ impl<'a> CustomSectionReader<'a> {
         self.name
     }
 
-    /// What follows the name, up to the section's end.
+    /// Returns the bytes after the name, up to the section's end.
     pub fn data(&self) -> &'a [u8]
         ensures { result.now ≡ self.now.contents }
     {

@@ -30,8 +30,8 @@ pub fn ended_modules()
         → length (functions_of sections) ≡ length (bodies_of sections) → AllByRecursion (λ count. count ≡ length (data_of sections)) (data_counts_of sections) → IsModule compact bytes sections }
 {}
 
-/// What the pieces of a module say as far as some point, its bytes say at their front: after some pieces, of which the
-/// header is one or a further one is given; with some items of the next piece; with what the next piece says by itself.
+/// Up to some point, the entries of a module's pieces are those at the front of its bytes: after some pieces, of which the
+/// header is one or a further one is given; with some items of the next piece; with the entries of the next piece by itself.
 pub fn pieces_begin_the_bytes()
     ensures pieces { (settings : Settings) (bytes : List ℕ) (entries : List Entry) (now : Remains) → AreBytes bytes → Reaches (whole_module settings bytes) entries now → ¬ (now.stage ≡ Header)
         → BeginsWith (has settings.features CompactImports) bytes entries }
@@ -42,7 +42,7 @@ pub fn pieces_begin_the_bytes()
     ensures started { (s new : Remains) (p : Piece) → next_piece s ≡ Some (p, new) → ¬ (new.stage ≡ Header) }
 {}
 
-/// What the bytes of a module say at their front is the first part of what its sections say.
+/// The entries at the front of a module's bytes are the first part of the entries of its sections.
 pub fn fronts_of_modules()
     ensures { (compact : Bool) (bytes : List ℕ) (entries : List Entry) (sections : List Section) → BeginsWith compact bytes entries → IsModule compact bytes sections
         → (others : List Entry) × (entries_of sections ≡ entries ++ others) }

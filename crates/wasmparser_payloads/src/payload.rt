@@ -64,7 +64,7 @@ pub enum Payload<'a> {
         /// The place of the section's content, which the number of bodies begins. Whether the bodies fill it isn't checked
         /// yet.
         unchecked_range: Range<u64>,
-        /// How many bytes of the content follow that number.
+        /// Number of the bytes of the content after that number.
         size: u64,
     },
     /// The body of a function.

@@ -18,15 +18,15 @@ use wasmparser_error::error::Error;
 use wasmparser_readers::passing::fork;
 use wasmparser_readers::section_limited::SectionLimited;
 
-// What each module begins with.
+// The first bytes of each module.
 const HEADER: [u8; 8] = [0x00, 0x61, 0x73, 0x6d, 0x01, 0x00, 0x00, 0x00];
 
 const CODE_ID: u8 = 10;
 
-// How far a module was given.
+// The point up to which a module was given.
 #[derive(Clone, Copy, Debug)]
 pub(crate) enum Stage {
-    // Not even its header.
+    // Nothing was given, not even the header.
     Header,
     // Its header, and perhaps some of what follows.
     Parts,

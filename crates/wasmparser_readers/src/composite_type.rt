@@ -13,16 +13,16 @@ use wasm_core_read::malformed::Malformed;
 use wasmparser_error::error::Error;
 use wasmparser_types::composite_type::{ArrayType, CompositeType, ContType, FuncType, StructType};
 
-// What a function type begins with.
+// The first byte of a function type.
 const FUNC: u8 = 0x60;
 
-// What a structure type begins with.
+// The first byte of a structure type.
 const STRUCT: u8 = 0x5f;
 
-// What an array type begins with.
+// The first byte of an array type.
 const ARRAY: u8 = 0x5e;
 
-// What a continuation type begins with.
+// The first byte of a continuation type.
 const CONT: u8 = 0x5d;
 
 // Reads the parameters and the results of a function type.

@@ -33,7 +33,7 @@ pub enum ExternalKind {
 pub struct Export<'a> {
     /// Its name.
     pub name: &'a str,
-    /// What is exported.
+    /// The kind of the exported item.
     pub kind: ExternalKind,
     /// Its index among those of its kind, imported ones first.
     pub index: u32,

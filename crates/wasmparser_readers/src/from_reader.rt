@@ -9,7 +9,7 @@ use std::alloc::Global;
 use wasm_core_read::binary_reader::BinaryReader;
 use wasmparser_error::error::Error;
 
-/// What bytes may read as: the part of `FromReader` for contracts alone, which has no lifetime.
+/// A type that bytes may read as: the part of `FromReader` for contracts alone, which has no lifetime.
 pub trait Item {
     // An item of the specification.
     ghost Form: { Type 0 };
@@ -17,7 +17,7 @@ pub trait Item {
     // The item that a value is.
     ghost form: { Self → Form };
 
-    // How bytes read as an item, under a set of features.
+    // The reading of bytes as an item, under a set of features.
     ghost form_at: { Features → ReadingOf Form };
 
     // The type indexes in an item that a value keeps packed.
@@ -26,11 +26,11 @@ pub trait Item {
     // Each type that a value names is named by its place in the module.
     ghost IsOfModule: { Self → Type 0 };
 
-    // Whether reading a value takes memory: true, or false.
+    // States that reading a value takes memory: true, or false.
     ghost TakesMemory: { Type 0 };
 }
 
-/// What a reader can read.
+/// A type whose values a reader can read.
 pub trait FromReader<'a>: Item + Sized {
     /// Reads a value. Lists of a type take memory; names borrow the input.
     ///

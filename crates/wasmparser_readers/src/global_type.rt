@@ -22,9 +22,9 @@ use wasmparser_types::val_type::ValType;
 /// The type of a global.
 #[derive(Clone, Copy, Debug, PartialEq, Eq, Hash)]
 pub struct GlobalType {
-    /// What it holds.
+    /// The type of its value.
     pub content_type: ValType,
-    /// Whether it can be set.
+    /// `true` if its value can be set.
     pub mutable: bool,
 }
 

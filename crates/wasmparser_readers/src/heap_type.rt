@@ -43,8 +43,8 @@ pub(crate) fn abstract_of(code: u8) -> Option<AbstractHeapType>
     Some(heap_type)
 }
 
-// What stands for a type index that is too large to be packed, until the whole item is read: no bytes give a place in a
-// recursive group.
+// Returns the placeholder for a type index that is too large to be packed, until the whole item is read: no bytes give a
+// place in a recursive group.
 fn unpackable() -> PackedIndex
     ensures { result ≡ RecGroup 0 }
 {

@@ -15,19 +15,19 @@ use wasmparser_error::error::Error;
 /// The type of a memory.
 #[derive(Clone, Copy, Debug, PartialEq, Eq, Hash)]
 pub struct MemoryType {
-    /// Whether it has addresses of 64 bits, not of 32.
+    /// `true` if it has addresses of 64 bits, not of 32.
     pub memory64: bool,
-    /// Whether it is shared between threads.
+    /// `true` if it is shared between threads.
     pub shared: bool,
     /// The number of pages that it begins with.
     pub initial: u64,
     /// The greatest number of pages, if there is one.
     pub maximum: Option<u64>,
-    /// Which power of two the size of a page is, where it is written; else a page has 2^16 bytes.
+    /// The power of two of the size of a page, where it is written; else a page has 2^16 bytes.
     pub page_size_log2: Option<u32>,
 }
 
-// What the flags of limits announce.
+// The flags of limits: each announces a part or a property.
 const HAS_MAXIMUM: u8 = 1;
 
 const IS_SHARED: u8 = 2;

@@ -11,12 +11,12 @@ use wasmparser_error::error::Error;
 
 // A part of a type, read with its indexes packed.
 pub(crate) trait Part: Sized + Drop {
-    // What it is in the specification.
+    // The type that stands for it in the specification.
     ghost Meaning: { Type 0 };
 
     ghost meaning: { Self → Meaning };
 
-    // How bytes read as one.
+    // The reading of bytes as a part.
     ghost part_at: { ReadingOf Meaning };
 
     fn read(alloc: Global, reader: &mut BinaryReader<'_>) -> Result<Self, Error>

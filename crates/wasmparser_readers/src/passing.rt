@@ -33,12 +33,12 @@ pub fn passed_part<'a>(start: BinaryReader<'a>, left: usize) -> BinaryReader<'a>
     part
 }
 
-/// What can be passed over without keeping any of it.
+/// A type whose values can be passed over without keeping any of them.
 pub trait Pass {
-    // What it is in the specification.
+    // The type that stands for it in the specification.
     ghost Passed: { Type 0 };
 
-    // How bytes read as one.
+    // The reading of bytes as one of them.
     ghost passed_at: { ReadingOf Passed };
 
     /// Passes over one.

@@ -21,7 +21,7 @@ use wasmparser_types::index::PackedIndex;
 use wasmparser_types::remap::RemapIndex;
 use wasmparser_types::sub_type::RecGroup;
 
-// What a group that is written out begins with.
+// The first byte of a group that is written out.
 const GROUP: u8 = 0x4e;
 
 // Reads a group after its first byte.

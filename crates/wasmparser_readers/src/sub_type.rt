@@ -15,10 +15,10 @@ use wasmparser_error::error::Error;
 use wasmparser_types::index::PackedIndex;
 use wasmparser_types::sub_type::SubType;
 
-// What a type that may have types below it begins with.
+// The first byte of a type that may have types below it.
 const OPEN: u8 = 0x50;
 
-// What a final type begins with where its supertypes are written.
+// The first byte of a final type whose supertypes are written.
 const FINAL: u8 = 0x4f;
 
 impl Part for PackedIndex {

@@ -23,9 +23,9 @@ use wasmparser_types::ref_type::RefType;
 /// The type of a table.
 #[derive(Clone, Copy, Debug, PartialEq, Eq, Hash)]
 pub struct TableType {
-    /// What its elements are.
+    /// The type of its elements.
     pub element_type: RefType,
-    /// Whether it has indexes of 64 bits, not of 32.
+    /// `true` if it has indexes of 64 bits, not of 32.
     pub table64: bool,
     /// The number of elements that it begins with.
     pub initial: u64,

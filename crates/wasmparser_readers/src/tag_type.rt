@@ -11,7 +11,7 @@ use wasm_core_read::binary_reader::BinaryReader;
 use wasm_core_read::malformed::Malformed;
 use wasmparser_error::error::Error;
 
-/// What a tag is for.
+/// The purpose of a tag.
 #[derive(Clone, Copy, Debug, PartialEq, Eq, Hash)]
 pub enum TagKind {
     /// Exceptions.
@@ -21,7 +21,7 @@ pub enum TagKind {
 /// The type of a tag.
 #[derive(Clone, Copy, Debug, PartialEq, Eq, Hash)]
 pub struct TagType {
-    /// What it is for.
+    /// Its purpose.
     pub kind: TagKind,
     /// The index of its function type.
     pub func_type_idx: u32,

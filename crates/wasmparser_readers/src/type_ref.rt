@@ -1,4 +1,4 @@
-//! What is imported (Core Specification 3.0, Binary Format, "External Types").
+//! Reading of types of imports (Core Specification 3.0, Binary Format, "External Types").
 
 ghost use Rattle.std.specs.Prelude.{◌↔◌, ℕ, IsTrue};
 ghost use Rattle.std.specs.List.{AllByRecursion};
@@ -22,7 +22,7 @@ use wasm_core_read::binary_reader::BinaryReader;
 use wasm_core_read::malformed::Malformed;
 use wasmparser_error::error::{Error, ErrorKind};
 
-/// What is imported.
+/// The type of an import.
 #[derive(Clone, Copy, Debug, PartialEq, Eq, Hash)]
 pub enum TypeRef {
     /// A function of the type with this index.

@@ -23,10 +23,10 @@ use wasmparser_error::error::{Error, ErrorKind};
 use wasmparser_types::ref_type::RefType;
 use wasmparser_types::val_type::{FieldType, StorageType, ValType};
 
-// What a reference that may be null begins with where it is written out.
+// The first byte of a reference type that may be null, where it is written out.
 const NULLABLE: u8 = 0x63;
 
-// What a reference that may not be null begins with.
+// The first byte of a reference type that may not be null.
 const NOT_NULL: u8 = 0x64;
 
 // The value type that a byte alone stands for.

@@ -11,7 +11,7 @@ use wasm_test_rows::values::{bytes_of, number_of};
 use wasmparser_entries::const_expr::{ConstExpr, read_const_expr};
 use wasmparser_readers::from_reader::FromReader;
 
-// Where the bytes begin in the input.
+// The offset of the bytes in the input.
 const START: u64 = 100;
 
 // Bytes that begin with an expression, the number of those that are left after it, and its operators; or the refusal.

@@ -12,7 +12,7 @@ use wasmparser_error::error::ErrorKind;
 use wasmparser_operators::operators_reader::OperatorsReader;
 use wasmparser_payloads::function_body::FunctionBody;
 
-// Where the body begins, its bytes, and where its operators begin and how many bytes they have.
+// The offset of the body, its bytes, and the offset of its operators and the number of their bytes.
 const BODIES: &str = "
     // no runs, with and without operators
     0 | 00 0b | operators 1 1

@@ -73,7 +73,7 @@ fn push_words(names: &mut ImportNames, words: &str) -> Option<()> {
     Some(())
 }
 
-// Whether these imports are shown, and no others.
+// Checks that these imports are shown, and no others.
 fn shows(names: &ImportNames, words: &str) -> Option<bool> {
     let mut words = words.split_whitespace();
     for import in names.grouped().ok()? {

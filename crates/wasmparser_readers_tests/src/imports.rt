@@ -14,11 +14,11 @@ use wasmparser_error::error::{Error, ErrorKind};
 use wasmparser_readers::from_reader::FromReader;
 use wasmparser_readers::section_limited::SectionLimited;
 
-// Where an entry begins in the input.
+// The offset of an entry in the input.
 const START: u64 = 100;
 
-// Whether compact imports are on; bytes, all of which are an entry; and the import, or a group's module, its type where it has one for all, the place
-// of its list, and its items with their places; or the kind of the refusal.
+// Compact imports, on or off; bytes, all of which are an entry; and the import, or a group's module, its type where it has one for all, the place of its
+// list, and its items with their places; or the kind of the refusal.
 const ENTRIES: &str = r#"
     // single imports
     off | 01 6d 01 61 00 05 | Import { module: "m", name: "a", ty: Func(5) }
@@ -84,7 +84,7 @@ fn item_shows<T: Debug + Drop>(alloc: Global, item: Result<(u64, T), Error>, wor
     }
 }
 
-// Whether the list of a group has this place, and these items.
+// Checks that the list of a group has this place, and these items.
 fn group_shows<'a, T: FromReader<'a> + Debug + Drop>(
     alloc: Global,
     group: SectionLimited<'a, T>,

@@ -16,7 +16,7 @@ use wasmparser_readers::table_type::TableType;
 use wasmparser_readers::tag_type::TagType;
 use wasmparser_readers::type_ref::TypeRef;
 
-// Which item is read, the bytes, and the item's `Debug`, or the kind of the refusal.
+// The kind of the item, the bytes, and the item's `Debug`, or the kind of the refusal.
 const ITEMS: &str = r#"
     memory | 00 01 | MemoryType { memory64: false, shared: false, initial: 1, maximum: None, page_size_log2: None }
     memory | 01 01 80 02 | MemoryType { memory64: false, shared: false, initial: 1, maximum: Some(256), page_size_log2: None }

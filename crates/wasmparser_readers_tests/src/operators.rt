@@ -29,7 +29,7 @@ fn begins_other(bytes: &[u8]) -> bool {
     }
 }
 
-// How many bytes are no operator's code, and begin none, where bytes of 0 follow.
+// Counts the bytes that are no operator's code, and begin none, where bytes of 0 follow.
 fn count_bytes() -> u32 {
     let mut count: u32 = 0;
     for code in 0..=255u8 {
@@ -48,7 +48,7 @@ fn sixty_two_bytes_are_no_operator(rt: HostRuntime) {
     assert!(rt; count_bytes() == 63);
 }
 
-// How many second codes below 300 are no operator's, each written in three bytes.
+// Counts the second codes below 300 that are no operator's, each written in three bytes.
 fn count_second_codes(prefix: u8) -> u32 {
     let mut count: u32 = 0;
     for code in 0..300u16 {
@@ -70,7 +70,7 @@ fn twenty_seven_second_codes_are_operators(rt: HostRuntime) {
     assert!(rt; count_second_codes(0xfd) == 299);
 }
 
-// What an operator on numbers alone is called that these bytes begin with.
+// Checks that these bytes begin with an operator on numbers alone that has this name.
 fn is_called(alloc: Global, bytes: &[u8], name: &str) -> Option<bool> {
     let mut reader = OperatorsReader::new(BinaryReader::new(bytes, 0));
     match reader.read() {
@@ -82,7 +82,7 @@ fn is_called(alloc: Global, bytes: &[u8], name: &str) -> Option<bool> {
     }
 }
 
-// How many of the names are those of the codes in their order.
+// Counts the names that are those of the codes in their order.
 fn count_names(alloc: Global) -> u32 {
     let mut count: u32 = 0;
     let mut code: u8 = 0x45;

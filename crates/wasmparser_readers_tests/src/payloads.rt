@@ -17,7 +17,7 @@ use wasmparser_readers::section_limited::SectionLimited;
 
 const HEADER: &str = "00 61 73 6d 01 00 00 00";
 
-// Where the module begins, the bytes after its header, and the payloads after the version.
+// The offset of the module, the bytes after its header, and the payloads after the version.
 const MODULES: &str = "
     0 | | end 8 8 0 0
     0 | 01 04 01 60 00 00 | type 10 14 1 0; end 14 14 0 0

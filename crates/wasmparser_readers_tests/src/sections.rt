@@ -10,7 +10,7 @@ use wasmparser_error::error::Error;
 use wasmparser_readers::section_limited::SectionLimited;
 use wasmparser_types::ref_type::RefType;
 
-// Where the content begins in the input.
+// The offset of the content in the input.
 const START: u64 = 10;
 
 // A content, and its items with their places. After a refusal nothing follows.
@@ -33,7 +33,7 @@ const SECTIONS: &str = "
 
 const COUNT_OF_SECTIONS: usize = 14;
 
-// Whether an item, or the refusal, is the one in words.
+// Checks that an item, or the refusal, is the one in words.
 fn is_item(item: Result<(u64, u32), Error>, words: &str) -> Option<bool> {
     let (what, place) = words.split_once('@')?;
     let place = number_of(place)?;
@@ -57,7 +57,7 @@ fn has_items(alloc: Global, bytes: &[u8], words: &str) -> Option<bool> {
     Some(expected.next().is_none())
 }
 
-// Whether an item without its place is the one in words.
+// Checks that an item without its place is the one in words.
 fn is_index(item: Result<u32, Error>, words: &str) -> Option<bool> {
     let (what, _) = words.split_once('@')?;
     match item {

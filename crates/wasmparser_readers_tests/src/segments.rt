@@ -14,7 +14,7 @@ use wasmparser_readers::from_reader::FromReader;
 use wasmparser_readers::section_limited::SectionLimited;
 use wasmparser_types::ref_type::RefType;
 
-// Where the bytes begin in the input.
+// The offset of the bytes in the input.
 const START: u64 = 100;
 
 // The bytes, all of which are an element segment; when it is used, with the index of its table where that is written; the operators of its

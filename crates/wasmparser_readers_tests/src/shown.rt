@@ -1,4 +1,4 @@
-//! What payloads are shown as in rows.
+//! Payloads as they are shown in rows.
 
 use std::alloc::Global;
 use std::ops::Range;
@@ -6,8 +6,8 @@ use wasm_test_rows::shown::displays;
 use wasmparser_error::error::Error;
 use wasmparser_payloads::payload::Payload;
 
-// What is told of a payload: its name, its place, its number (of items, of a function, of a name's bytes, an id or a version), and a second number (the bytes of
-// bodies, of a body or of an unknown section, and the place of what follows a name).
+// The parts of a payload that are shown: its name, its place, its number (of items, of a function, of a name's bytes, an id or a version), and a second number
+// (the bytes of bodies, of a body or of an unknown section, and the place of what follows a name).
 #[derive(Drop)]
 struct Shown {
     name: &'static str,
@@ -31,7 +31,7 @@ fn section(name: &'static str, range: Range<u64>, count: u32) -> Shown {
     told(name, range, count as u64, 0)
 }
 
-// What is told of a payload with a list.
+// Returns the shown parts of a payload with a list.
 fn shown_list(payload: &Payload<'_>) -> Option<Shown> {
     match payload {
         Payload::TypeSection(it) => Some(section("type", it.range(), it.count())),
@@ -52,7 +52,7 @@ fn copied(range: &Range<u64>) -> Range<u64> {
     range.start..range.end
 }
 
-// What is told of another payload.
+// Returns the shown parts of another payload.
 fn shown_other(payload: &Payload<'_>) -> Option<Shown> {
     match payload {
         Payload::Version { num, range } => Some(told("version", copied(range), *num as u64, 0)),

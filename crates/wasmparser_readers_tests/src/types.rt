@@ -12,7 +12,7 @@ use wasmparser_types::heap_type::HeapType;
 use wasmparser_types::ref_type::RefType;
 use wasmparser_types::val_type::ValType;
 
-// Which form is read, the bytes, and what the value's `Debug` is, or the kind of the refusal.
+// The form that is read, the bytes, and the value's `Debug`, or the kind of the refusal.
 const TYPES: &str = "
     heap | 70 | Abstract(Func)
     heap | 68 | Abstract(Cont)

@@ -23,8 +23,8 @@ use wasmparser_type_relations::gates::is_allowed_group;
 use wasmparser_types::index::{CoreTypeId, RecGroupId};
 use wasmparser_types::sub_type::RecGroup;
 
-/// What gives types their indexes, such as those of a module: the types of each group that is added follow those of the groups before. Nothing is said of what
-/// else such a thing holds, so it had better hold these alone.
+/// A list that gives types their indexes, such as that of a module: the types of each group that is added follow those of the groups before. Nothing is said of
+/// anything else that such a list holds, so it had better hold these alone.
 pub trait InternRecGroup {
     ghost use Rattle.std.specs.Prelude.{◌≡◌, ◌+◌, ◌≤◌, ◌<◌, ◌^◌, ◌∷◌, ◌++◌, [], suc, ℕ, List, IfErr, IfOk, IsSome, length, slice_get};
     ghost use Rattle.wasm_core_types.specs.Features.{feature_set};
@@ -38,7 +38,7 @@ pub trait InternRecGroup {
     // The ids of the types, by type index.
     ghost ids: { Self → List ℕ };
 
-    // How many ids can be added without memory.
+    // The number of ids that can be added without memory.
     ghost room: { Self → ℕ };
 
     // The features that are on.

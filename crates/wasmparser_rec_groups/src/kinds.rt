@@ -26,7 +26,7 @@ fn is_of_one_kind(a: &CompositeType, b: &CompositeType) -> bool
     )
 }
 
-// What an index in a group in canonical form stands for.
+// Returns the type that an index in a group in canonical form stands for.
 fn earlier_or_own<'a>(
     types: &'a TypeList,
     group: &'a [SubType],

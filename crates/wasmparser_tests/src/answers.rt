@@ -1,4 +1,4 @@
-//! What a validator answers, without what it gives.
+//! Answers of a validator, without the values that it gives.
 
 use std::alloc::Global;
 use wasmparser::error::Error;
@@ -8,7 +8,7 @@ use wasmparser::types::{Types, TypesRef};
 use wasmparser::valid_payload::ValidPayload;
 use wasmparser::validator::Validator;
 
-/// How many functions and types are shown of a module.
+/// The numbers of functions and types that are shown of a module.
 #[derive(Clone, Copy)]
 pub struct Sizes {
     /// The functions.
@@ -31,7 +31,7 @@ fn sizes_in(verdict: &Result<Types, Error>) -> Result<Sizes, Error> {
     }
 }
 
-/// What is answered to a whole module.
+/// Returns the answer to a whole module.
 pub fn answer_to_all(validator: &mut Validator, bytes: &[u8]) -> Result<Sizes, Error> {
     let verdict = validator.validate_all(bytes);
     let answer = sizes_in(&verdict);
@@ -39,7 +39,7 @@ pub fn answer_to_all(validator: &mut Validator, bytes: &[u8]) -> Result<Sizes, E
     answer
 }
 
-/// What is answered to a module's end.
+/// Returns the answer to a module's end.
 pub fn answer_to_end(validator: &mut Validator, offset: u64) -> Result<Sizes, Error> {
     let verdict = validator.end(offset);
     let answer = sizes_in(&verdict);
@@ -47,7 +47,7 @@ pub fn answer_to_end(validator: &mut Validator, offset: u64) -> Result<Sizes, Er
     answer
 }
 
-/// What is answered to a payload, and to the body that it is: at a module's end what is shown of it.
+/// Returns the answer to a payload, and to the body that it is: at a module's end the sizes that are shown of it.
 pub fn answer_to_payload(
     alloc: Global,
     validator: &mut Validator,

@@ -9,8 +9,8 @@ use wasm_test_rows::rows::check_rows;
 use wasm_test_rows::values::bytes_of;
 use wasmparser::error::{Error, ErrorKind};
 
-// How many parameters and results, numbers all of them, a function has, the features, its body, and the kind of its refusal, or `valid`. `all SIMD` are all
-// features but that one. The function's type is the only one of its module.
+// The number of parameters and results of a function, numbers all of them, the features, its body, and the kind of its refusal, or `valid`. `all SIMD` are
+// all features but that one. The function's type is the only one of its module.
 const BODIES: &str = "
     // A function that has to leave nothing, and one that has to leave a number.
     0 0 | default | 00 00 0b | valid
@@ -112,7 +112,7 @@ fn put_number(bytes: &mut Vec<u8>, number: u64) -> Result<(), AllocError> {
     Ok(())
 }
 
-// So many times the type of a number.
+// Appends so many times the type of a number.
 fn put_numbers(bytes: &mut Vec<u8>, count: u16) -> Result<(), AllocError> {
     put_number(bytes, u64::from(count))?;
     for _ in 0..count {

@@ -1,4 +1,4 @@
-//! What refusals print.
+//! Refusals as they are printed.
 
 use std::alloc::Global;
 use std::test::Fail;

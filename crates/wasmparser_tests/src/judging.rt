@@ -112,7 +112,7 @@ fn body_is(validator: &mut Validator, expected: &str) -> bool {
     is_answer(&validator.code_section_entry(&body), expected)
 }
 
-// Other calls.
+// Checks the answer to another call.
 fn other_is(validator: &mut Validator, call: &str, expected: &str) -> bool {
     match call {
         "body" => body_is(validator, expected),
@@ -165,7 +165,7 @@ fn judge_each(validator: &mut Validator) -> Result<(), Error> {
     Ok(())
 }
 
-// Whether no types are shown at its end.
+// Checks that no types are shown at its end.
 fn has_no_types(_alloc: Global, validator: &mut Validator, _row: &str) -> Option<bool> {
     judge_each(validator).ok()?;
     Some(answer_to_end(validator, 30).ok()?.types == 0)

@@ -7,7 +7,7 @@ use wasmparser::types::TypesRef;
 use wasmparser::validator::{Validator, validate};
 use wasmparser::validator_id::ValidatorId;
 
-/// Whether a row holds of a new validator with the default features, whose id is 5.
+/// Checks that a row holds of a new validator with the default features, whose id is 5.
 pub fn on_new_validator<F: Fn(Global, &mut Validator, &str) -> Option<bool>>(
     alloc: Global,
     row: &str,
@@ -36,7 +36,7 @@ pub fn on_new_validator_with<F: Fn(Global, &mut Validator, &str) -> Option<bool>
     found
 }
 
-/// Whether a row holds of what is shown of a module, which is valid under these features.
+/// Checks that a row holds of the types that are shown of a module, which is valid under these features.
 pub fn on_types<F: Fn(Global, TypesRef<'_>, &[u8], &str) -> Option<bool>>(
     alloc: Global,
     features: WasmFeatures,
@@ -57,7 +57,7 @@ pub fn on_types<F: Fn(Global, TypesRef<'_>, &[u8], &str) -> Option<bool>>(
     found
 }
 
-/// What is answered to a module under these features.
+/// Returns the answer to a module under these features.
 pub fn answer_under(alloc: Global, features: WasmFeatures, bytes: &[u8]) -> Result<(), Error> {
     let mut validator = Validator::new_with_features(alloc, features, ValidatorId::new(0));
     let verdict = validator.validate_all(bytes);
@@ -70,7 +70,7 @@ pub fn answer_under(alloc: Global, features: WasmFeatures, bytes: &[u8]) -> Resu
     answer
 }
 
-/// Why a module isn't valid under the default features.
+/// Returns the error for a module that isn't valid under the default features.
 pub fn refusal_of(alloc: Global, bytes: &[u8]) -> Option<Error> {
     let verdict = validate(alloc, bytes);
     let refusal = match &verdict {

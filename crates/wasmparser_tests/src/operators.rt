@@ -48,7 +48,7 @@ fn answer<R: WasmModuleResources>(
     }
 }
 
-// Whether an operator is answered so. One that is tried and refused leaves as many operands.
+// Checks that an operator is answered so. One that is tried and refused leaves as many operands.
 fn is_answered<R: WasmModuleResources>(
     alloc: Global,
     validator: &mut FuncValidator<R>,
@@ -80,7 +80,7 @@ fn are_answered<R: WasmModuleResources>(
     Some(true)
 }
 
-// Whether a payload is accepted, and if it is a body, the operators are answered so.
+// Checks that a payload is accepted, and if it is a body, that the operators are answered so.
 fn payload_holds(
     alloc: Global,
     validator: &mut Validator,

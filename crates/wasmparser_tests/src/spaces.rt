@@ -1,4 +1,4 @@
-//! What a valid module shows.
+//! Items that a valid module shows.
 
 use crate::new_validator::on_types;
 use std::alloc::Global;
@@ -18,9 +18,9 @@ use wasmparser::ref_type::RefType;
 use wasmparser::types::TypesRef;
 use wasmparser::val_type::ValType;
 
-// What is shown of a module: the kinds of its types, the ids of its types and of their supertypes, the types of its element segments, the first item of each index
-// space, what it exports and imports, or its imports with their names. A function and a tag show the id of their type, and how many parameters and results it has.
-// In rows of own ids types aren't canonicalized.
+// The items that are shown of a module: the kinds of its types, the ids of its types and of their supertypes, the types of its element segments, the first
+// item of each index space, its exports and imports, or its imports with their names. A function and a tag show the id of their type, and how many parameters
+// and results it has. In rows of own ids types aren't canonicalized.
 const SHOWN: &str = "
     types | 0061736d01000000 01 0b 03 60 00 00 5f 01 7f 00 5e 7f 00 | func struct array
     types | 0061736d01000000 | 
@@ -175,7 +175,7 @@ fn has_exports(alloc: Global, view: TypesRef<'_>, expected: &str) -> bool {
     exports.next().is_none()
 }
 
-// Whether the single imports of a module are what the text says.
+// Checks that the single imports of a module are what the text says.
 fn has_imports(alloc: Global, view: TypesRef<'_>, bytes: &[u8], expected: &str) -> Option<bool> {
     let mut texts = expected.split("; ");
     for payload in Parser::new(0).parse_all(bytes) {
@@ -195,7 +195,7 @@ fn has_imports(alloc: Global, view: TypesRef<'_>, bytes: &[u8], expected: &str) 
     Some(texts.next().is_none())
 }
 
-// Whether an import is what the text says, its two names and what it is.
+// Checks that an import is what the text says, its two names and its type.
 fn is_import(
     alloc: Global,
     view: TypesRef<'_>,
@@ -259,7 +259,7 @@ fn has_ids(view: TypesRef<'_>, expected: &str) -> Option<bool> {
     Some(words.next().is_none())
 }
 
-// Whether the supertypes of the types have these ids, `-` where a type has none.
+// Checks that the supertypes of the types have these ids, `-` where a type has none.
 fn has_supertypes(view: TypesRef<'_>, expected: &str) -> Option<bool> {
     let mut words = expected.split_whitespace();
     for index in 0..view.core_type_count_in_module() {
@@ -294,7 +294,7 @@ fn features_for(kind: &str) -> WasmFeatures {
     WasmFeatures::all().difference(canonical)
 }
 
-// Whether a view of a module has what a row says.
+// Checks that a view of a module has what a row says.
 fn has(alloc: Global, view: TypesRef<'_>, bytes: &[u8], row: &str) -> Option<bool> {
     let (kind, _, expected) = three_fields(row)?;
     match kind {

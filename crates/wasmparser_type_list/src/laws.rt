@@ -57,7 +57,7 @@ pub fn interned_groups()
         → Interns old new canonical group is_new number → IsFoundByKey old other → IsFoundByKey new other }
 {}
 
-/// What an id stands for depends on its group and the groups before it alone, and on which of these count as canonical. So a list that has grown changes no type
+/// The type of an id depends on its group and the groups before it alone, and on which of these count as canonical. So a list that has grown changes no type
 /// of a module, under whatever features later groups were interned.
 pub fn later_groups_change_no_type()
     ensures { (canonical other : ℕ → Bool) (groups later : List (RecGroup ℕ)) (id : ℕ) → ((number : ℕ) → number < length groups → other number ≡ canonical number)

@@ -1,4 +1,4 @@
-//! Which types match which, in a list of types.
+//! Matching of types in a list of types.
 
 ghost use Rattle.std.specs.Prelude.{◌≡◌, ◌↔◌, IsTrue, slice_get};
 ghost use Rattle.wasm_spec.specs.Subtyping.{RefBelow, ValBelow};
@@ -69,8 +69,8 @@ impl KnownTypes for TypeList {
 }
 
 impl TypeList {
-    /// Whether the composite type of the first id matches that of the second. Finality, order and depth aren't asked, and an unknown id matches nothing. Before
-    /// types of a group are matched, all supertypes in it have to be earlier ones of the same kind.
+    /// Checks that the composite type of the first id matches that of the second. Finality, order and depth aren't asked, and an unknown id matches nothing.
+    /// Before types of a group are matched, all supertypes in it have to be earlier ones of the same kind.
     pub fn matches(&self, a: CoreTypeId, b: CoreTypeId) -> bool
         requires agree { TablesAgree self.now }
         requires earlier { AreBelowEarlier (slice_get (sub_types self.now)) }

@@ -1,4 +1,4 @@
-//! How often a list of types was asked.
+//! A counter of the reads of a list of types.
 
 use crate::type_list::TypeList;
 use std::marker::Model;

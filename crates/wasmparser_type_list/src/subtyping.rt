@@ -1,4 +1,4 @@
-//! Which types of a list are below which (Core Specification 3.0, Validation, "Matching").
+//! Subtyping of the types of a list (Core Specification 3.0, Validation, "Matching").
 
 ghost use Rattle.std.specs.Prelude.{◌≡◌, ◌↔◌, ◌<◌, ◌≤◌, IsTrue, false, length, slice_get, ℕ};
 ghost use Rattle.std.specs.Option.{option_copied};
@@ -62,7 +62,7 @@ impl TypeList {
         }
     }
 
-    /// How many supertypes a known type has, which may be no more than 63.
+    /// Returns the number of supertypes of a known type, which may have no more than 63.
     pub fn get_subtyping_depth(&self, id: CoreTypeId) -> u8
         requires agree { TablesAgree self.now }
         requires earlier { AreBelowEarlier (slice_get (sub_types self.now)) }

@@ -61,7 +61,7 @@ impl<T: TypeIdentifier> Index<T> for TypeAlloc {
 
     ghost index_gives = { λ tables id element. slice_get (T.listed tables) (T.number id) ≡ Some element };
 
-    /// What a known id stands for.
+    /// Returns the data that a known id stands for.
     fn index(&self, id: T) -> &T::Data {
         &self.list[id]
     }

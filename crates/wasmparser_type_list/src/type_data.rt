@@ -1,4 +1,4 @@
-//! What ids in a list of types stand for.
+//! Data that ids in a list of types stand for.
 
 ghost use Rattle.std.specs.Prelude.{◌≡◌, ◌<◌, ◌^◌, [], ◌∷◌, ◌++◌, length, IfErr, IfOk, true};
 ghost use Rattle.wasmparser_type_list.specs.TypeSizes.{size_of};
@@ -14,26 +14,26 @@ use wasmparser_types::composite_type::CompositeType;
 use wasmparser_types::index::{CoreTypeId, RecGroupId};
 use wasmparser_types::sub_type::SubType;
 
-/// What is kept in a list of types.
+/// Data that are kept in a list of types.
 pub trait TypeData: Debug + Drop {
     ghost use Rattle.std.specs.Prelude.{◌≡◌, ◌<◌, ◌^◌, ℕ};
 
     /// The id by which it is found.
     type Id: TypeIdentifier<Data = Self>;
 
-    /// Whether it is a type of core modules, or a group of them.
+    /// `true` for a type of core modules, or a group of them.
     const IS_CORE_SUB_TYPE: bool;
 
-    // How large it counts.
+    // Its effective size.
     ghost size: { Self → ℕ };
 
-    /// How large it counts.
+    /// Returns its effective size.
     fn type_info(&self, types: &TypeList) -> TypeInfo
         requires { size self.now < 2 ^ 24 }
         ensures { result ≡ size self.now };
 }
 
-// How large a composite type counts, with the sub type that is made of it.
+// Returns the effective size of a composite type, with the sub type that is made of it.
 fn size_of(it: &CompositeType) -> u32
     requires { size_of (composite_type it.now) < 2 ^ 24 }
     ensures { result ≡ size_of (composite_type it.now) }

@@ -7,7 +7,7 @@ use wasmparser_type_relations::snapshot_list::SnapshotList;
 use wasmparser_types::index::{CoreTypeId, RecGroupId};
 use wasmparser_types::sub_type::SubType;
 
-/// What an id in a list of types is: a number, and which of the lists it counts in.
+/// An id in a list of types: a number that counts in one of its lists.
 pub trait TypeIdentifier: Debug + Copy + Eq {
     ghost use Rattle.std.specs.Prelude.{◌≡◌, ℕ, List};
     ghost use Rattle.std.specs.Borrow.{Lends, sem};
@@ -15,7 +15,7 @@ pub trait TypeIdentifier: Debug + Copy + Eq {
     ghost use Rattle.wasmparser_type_list.specs.TypeTables.{TypeTables};
     ghost use Rattle.wasmparser_type_list.specs.contracts.type_list.TypeList.{the_row as tables_row};
 
-    /// What such an id stands for.
+    /// The data that such an id stands for.
     type Data: Drop;
 
     // The number.

@@ -1,8 +1,8 @@
-//! How large types count.
+//! Effective sizes of types.
 
 use std::marker::Model;
 
-/// How large a type counts.
+/// The effective size of a type.
 #[derive(Debug, Clone, Copy, PartialEq, Eq, PartialOrd, Ord, Hash)]
 pub struct TypeInfo {
     size: u32,
@@ -23,7 +23,7 @@ impl Model for TypeInfo {
 impl TypeInfo {
     ghost use Rattle.std.specs.Prelude.{◌≡◌, ◌<◌, ◌^◌};
 
-    // What counts this much.
+    // Creates the info of a type of this size.
     pub(crate) fn core(size: u32) -> TypeInfo
         requires { size < 2 ^ 24 }
         ensures { result ≡ size }

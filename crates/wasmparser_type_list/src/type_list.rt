@@ -24,7 +24,7 @@ use wasmparser_types::sub_type::{RecGroup, SubType};
 // The most types that a list holds, which is `MAX_WASM_TOTAL_TYPES`.
 const MAX_TYPES: usize = 1 << 20;
 
-// Room in all tables for a group of so many types.
+// Reserves capacity in all tables for a group of so many types.
 fn reserve(
     types: &mut SnapshotList<SubType>,
     rec_groups: &mut SnapshotList<RecGroupId>,
@@ -212,7 +212,7 @@ impl TypeList {
         &self.rec_group_elements
     }
 
-    /// What an id stands for, if it is known.
+    /// Returns the data that an id stands for, if it is known.
     pub fn get<T: TypeIdentifier>(&self, id: T) -> Option<&T::Data>
         ensures { option_copied result ≡ slice_get (T.listed self.now) (T.number id) }
     {
@@ -451,7 +451,7 @@ impl<T: TypeIdentifier> Index<T> for TypeList {
 
     ghost index_gives = { λ tables id element. slice_get (T.listed tables) (T.number id) ≡ Some element };
 
-    /// What a known id stands for.
+    /// Returns the data that a known id stands for.
     fn index(&self, id: T) -> &T::Data {
         self.get(id).unwrap()
     }

@@ -46,7 +46,7 @@ pub struct TypeCanonicalizer<'a> {
 }
 
 impl<'a> TypeCanonicalizer<'a> {
-    /// One for a group after types with these ids, whose type indexes are below a bound. An index that isn't is refused at the offset.
+    /// Creates one for a group after types with these ids, whose type indexes are below a bound. An index that isn't is refused at the offset.
     pub fn new(ids: &'a [CoreTypeId], bound: usize, offset: u64) -> TypeCanonicalizer<'a>
         ensures ids { result.ids.now ≡ ids.now }
         ensures bound { result.bound ≡ bound }

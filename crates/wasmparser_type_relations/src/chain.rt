@@ -53,7 +53,7 @@ impl Chain {
         Ok(Chain { above, id })
     }
 
-    /// How many supertypes the type has.
+    /// Returns the number of supertypes of the type.
     pub fn depth(&self) -> usize
         ensures { length self.now ≡ suc result }
     {

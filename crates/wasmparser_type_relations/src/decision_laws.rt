@@ -33,7 +33,7 @@ pub fn types_by_id()
         → (a b : ValType Index) → IsTrue (is_val_below (by_id type_at) a b) ↔ ValBelow (by_id type_at) a b }
 {}
 
-/// So a call that answers whether one type is below another gives the computed value.
+/// A call that returns whether one type is below another thus returns the computed value.
 pub fn answers()
     ensures ref_types { (type_at : ℕ → Option (SubType Index)) → AreBelowEarlier type_at → (a b : RefType Index) (result : Bool)
         → (IsTrue result ↔ RefBelow (by_id type_at) a b) → result ≡ is_ref_below (by_id type_at) a b }

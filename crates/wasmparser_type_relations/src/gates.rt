@@ -1,4 +1,4 @@
-//! Which types a module may write under a set of features.
+//! Types that a module may write under a set of features.
 
 ghost use Rattle.std.specs.Prelude.{◌≡◌, map};
 ghost use Rattle.std.specs.List.{list_all};

@@ -12,18 +12,18 @@ use wasmparser_types::index::PackedIndex;
 use wasmparser_types::sub_type::SubType;
 use wasmparser_types::val_type::{FieldType, StorageType, ValType};
 
-// What ends a list. No item begins with it.
+// The number that ends a list. No item begins with it.
 const END: u32 = 0;
 
 // The number of a reference type is its bits, and this above them.
 const FIRST_REF: u32 = 6;
 
-// What a sub type begins with.
+// The first number of a sub type.
 const OPEN: u32 = 1;
 
 const FINAL: u32 = 2;
 
-// What a composite type begins with.
+// The first number of a composite type.
 const FUNC: u32 = 1;
 
 const STRUCT: u32 = 2;
@@ -83,7 +83,7 @@ fn put_val_types(key: &mut Vec<u32>, types: &[ValType]) -> Result<(), AllocError
     Ok(())
 }
 
-// As `put_val_types`.
+// Appends the numbers of fields, as `put_val_types` does those of value types.
 fn put_fields(key: &mut Vec<u32>, fields: &[FieldType]) -> Result<(), AllocError>
     ensures { IfOk result (λ _. key.new.items ≡ key.old.items ++ spec.numbers spec.field_number (map field_type fields.now)) }
 {
@@ -95,7 +95,7 @@ fn put_fields(key: &mut Vec<u32>, fields: &[FieldType]) -> Result<(), AllocError
     Ok(())
 }
 
-// As `put_val_types`.
+// Appends the numbers of supertypes, as `put_val_types` does those of value types.
 fn put_supertypes(key: &mut Vec<u32>, supertypes: &[PackedIndex]) -> Result<(), AllocError>
     ensures { IfOk result (λ _. key.new.items ≡ key.old.items ++ spec.numbers spec.index_number supertypes.now) }
 {
@@ -115,7 +115,7 @@ fn put_func_type(key: &mut Vec<u32>, it: &FuncType) -> Result<(), AllocError>
     put_val_types(key, it.results())
 }
 
-// As `put_func_type`.
+// Appends the numbers of a composite type.
 fn put_composite_type(key: &mut Vec<u32>, it: &CompositeType) -> Result<(), AllocError>
     ensures { IfOk result (λ _. key.new.items ≡ key.old.items ++ spec.composite_key (composite_type it.now)) }
 {
@@ -133,7 +133,7 @@ fn put_composite_type(key: &mut Vec<u32>, it: &CompositeType) -> Result<(), Allo
     }
 }
 
-// As `put_func_type`.
+// Appends the numbers of a sub type.
 fn put_sub_type(key: &mut Vec<u32>, it: &SubType) -> Result<(), AllocError>
     ensures { IfOk result (λ _. key.new.items ≡ key.old.items ++ spec.sub_key (sub_type it.now)) }
 {

@@ -1,4 +1,4 @@
-//! Which recursive group has which key.
+//! Recursive groups by their keys.
 
 use std::alloc::{AllocError, Global};
 use std::collections::BTreeMap;
@@ -24,7 +24,7 @@ impl GroupMap {
     ghost use Rattle.std.specs.Prelude.{◌≡◌, ◌≢◌, ℕ, List, [], Some, IfErr, IfOk};
     ghost use Rattle.wasmparser_type_relations.specs.GroupMaps.{found};
 
-    /// No groups.
+    /// Creates a map without groups.
     pub fn new(alloc: Global) -> GroupMap
         ensures { result ≡ [] }
     {

@@ -1,4 +1,4 @@
-//! What matching asks of defined types.
+//! Defined types, as matching looks them up.
 
 ghost use Rattle.std.specs.Prelude.{◌≡◌, ◌↔◌, IsTrue, ℕ, option_map};
 ghost use Rattle.std.specs.Option.{option_copied};
@@ -19,13 +19,13 @@ pub trait KnownTypes {
     // An index in a type of this recursive group, as one that is valid outside of it.
     ghost resolved: { Self → ℕ → Index → Index };
 
-    // When subtyping may be asked for.
+    // The condition under which subtyping may be asked for.
     ghost can_ask: { Self → Type 0 };
 
-    // Whether an id stands for a type.
+    // States that an id stands for a type.
     ghost is_known: { Self → ℕ → Type 0 };
 
-    // Whether an id was defined in this recursive group.
+    // States that an id was defined in this recursive group.
     ghost is_group_of: { Self → ℕ → ℕ → Type 0 };
 
     /// The composite type of what an index stands for.

@@ -1,4 +1,4 @@
-//! Whether one type is below another, by two reads of a list of types.
+//! Subtyping by two reads of a list of types.
 
 ghost use Rattle.std.specs.Prelude.{◌≡◌, ◌+◌, ◌<◌, ◌≤◌, ◌^◌, ◌↔◌, IsTrue};
 ghost use Rattle.wasm_spec.specs.Subtyping.{HeapBelow};
@@ -19,10 +19,10 @@ pub trait Lookup<'a> {
     // The types by id.
     ghost types: { Self → ℕ → Option (SubType Index) };
 
-    // How many chains were lent.
+    // The number of chains that were lent.
     ghost count: { Self → ℕ };
 
-    /// How many chains were lent.
+    /// Returns the number of chains that were lent.
     fn reads(&self) -> u64
         ensures { result ≡ count self.now };
 

@@ -23,7 +23,7 @@ use wasmparser_types::val_type::{FieldType, StorageType, ValType};
 
 /// A part of a type that another such part can match.
 pub trait Matches {
-    // What it is in the specification.
+    // The type that stands for it in the specification.
     ghost Meaning: { Type 0 };
 
     ghost meaning: { Self → Meaning };
@@ -31,7 +31,7 @@ pub trait Matches {
     // It with each index replaced.
     ghost mapped: { (Index → Index) → Meaning → Meaning };
 
-    // Whether one matches another.
+    // States that one matches another.
     ghost matching: { SubTypes Index → Meaning → Meaning → Type 0 };
 
     /// Checks that this part matches another one. A place in a recursive group is a place in the one that is handed in with the part.
@@ -46,7 +46,7 @@ pub trait Matches {
         ensures { IsTrue result ↔ matching (L.sub_at types.now) (mapped (L.resolved types.now rec_group) (meaning self.now)) (mapped (L.resolved types.now other_group) (meaning other.now)) };
 }
 
-// What a heap type in a recursive group stands for outside of it.
+// Returns the heap type that one in a recursive group stands for outside of it.
 fn resolved<L: KnownTypes>(types: &L, rec_group: RecGroupId, heap: HeapType) -> HeapType
     requires { L.can_ask types.now }
     ensures { heap_type result ≡ heap_map (L.resolved types.now rec_group) (heap_type heap) }

@@ -15,7 +15,7 @@ use std::{fmt, mem};
 #[derive(Drop)]
 enum Tree<T> {
     Leaf(Vec<T>),
-    // How many elements stand on the left, and both sides.
+    // The number of elements on the left, and both sides.
     Pair(usize, Rc<Tree<T>>, Rc<Tree<T>>),
 }
 
@@ -60,7 +60,7 @@ fn snapshot_get<T: Drop>(snapshots: &[Snapshot<T>], index: usize) -> Option<&T>
     None
 }
 
-// Two snapshots as one, without moving an element.
+// Joins two snapshots, without moving an element.
 fn pair<T: Drop>(
     alloc: Global,
     left: &Snapshot<T>,
@@ -109,7 +109,7 @@ fn join<T: Drop>(alloc: Global, snapshots: &mut Vec<Snapshot<T>>) -> Result<(), 
     Ok(())
 }
 
-// What was pushed becomes a snapshot.
+// Moves the elements that were pushed into a snapshot.
 fn add_leaf<T: Drop>(
     alloc: Global,
     snapshots: &mut Vec<Snapshot<T>>,
@@ -165,9 +165,9 @@ fn share<T: Drop>(alloc: Global, snapshots: &[Snapshot<T>]) -> Result<Vec<Snapsh
 pub struct SnapshotList<T: Drop> {
     alloc: Global,
     snapshots: Vec<Snapshot<T>>,
-    // How many elements the snapshots have in all.
+    // Number of elements in all snapshots.
     committed: usize,
-    // What was pushed since the last snapshot.
+    // The elements that were pushed since the last snapshot.
     current: Vec<T>,
 }
 
@@ -200,7 +200,7 @@ impl<T: Drop> SnapshotList<T> {
         }
     }
 
-    /// How many elements there are.
+    /// Returns the number of elements.
     pub fn len(&self) -> usize
         ensures { result ≡ length self.now.items }
     {

@@ -1,9 +1,9 @@
-//! What has a name: tables of names, and value types that name no defined type.
+//! Tables of names, and value types that name no defined type.
 
 use wasmparser_types::ref_type::RefType;
 use wasmparser_types::val_type::ValType;
 
-/// What has this name.
+/// Returns the value with this name.
 pub fn named<T: Copy>(table: &[(&str, T)], name: &str) -> Option<T> {
     for (it, found) in table {
         if *it == name {

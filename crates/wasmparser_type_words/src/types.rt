@@ -121,7 +121,7 @@ pub fn sub_type_of(alloc: Global, field: &str) -> Option<SubType> {
     })
 }
 
-/// Sub types with commas between them, or none.
+/// Returns the sub types of a field with commas between them, or none.
 pub fn sub_types_of(alloc: Global, field: &str) -> Option<Vec<SubType>> {
     let mut types = Vec::new(alloc);
     for part in field.split_terminator(',') {

@@ -20,7 +20,7 @@ const TYPES: &str =
 // The id of each type index. Two type indexes are of one type.
 const IDS: &str = "1 2 4 3 0 5 6 7 1 8 9 10";
 
-// What tables hold, after `mut:` where they have 64 bits.
+// The types of the elements of tables, after `mut:` where they have 64 bits.
 const TABLES: &str = "struct funcref mut:externref anyref #1?";
 
 const GLOBALS: &str = "struct i32 mut:i64 mut:funcref #8";
@@ -28,7 +28,7 @@ const GLOBALS: &str = "struct i32 mut:i64 mut:funcref #8";
 // The type indexes of functions, of which the first is imported.
 const FUNCTIONS: [u32; 5] = [0, 1, 2, 7, 11];
 
-// Which functions are declared.
+// For each of these functions, `true` if it is declared.
 const DECLARED: [bool; 5] = [true, false, true, false, true];
 
 impl ListedResources {

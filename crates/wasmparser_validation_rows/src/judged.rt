@@ -54,12 +54,12 @@ impl JudgedState {
         }
     }
 
-    /// What is known.
+    /// Returns the state.
     pub fn known(&self) -> &ModuleState {
         &self.state
     }
 
-    /// What holds of a copy for bodies; none where memory runs out.
+    /// Checks that a row holds of a copy for bodies; none where memory runs out.
     pub fn on_copy<F: Fn(&ModuleState, &str) -> Option<bool>>(
         &mut self,
         row: &str,
@@ -100,7 +100,7 @@ impl JudgedState {
     }
 }
 
-/// What holds of a new state. Who owns a state proves how each of its parts is let go of, so the tests leave that to this call.
+/// Checks that a row holds of a new state. Who owns a state proves how each of its parts is let go of, so the tests leave that to this call.
 pub fn on_new_state<F: Fn(Global, &mut JudgedState, &str) -> Option<bool>>(
     alloc: Global,
     features: WasmFeatures,
@@ -115,7 +115,7 @@ pub fn on_new_state<F: Fn(Global, &mut JudgedState, &str) -> Option<bool>>(
     found
 }
 
-// Imported items without their names, one after the other.
+// Adds imported items without their names, one after the other.
 fn imports(alloc: Global, state: &mut JudgedState, content: &[u8]) -> Result<(), Error> {
     let mut reader = BinaryReader::new(content, OFFSET);
     for _ in 0..content.len() {
@@ -162,7 +162,7 @@ fn answer_bytes(
     }
 }
 
-/// What a section is answered, which is its name and its content; none where there is no such section.
+/// Returns the answer to a section, which is its name and its content; none where there is no such section.
 pub fn answer(alloc: Global, state: &mut JudgedState, section: &str) -> Option<Result<(), Error>> {
     let (name, content) = word_and_rest(section);
     match name {
@@ -176,7 +176,7 @@ pub fn answer(alloc: Global, state: &mut JudgedState, section: &str) -> Option<R
     }
 }
 
-/// Whether all sections are accepted, with `;` between them; none where there is no such section.
+/// Checks that all sections are accepted, with `;` between them; none where there is no such section.
 pub fn are_accepted(alloc: Global, state: &mut JudgedState, sections: &str) -> Option<bool> {
     for section in sections.split_terminator(';') {
         if answer(alloc, state, section)?.is_err() {

@@ -22,7 +22,7 @@ use wasmparser_types::ref_type::RefType;
 use wasmparser_types::sub_type::SubType;
 use wasmparser_types::val_type::ValType;
 
-/// What a module has, imported items first.
+/// The items of a module, imported ones first.
 #[derive(Drop)]
 pub struct ListedResources {
     /// Its types.
@@ -37,18 +37,18 @@ pub struct ListedResources {
     pub globals: Vec<GlobalType>,
     /// The type index of each tag.
     pub tags: Vec<u32>,
-    /// What its element segments hold.
+    /// The types of its element segments.
     pub elements: [RefType; 2],
-    /// How many data segments there are, if it is said.
+    /// Number of data segments, if it is stated.
     pub data_count: Option<u32>,
-    /// Whether each of the first functions is declared outside of bodies.
+    /// For each of the first functions, `true` if it is declared outside of bodies.
     pub declared: Vec<bool>,
-    /// How many functions are imported.
+    /// Number of imported functions.
     pub imported_functions: u32,
 }
 
 impl ListedResources {
-    // What a heap type stands for that is written with a type index. It can be packed.
+    // Returns the heap type that one stands for which is written with a type index. It can be packed.
     #[tactic(auto, using(crate::proofs::LookUps::lookups))]
     fn with_id(&self, heap: HeapType) -> Option<HeapType>
         requires { AllByRecursion IsModuleIndex (heap_refs (heap_type heap)) }

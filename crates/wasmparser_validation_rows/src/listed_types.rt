@@ -21,16 +21,16 @@ use wasmparser_types::val_type::ValType;
 /// Types by id, and the id of each type index.
 #[derive(Drop)]
 pub struct ListedTypes {
-    /// What the first ids stand for.
+    /// The types of the first ids.
     pub known: Vec<SubType>,
-    /// What any other id stands for.
+    /// The type of any other id.
     pub other: SubType,
     /// The id of each type index.
     pub ids: Vec<u16>,
 }
 
 impl ListedTypes {
-    /// What an id stands for.
+    /// Returns the type of an id.
     pub fn sub(&self, id: usize) -> &SubType
         ensures { sub_type result.now ≡ sub_of self.now id }
     {

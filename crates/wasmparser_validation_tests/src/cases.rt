@@ -14,7 +14,7 @@ use wasmparser_validation_rows::listed_resources::ListedResources;
 use wasmparser_validation_rows::running::{run, try_first};
 use wasmparser_validation_rows::validators::{define_locals, validator_in};
 
-/// What is told where an operator is refused.
+/// The outcome of an operator that is refused.
 pub const REFUSED: &str = "refused";
 
 /// The validator of a body that takes an `i32` and an `i64` and gives an `i32`.
@@ -56,7 +56,7 @@ fn refusal_holds<R: WasmModuleResources>(
     }
 }
 
-// Whether an operator that is tried leaves these operands, or is refused without changing anything.
+// Checks that an operator that is tried leaves these operands, or is refused without changing anything.
 fn is_tried<R: WasmModuleResources>(
     alloc: Global,
     validator: &mut FuncValidator<R>,
@@ -88,7 +88,7 @@ fn has_outcome_in<R: WasmModuleResources>(
     is_tried(alloc, validator, operator, offset, expected)
 }
 
-/// Whether an operator that is tried after others leaves these operands, or is `refused` without changing anything. None where another one is refused.
+/// Checks that an operator that is tried after others leaves these operands, or is `refused` without changing anything. None where another one is refused.
 pub fn has_outcome(
     alloc: Global,
     resources: &ListedResources,
@@ -116,7 +116,7 @@ fn gives_in<R: WasmModuleResources>(
     Some(are_operands(alloc, validator, expected))
 }
 
-/// Whether an operator that comes after others leaves these operands.
+/// Checks that an operator that comes after others leaves these operands.
 pub fn gives(
     alloc: Global,
     resources: &ListedResources,

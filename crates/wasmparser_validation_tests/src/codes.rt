@@ -195,7 +195,7 @@ fn operands_but(alloc: Global, takes: &str, first: usize, wrong: usize) -> Optio
     }
 }
 
-// Whether an operator is refused after the operands from one of them on, with another one in place of one.
+// Checks that an operator is refused after the operands from one of them on, with another one in place of one.
 fn refuses(
     alloc: Global,
     resources: &ListedResources,
@@ -209,7 +209,7 @@ fn refuses(
     has_outcome(alloc, resources, features, &before, operator, REFUSED)
 }
 
-// Whether an operator is refused where its first operand is missing, and where one of them is another.
+// Checks that an operator is refused where its first operand is missing, and where one of them is another.
 fn refuses_others(
     alloc: Global,
     resources: &ListedResources,
@@ -228,7 +228,7 @@ fn refuses_others(
     Some(true)
 }
 
-// Whether an operator is refused without each feature, after what never goes on.
+// Checks that an operator is refused without each feature, after code that never goes on.
 fn asks_for(
     alloc: Global,
     resources: &ListedResources,
@@ -244,7 +244,8 @@ fn asks_for(
     Some(true)
 }
 
-// Whether an operator gives these operands, also after what never goes on, where it takes none that is known, and stays accepted under more features.
+// Checks that an operator gives these operands, also after code that never goes on, where it takes none that is known, and stays accepted under more
+// features.
 fn is_given(
     alloc: Global,
     resources: &ListedResources,
@@ -261,7 +262,7 @@ fn is_given(
     )
 }
 
-// Whether a row holds of one of its operators.
+// Checks that a row holds of one of its operators.
 fn code_holds(alloc: Global, resources: &ListedResources, row: &str, word: &str) -> Option<bool> {
     let (takes, _, expected, features) = four_fields(row)?;
     let operator = bytes_of(alloc, word)?;

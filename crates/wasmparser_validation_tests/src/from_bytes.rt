@@ -15,7 +15,7 @@ use wasmparser_payloads::function_body::FunctionBody;
 use wasmparser_validation_rows::failures::{has_failed, is_failed};
 use wasmparser_validation_rows::listed_resources::ListedResources;
 
-// Where bodies begin in the input.
+// The offset of bodies in the input.
 const START: u64 = 100;
 
 // Bodies of a function that takes an `i32` and an `i64` and gives an `i32`, and why they are refused, with how many bytes stand before.
@@ -67,7 +67,7 @@ const BODIES: &str = "
     02 ce8603 7f 01 7e 2000 0b | limit 5
 ";
 
-// Whether a place is that of a row, or else one of the body, which has so many bytes.
+// Checks that a place is that of a row, or else one of the body, which has so many bytes.
 fn is_place(offset: u64, before: &str, len: usize) -> Option<bool> {
     let place = offset.checked_sub(START)?;
     if before.is_empty() {
@@ -76,7 +76,7 @@ fn is_place(offset: u64, before: &str, len: usize) -> Option<bool> {
     Some(place == u64::from(before.parse::<u32>().ok()?))
 }
 
-// Whether an answer is as a row says it.
+// Checks that an answer is as a row says it.
 fn is_answer(answer: &Result<(), Error>, expected: &str, len: usize) -> Option<bool> {
     match answer {
         Ok(()) => Some(expected == "ok"),
@@ -143,7 +143,7 @@ fn validate_by_steps(
     Some(step_through(validator, &mut operators, bytes.len()))
 }
 
-// What a body is answered. After a refusal all is refused, the same body at its first byte.
+// Returns the answer to a body. After a refusal all is refused, the same body at its first byte.
 fn answer_at_once(
     validator: &mut FuncValidator<&ListedResources>,
     bytes: &[u8],
@@ -174,7 +174,7 @@ fn answer_of(
     answer
 }
 
-// Whether a body is answered as expected, at once and by steps.
+// Checks that a body is answered as expected, at once and by steps.
 fn holds_of(
     alloc: Global,
     resources: &ListedResources,
@@ -208,7 +208,7 @@ fn bodies_are_validated_at_once_as_by_steps(rt: HostRuntime) -> Result<(), Fail>
     Ok(result?)
 }
 
-// One body, at once and by steps, for a module with so many types.
+// Checks one body, at once and by steps, for a module with so many types.
 fn is_answered_with_types(
     alloc: Global,
     resources: &mut ListedResources,

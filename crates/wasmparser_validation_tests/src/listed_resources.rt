@@ -1,4 +1,4 @@
-//! What the example answers.
+//! Answers of the example.
 
 use std::alloc::Global;
 use std::rc::Rc;
@@ -264,7 +264,7 @@ fn is_array(shared: &Rc<ListedResources>) -> bool {
     first.composite_type.as_array().is_some()
 }
 
-// Whether the example answers by itself, by reference and where it is shared.
+// Checks that the example answers by itself, by reference and where it is shared.
 fn all_hold(alloc: Global, shared: &Rc<ListedResources>) -> Result<(), &'static str> {
     let resources: &ListedResources = shared;
     rows_hold(alloc, resources)?;

@@ -17,7 +17,7 @@ fn accepts_in<R: WasmModuleResources>(
     Some(run(validator, before, 0).is_ok() && run(validator, operator, 0).is_ok())
 }
 
-// Whether an operator after others is accepted, and they are.
+// Checks that an operator after others is accepted, and they are.
 fn accepts(
     alloc: Global,
     resources: &ListedResources,
@@ -31,7 +31,7 @@ fn accepts(
     accepts
 }
 
-// Whether an operator that is accepted under some features is so under others.
+// Checks that an operator that is accepted under some features is so under others.
 fn stays_accepted(
     alloc: Global,
     resources: &ListedResources,
@@ -46,7 +46,8 @@ fn stays_accepted(
     Some(!accepts(alloc, resources, some, before, operator)?)
 }
 
-/// Whether an operator that is accepted stays so with each further feature, and with all: beside the default ones, beside all of these but one, and from none up to all.
+/// Checks that an operator that is accepted stays so with each further feature, and with all: beside the default ones, beside all of these but one, and from
+/// none up to all.
 pub fn stays_accepted_with_more(
     alloc: Global,
     resources: &ListedResources,

@@ -252,7 +252,7 @@ fn features_without(words: &str) -> Option<WasmFeatures> {
     Some(features)
 }
 
-// Whether an operator that is accepted if it's tried is accepted so too, and stays so under more features.
+// Checks that an operator that is accepted if it's tried is accepted so too, and stays so under more features.
 fn is_answered(
     alloc: Global,
     resources: &ListedResources,
@@ -269,7 +269,7 @@ fn is_answered(
     )
 }
 
-// Whether a row holds of one of its operators.
+// Checks that a row holds of one of its operators.
 fn other_holds(alloc: Global, resources: &ListedResources, row: &str, word: &str) -> Option<bool> {
     let (letters, _, expected, features) = four_fields(row)?;
     let features = features_without(features)?;

@@ -1,4 +1,4 @@
-//! What a state tells to bodies, and a copy of it.
+//! Resources that a state and a copy of it give to bodies.
 
 use std::alloc::Global;
 use std::test::Fail;
@@ -84,7 +84,7 @@ fn reference_to(id: u32) -> Option<RefType> {
     Some(RefType::concrete(false, index))
 }
 
-// Whether one id is below another, as a number.
+// Returns 1 if one id is below another, and else 0.
 fn is_below<R: WasmModuleResources>(known: &R, ids: &str) -> Option<u64> {
     let (lower, upper) = word_and_rest(ids);
     let lower = reference_to(index_of(lower))?;
@@ -93,7 +93,7 @@ fn is_below<R: WasmModuleResources>(known: &R, ids: &str) -> Option<u64> {
     Some(u64::from(is_below))
 }
 
-// What is answered of an index.
+// Returns the answer about an index.
 fn told_at<R: WasmModuleResources>(known: &R, word: &str, at: u32) -> Option<u64> {
     match word {
         "function" => id_of_function(known, at),

@@ -222,7 +222,7 @@ fn words_of(answer: Result<(), Error>) -> &'static str {
     }
 }
 
-// Whether the last section is answered so, and those before it are accepted.
+// Checks that the last section is answered so, and those before it are accepted.
 fn are_judged(alloc: Global, state: &mut JudgedState, row: &str) -> Option<bool> {
     let (_, sections, last) = three_fields(row)?;
     let mut answered = Ok(());
@@ -235,7 +235,7 @@ fn are_judged(alloc: Global, state: &mut JudgedState, row: &str) -> Option<bool>
     Some(words_of(answered) == last)
 }
 
-/// Whether a row holds.
+/// Checks that a row holds.
 pub fn holds(alloc: Global, row: &str) -> Option<bool> {
     let (features, _, _) = three_fields(row)?;
     on_new_state(alloc, features_of(features)?, row, are_judged)

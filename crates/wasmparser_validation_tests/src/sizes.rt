@@ -85,7 +85,7 @@ fn add_wide(alloc: Global, resources: &mut ListedResources, count: usize) -> Opt
     resources.functions.push(0).ok()
 }
 
-// Whether a body of a function of so many parameters has as many locals, and calls itself again and again.
+// Checks that a body of a function of so many parameters has as many locals, and calls itself again and again.
 fn calls<R: WasmModuleResources>(alloc: Global, validator: &mut FuncValidator<R>) -> Option<bool> {
     let bytes = bytes_of(alloc, "4200*1000 1000*100 0b")?;
     let has_locals = validator.len_locals() == 1_000;
@@ -93,7 +93,7 @@ fn calls<R: WasmModuleResources>(alloc: Global, validator: &mut FuncValidator<R>
     Some(has_locals && validator.operand_stack_height() == 1_000)
 }
 
-// Whether as many locals as there may be are there, and one more is refused.
+// Checks that as many locals as there may be are there, and one more is refused.
 fn is_full<R: WasmModuleResources>(validator: &mut FuncValidator<R>) -> Option<bool> {
     let has_locals = validator.len_locals() == 50_000 && validator.get_local_type(49_999).is_some();
     define_locals(validator, 5, 0, ValType::I32)?.ok()?;
@@ -123,7 +123,7 @@ fn wide_holds(alloc: Global, resources: &ListedResources, count: usize) -> Optio
     }
 }
 
-// Whether a body of a function of so many parameters is as it should be.
+// Checks the body of a function of so many parameters, which is refused past the limit on locals.
 fn is_wide(alloc: Global, count: usize) -> Option<bool> {
     let mut resources = ListedResources::new(alloc, Vec::new(alloc));
     let holds = match add_wide(alloc, &mut resources, count) {

@@ -135,7 +135,7 @@ fn push_blocks(text: &mut String, stacks: &Stacks) -> Result<(), AllocError> {
     Ok(())
 }
 
-// Which of the locals that the letters assign are assigned.
+// Appends the letters of the locals that are assigned.
 fn push_assigned(text: &mut String, stacks: &Stacks) -> Result<(), AllocError> {
     for (local, letter) in [(0, 'x'), (1, 'z'), (FAR, 'y'), (FAR - 1, '-')] {
         if stacks.is_assigned(local) {

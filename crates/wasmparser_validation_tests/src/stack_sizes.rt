@@ -8,7 +8,7 @@ use wasmparser_operators::immediates::BlockType;
 use wasmparser_types::ref_type::RefType;
 use wasmparser_types::val_type::ValType;
 
-// So many operands, each above a block of its own, and then all of them gone.
+// Pushes so many operands, each above a block of its own, and checks that they are there, and that all of them go.
 fn nest(stacks: &mut Stacks, count: usize) -> Result<bool, AllocError> {
     for _ in 0..count {
         stacks.enter(FrameKind::Block, BlockType::Empty, 0, &[])?;
@@ -47,7 +47,7 @@ fn call(stacks: &mut Stacks, types: &[ValType], count: usize) -> Result<bool, Al
     Ok(are_known && stacks.operand_count() == types.len())
 }
 
-// So many locals assigned in a block, and then none of them.
+// Assigns so many locals in a block, and checks that they are assigned, and none of them after it.
 fn assign(stacks: &mut Stacks, count: u32) -> Result<bool, AllocError> {
     stacks.enter(FrameKind::Block, BlockType::Empty, 0, &[])?;
     for local in 0..count {
@@ -59,7 +59,7 @@ fn assign(stacks: &mut Stacks, count: u32) -> Result<bool, AllocError> {
     Ok(are_assigned && !stacks.is_assigned(0) && !stacks.is_assigned(last))
 }
 
-// All of these again and again, on one value.
+// Does all of these again and again, on one value.
 fn are_deep(stacks: &mut Stacks, types: &[ValType]) -> Result<bool, AllocError> {
     let mut are_right = true;
     for _ in 0..3 {

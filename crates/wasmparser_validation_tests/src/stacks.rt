@@ -1,4 +1,4 @@
-//! What stacks hold after calls.
+//! Stacks after calls.
 
 use crate::stack_calls::{call_all, letter_of, push_state};
 use std::alloc::Global;
@@ -8,7 +8,7 @@ use wasm_test_rows::rows::check_rows;
 use wasmparser_bodies::stacks::Stacks;
 use wasmparser_types::val_type::ValType;
 
-// What is asked, calls, and the answer: of `state` the operands, the open blocks and the assigned locals afterwards.
+// The question, the calls, and the answer: of `state` the operands, the open blocks and the assigned locals afterwards.
 const CALLS: &str = "
     // operands of one list
     state | il | li||

@@ -1,4 +1,4 @@
-//! What a validator tells, as text.
+//! The state of a validator, as text.
 
 use crate::letters::letter_of;
 use crate::stack_calls::kind_of;
@@ -84,7 +84,7 @@ fn push_state<R: WasmModuleResources>(
     push_locals(text, validator)
 }
 
-/// Operands, open blocks and locals.
+/// Returns operands, open blocks and locals as text.
 pub fn state_of<R: WasmModuleResources>(
     alloc: Global,
     validator: &FuncValidator<R>,

@@ -1,4 +1,4 @@
-//! What getters tell after each operator.
+//! Results of getters after each operator.
 
 use crate::cases::validator_of;
 use crate::states::is_state;
@@ -47,7 +47,7 @@ const STEPS: &str = "
     0b | i,  | il
 ";
 
-// Whether an operator leaves what a row says.
+// Checks that an operator leaves the state that a row says.
 fn step_holds<R: WasmModuleResources>(
     alloc: Global,
     validator: &mut FuncValidator<R>,

@@ -11,7 +11,7 @@ const CUT_HEADER: &[u8] = b"\0asm\x01\0\0";
 
 const NAMES: &[&str] = &["whole", "cut", "absent", "whole"];
 
-// How each ends where memory doesn't run out.
+// The outcome of each where memory doesn't run out.
 const OUTCOMES: &[Outcome] = &[Outcome::Yes, Outcome::No, Outcome::Fault, Outcome::Yes];
 
 // Inputs by their names, and how many faults of theirs were told, any and those of running out of memory.
@@ -44,7 +44,7 @@ impl Inputs for Named {
     }
 }
 
-// How many inputs end as a fault that don't by themselves, or none where one ends in another way.
+// Returns the number of inputs that end as a fault, but don't by themselves, or none where one ends in another way.
 fn more_faults(outcomes: &[Outcome]) -> Option<u32> {
     let mut count = 0u32;
     for (place, outcome) in outcomes.iter().enumerate() {
@@ -86,7 +86,7 @@ fn validates(alloc: Global, written: &mut Vec<u8>) -> bool {
     }
 }
 
-// Room for all lines, so that no write fails.
+// Allocates capacity for all lines, so that no write fails.
 fn room(alloc: Global) -> Option<Vec<u8>> {
     match Vec::with_capacity(alloc, 1024) {
         Ok(room) => Some(room),

@@ -27,7 +27,7 @@ const MODULES: &str = "
     body | 0061736d01000000 01 04 01 60 00 00 03 02 01 00 0a 03 01 01 00
 ";
 
-// What a session answers on a module.
+// Returns the answer of a session on a module.
 fn answer(session: &mut Session, bytes: &[u8]) -> &'static str {
     match refusal_of(session, bytes) {
         None => "yes",

@@ -13,7 +13,7 @@ fn counts_to(list: &SnapshotList<usize>, len: usize) -> bool {
     list.len() == len && list.get(len).is_none()
 }
 
-// Whether a copy has so many numbers; none where it is refused.
+// Checks that a copy has so many numbers; none where it is refused.
 fn is_copied(list: &mut SnapshotList<usize>, len: usize) -> Option<bool> {
     match list.commit() {
         Ok(copy) => Some(counts_to(&copy, len)),

@@ -8,7 +8,7 @@ use wasmparser_interning_rows::checked_list::CheckedList;
 use wasmparser_interning_rows::new_list::on_new_list;
 use wasmparser_interning_rows::steps::{Answer, interned, is_answer, steps_hold};
 
-// What interns some types, what is asked of them then, and the step that interns one group more.
+// The steps that intern some types, the questions about them, and the step that interns one group more.
 const LISTS: &str = "
     | types = 0; groups = 0 | group struct own.1?, struct own.0? = new #0 #1
     func -> = #0; lone open : struct = #1 | types = 2; type #0 = func ->; type #1 = open : struct | group #1 : struct own.1?, struct own.0? #0? = new #2 #3
@@ -24,7 +24,7 @@ fn are_so(alloc: Global, list: &mut CheckedList, questions: &str) -> bool {
     steps_hold(alloc, list, questions) || steps_hold(alloc, list, questions)
 }
 
-// What a call answers, likewise.
+// Returns the answer of a call, likewise.
 fn answer(alloc: Global, list: &mut CheckedList, call: &str) -> Option<Answer> {
     match interned(alloc, list, call) {
         Some(answer) => Some(answer),
@@ -32,7 +32,7 @@ fn answer(alloc: Global, list: &mut CheckedList, call: &str) -> Option<Answer> {
     }
 }
 
-// Whether a call answers so, at the second time where it is refused. Of a list that refused, the questions are answered as before.
+// Checks that a call answers so, at the second time where it is refused. Of a list that refused, the questions are answered as before.
 fn takes(alloc: Global, list: &mut CheckedList, questions: &str, step: &str) -> Option<bool> {
     let (call, expected) = step.split_once('=')?;
     let (types, groups) = (list.len(), list.group_count());
@@ -56,7 +56,7 @@ fn takes_all(alloc: Global, list: &mut CheckedList, steps: &str) -> bool {
     true
 }
 
-// Whether a copy is taken, of which the questions are answered so.
+// Checks that a copy is taken, of which the questions are answered so.
 fn is_copied(alloc: Global, list: &mut CheckedList, questions: &str) -> Option<bool> {
     match list.commit() {
         Ok(mut copy) => Some(are_so(alloc, &mut copy, questions)),

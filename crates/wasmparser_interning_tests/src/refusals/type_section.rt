@@ -24,7 +24,7 @@ fn group_of(alloc: Global, types: &str) -> Option<RecGroup> {
     Some(RecGroup::explicit(sub_types_of(alloc, types)?))
 }
 
-// Whether a group is added, at the second time where it is refused. A refusal changes nothing.
+// Checks that a group is added, at the second time where it is refused. A refusal changes nothing.
 fn takes(alloc: Global, section: &mut CheckedSection, types: &str) -> Option<bool> {
     let (ids, len) = (section.type_ids().len(), section.list_len());
     match section.add(group_of(alloc, types)?, 3)? {

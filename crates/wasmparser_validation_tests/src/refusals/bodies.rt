@@ -65,7 +65,7 @@ fn declare<R: WasmModuleResources>(validator: &mut FuncValidator<R>) -> Option<R
     }
 }
 
-// What is seen of the validator.
+// Returns the counts of the validator.
 fn counts<R: WasmModuleResources>(validator: &FuncValidator<R>) -> (usize, usize, u32) {
     (
         validator.operand_stack_height(),
@@ -116,7 +116,7 @@ fn takes_all<R: WasmModuleResources>(validator: &mut FuncValidator<R>, bytes: &[
     operators.eof() && validator.control_stack_height() == 0
 }
 
-// Whether each operator of a body is accepted if it is tried, also where memory runs out.
+// Checks that each operator of a body is accepted if it is tried, also where memory runs out.
 fn is_tried(alloc: Global, resources: &ListedResources, bytes: &[u8]) -> Option<bool> {
     let mut validator = validator_of(alloc, resources, FuncValidatorAllocations::new(alloc))?;
     let declared = match declare(&mut validator) {
@@ -156,7 +156,7 @@ fn validates<R: WasmModuleResources>(
     }
 }
 
-// Whether a body is accepted, by a second validator in the room of the first where memory ran out. It runs out once.
+// Checks that a body is accepted, by a second validator in the room of the first where memory ran out. It runs out once.
 fn is_accepted(alloc: Global, resources: &ListedResources, bytes: &[u8]) -> Option<bool> {
     let mut first = validator_of(alloc, resources, FuncValidatorAllocations::new(alloc))?;
     let ran_out = validates(&mut first, bytes);

@@ -54,7 +54,7 @@ fn ran_out(
     if holds { Some(is_memory) } else { None }
 }
 
-// Whether a body has its answer, by a second validator in the room of the first where memory ran out. It runs out once.
+// Checks that a body has its answer, by a second validator in the room of the first where memory ran out. It runs out once.
 fn is_answered(
     alloc: Global,
     resources: &ListedResources,

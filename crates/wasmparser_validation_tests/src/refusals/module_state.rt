@@ -45,7 +45,7 @@ fn is_of_memory(error: Error) -> bool {
     error.kind == ErrorKind::Memory && error.offset == 0
 }
 
-// Whether a section is accepted; none where memory runs out, on its words or on what it says.
+// Checks that a section is accepted; none where memory runs out, on its words or on its entries.
 fn accepts(alloc: Global, state: &mut JudgedState, section: &str) -> Option<bool> {
     match answer(alloc, state, section)? {
         Ok(()) => Some(true),
@@ -63,7 +63,7 @@ fn accepts_all(alloc: Global, state: &mut JudgedState, sections: &str) -> Option
     Some(true)
 }
 
-// Whether sections are accepted, by another state where memory ran out: what a state holds of a section that was refused is open.
+// Checks that sections are accepted, by another state where memory ran out: what a state holds of a section that was refused is open.
 fn sections_hold(alloc: Global, row: &str) -> Option<bool> {
     let features = WasmFeatures::default().union(WasmFeatures::COMPACT_IMPORTS);
     match on_new_state(alloc, features, row, accepts_all) {
@@ -85,7 +85,7 @@ fn takes(alloc: Global, state: &mut JudgedState, item: &str) -> bool {
     }
 }
 
-// Whether a section is refused as invalid; none where memory runs out on its words.
+// Checks that a section is refused as invalid; none where memory runs out on its words.
 fn is_invalid(alloc: Global, state: &mut JudgedState, section: &str) -> Option<bool> {
     match answer(alloc, state, section)? {
         Ok(()) => Some(false),
@@ -144,7 +144,7 @@ fn have_names(mut imports: NamedImports<'_>, names: &str) -> bool {
     imports.next().is_none()
 }
 
-// Whether the imports of a section are in this order, at the second time where memory ran out.
+// Checks that the imports of a section are in this order, at the second time where memory ran out.
 fn are_in_order(alloc: Global, state: &mut JudgedState, row: &str) -> Option<bool> {
     let (section, names) = row.split_once('|')?;
     if !accepts(alloc, state, section)? {
@@ -180,7 +180,7 @@ fn is_there(_known: &ModuleState, row: &str) -> Option<bool> {
     Some(!row.is_empty())
 }
 
-// Whether a copy is made, at the second time where memory ran out.
+// Checks that a copy is made, at the second time where memory ran out.
 fn is_copied(alloc: Global, state: &mut JudgedState, sections: &str) -> Option<bool> {
     if !accepts_all(alloc, state, sections)? {
         return Some(false);

@@ -23,7 +23,7 @@ fn call(stacks: &mut Stacks, number: u32) -> Result<(), AllocError> {
     }
 }
 
-// What is seen of the stacks.
+// Returns the counts of the stacks, and whether a local is assigned.
 fn counts(stacks: &Stacks, number: u32) -> (usize, usize, bool) {
     (
         stacks.operand_count(),

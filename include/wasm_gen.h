@@ -73,7 +73,7 @@ enum wasm_gen_feature {
 /* The verdict on a module. The eight counts are the sizes of its index spaces, imports included; 0 after a refusal. */
 struct wasm_gen_verdict {
     uint32_t kind;   /* an enum wasm_gen_kind */
-    uint64_t offset; /* an offset in the bytes of a refused module, or their length; else, and if memory ran out, 0 */
+    uint64_t offset; /* an offset in the bytes of a module that is refused or for which memory ran out, or their length; else 0 */
     uint64_t types;
     uint64_t functions;
     uint64_t tables;

@@ -15,7 +15,7 @@ use wasmparser_validator::types::{Types, TypesRef};
 pub struct Verdict {
     /// 0 where the module is valid, else the refusal's code.
     pub kind: u32,
-    /// A place in the bytes of a refused module, or their end; 0 where it is valid, and where memory ran out.
+    /// A place in the bytes of a module that is refused or for which memory ran out, or their end; 0 where it is valid.
     pub offset: u64,
     /// Number of types. All of these numbers are 0 after a refusal.
     pub types: u64,

@@ -10,20 +10,19 @@ use Rattle.wasmparser_error.specs.declared.error.ErrorKind.{ErrorKind}
 use Rattle.wasmparser_error.specs.declared.error.ErrorKind.TheVariants as kinds
 use Rattle.wasmparser_types.specs.Index.{packable}
 use Rattle.wasmparser_operators.specs.OperatorAnswers.{IsOperatorRefusal}
-use Rattle.wasmparser_bodies.specs.BodyAnswers.{NamesFault, IsPlacedIn, AnswersOutcome}
+use Rattle.wasmparser_bodies.specs.BodyAnswers.{NamesFault, AnswersOutcome}
 use Rattle.wasmparser_bodies.specs.CodeReading.{BodyOutcome, Fine, Broken, end_outcome, code_outcome}
 use Rattle.wasmparser_bodies.proofs.CodeLaws.{code_closed, code_large, code_nothing, code_other}
 
 -- ---- places
 
-pub placed_later : (kind : ErrorKind) (old mid : Input) (offset : ℕ) → GoesOn old mid → IsPlacedIn kind mid offset → IsPlacedIn kind old offset
-placed_later kinds.Memory old mid offset g p = p
-placed_later _ old mid offset g p = record { from = omega (arith, g.forward, p.from); to = omega (arith, g.same_end, p.to) }
+pub placed_later : (old mid : Input) (offset : ℕ) → GoesOn old mid → IsWithin mid offset → IsWithin old offset
+placed_later old mid offset g p = record { from = omega (arith, g.forward, p.from); to = omega (arith, g.same_end, p.to) }
 
 -- a call validated what was left, whose outcome is that of all
 pub answered_later : {X : Type 0} (old mid : Input) (answer : Result X Error) (outcome all : BodyOutcome) → GoesOn old mid → outcome ≡ all → AnswersOutcome mid answer outcome → AnswersOutcome old answer all
 answered_later old mid (Ok x) outcome all g same h = sym same ∙ h
-answered_later old mid (Err e) outcome all g same h = (subst (NamesFault e.kind) same h.0, placed_later e.kind old mid e.offset g h.1)
+answered_later old mid (Err e) outcome all g same h = (subst (NamesFault e.kind) same h.0, placed_later old mid e.offset g h.1)
 
 module _ {R : Type 0} (cx : BodyContext R) where
   -- ---- the body's end
@@ -46,12 +45,8 @@ module _ {R : Type 0} (cx : BodyContext R) where
   unread_kind m bytes kinds.Body some few (inr h) = code_large cx m bytes some few h
   unread_kind m bytes _ some few h = absurd h
 
-  unread_place : (features : Features) (bytes : List ℕ) (kind : ErrorKind) (old : Input) (offset : ℕ) → IsOperatorRefusal kind features bytes → IsWithin old offset → IsPlacedIn kind old offset
-  unread_place features bytes kinds.Memory old offset h w = absurd h
-  unread_place features bytes _ old offset h w = w
-
   -- the reader's refusal is the validator's, where blocks are open
   pub unread_operator : (m : Machine R) (old : Input) (kind : ErrorKind) (offset : ℕ) → m.frames ≢ [] → length cx.items.types ≤ packable → old.features ≡ cx.features → IsOperatorRefusal kind old.features old.rest
-      → IsWithin old offset → NamesFault kind (code_outcome cx m old.rest) × IsPlacedIn kind old offset
+      → IsWithin old offset → NamesFault kind (code_outcome cx m old.rest) × IsWithin old offset
   unread_operator m old kind offset some few same h w =
-      (unread_kind m old.rest kind some few (subst (λ features. IsOperatorRefusal kind features old.rest) same h), unread_place old.features old.rest kind old offset h w)
+      (unread_kind m old.rest kind some few (subst (λ features. IsOperatorRefusal kind features old.rest) same h), w)

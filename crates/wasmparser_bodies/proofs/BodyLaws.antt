@@ -15,7 +15,7 @@ use Rattle.wasm_spec.specs.Types.{FuncType}
 use Rattle.wasmparser_error.specs.declared.error.Error.{Error}
 use Rattle.wasmparser_error.specs.declared.error.ErrorKind.{ErrorKind}
 use Rattle.wasmparser_error.specs.declared.error.ErrorKind.TheVariants as kinds
-use Rattle.wasmparser_bodies.specs.BodyAnswers.{context_of, with_code, typed_outcome, body_outcome, NamesFault, IsPlacedIn, AnswersOutcome, IsBodyValidated}
+use Rattle.wasmparser_bodies.specs.BodyAnswers.{context_of, with_code, typed_outcome, body_outcome, NamesFault, AnswersOutcome, IsBodyValidated}
 use Rattle.wasmparser_bodies.specs.CodeReading.{BodyOutcome, Fine, ManyLocals, OtherOperator, Broken, code_outcome, IsCode, HasOther}
 use Rattle.wasmparser_bodies.specs.LocalsReading.{LocalsOutcome, Locals, TooMany, NoLocals, locals_outcome, Declares}
 use Rattle.wasmparser_bodies.proofs.CodeMeaning.{is_code, fine_code, has_other, other_code, code_few}
@@ -173,10 +173,6 @@ module _ {R : Type 0} (features : Features) (items : ModuleItems R) (index : ℕ
   fine_fault kinds.Memory outcome e n = refl
   fine_fault _ outcome e n = absurd n
 
-  placed : (kind : ErrorKind) (old : Input) (offset : ℕ) → IsPlacedIn kind old offset → (kind ≡ kinds.Memory) ⊎ IsWithin old offset
-  placed kinds.Memory old offset p = inl refl
-  placed _ old offset p = inr p
-
   pub validated : (body : Input) (answer : Result (Unit {0}) Error) → AreBytes body.rest → AnswersOutcome body answer (body_outcome features items index body.rest)
       → IsBodyValidated features items type body.rest body.position answer
   validated body (Ok x) are h = record {
@@ -188,12 +184,10 @@ module _ {R : Type 0} (features : Features) (items : ModuleItems R) (index : ℕ
     others = tt;
     from = tt;
     to = tt;
-    nowhere = tt;
   }
   validated body (Err e) are h =
       let outcome = body_outcome features items index body.rest in
       let at : (kind : ErrorKind) → e.kind ≡ kind → NamesFault kind outcome = λ kind k. subst (λ k. NamesFault k outcome) k h.0 in
-      let place = placed e.kind body e.offset h.1 in
       record {
         right = tt;
         complete = λ b. fine_fault e.kind outcome (body_again body.rest b) h.0;
@@ -201,7 +195,6 @@ module _ {R : Type 0} (features : Features) (items : ModuleItems R) (index : ℕ
         limit = λ k. many_found body.rest are (at (kinds.Limit core.Locals) k);
         broken = λ k. broken_is body.rest (at kinds.Body k);
         others = body_kind e.kind outcome h.0;
-        from = elim place [ inl m ↦ inl m | inr w ↦ inr w.from ];
-        to = elim place [ inl m ↦ inl m | inr w ↦ inr w.to ];
-        nowhere = λ k. subst (λ kind. IsPlacedIn kind body e.offset) k h.1;
+        from = h.1.from;
+        to = h.1.to;
       }

@@ -12,7 +12,7 @@ use Rattle.wasmparser_error.specs.declared.error.ErrorKind.TheVariants as kinds
 use Rattle.wasmparser_types.specs.Index.{Index, packable}
 use Rattle.wasmparser_operators.specs.OperatorAnswers.{IsOperatorRefusal}
 use Rattle.wasmparser_operators.specs.OperatorReading.{operator_at}
-use Rattle.wasmparser_bodies.specs.BodyAnswers.{IsPlacedIn, NamesFault, AnswersOutcome, with_code, body_outcome}
+use Rattle.wasmparser_bodies.specs.BodyAnswers.{NamesFault, AnswersOutcome, with_code, body_outcome}
 use Rattle.wasmparser_bodies.specs.BodyStates.{BodyState, with_locals_in, with_machine_in, context_in, IsAtStart, rest_outcome, HasEnded, IsRefusedStep, ValidatesOperator, ReadsStep}
 use Rattle.wasmparser_bodies.specs.CodeReading.{BodyOutcome, Broken, code_outcome}
 use Rattle.wasmparser_bodies.specs.LocalsAnswers.{NamesLocalsFault}
@@ -27,9 +27,9 @@ here : (from : Input) (at offset : ℕ) → at ≡ offset → offset ≡ from.po
 here from at offset a o = record { from = omega (arith, a, o); to = omega (arith, a, o) }
 
 refused : (old : BodyState) (from : Input) (operator : Operator ℕ) (rest : List ℕ) (kind : ErrorKind) (at offset : ℕ) → old.machine.frames ≢ [] → operator_at old.features from.rest ≡ Some (operator, rest) → offset ≡ from.position
-    → IsRefusedStep kind at offset (stepped (context_in old) old.machine operator) → NamesFault kind (code_outcome (context_in old) old.machine from.rest) × IsPlacedIn kind from at
+    → IsRefusedStep kind at offset (stepped (context_in old) old.machine operator) → NamesFault kind (code_outcome (context_in old) old.machine from.rest) × IsWithin from at
 refused old from operator rest kinds.Body at offset some e o h = (code_refused (context_in old) old.machine from.rest operator rest some e h.0, here from at offset h.1 o)
-refused old from operator rest kinds.Memory at offset some e o h = (tt, h.1)
+refused old from operator rest kinds.Memory at offset some e o h = (tt, here from at offset h.1 o)
 refused old from operator rest _ at offset some e o h = absurd h
 
 pub step_validated : (old new : BodyState) (from to : Input) (offset : ℕ) (operator : Operator ℕ) (answer : Result (Unit {0}) Error) → old.machine.frames ≢ [] → from.features ≡ old.features → offset ≡ from.position
@@ -40,7 +40,7 @@ step_validated old new from to offset operator (Err x) some same o e g h =
     refused old from operator to.rest x.kind x.offset offset some (ap (λ features. operator_at features from.rest) (sym same) ∙ e) o h
 
 pub step_unread : (old : BodyState) (from : Input) (kind : ErrorKind) (offset : ℕ) → old.machine.frames ≢ [] → length old.items.types ≤ packable → from.features ≡ old.features
-    → IsOperatorRefusal kind from.features from.rest → IsWithin from offset → NamesFault kind (code_outcome (context_in old) old.machine from.rest) × IsPlacedIn kind from offset
+    → IsOperatorRefusal kind from.features from.rest → IsWithin from offset → NamesFault kind (code_outcome (context_in old) old.machine from.rest) × IsWithin from offset
 step_unread old from kind offset some few same h w = unread_operator (context_in old) old.machine from kind offset some few same h w
 
 -- ---- the loop over operators
@@ -57,10 +57,10 @@ code_later start old new bytes after all a step so_far =
     sym one ∙ so_far
 
 pub step_refused : (start old : BodyState) (from mid : Input) (kind : ErrorKind) (offset : ℕ) (all : BodyOutcome) → old ≡ with_machine_in old.machine start → GoesOn from mid
-    → NamesFault kind (code_outcome (context_in old) old.machine mid.rest) × IsPlacedIn kind mid offset → code_outcome (context_in start) old.machine mid.rest ≡ all → NamesFault kind all × IsPlacedIn kind from offset
+    → NamesFault kind (code_outcome (context_in old) old.machine mid.rest) × IsWithin mid offset → code_outcome (context_in start) old.machine mid.rest ≡ all → NamesFault kind all × IsWithin from offset
 step_refused start old from mid kind offset all a g h so_far =
     let same : code_outcome (context_in old) old.machine mid.rest ≡ all = ap (λ (s : BodyState). code_outcome (context_in s) old.machine mid.rest) a ∙ so_far in
-    (subst (NamesFault kind) same h.0, placed_later kind from mid offset g h.1)
+    (subst (NamesFault kind) same h.0, placed_later from mid offset g h.1)
 
 pub some_left : (t : Bool) (n : ℕ) → (n ≡ 0 → IsTrue t) → t ≡ false → 0 < n
 some_left t zero none off = let f = sym off ∙ none refl in absurd cc
@@ -68,11 +68,11 @@ some_left t (suc n) none off = omega arith
 
 -- something follows the end
 pub past_end : (start : BodyState) (m : Machine Index) (from mid : Input) (e : Error) (offset : ℕ) (all : BodyOutcome) → m.frames ≡ [] → 0 < length mid.rest → GoesOn from mid
-    → e ≡ record { offset = offset; kind = kinds.Body } → offset ≡ mid.position → code_outcome (context_in start) m mid.rest ≡ all → NamesFault e.kind all × IsPlacedIn e.kind from e.offset
+    → e ≡ record { offset = offset; kind = kinds.Body } → offset ≡ mid.position → code_outcome (context_in start) m mid.rest ≡ all → NamesFault e.kind all × IsWithin from e.offset
 past_end start m from mid e offset all closed some g is o so_far =
     let broken : all ≡ Broken = sym so_far ∙ broken_past_end (context_in start) m mid.rest closed some in
-    let w : IsWithin from offset = placed_later kinds.Body from mid offset g (here mid offset offset refl o) in
-    subst (λ (x : Error). NamesFault x.kind all × IsPlacedIn x.kind from x.offset) (sym is) (broken, w)
+    let w : IsWithin from offset = placed_later from mid offset g (here mid offset offset refl o) in
+    subst (λ (x : Error). NamesFault x.kind all × IsWithin from x.offset) (sym is) (broken, w)
 
 -- ---- the whole body
 
@@ -85,8 +85,8 @@ code_answered old new from mid answer read same g h =
     ap (λ o. with_code o code) read ∙ ap (λ (s : BodyState). code_outcome (context_in s) s.machine mid.rest) (sym same) in
     answered_later from mid answer _ _ g (sym all) h
 
-pub locals_answered : (old : BodyState) (from : Input) (kind : ErrorKind) (offset : ℕ) → NamesLocalsFault kind (locals_outcome old.features old.items old.locals from.rest) × IsPlacedIn kind from offset
-    → NamesFault kind (rest_outcome old from.rest) × IsPlacedIn kind from offset
+pub locals_answered : (old : BodyState) (from : Input) (kind : ErrorKind) (offset : ℕ) → NamesLocalsFault kind (locals_outcome old.features old.items old.locals from.rest) × IsWithin from offset
+    → NamesFault kind (rest_outcome old from.rest) × IsWithin from offset
 unfolding rest_outcome
 locals_answered old from kind offset h = (locals_refused kind _ _ h.0, h.1)
 

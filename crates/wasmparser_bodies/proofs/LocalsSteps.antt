@@ -17,7 +17,7 @@ use Rattle.wasmparser_error.specs.declared.error.ErrorKind.{ErrorKind}
 use Rattle.wasmparser_error.specs.declared.error.ErrorKind.TheVariants as kinds
 use Rattle.wasmparser_types.specs.Index.{Index, packable}
 use Rattle.wasmparser_readers.specs.Answers.{HasLargeIndex}
-use Rattle.wasmparser_bodies.specs.BodyAnswers.{NamesFault, IsPlacedIn, with_code}
+use Rattle.wasmparser_bodies.specs.BodyAnswers.{NamesFault, with_code}
 use Rattle.wasmparser_bodies.specs.BodyStates.{BodyState, with_locals_in}
 use Rattle.wasmparser_bodies.specs.CodeReading.{BodyOutcome}
 use Rattle.wasmparser_bodies.specs.LocalsAnswers.{IsRefusedRun, DefinesRun, NamesLocalsFault, Others, run_outcome, ReadsRun}
@@ -74,11 +74,11 @@ module _ (old : BodyState) (from : Input) (count : ℕ) (mid : List ℕ) (type :
   limit_refused _ at offset o h = absurd h
 
   refused : (kind : ErrorKind) (at offset : ℕ) → offset ≡ from.position → IsRefusedRun kind at offset (length old.locals + count) (written old.features old.items type)
-      → ((others : Others) → NamesLocalsFault kind (run_outcome old from.rest others)) × IsPlacedIn kind from at
+      → ((others : Others) → NamesLocalsFault kind (run_outcome old from.rest others)) × IsWithin from at
   refused kinds.Body at offset o h =
       ((λ others. run_unwritten old.features old.items old.locals from.rest run rest others (a_run from.rest count mid type rest counted typed) h.0), here from at offset h.1 o)
   refused (kinds.Limit limit) at offset o h = limit_refused limit at offset o h
-  refused kinds.Memory at offset o h = ((λ others. tt), h.2)
+  refused kinds.Memory at offset o h = ((λ others. tt), here from at offset h.2 o)
   refused _ at offset o h = absurd h
 
 pub with_itself : (old new : BodyState) (locals : List (Local Index)) → new ≡ with_locals_in locals old → new ≡ with_locals_in new.locals old
@@ -131,14 +131,14 @@ since start old new a b = b ∙ ap (λ (d : BodyState). with_locals_in new.local
 -- ---- refusals
 
 pub broken_locals : (from : Input) (e : Error) (offset : ℕ) (outcome : LocalsOutcome Index) → e ≡ record { offset = offset; kind = kinds.Body } → offset ≡ from.position → outcome ≡ NoLocals
-    → NamesLocalsFault e.kind outcome × IsPlacedIn e.kind from e.offset
+    → NamesLocalsFault e.kind outcome × IsWithin from e.offset
 broken_locals from e offset outcome is o none =
-    subst (λ (x : Error). NamesLocalsFault x.kind outcome × IsPlacedIn x.kind from x.offset) (sym is) (none, here from offset offset refl o)
+    subst (λ (x : Error). NamesLocalsFault x.kind outcome × IsWithin from x.offset) (sym is) (none, here from offset offset refl o)
 
 pub broken_run : (from : Input) (e : Error) (offset : ℕ) (outcome : Others → LocalsOutcome Index) → e ≡ record { offset = offset; kind = kinds.Body } → offset ≡ from.position → ((others : Others) → outcome others ≡ NoLocals)
-    → ((others : Others) → NamesLocalsFault e.kind (outcome others)) × IsPlacedIn e.kind from e.offset
+    → ((others : Others) → NamesLocalsFault e.kind (outcome others)) × IsWithin from e.offset
 broken_run from e offset outcome is o none =
-    subst (λ (x : Error). ((others : Others) → NamesLocalsFault x.kind (outcome others)) × IsPlacedIn x.kind from x.offset) (sym is) (none, here from offset offset refl o)
+    subst (λ (x : Error). ((others : Others) → NamesLocalsFault x.kind (outcome others)) × IsWithin from x.offset) (sym is) (none, here from offset offset refl o)
 
 -- ---- the whole body
 

@@ -37,7 +37,7 @@ body_outcome features items index bytes = typed_outcome features items index (fr
 
 -- ---- what calls return
 
--- what a refusal names, and its place in what was validated; memory that ran out has none
+-- what a refusal names
 abbrev pub NamesFault : ErrorKind → BodyOutcome → Type 0
 NamesFault kinds.Body outcome = outcome ≡ Broken
 NamesFault kinds.Operator outcome = outcome ≡ OtherOperator
@@ -45,14 +45,10 @@ NamesFault (kinds.Limit core.Locals) outcome = outcome ≡ ManyLocals
 NamesFault kinds.Memory outcome = ⊤
 NamesFault _ outcome = ⊥
 
-abbrev pub IsPlacedIn : ErrorKind → Input → ℕ → Type 0
-IsPlacedIn kinds.Memory old offset = offset ≡ 0
-IsPlacedIn _ old offset = IsWithin old offset
-
--- what a call returned that validates what stands before a reader
+-- the result of a call that validates what stands before a reader; a refusal has its place there
 abbrev pub AnswersOutcome : {X : Type 0} → Input → Result X Error → BodyOutcome → Type 0
 AnswersOutcome old (Ok x) outcome = outcome ≡ Fine
-AnswersOutcome old (Err e) outcome = NamesFault e.kind outcome × IsPlacedIn e.kind old e.offset
+AnswersOutcome old (Err e) outcome = NamesFault e.kind outcome × IsWithin old e.offset
 
 -- ---- what they mean
 
@@ -67,7 +63,6 @@ pub record IsBodyValidated {R : Type 0} (features : Features) (items : ModuleIte
   pub broken : IfErr answer (λ e. e.kind ≡ kinds.Body
       → (¬ (IsFunctionBody features items type bytes)) × (¬ (HasManyLocals features items type bytes)) × (¬ (HasOtherOperator features items type bytes)))
   pub others : IfErr answer (λ e. (e.kind ≡ kinds.Operator) ⊎ (e.kind ≡ kinds.Limit core.Locals) ⊎ (e.kind ≡ kinds.Body) ⊎ (e.kind ≡ kinds.Memory))
-  -- the place is among the body's bytes, or at their end; memory that ran out has none
-  pub from : IfErr answer (λ e. (e.kind ≡ kinds.Memory) ⊎ (position ≤ e.offset))
-  pub to : IfErr answer (λ e. (e.kind ≡ kinds.Memory) ⊎ (e.offset ≤ position + length bytes))
-  pub nowhere : IfErr answer (λ e. e.kind ≡ kinds.Memory → e.offset ≡ 0)
+  -- the place is among the body's bytes, or at their end
+  pub from : IfErr answer (λ e. position ≤ e.offset)
+  pub to : IfErr answer (λ e. e.offset ≤ position + length bytes)

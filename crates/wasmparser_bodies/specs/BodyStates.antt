@@ -4,13 +4,13 @@ use Rattle.wasm_bodies.specs.Bodies.{parameter}
 use Rattle.wasm_bodies.specs.BodyContext.{BodyContext, ModuleItems, Local}
 use Rattle.wasm_bodies.specs.Operators.{Indexed, Operator}
 use Rattle.wasm_bodies_laws.specs.Machine.{Machine, at_start, frame_type, stepped}
-use Rattle.wasm_core_read.specs.Input.{Input, GoesOn}
+use Rattle.wasm_core_read.specs.Input.{Input, GoesOn, IsWithin}
 use Rattle.wasm_spec.specs.Features.{Features}
 use Rattle.wasmparser_error.specs.declared.error.Error.{Error}
 use Rattle.wasmparser_error.specs.declared.error.ErrorKind.{ErrorKind}
 use Rattle.wasmparser_error.specs.declared.error.ErrorKind.TheVariants as kinds
 use Rattle.wasmparser_types.specs.Index.{Index}
-use Rattle.wasmparser_bodies.specs.BodyAnswers.{IsPlacedIn, NamesFault, context_of, with_code}
+use Rattle.wasmparser_bodies.specs.BodyAnswers.{NamesFault, context_of, with_code}
 use Rattle.wasmparser_bodies.specs.CodeReading.{BodyOutcome, code_outcome}
 use Rattle.wasmparser_bodies.specs.LocalsReading.{locals_outcome}
 
@@ -54,7 +54,7 @@ HasEnded old new = (new.machine.frames ≡ []) × (new ≡ with_machine_in new.m
 -- what is wrong at an operator: it leads nowhere, or memory ran out where it leads
 abbrev pub IsRefusedStep : ErrorKind → ℕ → ℕ → Option (Machine Index) → Type 0
 IsRefusedStep kinds.Body at offset wanted = (wanted ≡ None) × (at ≡ offset)
-IsRefusedStep kinds.Memory at offset wanted = IsSome wanted × (at ≡ 0)
+IsRefusedStep kinds.Memory at offset wanted = IsSome wanted × (at ≡ offset)
 IsRefusedStep _ at offset wanted = ⊥
 
 -- an operator leads where it leads
@@ -66,4 +66,4 @@ ValidatesOperator offset operator old new (Err e) = IsRefusedStep e.kind e.offse
 abbrev pub ReadsStep : BodyState → BodyState → Input → Input → Result (Unit {0}) Error → Type 0
 ReadsStep old new from to (Ok x) =
     (code_outcome (context_in old) old.machine from.rest ≡ code_outcome (context_in old) new.machine to.rest) × (new ≡ with_machine_in new.machine old) × GoesOn from to
-ReadsStep old new from to (Err e) = NamesFault e.kind (code_outcome (context_in old) old.machine from.rest) × IsPlacedIn e.kind from e.offset
+ReadsStep old new from to (Err e) = NamesFault e.kind (code_outcome (context_in old) old.machine from.rest) × IsWithin from e.offset

@@ -3,7 +3,7 @@ use Rattle.std.specs.Prelude.{◌≡◌, ◌⊎◌, ◌++◌, ◌+◌, ⊤, ℕ,
 use Rattle.wasm_bodies.specs.Bodies.{declared_local}
 use Rattle.wasm_bodies.specs.BodyContext.{Local}
 use Rattle.wasm_core_types.specs.declared.limits.Limit.TheVariants as core
-use Rattle.wasm_core_read.specs.Input.{Input, GoesOn}
+use Rattle.wasm_core_read.specs.Input.{Input, GoesOn, IsWithin}
 use Rattle.wasm_core_read.specs.TypeReading.{val_type_at}
 use Rattle.wasm_spec.specs.Limits as limits
 use Rattle.wasm_spec.specs.TypeReferences.{val_refs}
@@ -15,7 +15,6 @@ use Rattle.wasmparser_types.specs.Index.{Index}
 use Rattle.wasmparser_types.specs.declared.val_type.ValType as code
 use Rattle.wasmparser_readers.specs.Answers.{HasLargeIndex}
 use Rattle.wasmparser_operators.specs.OperatorValues.{IsOfModule, module_type}
-use Rattle.wasmparser_bodies.specs.BodyAnswers.{IsPlacedIn}
 use Rattle.wasmparser_bodies.specs.BodyStates.{BodyState, with_locals_in}
 use Rattle.wasmparser_bodies.specs.LocalsReading.{LocalsOutcome, Locals, TooMany, NoLocals, run_at, with_run, locals_outcome}
 
@@ -25,7 +24,7 @@ use Rattle.wasmparser_bodies.specs.LocalsReading.{LocalsOutcome, Locals, TooMany
 abbrev pub IsRefusedRun : ErrorKind → ℕ → ℕ → ℕ → Option (ValType Index) → Type 0
 IsRefusedRun kinds.Body at offset total type = (type ≡ None) × (at ≡ offset)
 IsRefusedRun (kinds.Limit core.Locals) at offset total type = (is_some type ≡ true) × limits.IsPassedBy limits.Locals total × (at ≡ offset)
-IsRefusedRun kinds.Memory at offset total type = (is_some type ≡ true) × (limits.IsPassedBy limits.Locals total → ⊥) × (at ≡ 0)
+IsRefusedRun kinds.Memory at offset total type = (is_some type ≡ true) × (limits.IsPassedBy limits.Locals total → ⊥) × (at ≡ offset)
 IsRefusedRun _ at offset total type = ⊥
 
 -- so many locals more of what a type stands for, within the limit
@@ -57,9 +56,9 @@ run_outcome state bytes others = with_run state.features state.items state.local
 -- What a call returned that reads a run: whatever the outcome of the rest is, it is the same with the run as without it, or the run is refused.
 abbrev pub ReadsRun : BodyState → BodyState → Input → Input → Result (Unit {0}) Error → Type 0
 ReadsRun old new from to (Ok x) = ((others : Others) → run_outcome old from.rest others ≡ others new.locals to.rest) × (new ≡ with_locals_in new.locals old) × GoesOn from to
-ReadsRun old new from to (Err e) = ((others : Others) → NamesLocalsFault e.kind (run_outcome old from.rest others)) × IsPlacedIn e.kind from e.offset
+ReadsRun old new from to (Err e) = ((others : Others) → NamesLocalsFault e.kind (run_outcome old from.rest others)) × IsWithin from e.offset
 
 -- What a call returned that reads all runs.
 abbrev pub ReadsLocals : BodyState → BodyState → Input → Input → Result (Unit {0}) Error → Type 0
 ReadsLocals old new from to (Ok x) = (locals_outcome old.features old.items old.locals from.rest ≡ Locals new.locals to.rest) × (new ≡ with_locals_in new.locals old) × GoesOn from to
-ReadsLocals old new from to (Err e) = NamesLocalsFault e.kind (locals_outcome old.features old.items old.locals from.rest) × IsPlacedIn e.kind from e.offset
+ReadsLocals old new from to (Err e) = NamesLocalsFault e.kind (locals_outcome old.features old.items old.locals from.rest) × IsWithin from e.offset

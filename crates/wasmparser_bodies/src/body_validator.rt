@@ -26,8 +26,7 @@ pub trait BodyValidator {
     /// Adds so many locals of a type, whose type index, if it has one, is one of the module.
     ///
     /// # Errors
-    /// `Body` at the offset, where the type is not allowed or there is no such type; `Limit` at the offset, where there would be too
-    /// many locals; or `Memory`.
+    /// At the offset: `Body` where the type is not allowed or there is no such type, `Limit` where there would be too many locals, or `Memory`.
     fn define_locals(&mut self, offset: u64, count: u32, ty: ValType) -> Result<(), Error>
         requires of_module { IsOfModule ty }
         requires ready { (state self.old).is_ready ≡ true }
@@ -37,7 +36,7 @@ pub trait BodyValidator {
     /// Validates the next operator, which is as a reader gives it.
     ///
     /// # Errors
-    /// `Body` at the offset, where it may not stand there; or `Memory`.
+    /// At the offset: `Body` where it may not stand there, or `Memory`.
     fn op(&mut self, offset: u64, it: &Operator<'_>) -> Result<(), Error>
         requires whole { IsWhole it.now }
         requires ready { (state self.old).is_ready ≡ true }

@@ -83,7 +83,7 @@ fn read_code<B: BodyValidator>(reader: &mut OperatorsReader<'_>, body: &mut B) -
 ///
 /// # Errors
 /// `Limit` where there are too many locals, `Operator` where a code stands that no operator has, after locals and operators that a body may
-/// begin with, and `Body` where the body is broken otherwise: each at a place of the body or its end. Or `Memory`.
+/// begin with, `Body` where the body is broken otherwise, `Memory` where memory runs out: each at a place of the body or its end.
 pub fn read_body<B: BodyValidator>(reader: &mut BinaryReader<'_>, body: &mut B) -> Result<(), Error>
     requires ready { (B.state body.old).is_ready ≡ true }
     requires few { length (B.state body.old).items.types ≤ packable }

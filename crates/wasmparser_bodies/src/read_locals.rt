@@ -44,8 +44,8 @@ fn read_run<B: BodyValidator>(reader: &mut BinaryReader<'_>, body: &mut B) -> Re
 /// Reads the locals that a body declares, and adds them to its parameters. The reader stands at the body's first byte.
 ///
 /// # Errors
-/// Where a run doesn't read, or its type is not allowed or there is none, `Body`; where there are too many locals, `Limit`: each at the
-/// run, or at the number of runs. Or `Memory`.
+/// `Body` where a run doesn't read, or its type is not allowed or there is none, `Limit` where there are too many locals, `Memory` where memory runs out: each at a
+/// place of the reader's bytes or their end.
 pub fn read_locals<B: BodyValidator>(
     reader: &mut BinaryReader<'_>,
     body: &mut B,

@@ -15,7 +15,7 @@ use Rattle.wasmparser_error.specs.declared.error.ErrorKind.TheVariants as kinds
 use Rattle.wasmparser_module_types.specs.ModuleTypes.{KnownTypes, AreIds, CanCompare}
 use Rattle.wasmparser_types.specs.Index.{Index}
 
--- a refusal at a place of what is wrong, or for memory of what is right so far
+-- a refusal at a place of what is wrong, or at 0 for memory of what is right so far
 abbrev pub Refuses : ℕ → Type 0 → Type 0 → ErrorKind → ℕ → Type 0
 Refuses place Wrong Right kinds.Invalid offset = Wrong × (offset ≡ place)
 Refuses place Wrong Right kinds.Memory offset = Right × (offset ≡ 0)

@@ -57,7 +57,7 @@ impl Operands {
     /// Puts an operand there.
     ///
     /// # Errors
-    /// `Memory` where memory runs out.
+    /// `Memory`, at 0, where memory runs out.
     #[tactic(auto, using(crate::proofs::OperandLists::pushed))]
     pub fn push(&mut self, ty: ValType) -> Result<(), Error>
         ensures pushed { IfOk result (λ _. self.new ≡ val_type ty ∷ self.old) }

@@ -15,7 +15,12 @@ kind_name Order = codes "order"
 kind_name Failed = codes "failed"
 kind_name Memory = codes "memory"
 
--- a reader's refusal is that of bytes that don't read, or memory ran out, which has no place
+-- where an error is after it was placed: at the offset if memory ran out, else where it was
+abbrev pub placed : ErrorKind → ℕ → ℕ → ℕ
+placed Memory offset was = offset
+placed _ offset was = was
+
+-- a reader's refusal: bytes that don't read, or memory ran out, at 0 until a caller places it
 abbrev pub IsRefusal : ErrorKind → ℕ → Type 0 → Type 0
 IsRefusal Malformed offset unread = unread
 IsRefusal Memory offset unread = offset ≡ 0

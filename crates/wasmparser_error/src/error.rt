@@ -58,10 +58,34 @@ impl ErrorKind {
 #[derive(Clone, Copy, Debug, PartialEq, Eq, Hash, Error)]
 #[error("{kind} at {offset}")]
 pub struct Error {
-    /// A place in the bytes that were handed in, or their end; 0 where memory ran out.
+    /// A place in the bytes or ranges that were handed in, their ends included, or an offset that was handed in; 0 where a call was handed none.
     pub offset: u64,
     /// The reason for the refusal. Where the module has several faults, any of them may be named.
     pub kind: ErrorKind,
+}
+
+impl Error {
+    ghost use Rattle.wasmparser_error.specs.Error.{placed};
+
+    /// Creates the error of running out of memory at this offset.
+    pub fn out_of_memory(offset: u64) -> Error
+        ensures { result ≡ record { offset = offset; kind = kinds.Memory } }
+    {
+        Error {
+            offset,
+            kind: ErrorKind::Memory,
+        }
+    }
+
+    /// Returns the error, at this offset if memory ran out. Any other stays where it is.
+    pub fn placed(self, offset: u64) -> Error
+        ensures { result ≡ record { offset = placed self.kind offset self.offset; kind = self.kind } }
+    {
+        match self.kind {
+            ErrorKind::Memory => Error::out_of_memory(offset),
+            _ => self,
+        }
+    }
 }
 
 impl From<Malformed> for Error {
@@ -75,20 +99,11 @@ impl From<Malformed> for Error {
     }
 }
 
-fn out_of_memory() -> Error
-    ensures { result ≡ record { offset = 0; kind = kinds.Memory } }
-{
-    Error {
-        offset: 0,
-        kind: ErrorKind::Memory,
-    }
-}
-
 impl From<AllocError> for Error {
     ghost from_gives = { λ _ e. e ≡ record { offset = 0; kind = kinds.Memory } };
 
     fn from(_error: AllocError) -> Error {
-        out_of_memory()
+        Error::out_of_memory(0)
     }
 }
 
@@ -96,6 +111,6 @@ impl<T: Drop> From<AllocFailed<T>> for Error {
     ghost from_gives = { λ _ e. e ≡ record { offset = 0; kind = kinds.Memory } };
 
     fn from(_error: AllocFailed<T>) -> Error {
-        out_of_memory()
+        Error::out_of_memory(0)
     }
 }

@@ -10,7 +10,7 @@ use Rattle.wasm_core_read.specs.Input.{Input}
 use Rattle.wasm_spec.specs.Bytes.{AreBytes}
 use Rattle.wasm_spec.specs.Features.{Features}
 use Rattle.wasm_spec.specs.Types.{FuncType}
-use Rattle.wasmparser_bodies.specs.BodyAnswers.{AnswersOutcome, IsBodyValidated, IsPlacedIn}
+use Rattle.wasmparser_bodies.specs.BodyAnswers.{AnswersOutcome, IsBodyValidated}
 use Rattle.wasmparser_bodies.specs.BodyStates.{BodyState, IsAtStart, rest_outcome}
 use Rattle.wasmparser_bodies.specs.CodeReading.{BodyOutcome}
 use Rattle.wasmparser_bodies.specs.LocalsAnswers.{NamesLocalsFault, ReadsLocals}
@@ -26,13 +26,9 @@ use Rattle.wasmparser_func_validator.specs.FromBytes.{IsLocalsRefusal, ReadsDecl
 
 -- ---- under other features
 
-moved : (kind : ErrorKind) (body : Input) (features : Features) (offset : ℕ) → IsPlacedIn kind (record body { features = features }) offset → IsPlacedIn kind body offset
-moved kinds.Memory body features offset h = h
-moved _ body features offset h = record { from = h.from; to = h.to }
-
 pub answered : (body : Input) (features : Features) (answer : Result (Unit {0}) Error) (outcome : BodyOutcome) → AnswersOutcome (record body { features = features }) answer outcome → AnswersOutcome body answer outcome
 answered body features (Ok x) outcome h = h
-answered body features (Err e) outcome h = (h.0, moved e.kind body features e.offset h.1)
+answered body features (Err e) outcome h = (h.0, record { from = h.1.from; to = h.1.to })
 
 module _ (features : Features) (items : ModuleItems Index) (type : FuncType Index) where
   -- ---- locals

@@ -7,4 +7,4 @@ use Rattle.wasmparser_func_validator.specs.declared.refusal.Refusal.TheVariants.
 
 abbrev pub refused_at : Refusal → ℕ → Error
 refused_at Invalid offset = record { offset = offset; kind = kinds.Body }
-refused_at Memory offset = record { offset = 0; kind = kinds.Memory }
+refused_at Memory offset = record { offset = offset; kind = kinds.Memory }

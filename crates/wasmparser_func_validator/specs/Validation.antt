@@ -21,7 +21,7 @@ use Rattle.wasmparser_types.specs.declared.val_type.ValType as code
 -- the cause of an error at an operator: it leads nowhere, memory ran out though it leads somewhere, or an earlier one was refused
 abbrev pub IsRefusedAt : ErrorKind → ℕ → Bool → ℕ → Option (Machine Index) → Type 0
 IsRefusedAt kinds.Body at failed offset wanted = (failed ≡ false) × (wanted ≡ None) × (at ≡ offset)
-IsRefusedAt kinds.Memory at failed offset wanted = (failed ≡ false) × IsSome wanted × (at ≡ 0)
+IsRefusedAt kinds.Memory at failed offset wanted = (failed ≡ false) × IsSome wanted × (at ≡ offset)
 IsRefusedAt kinds.Failed at failed offset wanted = (failed ≡ true) × (at ≡ offset)
 IsRefusedAt _ at failed offset wanted = ⊥
 
@@ -40,7 +40,7 @@ Tries failed offset wanted old new after (Err e) = IsRefusedAt e.kind e.offset f
 abbrev pub IsRefusedRun : ErrorKind → ℕ → Bool → ℕ → ℕ → Option (ValType Index) → Type 0
 IsRefusedRun kinds.Body at failed offset total type = (failed ≡ false) × (type ≡ None) × (at ≡ offset)
 IsRefusedRun (kinds.Limit Locals) at failed offset total type = (failed ≡ false) × (is_some type ≡ true) × limits.IsPassedBy limits.Locals total × (at ≡ offset)
-IsRefusedRun kinds.Memory at failed offset total type = (failed ≡ false) × (is_some type ≡ true) × (limits.IsPassedBy limits.Locals total → ⊥) × (at ≡ 0)
+IsRefusedRun kinds.Memory at failed offset total type = (failed ≡ false) × (is_some type ≡ true) × (limits.IsPassedBy limits.Locals total → ⊥) × (at ≡ offset)
 IsRefusedRun kinds.Failed at failed offset total type = (failed ≡ true) × (at ≡ offset)
 IsRefusedRun _ at failed offset total type = ⊥
 
@@ -62,7 +62,7 @@ is_refused (Err e) = true
 
 abbrev pub locals_error : LocalsError → ℕ → Error
 locals_error locals.Limit offset = record { offset = offset; kind = kinds.Limit Locals }
-locals_error locals.Memory offset = record { offset = 0; kind = kinds.Memory }
+locals_error locals.Memory offset = record { offset = offset; kind = kinds.Memory }
 
 -- a body that isn't begun
 abbrev pub IsRefusedStart : List (ValType Index) → ErrorKind → ℕ → Type 0

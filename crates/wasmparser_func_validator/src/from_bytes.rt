@@ -52,9 +52,9 @@ impl<T: WasmModuleResources> FuncValidator<T> {
     /// it stands there still.
     ///
     /// # Errors
-    /// `Body` where a run doesn't read, or its type is not allowed or there is none, `Limit` where there are too many locals, each at the run or
-    /// at the number of runs, `Memory`, or `Failed` at the body's first byte after a refusal. There also `Limit`, of types, where the module has
-    /// more of them than the 2^20 that types of locals can name.
+    /// `Body` where a run doesn't read, or its type is not allowed or there is none, `Limit` where there are too many locals, `Memory` where memory runs out, each at a
+    /// place of the reader's bytes or their end; or `Failed` at the body's first byte after a refusal. There also `Limit`, of types, where the module has more of them
+    /// than the 2^20 that types of locals can name.
     pub fn read_locals(&mut self, reader: &mut BinaryReader<'_>) -> Result<(), Error>
         ensures read { self.old.failed ≡ false → length (items_in T.resources self.old.body).types ≤ packable → ReadsLocals (⟦<FuncValidator<T> as BodyValidator>⟧.state self.old) (⟦<FuncValidator<T> as BodyValidator>⟧.state self.new) reader.old reader.new result }
         ensures declared { self.old.failed ≡ false → length (items_in T.resources self.old.body).types ≤ packable → (type : types.FuncType Index) → locals_in_body T.resources self.old.body ≡ map parameter type.params → ReadsDeclared (feature_set self.old.body.features) (items_in T.resources self.old.body) type reader.old reader.new (locals_in_body T.resources self.new.body) result }
@@ -86,7 +86,7 @@ impl<T: WasmModuleResources> FuncValidator<T> {
     ///
     /// # Errors
     /// `Limit` where there are too many locals, `Operator` where a code stands that no operator has, after locals and operators that a body
-    /// may begin with, and `Body` where the body is broken otherwise, each at a place of the body or its end. Or `Memory`, or `Failed` at the body's
+    /// may begin with, `Body` where the body is broken otherwise, `Memory` where memory runs out, each at a place of the body or its end. Or `Failed` at the body's
     /// first byte after a refusal. There also `Limit`, of types, where the module has more of them than the 2^20 that types in bodies can name.
     pub fn validate(&mut self, body: &FunctionBody<'_>) -> Result<(), Error>
         ensures validated { self.old.failed ≡ false → length (items_in T.resources self.old.body).types ≤ packable → IsAtStart (⟦<FuncValidator<T> as BodyValidator>⟧.state self.old) → (type : types.FuncType Index) → func_at (items_in T.resources self.old.body) self.old.body.ty ≡ Some type → IsBodyValidated (feature_set self.old.body.features) (items_in T.resources self.old.body) type body.now.rest body.now.position result }

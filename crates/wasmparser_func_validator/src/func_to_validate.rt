@@ -51,7 +51,7 @@ impl<T: WasmModuleResources + Drop> FuncToValidate<T> {
     /// The validator of the function's body, in this room. Its type is a function type.
     ///
     /// # Errors
-    /// `Limit` at 0, where the parameters alone are too many locals, or `Memory`.
+    /// At 0: `Limit` where the parameters alone are too many locals, or `Memory`.
     pub fn into_validator(self, allocs: FuncValidatorAllocations) -> Result<FuncValidator<T>, Error>
         requires { IsSome (func_at (T.resources self.resources).items self.ty) }
         ensures stacks { IfOk result (λ v. v.stacks ≡ at_start self.ty) }

@@ -58,20 +58,17 @@ fn locals_refusal(error: LocalsError, offset: u64) -> Error
             offset,
             kind: ErrorKind::Limit(Limit::Locals),
         },
-        LocalsError::Memory => Error {
-            offset: 0,
-            kind: ErrorKind::Memory,
-        },
+        LocalsError::Memory => Error::out_of_memory(offset),
     }
 }
 
 impl<T: WasmModuleResources> FuncValidator<T> {
-    /// Validates the next operator, which is as a reader of operators gives it.
+    /// Validates the next operator. Types in it are named by their places in the module, as a reader gives them.
     ///
     /// # Errors
-    /// `Body` at the offset, where it may not stand there, `Memory`, or `Failed` at the offset after a refusal.
+    /// At the offset: `Body` where it may not stand there, `Memory`, or `Failed` after a refusal.
     pub fn op(&mut self, offset: u64, operator: &Operator<'_>) -> Result<(), Error>
-        requires { code.IsWhole operator.now }
+        requires { code.NamesModuleTypes operator.now }
         ensures validated { Validates self.old.failed offset (stepped (body_context T.resources self.old.body) self.old.stacks (code.operator operator.now)) self.new.stacks self.new.failed result }
         ensures body { self.new.body ≡ self.old.body }
         ensures index { self.new.index ≡ self.old.index }
@@ -93,7 +90,7 @@ impl<T: WasmModuleResources> FuncValidator<T> {
     /// # Errors
     /// Those of `op`.
     pub fn try_op(&mut self, offset: u64, operator: &Operator<'_>) -> Result<(), Error>
-        requires { code.IsWhole operator.now }
+        requires { code.NamesModuleTypes operator.now }
         ensures tried { Tries self.old.failed offset (stepped (body_context T.resources self.old.body) self.old.stacks (code.operator operator.now)) self.old.stacks self.new.stacks self.new.failed result }
         ensures body { self.new.body ≡ self.old.body }
         ensures index { self.new.index ≡ self.old.index }
@@ -151,8 +148,8 @@ impl<T: WasmModuleResources> FuncValidator<T> {
     /// Adds so many locals of a type, whose type index, if it has one, is one of the module.
     ///
     /// # Errors
-    /// `Body` at the offset, where the type is not allowed or there is no such type, `Limit` at the offset, where there are too many
-    /// locals, `Memory`, or `Failed` at the offset after a refusal.
+    /// At the offset: `Body` where the type is not allowed or there is no such type, `Limit` where there are too many locals, `Memory`, or `Failed` after a
+    /// refusal.
     pub fn define_locals(&mut self, offset: u64, count: u32, ty: ValType) -> Result<(), Error>
         requires { code.IsOfModule ty }
         ensures defined { Defines self.old.failed offset count (written (feature_set self.old.body.features) (items_in T.resources self.old.body) (code.module_type ty)) (locals_in_body T.resources self.old.body) (locals_in_body T.resources self.new.body) self.new.failed result }

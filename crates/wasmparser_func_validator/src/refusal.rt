@@ -35,10 +35,7 @@ impl Refusal {
                 offset,
                 kind: ErrorKind::Body,
             },
-            Refusal::Memory => Error {
-                offset: 0,
-                kind: ErrorKind::Memory,
-            },
+            Refusal::Memory => Error::out_of_memory(offset),
         }
     }
 }

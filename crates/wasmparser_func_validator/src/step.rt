@@ -1,5 +1,5 @@
-//! The last of three ways to validate operators, and the only one that has them all and refuses: one `Operator` at a time, as a reader gives it, by the
-//! whole rule, of which `quick` and `plain` are shortcuts.
+//! The last of three ways to validate operators, and the only one that has them all and refuses: one `Operator` at a time, by the whole rule, to which `quick`
+//! and `plain` are shortcuts.
 
 ghost use Rattle.std.specs.Prelude.{◌≡◌, ◌≢◌, []};
 ghost use Rattle.wasm_bodies.specs.OperatorRows.{value_type};
@@ -9,7 +9,7 @@ ghost use Rattle.wasm_bodies.specs.Signatures.{gives_one};
 ghost use Rattle.wasm_bodies_laws.specs.Machine.{stepped};
 ghost use Rattle.wasmparser_func_validator.specs.NumericForms.{number};
 ghost use Rattle.wasmparser_func_validator.specs.Steps.{HasEffect, Steps, Takes, body_context, items_in};
-ghost use Rattle.wasmparser_operators.specs.OperatorValues.{IsWhole, operator};
+ghost use Rattle.wasmparser_operators.specs.OperatorValues.{NamesModuleTypes, operator};
 
 use crate::body::Body;
 use crate::gates::is_on;
@@ -39,7 +39,7 @@ impl<R: WasmModuleResources> Body<R> {
     // An operator that neither opens, parts nor ends a block.
     fn operate(&self, stacks: &mut Stacks, op: &Operator<'_>) -> Result<(), Refusal>
         requires open { stacks.old.frames ≢ [] }
-        requires whole { IsWhole op.now }
+        requires named { NamesModuleTypes op.now }
         ensures { HasEffect (body_context R.resources self.now) (operator op.now) stacks.old stacks.new result }
     {
         match op {
@@ -72,7 +72,11 @@ impl<R: WasmModuleResources> Body<R> {
             Operator::Drop => self.drop_one(stacks),
             Operator::Select => self.select(stacks),
             Operator::TypedSelect { ty } => self.select_typed(stacks, ty),
-            Operator::TypedSelectMulti { .. } => Err(Refusal::Invalid),
+            Operator::TypedSelectMulti { tys } => {
+                // (by this call a proof knows that it isn't one type)
+                let _ = tys.len();
+                Err(Refusal::Invalid)
+            }
             Operator::LocalGet { local_index } => self.local_get(stacks, *local_index),
             Operator::LocalSet { local_index } => self.local_set(stacks, *local_index),
             Operator::LocalTee { local_index } => self.local_tee(stacks, *local_index),
@@ -163,7 +167,7 @@ impl<R: WasmModuleResources> Body<R> {
 
     // Validates one operator. None may come after the end of the body.
     pub(crate) fn step(&self, stacks: &mut Stacks, op: &Operator<'_>) -> Result<(), Refusal>
-        requires { IsWhole op.now }
+        requires { NamesModuleTypes op.now }
         ensures { Steps (stepped (body_context R.resources self.now) stacks.old (operator op.now)) stacks.old stacks.new result }
     {
         if stacks.is_closed() {

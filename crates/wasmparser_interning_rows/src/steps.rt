@@ -31,7 +31,7 @@ pub enum Answer {
 fn refusal(error: Error) -> Answer {
     match error.kind {
         ErrorKind::Total if error.offset == OFFSET => Answer::Total,
-        ErrorKind::Memory if error.offset == 0 => Answer::Memory,
+        ErrorKind::Memory if error.offset == OFFSET => Answer::Memory,
         _ => Answer::Other,
     }
 }

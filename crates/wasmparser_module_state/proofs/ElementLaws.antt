@@ -80,7 +80,7 @@ module _ (features : Features) (old : Context) (held : List DefType) (segment : 
     where
       by_kind : (kind : ErrorKind) → Refuses place (¬ Part) ⊤ kind e.offset → NamesEntry features old held (OfElement segment) kind × IsAt place kind e.offset × IsLeft old (OfElement segment) new
       by_kind kinds.Invalid h = (λ keeps. h.0 (part keeps), h.1, left)
-      by_kind kinds.Memory h = (within, h.1, left)
+      by_kind kinds.Memory h = (within, tt, left)
       by_kind kinds.Malformed h = absurd h
       by_kind (kinds.Limit limit) h = absurd h
       by_kind kinds.Operator h = absurd h
@@ -90,7 +90,7 @@ module _ (features : Features) (old : Context) (held : List DefType) (segment : 
       by_kind kinds.Failed h = absurd h
 
   pub no_room : (e : Error) (new : Context) → e ≡ record { offset = 0; kind = kinds.Memory } → new ≡ old → IsRefused e new
-  no_room e new is same = subst (λ (e : Error). IsRefused e new) (sym is) (within, refl, left_before old segment new same)
+  no_room e new is same = subst (λ (e : Error). IsRefused e new) (sym is) (within, tt, left_before old segment new same)
 
   -- there was room made first, and the items were judged and declared
   module _ (f : Features) (cx mid : Context) (same_features : f ≡ features) (same : cx ≡ old) (before : IsAsBefore cx mid) where
@@ -133,7 +133,7 @@ module _ (features : Features) (old : Context) (held : List DefType) (segment : 
       pub not_pushed : (e : Error) (new : Context) → (e ≡ record { offset = 0; kind = kinds.Memory }) × (new ≡ later) → IsRefused e new
       not_pushed e new (is, stays) =
           subst (λ (e : Error). IsRefused e new) (sym is)
-          (within, refl, subst (λ (c : Context). IsLeft old (OfElement segment) c) (sym stays) (left_at_end old segment mid later first_before first_items mode))
+          (within, tt, subst (λ (c : Context). IsLeft old (OfElement segment) c) (sym stays) (left_at_end old segment mid later first_before first_items mode))
 
       pub accepted : (g : Features) (element : RefType ℕ) (new : Context) → g ≡ f → element ≡ element_type segment.items → KeepsItems f cx segment.items → KeepsElementMode g mid (value_of element) segment.mode
           → new ≡ record later { elements = later.elements ++ element ∷ [] } → Accepts features old (OfElement segment) new

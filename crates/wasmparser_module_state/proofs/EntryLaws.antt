@@ -13,6 +13,7 @@ use Rattle.wasm_spec.specs.Features.{Features}
 use Rattle.wasm_spec.specs.Limits.{Limit, Types, most}
 use Rattle.wasmparser_error.specs.declared.error.Error.{Error}
 use Rattle.wasmparser_error.specs.declared.error.ErrorKind.{ErrorKind}
+use Rattle.wasmparser_error.specs.Error.{placed}
 use Rattle.wasmparser_error.specs.declared.error.ErrorKind.TheVariants as kinds
 use Rattle.wasmparser_readers.specs.Answers.{HasLargeIndex, IsItemRefusal}
 use Rattle.wasmparser_readers.specs.Sections.{Left, left_items, IsUnread, IsEmpty, IsNextRefusal}
@@ -21,7 +22,7 @@ use Rattle.wasmparser_types.specs.Index.{packable}
 use Rattle.wasmparser_payloads.specs.EntryReading.{EntryReading}
 use Rattle.wasm_spec.specs.Trees.{DefType}
 use Rattle.wasmparser_module_state.specs.History.{EnterAll, EntersEntry, OneFindsNoRoom, FindsNoRoom}
-use Rattle.wasmparser_module_state.specs.Judging.{Accepts, Fills, Fronts, HasLarge, IsMadeOf, IsRightSoFar, NamesEntry, NamesEntries, OneRunsOut, IsAt, IsIn}
+use Rattle.wasmparser_module_state.specs.Judging.{Accepts, Fills, Fronts, HasLarge, IsMadeOf, IsRightSoFar, NamesEntry, NamesEntries, OneRunsOut, IsAt}
 use Rattle.wasm_validity.specs.Context.{Context, after, after_all}
 use Rattle.wasm_validity.specs.Entries.{Entry}
 use Rattle.wasm_validity.specs.Rules.{Keeps, KeepRules, measures, Passes, PassesByTypes, IsWithin as IsWithinLimits, KeepLimits, PassLimit}
@@ -277,7 +278,7 @@ at_place old now offset g e = record { from = omega (arith, g.forward, e); to = 
 
 pub refused_read : {X A : Type 0} (form : X → A) (TakesMemory : Type 0) (indexes : A → List ℕ) (form_at : Features → ReadingOf A) (entry : X → Entry) (features : Features) (entry_at : EntryReading) → IsMadeOf form indexes form_at entry entry_at
     → (old : Context) (held : List DefType) (left : Left) (cx : Context) (now : Left) → Stands features entry_at old left cx now → length cx.types ≤ most Types → (e : Error) → IsNextRefusal TakesMemory indexes form_at now e
-    → NamesEntries features entry_at TakesMemory old held left e.kind × IsIn left.input e.kind e.offset
+    → NamesEntries features entry_at TakesMemory old held left e.kind × IsWithin left.input e.offset
 refused_read {X = X} {A = A} form TakesMemory indexes form_at entry features entry_at made old held left cx now s few e h = by_kind e.kind h
   where
     by_large : (count : ℕ) → now.count ≡ count → 0 < count → (read : Option (A × List ℕ)) → form_at now.input.features now.input.rest ≡ read → HasLargeIndex indexes read
@@ -287,11 +288,11 @@ refused_read {X = X} {A = A} form TakesMemory indexes form_at entry features ent
     by_large (suc count) counted lt (Some read) e large =
         broken features entry_at old left cx now (made.made read.0) count read.1 s counted (made.reads now.input.features now.input.rest ∙ rw e refl) (made.breaks features cx read.0 few (has_large (indexes read.0) large))
 
-    by_kind : (kind : ErrorKind) → IsItemRefusal kind e.offset TakesMemory (IsUnread form_at now × IsWithin now.input e.offset)
-        ((0 < now.count) × HasLargeIndex indexes (form_at now.input.features now.input.rest) × (e.offset ≡ now.input.position)) → NamesEntries features entry_at TakesMemory old held left kind × IsIn left.input kind e.offset
+    by_kind : (kind : ErrorKind) → IsItemRefusal kind e.offset (TakesMemory × (0 < now.count) × (e.offset ≡ now.input.position)) (IsUnread form_at now × IsWithin now.input e.offset)
+        ((0 < now.count) × HasLargeIndex indexes (form_at now.input.features now.input.rest) × (e.offset ≡ now.input.position)) → NamesEntries features entry_at TakesMemory old held left kind × IsWithin left.input e.offset
     by_kind kinds.Malformed h = (unread features entry_at old left cx now s (unread_left entry_at now (entry_unread form indexes form_at entry entry_at made now h.0)), within_later left.input now.input e.offset s.goes_on h.1)
     by_kind kinds.Invalid h = (by_large now.count refl h.0 _ refl h.1, at_place left.input now.input e.offset s.goes_on h.2)
-    by_kind kinds.Memory h = (inl h.0, h.1)
+    by_kind kinds.Memory h = (inl (h.0, omega (arith, h.1, s.counted)), at_place left.input now.input e.offset s.goes_on h.2)
     by_kind (kinds.Limit l) h = absurd h
     by_kind kinds.Operator h = absurd h
     by_kind kinds.Body h = absurd h
@@ -302,10 +303,10 @@ refused_read {X = X} {A = A} form TakesMemory indexes form_at entry features ent
 pub refused_entry : (TakesMemory : Type 0) (features : Features) (entry_at : EntryReading) (old : Context) (held : List DefType) (left : Left) (cx : Context) (now_held : List DefType) (now : Left) (v : Entry) (count : ℕ) (rest : List ℕ)
     → StandsEntered features entry_at old held left cx now_held now
     → now.count ≡ suc count → entry_at now.input.features now.input.rest ≡ Some (v, rest) → (kind : ErrorKind) (place offset : ℕ) → place ≡ now.input.position → NamesEntry features cx now_held v kind × IsAt place kind offset
-    → NamesEntries features entry_at TakesMemory old held left kind × IsIn left.input kind offset
+    → NamesEntries features entry_at TakesMemory old held left kind × IsWithin left.input (placed kind place offset)
 refused_entry TakesMemory features entry_at old held left cx now_held now v count rest s counted e kinds.Invalid place offset p h = (broken features entry_at old left cx now v count rest s.0 counted e h.0, at_place left.input now.input offset s.0.goes_on (h.1 ∙ p))
 refused_entry TakesMemory features entry_at old held left cx now_held now v count rest s counted e (kinds.Limit l) place offset p h = (passed (core.limit l) features entry_at old left cx now v count rest s.0 counted e h.0, at_place left.input now.input offset s.0.goes_on (h.1 ∙ p))
-refused_entry TakesMemory features entry_at old held left cx now_held now v count rest s counted e kinds.Memory place offset p h = (inr (ran_out features entry_at old left cx now v count rest s.0 counted e h.0), h.1)
+refused_entry TakesMemory features entry_at old held left cx now_held now v count rest s counted e kinds.Memory place offset p h = (inr (ran_out features entry_at old left cx now v count rest s.0 counted e h.0), at_place left.input now.input place s.0.goes_on p)
 refused_entry TakesMemory features entry_at old held left cx now_held now v count rest s counted e kinds.Malformed place offset p h = absurd h.0
 refused_entry TakesMemory features entry_at old held left cx now_held now v count rest s counted e kinds.Operator place offset p h = absurd h.0
 refused_entry TakesMemory features entry_at old held left cx now_held now v count rest s counted e kinds.Body place offset p h = absurd h.0

@@ -54,7 +54,7 @@ read_again {A = A} item_at indexes left rest e reads small h = by_kind e.kind h
         let all : HaveSmall indexes (read.0 ∷ first.0) = subst (HaveSmall indexes) first.1 small in
         all.0 large
 
-    by_kind : (kind : ErrorKind) → IsItemRefusal kind e.offset ⊥ (IsUnread (λ features. item_at) left × IsWithin left.input e.offset)
+    by_kind : (kind : ErrorKind) → IsItemRefusal kind e.offset (⊥ × (0 < left.count) × (e.offset ≡ left.input.position)) (IsUnread (λ features. item_at) left × IsWithin left.input e.offset)
         ((0 < left.count) × HasLargeIndex indexes (item_at left.input.rest) × (e.offset ≡ left.input.position)) → ⊥
     by_kind kinds.Malformed h = let said = sym (unread_left (λ features. item_at) left h.0) ∙ reads in absurd cc
     by_kind kinds.Invalid h = large_first left.count refl h.0 (item_at left.input.rest) refl h.1

@@ -19,7 +19,7 @@ use Rattle.wasmparser_error.specs.declared.error.Error.{Error}
 use Rattle.wasmparser_error.specs.declared.error.ErrorKind.{ErrorKind}
 use Rattle.wasmparser_error.specs.declared.error.ErrorKind.TheVariants as kinds
 use Rattle.wasmparser_module_state.specs.Judging.{Accepts, Adds, NamesEntry, IsAt}
-use Rattle.wasmparser_module_types.specs.ModuleTypes.{KnownTypes, AddsGroup, RefusesGroup, IsCause, place_of, breaks_a_rule, finds_no_room, passes_a_limit, out_of_memory}
+use Rattle.wasmparser_module_types.specs.ModuleTypes.{KnownTypes, AddsGroup, RefusesGroup, IsCause, breaks_a_rule, finds_no_room, passes_a_limit, out_of_memory}
 use Rattle.wasmparser_module_types.specs.History.{HasNoRoom}
 
 all_below : (bound n : ℕ) → bound ≤ n → (indexes : List ℕ) → AllByRecursion (λ index. index < bound) indexes → AllByRecursion (λ index. index < n) indexes
@@ -67,16 +67,9 @@ named cx old group _ types groups (passes_a_limit l (inr (inr p))) = inr (subst 
 named cx old group _ types groups (finds_no_room full) = subst (λ ts. HasNoRoom old.interned ts group) (sym types) full
 named cx old group _ types groups (out_of_memory right) = rw (types, groups) right
 
-placed : (kind : ErrorKind) (offset place : ℕ) → place ≡ place_of kind offset → IsAt offset kind place
-placed kinds.Malformed offset place e = e
-placed kinds.Invalid offset place e = e
-placed (kinds.Limit l) offset place e = e
-placed kinds.Operator offset place e = e
-placed kinds.Body offset place e = e
-placed kinds.Total offset place e = e
-placed kinds.Order offset place e = e
-placed kinds.Failed offset place e = e
-placed kinds.Memory offset place e = e
+placed : (kind : ErrorKind) (offset place : ℕ) → place ≡ offset → IsAt offset kind place
+placed kinds.Memory offset place e = tt
+placed _ offset place e = e
 
 pub adds_group : (cx : Context) (old new : KnownTypes) (group : RecGroup ℕ) (offset : ℕ) (result : Result (Unit {0}) Error) → cx.types ≡ old.types → cx.groups ≡ old.groups
     → IfOk result (λ _. AddsGroup old new group) → IfErr result (RefusesGroup old group offset) → Adds old.features cx old.interned (OfType group) offset result (record cx { types = new.types; groups = new.groups })

@@ -55,9 +55,9 @@ NamesEntry features cx held entry kinds.Total = FindsNoRoom cx held entry
 NamesEntry features cx held entry kinds.Memory = IsRightSoFar features cx entry
 NamesEntry features cx held entry _ = ⊥
 
--- where a refusal is: at a place, or nowhere where memory ran out
+-- where a refusal is: at a place; open where memory ran out, as `add_entries` puts that at the item's place
 abbrev pub IsAt : ℕ → ErrorKind → ℕ → Type 0
-IsAt place kinds.Memory offset = offset ≡ 0
+IsAt place kinds.Memory offset = ⊤
 IsAt place _ offset = offset ≡ place
 
 -- an entry was accepted, and is known now
@@ -134,21 +134,16 @@ pub record Fronts (entry_at : EntryReading) (left : Left) (Holds : List Entry �
   pub reads : items_at (entry_at left.input.features) number left.input.rest ≡ Some (front, rest)
   pub holds : Holds front
 
--- The cause that a refusal of a section's entries names. Where reading an entry takes memory, nothing is known of the one for which memory ran out.
+-- The cause that a refusal of a section's entries names. Memory may run out as an entry is read, where reading one takes memory, or as one is added.
 abbrev pub NamesEntries : Features → EntryReading → Type 0 → Context → List DefType → Left → ErrorKind → Type 0
 NamesEntries features entry_at takes_memory old held left kinds.Malformed = left_items entry_at left ≡ None
 NamesEntries features entry_at takes_memory old held left kinds.Invalid = Fronts entry_at left (λ entries. ¬ (KeepRules features old entries))
 NamesEntries features entry_at takes_memory old held left (kinds.Limit l) = Fronts entry_at left (λ entries. PassLimit (core.limit l) old entries)
 NamesEntries features entry_at takes_memory old held left kinds.Total = Fronts entry_at left (λ entries. OneFindsNoRoom features old held entries)
-NamesEntries features entry_at takes_memory old held left kinds.Memory = takes_memory ⊎ Fronts entry_at left (λ entries. OneRunsOut features old entries)
+NamesEntries features entry_at takes_memory old held left kinds.Memory = (takes_memory × (0 < left.count)) ⊎ Fronts entry_at left (λ entries. OneRunsOut features old entries)
 NamesEntries features entry_at takes_memory old held left _ = ⊥
-
--- where it is: within what was left, or nowhere where memory ran out
-abbrev pub IsIn : Input → ErrorKind → ℕ → Type 0
-IsIn input kinds.Memory offset = offset ≡ 0
-IsIn input _ offset = IsWithin input offset
 
 -- The result of a call that validates the entries of a section one by one and adds them, which may take memory to read.
 abbrev pub AddsEntries : Features → EntryReading → Type 0 → Context → List DefType → Left → Result (Unit {0}) Error → Context → List DefType → Type 0
 AddsEntries features entry_at takes_memory old old_held left (Ok x) new new_held = Fills features entry_at old old_held left new new_held
-AddsEntries features entry_at takes_memory old old_held left (Err e) new new_held = NamesEntries features entry_at takes_memory old old_held left e.kind × IsIn left.input e.kind e.offset
+AddsEntries features entry_at takes_memory old old_held left (Err e) new new_held = NamesEntries features entry_at takes_memory old old_held left e.kind × IsWithin left.input e.offset

@@ -28,8 +28,8 @@ pub trait Entry: Item {
     /// Judges the item, which stands at this offset, after the entries before it, and adds it to them.
     ///
     /// # Errors
-    /// `Invalid` where it breaks a rule, `Limit` where it passes that limit, `Total` where the list of types has no room for it, at the offset; `Memory` where memory
-    /// runs out. Then nothing is added; but the types may be gone, where it was a recursive group, and where it was a group of imports, it is open which of them stand,
+    /// `Invalid` where it breaks a rule, `Limit` where it passes that limit, `Total` where the list of types has no room for it, at the offset; `Memory`, at an open
+    /// place, where memory runs out. Then nothing is added; but the types may be gone, where it was a recursive group, and where it was a group of imports, it is open which of them stand,
     /// and of an element segment some of the functions may be declared that it names.
     fn add(self, state: &mut ModuleState, offset: u64) -> Result<(), Error>
         requires of_module { Self.Item.IsOfModule self }
@@ -49,7 +49,7 @@ pub trait Entry: Item {
 ///
 /// # Errors
 /// `Malformed` where the items don't read or bytes are left after them, `Invalid` where an item breaks a rule, `Limit` where one passes that limit, `Total` where the
-/// list of types has no room for one, each at a place of the section; `Memory` where memory runs out. Then it is open what the state holds.
+/// list of types has no room for one, `Memory` where memory runs out, each at a place of the section. Then it is open what the state holds.
 pub fn add_entries<'a, T: FromReader<'a> + Entry>(
     alloc: Global,
     state: &mut ModuleState,
@@ -66,7 +66,10 @@ pub fn add_entries<'a, T: FromReader<'a> + Entry>(
     let mut items = section.into_iter_with_offsets(alloc);
     'items: while let Some(item) = items.next() {
         let (offset, item) = item?;
-        item.add(state, offset)?;
+        match item.add(state, offset) {
+            Ok(()) => {}
+            Err(error) => return Err(error.placed(offset)),
+        }
     }
     Ok(())
 }

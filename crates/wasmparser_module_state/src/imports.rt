@@ -166,8 +166,8 @@ impl ModuleState {
     /// Judges an imported item and adds it, without its names.
     ///
     /// # Errors
-    /// `Invalid` where it breaks a rule, `Limit` where its space, or the size of all types, passes that limit, `Memory` where memory runs out. Nothing is added
-    /// then.
+    /// At the offset: `Invalid` where it breaks a rule, `Limit` where its space, or the size of all types, passes that limit. `Memory`, at an open place, where memory
+    /// runs out. Nothing is added then.
     pub fn import_item(&mut self, ty: &TypeRef, offset: u64) -> Result<(), Error>
         ensures added { AddsItem (features_of self.old) (unnamed self.old) (item ty.now) offset result (unnamed self.new) }
         ensures names { self.new.imported ≡ self.old.imported }

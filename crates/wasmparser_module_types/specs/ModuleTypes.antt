@@ -173,21 +173,9 @@ pub data IsCause (old : KnownTypes) (group : RecGroup ℕ) : ErrorKind → Type 
   finds_no_room : HasNoRoom old.interned old.types group → IsCause old group kinds.Total
   out_of_memory : IsGroupRightSoFar old.features old.types old.groups group → IsCause old group kinds.Memory
 
--- where a refusal of this kind is told, of a group at an offset
-abbrev pub place_of : ErrorKind → ℕ → ℕ
-place_of kinds.Malformed offset = offset
-place_of kinds.Invalid offset = offset
-place_of (kinds.Limit l) offset = offset
-place_of kinds.Operator offset = offset
-place_of kinds.Body offset = offset
-place_of kinds.Total offset = offset
-place_of kinds.Order offset = offset
-place_of kinds.Failed offset = offset
-place_of kinds.Memory offset = 0
-
 pub record RefusesGroup (old : KnownTypes) (group : RecGroup ℕ) (offset : ℕ) (e : Error) : Type 0 where
   pub cause : IsCause old group e.kind
-  pub place : e.offset ≡ place_of e.kind offset
+  pub place : e.offset ≡ offset
 
 -- ---- what a type index names
 

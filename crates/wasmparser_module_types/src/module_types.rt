@@ -190,9 +190,9 @@ impl ModuleTypes {
     /// Adds a group, which names types by their places in the module. After a refusal it is left open which types the module and the list have.
     ///
     /// # Errors
-    /// `Limit` where the group is one too many, its types are too many, or one of them passes a limit. `Invalid` where it breaks a rule. `Total` where the types of
-    /// the list and of the group are more than 1,048,576, whether or not the list has the group. These are at the offset. `Memory` where memory runs out, for a group
-    /// that is within all limits but that on depth, is allowed, and refers to types that are there.
+    /// Each at the offset: `Limit` where the group is one too many, its types are too many, or one of them passes a limit. `Invalid` where it breaks a rule. `Total`
+    /// where the types of the list and of the group are more than 1,048,576, whether or not the list has the group. `Memory` where memory runs out, for a group that is
+    /// within all limits but that on depth, is allowed, and refers to types that are there.
     pub fn add_rec_group(&mut self, group: RecGroup, offset: u64) -> Result<(), Error>
         requires grows { self.old.grows ≡ true }
         requires indexes { NamesModuleTypes (spec.rec_group group) }

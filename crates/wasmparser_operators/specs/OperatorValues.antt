@@ -150,36 +150,42 @@ operator (operators.TableSize table) = spec.TableSize table
 operator (operators.TableFill table) = spec.TableFill table
 operator (operators.V128Const bytes) = spec.V128Const bytes
 
--- What an operator of the code says beside: value types and heap types have indexes of types in the module, a list of just one type has an operator of
--- its own, and a load or store has the exponent of its row.
+-- the types that an operator names are named by their places in the module
+abbrev pub NamesModuleTypes : Operator → Type 0
+NamesModuleTypes (operators.Block blockty) = IsBlockOfModule blockty
+NamesModuleTypes (operators.Loop blockty) = IsBlockOfModule blockty
+NamesModuleTypes (operators.If blockty) = IsBlockOfModule blockty
+NamesModuleTypes (operators.TypedSelect ty) = IsOfModule ty
+NamesModuleTypes (operators.RefNull hty) = IsHeapOfModule hty
+NamesModuleTypes _ = ⊤
+
+-- a load or store has its natural alignment as the greatest
+abbrev pub IsNaturallyAligned : Operator → Type 0
+IsNaturallyAligned (operators.I32Load memarg) = memarg.max_align ≡ (load_row 0x28).exponent
+IsNaturallyAligned (operators.I64Load memarg) = memarg.max_align ≡ (load_row 0x29).exponent
+IsNaturallyAligned (operators.F32Load memarg) = memarg.max_align ≡ (load_row 0x2a).exponent
+IsNaturallyAligned (operators.F64Load memarg) = memarg.max_align ≡ (load_row 0x2b).exponent
+IsNaturallyAligned (operators.I32Load8S memarg) = memarg.max_align ≡ (load_row 0x2c).exponent
+IsNaturallyAligned (operators.I32Load8U memarg) = memarg.max_align ≡ (load_row 0x2d).exponent
+IsNaturallyAligned (operators.I32Load16S memarg) = memarg.max_align ≡ (load_row 0x2e).exponent
+IsNaturallyAligned (operators.I32Load16U memarg) = memarg.max_align ≡ (load_row 0x2f).exponent
+IsNaturallyAligned (operators.I64Load8S memarg) = memarg.max_align ≡ (load_row 0x30).exponent
+IsNaturallyAligned (operators.I64Load8U memarg) = memarg.max_align ≡ (load_row 0x31).exponent
+IsNaturallyAligned (operators.I64Load16S memarg) = memarg.max_align ≡ (load_row 0x32).exponent
+IsNaturallyAligned (operators.I64Load16U memarg) = memarg.max_align ≡ (load_row 0x33).exponent
+IsNaturallyAligned (operators.I64Load32S memarg) = memarg.max_align ≡ (load_row 0x34).exponent
+IsNaturallyAligned (operators.I64Load32U memarg) = memarg.max_align ≡ (load_row 0x35).exponent
+IsNaturallyAligned (operators.I32Store memarg) = memarg.max_align ≡ (store_row 0x36).exponent
+IsNaturallyAligned (operators.I64Store memarg) = memarg.max_align ≡ (store_row 0x37).exponent
+IsNaturallyAligned (operators.F32Store memarg) = memarg.max_align ≡ (store_row 0x38).exponent
+IsNaturallyAligned (operators.F64Store memarg) = memarg.max_align ≡ (store_row 0x39).exponent
+IsNaturallyAligned (operators.I32Store8 memarg) = memarg.max_align ≡ (store_row 0x3a).exponent
+IsNaturallyAligned (operators.I32Store16 memarg) = memarg.max_align ≡ (store_row 0x3b).exponent
+IsNaturallyAligned (operators.I64Store8 memarg) = memarg.max_align ≡ (store_row 0x3c).exponent
+IsNaturallyAligned (operators.I64Store16 memarg) = memarg.max_align ≡ (store_row 0x3d).exponent
+IsNaturallyAligned (operators.I64Store32 memarg) = memarg.max_align ≡ (store_row 0x3e).exponent
+IsNaturallyAligned _ = ⊤
+
+-- an operator as a reader gives it
 abbrev pub IsWhole : Operator → Type 0
-IsWhole (operators.Block blockty) = IsBlockOfModule blockty
-IsWhole (operators.Loop blockty) = IsBlockOfModule blockty
-IsWhole (operators.If blockty) = IsBlockOfModule blockty
-IsWhole (operators.TypedSelect ty) = IsOfModule ty
-IsWhole (operators.TypedSelectMulti tys) = ¬ (length tys ≡ 1)
-IsWhole (operators.I32Load memarg) = memarg.max_align ≡ (load_row 0x28).exponent
-IsWhole (operators.I64Load memarg) = memarg.max_align ≡ (load_row 0x29).exponent
-IsWhole (operators.F32Load memarg) = memarg.max_align ≡ (load_row 0x2a).exponent
-IsWhole (operators.F64Load memarg) = memarg.max_align ≡ (load_row 0x2b).exponent
-IsWhole (operators.I32Load8S memarg) = memarg.max_align ≡ (load_row 0x2c).exponent
-IsWhole (operators.I32Load8U memarg) = memarg.max_align ≡ (load_row 0x2d).exponent
-IsWhole (operators.I32Load16S memarg) = memarg.max_align ≡ (load_row 0x2e).exponent
-IsWhole (operators.I32Load16U memarg) = memarg.max_align ≡ (load_row 0x2f).exponent
-IsWhole (operators.I64Load8S memarg) = memarg.max_align ≡ (load_row 0x30).exponent
-IsWhole (operators.I64Load8U memarg) = memarg.max_align ≡ (load_row 0x31).exponent
-IsWhole (operators.I64Load16S memarg) = memarg.max_align ≡ (load_row 0x32).exponent
-IsWhole (operators.I64Load16U memarg) = memarg.max_align ≡ (load_row 0x33).exponent
-IsWhole (operators.I64Load32S memarg) = memarg.max_align ≡ (load_row 0x34).exponent
-IsWhole (operators.I64Load32U memarg) = memarg.max_align ≡ (load_row 0x35).exponent
-IsWhole (operators.I32Store memarg) = memarg.max_align ≡ (store_row 0x36).exponent
-IsWhole (operators.I64Store memarg) = memarg.max_align ≡ (store_row 0x37).exponent
-IsWhole (operators.F32Store memarg) = memarg.max_align ≡ (store_row 0x38).exponent
-IsWhole (operators.F64Store memarg) = memarg.max_align ≡ (store_row 0x39).exponent
-IsWhole (operators.I32Store8 memarg) = memarg.max_align ≡ (store_row 0x3a).exponent
-IsWhole (operators.I32Store16 memarg) = memarg.max_align ≡ (store_row 0x3b).exponent
-IsWhole (operators.I64Store8 memarg) = memarg.max_align ≡ (store_row 0x3c).exponent
-IsWhole (operators.I64Store16 memarg) = memarg.max_align ≡ (store_row 0x3d).exponent
-IsWhole (operators.I64Store32 memarg) = memarg.max_align ≡ (store_row 0x3e).exponent
-IsWhole (operators.RefNull hty) = IsHeapOfModule hty
-IsWhole _ = ⊤
+IsWhole op = NamesModuleTypes op × IsNaturallyAligned op

@@ -1,6 +1,6 @@
 //! Lists of types of `select`.
 
-ghost use Rattle.std.specs.Prelude.{◌≡◌, ◌↔◌, ℕ, IfOk, IsTrue, Some, [], length};
+ghost use Rattle.std.specs.Prelude.{◌≡◌, ◌↔◌, ℕ, IfOk, IsTrue, Some, [], false, length};
 ghost use Rattle.wasm_bodies.specs.Operators.{SelectTyped};
 ghost use Rattle.wasm_core_read.specs.Reading.{Answers, seen_at, unsigned_at};
 ghost use Rattle.wasm_core_read.specs.TypeReading.{list_at, val_type_at};
@@ -17,14 +17,14 @@ use wasm_core_read::malformed::Malformed;
 use wasmparser_readers::passing::{Pass, fork, pass_list, passed_part};
 use wasmparser_readers::val_type::read_val_type;
 
-/// The types that a `select` lists, which borrow the input. A valid body lists one, which has an operator of its own.
+/// The types that a `select` lists, which borrow the input: none, or more than one. A valid body lists one, which has an operator of its own.
 #[derive(Clone, Debug, Drop)]
 pub struct SelectTypes<'a> {
     list: &'a [u8],
 }
 
 impl<'a> Model for SelectTypes<'a> {
-    ghost use Rattle.std.specs.Prelude.{ℕ, List};
+    ghost use Rattle.std.specs.Prelude.{◌≡◌, ℕ, List, length};
     ghost use Rattle.wasm_spec.specs.Types.{ValType};
     ghost use Rattle.wasmparser_operators.specs.BorrowedLists.{AreTypes, types_of};
 
@@ -32,14 +32,15 @@ impl<'a> Model for SelectTypes<'a> {
 
     ghost view = { λ t. types_of t.list.now };
 
-    ghost invariant = { λ t. AreTypes t.list.now };
+    ghost invariant = { λ t. AreTypes t.list.now × ¬ (length (types_of t.list.now) ≡ 1) };
 }
 
 impl<'a> SelectTypes<'a> {
     /// Returns the number of types in the list.
     #[tactic(auto, using(crate::proofs::BorrowedLaws::type_counts))]
     pub fn len(&self) -> u32
-        ensures { result ≡ length self.now }
+        ensures number { result ≡ length self.now }
+        ensures others { ¬ (result ≡ 1) }
     {
         match BinaryReader::new(self.list, 0).read_var_u32() {
             Ok(count) => count,
@@ -77,9 +78,10 @@ impl Pass for ListedType {
     }
 }
 
-// Reads a list of types.
-#[tactic(auto, using(crate::proofs::BorrowedLaws::types_again))]
+// Reads a list of types, other than one.
+#[tactic(auto, using(crate::proofs::BorrowedLaws::types_again, crate::proofs::BorrowedLaws::select_types))]
 fn read_type_list<'a>(reader: &mut BinaryReader<'a>) -> Result<SelectTypes<'a>, Malformed>
+    requires { begins_with_one (unsigned_at 32 reader.old.rest) ≡ false }
     ensures { Answers (λ t. t) reader.old reader.new result (list_at val_type_at reader.old.rest) }
 {
     let start = fork(reader);

@@ -16,7 +16,7 @@ HasLargeIndex indexes (Some read) = Any (λ index. packable ≤ index) (indexes 
 -- what a reader of an item refuses: bytes that read as an item with an index too large, bytes that don't read, or memory ran out for an item that takes some
 abbrev pub IsItemRefusal : ErrorKind → ℕ → Type 0 → Type 0 → Type 0 → Type 0
 IsItemRefusal Invalid offset takes_memory unread large = large
-IsItemRefusal Memory offset takes_memory unread large = takes_memory × (offset ≡ 0)
+IsItemRefusal Memory offset takes_memory unread large = takes_memory
 IsItemRefusal kind offset takes_memory unread large = IsRefusal kind offset unread
 
 -- What a call returned is what reading gives, unless memory runs out. A refusal leaves the reader somewhere between where it was and its end.
@@ -28,4 +28,4 @@ AnswersOrFills view old new (Err e) read = IsRefusal e.kind e.offset ((read ≡ 
 abbrev pub ReadsItem : {X A : Type 0} → (X → A) → (X → Type 0) → Type 0 → (A → List ℕ) → Input → Input → Result X Error → Option (A × List ℕ) → Type 0
 ReadsItem form IsOfModule TakesMemory indexes old new (Ok x) read = (read ≡ Some (form x, new.rest)) × IsOfModule x × GoesOn old new
 ReadsItem form IsOfModule TakesMemory indexes old new (Err e) read =
-    IsItemRefusal e.kind e.offset TakesMemory ((read ≡ None) × IsWithin old e.offset) (HasLargeIndex indexes read × (e.offset ≡ old.position)) × GoesOn old new
+    IsItemRefusal e.kind e.offset (TakesMemory × (e.offset ≡ old.position)) ((read ≡ None) × IsWithin old e.offset) (HasLargeIndex indexes read × (e.offset ≡ old.position)) × GoesOn old new

@@ -46,7 +46,7 @@ IsUnread form_at left = ((0 < left.count) × (form_at left.input.features left.i
 -- a refusal to read the next item
 abbrev pub IsNextRefusal : {A : Type 0} → Type 0 → (A → List ℕ) → (Features → ReadingOf A) → Left → Error → Type 0
 IsNextRefusal TakesMemory indexes form_at old e =
-    IsItemRefusal e.kind e.offset TakesMemory (IsUnread form_at old × IsWithin old.input e.offset)
+    IsItemRefusal e.kind e.offset (TakesMemory × (0 < old.count) × (e.offset ≡ old.input.position)) (IsUnread form_at old × IsWithin old.input e.offset)
     ((0 < old.count) × HasLargeIndex indexes (form_at old.input.features old.input.rest) × (e.offset ≡ old.input.position))
 
 -- What a call returned that reads the next item: the item and its place, or none where nothing is left.

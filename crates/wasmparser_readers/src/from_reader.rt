@@ -35,8 +35,8 @@ pub trait FromReader<'a>: Item + Sized {
     /// Reads a value. Lists of a type take memory; names borrow the input.
     ///
     /// # Errors
-    /// `Malformed` where no value reads; `Invalid`, at its place, where one reads with a type index from 2^20 on that the
-    /// value would have to pack; and `Memory` where memory runs out for a value that takes some.
+    /// `Malformed` where no value reads. At the value's first byte: `Invalid` where one reads with a type index from 2^20 on that it would have to pack, `Memory` where
+    /// memory runs out for a value that takes some.
     fn from_reader(alloc: Global, reader: &mut BinaryReader<'a>) -> Result<Self, Error>
         ensures { ReadsItem Self.form Self.IsOfModule Self.TakesMemory Self.indexes reader.old reader.new result (Self.form_at reader.old.features reader.old.rest) };
 }

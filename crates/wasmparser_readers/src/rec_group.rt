@@ -89,7 +89,10 @@ impl<'a> FromReader<'a> for RecGroup {
     #[tactic(auto, using(crate::proofs::ModuleLaws::group_items))]
     fn from_reader(alloc: Global, reader: &mut BinaryReader<'a>) -> Result<RecGroup, Error> {
         let offset = reader.original_position();
-        let mut group = read_packed(alloc, reader)?;
+        let mut group = match read_packed(alloc, reader) {
+            Ok(group) => group,
+            Err(error) => return Err(error.placed(offset)),
+        };
         match group.remap_indices(&PackedAlone) {
             Ok(()) => Ok(group),
             Err(TooLarge) => Err(Error {

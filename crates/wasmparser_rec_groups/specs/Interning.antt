@@ -74,7 +74,7 @@ pub data Refuses (features : Features) (ids : List ℕ) (old new : TypeTables) (
   is_refused : (is_new : Bool) (number : ℕ) (kind : ErrorKind) → CanBeInterned features ids old group → has_room old (canonical_members ids group) ≡ true
       → Interns old new (needs_type_canonicalization features) (canonical_members ids group) is_new number → IsRefusedGroup new number kind
       → Refuses features ids old new group offset (record { offset = offset; kind = kind })
-  out_of_memory : CanBeInterned features ids old group → HaveFewItems (members group) → new ≡ old → Refuses features ids old new group offset (record { offset = 0; kind = Memory })
+  out_of_memory : CanBeInterned features ids old group → HaveFewItems (members group) → new ≡ old → Refuses features ids old new group offset (record { offset = offset; kind = Memory })
 
 -- A group was accepted, and the ids of its types follow the others.
 pub record Accepts (features : Features) (ids : List ℕ) (old new : TypeTables) (group : RecGroup Index) (new_ids : List ℕ) : Type 0 where

@@ -82,9 +82,9 @@ pub trait InternRecGroup {
     /// groups have the same ids, else each has its own.
     ///
     /// # Errors
-    /// `Invalid` where the group breaks a rule, and `Limit` where one of its types passes that limit. `Total` where the list's types and the group's are more
-    /// than 1,048,576, whether or not the group is known. These are at the offset. `Memory` where memory runs out, for a group that is allowed, refers to types
-    /// that are there, and whose types have few enough parameters, results and fields. No id is added then; but the list has interned a group that breaks the
+    /// Each at the offset: `Invalid` where the group breaks a rule, `Limit` where one of its types passes that limit. `Total` where the list's types and the group's
+    /// are more than 1,048,576, whether or not the group is known. `Memory` where memory runs out, for a group that is allowed, refers to types that are there, and
+    /// whose types have few enough parameters, results and fields. No id is added then; but the list has interned a group that breaks the
     /// rules on open and matched supertypes or on continuations, or passes the limit on depth.
     fn canonicalize_and_intern_rec_group(
         &mut self,
@@ -109,7 +109,10 @@ pub trait InternRecGroup {
     {
         let features = self.features();
         let canonical = canonical_rec_group(features, self.type_ids(), types, rec_group, offset)?;
-        self.reserve_type_ids(canonical.types().len())?;
+        match self.reserve_type_ids(canonical.types().len()) {
+            Ok(()) => {}
+            Err(_) => return Err(Error::out_of_memory(offset)),
+        }
         let group = intern_rec_group(features, types, canonical, offset)?;
         self.add_group_ids(types, group);
         Ok(())

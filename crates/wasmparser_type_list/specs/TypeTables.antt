@@ -154,7 +154,7 @@ Interns old new canonical group false number = (canonical ≡ true) × (new ≡ 
 -- why it is refused
 abbrev pub IsNoIntern : Bool → Error → ℕ → Type 0
 IsNoIntern has_room e offset =
-    ((has_room ≡ false) × (e ≡ record { offset = offset; kind = Total })) ⊎ ((has_room ≡ true) × (e ≡ record { offset = 0; kind = Memory }))
+    ((has_room ≡ false) × (e ≡ record { offset = offset; kind = Total })) ⊎ ((has_room ≡ true) × (e ≡ record { offset = offset; kind = Memory }))
 
 abbrev pub has_room : TypeTables → List (spec.SubType Index) → Bool
 has_room tables group = nat_le (length tables.types + length group) max_types

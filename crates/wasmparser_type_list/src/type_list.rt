@@ -240,7 +240,7 @@ impl TypeList {
     /// new: where equal types are to be one (`needs_type_canonicalization`), a group that is known is not added again.
     ///
     /// # Errors
-    /// `Total` at the offset where the list's types and the group's are more than 1,048,576, whether or not the group is known. `Memory` where memory runs out,
+    /// At the offset: `Total` where the list's types and the group's are more than 1,048,576, whether or not the group is known, `Memory` where memory runs out,
     /// or the group would be one past 2^32. The list is as it was.
     pub fn intern_canonical_rec_group(
         &mut self,
@@ -265,6 +265,28 @@ impl TypeList {
                 kind: ErrorKind::Total,
             });
         }
+        match self.intern_with_room(needs_type_canonicalization, rec_group) {
+            Ok(interned) => Ok(interned),
+            Err(_) => Err(Error::out_of_memory(offset)),
+        }
+    }
+
+    // Interns a group for whose types the list has room.
+    fn intern_with_room(
+        &mut self,
+        needs_type_canonicalization: bool,
+        rec_group: RecGroup,
+    ) -> Result<(bool, RecGroupId), AllocError>
+        requires agree { TablesAgree self.old }
+        requires grows { IsSome self.old.known }
+        requires within { AreWithin (length self.old.types) (members (spec.rec_group rec_group)) }
+        requires room { has_room self.old (members (spec.rec_group rec_group)) ≡ true }
+        ensures agree { TablesAgree self.new }
+        ensures grows { IsSome self.new.known }
+        ensures interned { IfOk result (λ answer. Interns self.old self.new needs_type_canonicalization (members (spec.rec_group rec_group)) answer.0 answer.1) }
+        ensures known { IfOk result (λ answer. answer.1 < length self.new.groups) }
+        ensures refused { IfErr result (λ _. self.new ≡ self.old) }
+    {
         let key = key_of(self.alloc, needs_type_canonicalization, rec_group.types())?;
         if let Some(id) = self.find(&key) {
             return Ok((false, id));

@@ -59,7 +59,6 @@ answered_along features items others type other bytes position answer bodies loc
   others = v.others;
   from = v.from;
   to = v.to;
-  nowhere = v.nowhere;
 }
 
 -- ---- bodies of a module
@@ -136,7 +135,7 @@ judged : (features : Features) (sections : List Section) (type : FuncType ℕ) (
     → ((each : Below) → TellsBelow (context_of sections) each → IsBodyValidated features (items_in (types_of sections) (context_of sections) each) type bytes position answer)
     → IsBodyJudged features sections type bytes position answer
 judged features sections type bytes position (Ok x) test tells all =
-    record { right = λ each told. (all each told).right; complete = tt; operator = tt; limit = tt; broken = tt; others = tt; from = tt; to = tt; nowhere = tt }
+    record { right = λ each told. (all each told).right; complete = tt; operator = tt; limit = tt; broken = tt; others = tt; from = tt; to = tt }
 judged features sections type bytes position (Err e) test tells all =
     let v = all test tells in
     record {
@@ -148,7 +147,6 @@ judged features sections type bytes position (Err e) test tells all =
       others = v.others;
       from = v.from;
       to = v.to;
-      nowhere = v.nowhere;
     }
 
 pub judged_by_ids : (features : Features) (sections : List Section) (ids : List ℕ) (interned : List DefType) (sub_types : List (SubType Index)) (index : ℕ) (type : FuncType ℕ) (bytes : List ℕ) (position : ℕ)

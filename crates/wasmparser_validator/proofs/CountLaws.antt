@@ -151,8 +151,8 @@ refused features bytes first_held j new given e r counted waited h = by_kind e.k
     placed : (e.offset ≡ length bytes) ⊎ IsInPiece (End (length bytes)) e.offset → e.offset ≤ length bytes
     placed at = elim at [ inl end ↦ omega (arith, end) | inr there ↦ elim there [ inl first ↦ absurd first | inr among ↦ absurd among ] ]
 
-    by_kind : (kind : ErrorKind) → NamesWaited j (End (length bytes)) kind → IsWaitedAt (End (length bytes)) kind e.offset
-        → NamesSections features first_held bytes kind × (e.offset ≤ length bytes) × (kind ≡ kinds.Memory → e.offset ≡ 0)
+    by_kind : (kind : ErrorKind) → NamesWaited j (End (length bytes)) kind → IsWaitedAt (End (length bytes)) e.offset
+        → NamesSections features first_held bytes kind × (e.offset ≤ length bytes)
     by_kind kinds.Malformed names at = (
       λ sections m.
           let agree = of_module features bytes first_held j.known j.held given j.stated r sections m in
@@ -161,13 +161,12 @@ refused features bytes first_held j new given e r counted waited h = by_kind e.k
             | inr none ↦ absurd cc
           ],
       placed at,
-      λ k. absurd cc,
     )
     by_kind kinds.Invalid names at =
         absurd (names.holds (subst (λ es. KeepRules j.features j.known es) (sym (none_said (length bytes) names.front names.is)) tt))
     by_kind (kinds.Limit l) names at = absurd (subst (λ es. PassLimit (core.limit l) j.known es) (none_said (length bytes) names.front names.is) names.holds)
     by_kind kinds.Total names at = absurd (subst (λ es. OneFindsNoRoom j.features j.known j.held es) (none_said (length bytes) names.front names.is) names.holds)
-    by_kind kinds.Memory names at = (tt, omega (arith, at), λ k. at)
+    by_kind kinds.Memory names at = (tt, placed at)
     by_kind kinds.Operator names at = absurd names
     by_kind kinds.Body names at = absurd names
     by_kind kinds.Order names at = absurd names

@@ -131,7 +131,7 @@ bodies_validated old new bytes ended given result own by_ids functions w known n
 pub sections_refused : (old new : Judge) (bytes : List ℕ) (e : Error) → FrontsAreFirst → RulesInTurn → LimitsInTurn → NoneWithin → FirstFindRoom → RefusesSections old.features old.held bytes e
     → new ≡ waiting old stages.Failed → JudgesAll stages.Header old bytes (Err e) new
 sections_refused old new bytes e fronts rules bounds within room refused after = (
-  refused_sections old.features old.held bytes e fronts rules bounds within room refused.0 refused.1 refused.2,
+  refused_sections old.features old.held bytes e fronts rules bounds within room refused.0 refused.1,
   tt,
   false,
   [],

@@ -7,6 +7,7 @@ use Rattle.wasm_validity.specs.Context.{Context, after, after_all}
 use Rattle.wasm_validity.specs.Entries.{Entry}
 use Rattle.wasm_validity.specs.Rules.{KeepRules, KeepLimits, PassLimit}
 use Rattle.wasmparser_module_state.specs.History.{EnterAll, OneFindsNoRoom}
+use Rattle.wasmparser_module_state.specs.Judging.{OneRunsOut}
 
 pub after_both : (cx : Context) (es fs : List Entry) → after_all cx (es ++ fs) ≡ after_all (after_all cx es) fs
 after_both cx [] fs = refl
@@ -32,6 +33,11 @@ pub enter_both : (features : Features) (cx : Context) (held mid new : List DefTy
     → EnterAll features cx held (es ++ fs) new
 enter_both features cx held mid new [] fs h k = subst (λ q. EnterAll features cx q fs new) h k
 enter_both features cx held mid new (e ∷ es) fs h k = (h.0, h.1, enter_both features (after cx e) h.0 mid new es fs h.2 k)
+
+-- where memory runs out for one of the later entries, it does for one of all
+pub runs_out_both : (features : Features) (cx : Context) (es fs : List Entry) → KeepRules features cx es → KeepLimits cx es → OneRunsOut features (after_all cx es) fs → OneRunsOut features cx (es ++ fs)
+runs_out_both features cx [] fs rules limits h = h
+runs_out_both features cx (e ∷ es) fs rules limits h = inr (rules.0, limits.0, runs_out_both features (after cx e) es fs rules.1 limits.1 h)
 
 -- where there is no room for one of the later entries, there is none for one of all
 pub no_room_both : (features : Features) (cx : Context) (held mid : List DefType) (es fs : List Entry) → KeepRules features cx es → KeepLimits cx es → EnterAll features cx held es mid

@@ -11,8 +11,8 @@ use Rattle.wasmparser_error.specs.declared.error.Error.{Error}
 use Rattle.wasmparser_error.specs.declared.error.ErrorKind.{ErrorKind}
 use Rattle.wasmparser_error.specs.declared.error.ErrorKind.TheVariants as kinds
 use Rattle.wasmparser_payloads.specs.Pieces.{Piece, Version, Types, Imports, Functions, Tables, Memories, Tags, Globals, Exports, Start, Elements, DataCount, CodeStart, Body, Segments, Custom, Unknown, End}
-use Rattle.wasmparser_validator.specs.PieceJudging.{AddsPiece, IsPlaced, NamesPiece, Says}
-use Rattle.wasmparser_validator.specs.Judges.{AcceptsPiece, IsOutOfOrder, IsWaitedAt, Judge, NamesWaited, RefusesPiece, after_piece, agrees, follows_bodies, is_body, is_end, may_stand_between, is_version, place_of, stage_after, waiting, waits_for, waits_in}
+use Rattle.wasmparser_validator.specs.PieceJudging.{AddsPiece, IsInPiece, NamesPiece, Says}
+use Rattle.wasmparser_validator.specs.Judges.{AcceptsPiece, IsOutOfOrder, Judge, NamesWaited, RefusesPiece, after_piece, agrees, follows_bodies, is_body, is_end, may_stand_between, is_version, place_of, stage_after, waiting, waits_for, waits_in}
 use Rattle.wasmparser_validator.specs.Stages.{may_begin}
 use Rattle.wasmparser_validator.specs.declared.validator.Stage.{Stage}
 use Rattle.wasmparser_validator.specs.declared.validator.Stage.TheVariants as stages
@@ -72,9 +72,9 @@ number_refused old piece waited not = rw waited (inl not, inl refl, refl)
 pub ruleset open_steps = (out_of_order, number_refused)
 
 -- what refuses a piece after all that is known is said of it, as it is waited for
-pub piece_refused : (old : Judge) (piece : Piece) (e : Error) → waits_for old piece ≡ true → NamesPiece old.features old.known old.held piece e.kind → IsPlaced piece e.kind e.offset
+pub piece_refused : (old : Judge) (piece : Piece) (e : Error) → waits_for old piece ≡ true → NamesPiece old.features old.known old.held piece e.kind → IsInPiece piece e.offset
     → RefusesPiece (waits_for old piece) old piece e (waiting old stages.Failed)
-piece_refused old piece e waited names placed = rw waited (by_kind e.kind names, at e.kind placed, refl)
+piece_refused old piece e waited names placed = rw waited (by_kind e.kind names, inr placed, refl)
   where
     by_kind : (kind : ErrorKind) → NamesPiece old.features old.known old.held piece kind → NamesWaited old piece kind
     by_kind kinds.Malformed h = inr h
@@ -87,17 +87,6 @@ piece_refused old piece e waited names placed = rw waited (by_kind e.kind names,
     by_kind kinds.Failed h = h
     by_kind kinds.Memory h = inl h
 
-    at : (kind : ErrorKind) → IsPlaced piece kind e.offset → IsWaitedAt piece kind e.offset
-    at kinds.Memory h = h
-    at kinds.Malformed h = inr h
-    at kinds.Invalid h = inr h
-    at (kinds.Limit l) h = inr h
-    at kinds.Operator h = inr h
-    at kinds.Body h = inr h
-    at kinds.Total h = inr h
-    at kinds.Order h = inr h
-    at kinds.Failed h = inr h
-
 pub piece_accepted : (old : Judge) (piece : Piece) (known : Context) (held : List DefType) → waits_for old piece ≡ true → agrees old piece ≡ true → Says old.features old.known old.held piece known held
     → AcceptsPiece old piece (after_piece old piece known held)
 piece_accepted old piece known held waited agreed says = record { waited = waited; agreed = agreed; known = known; new_held = held; says = says; after = refl }
@@ -105,15 +94,15 @@ piece_accepted old piece known held waited agreed says = record { waited = waite
 pub ruleset judge_steps = (piece_refused, piece_accepted)
 
 -- memory runs out at the end
-pub end_refused : (old new : Judge) (position : ℕ) (e : Error) → waits_for old (End position) ≡ true → e ≡ record { offset = 0; kind = kinds.Memory } → new ≡ waiting old stages.Failed
+pub end_refused : (old new : Judge) (position : ℕ) (e : Error) → waits_for old (End position) ≡ true → agrees old (End position) ≡ true → e ≡ record { offset = position; kind = kinds.Memory } → new ≡ waiting old stages.Failed
     → RefusesPiece (waits_for old (End position)) old (End position) e new
-unfolding is_end
-end_refused old new position e waited memory failed = rw (waited, memory) (inr (inl refl), refl, failed)
+unfolding is_end place_of
+end_refused old new position e waited agreed memory failed = rw (waited, memory) (inr (inl (refl, agreed)), inl refl, failed)
 
 -- memory runs out at a body
-pub body_refused : (old new : Judge) (piece : Piece) (e : Error) → waits_for old piece ≡ true → is_body piece ≡ true → e ≡ record { offset = 0; kind = kinds.Memory } → new ≡ waiting old stages.Failed
-    → RefusesPiece (waits_for old piece) old piece e new
-body_refused old new piece e waited is memory failed = rw (waited, memory) (inr (inr is), refl, failed)
+pub body_refused : (old new : Judge) (piece : Piece) (e : Error) (offset : ℕ) → waits_for old piece ≡ true → is_body piece ≡ true → offset ≡ place_of piece → e ≡ record { offset = offset; kind = kinds.Memory }
+    → new ≡ waiting old stages.Failed → RefusesPiece (waits_for old piece) old piece e new
+body_refused old new piece e offset waited is at memory failed = rw (waited, memory) (inr (inr is), inl at, failed)
 
 -- a body adds nothing to what is known
 pub body_adds_nothing : (features : Features) (old new : Context) (old_held new_held : List DefType) (body : Input) (x : Unit {0}) → AddsPiece features old old_held (Body body) (Ok x) new new_held → new ≡ old

@@ -16,6 +16,7 @@ use Rattle.wasm_spec.specs.Types.{FuncType}
 use Rattle.wasm_validity.specs.Context.{Context}
 use Rattle.wasmparser_bodies.specs.BodyAnswers.{IsBodyValidated}
 use Rattle.wasmparser_bodies.specs.BodyStates.{IsAtStart}
+use Rattle.wasmparser_error.specs.Error.{placed}
 use Rattle.wasmparser_error.specs.declared.error.Error.{Error}
 use Rattle.wasmparser_error.specs.declared.error.ErrorKind.{ErrorKind}
 use Rattle.wasmparser_error.specs.declared.error.ErrorKind.TheVariants as kinds
@@ -53,29 +54,28 @@ validates_own s place index body answer known named at validated =
     let type = some_is (func_at (state_resources s).items index) (own_named s known named place index at) in
     record { index = index; type = type.0; indexed = at; named = type.1; validated = validated type.0 type.1 }
 
--- memory that runs out is an answer to any body
-memory_answers : (features : Features) (items : ModuleItems Index) (type : FuncType Index) (body : Input) (e : Error) → e.kind ≡ kinds.Memory → e.offset ≡ 0
+-- running out of memory at a body's first byte is an answer to any body
+memory_answers : (features : Features) (items : ModuleItems Index) (type : FuncType Index) (body : Input) (e : Error) → e.kind ≡ kinds.Memory → e.offset ≡ body.position
     → IsBodyValidated features items type body.rest body.position (Err e)
-memory_answers features items type body e memory nowhere = record {
+memory_answers features items type body e memory at = record {
   right = tt;
   complete = λ fine. memory;
   operator = λ is. let f = sym memory ∙ is in absurd cc;
   limit = λ is. let f = sym memory ∙ is in absurd cc;
   broken = λ is. let f = sym memory ∙ is in absurd cc;
   others = inr (inr (inr memory));
-  from = inl memory;
-  to = inl memory;
-  nowhere = λ is. nowhere;
+  from = omega (arith, at);
+  to = omega (arith, at);
 }
 
 -- a body is begun unless memory runs out, for parameters alone aren't too many
-only_memory : (type : FuncType Index) (kind : ErrorKind) (at : ℕ) → length type.params ≤ 1000 → IsRefusedStart type.params kind at → (kind ≡ kinds.Memory) × (at ≡ 0)
+only_memory : (type : FuncType Index) (kind : ErrorKind) (at : ℕ) → length type.params ≤ 1000 → IsRefusedStart type.params kind at → kind ≡ kinds.Memory
 only_memory type (kinds.Limit l) at few refused = by_limit l refused
   where
-    by_limit : (l : core.Limit) → IsRefusedStart type.params (kinds.Limit l) at → (kinds.Limit l ≡ kinds.Memory) × (at ≡ 0)
+    by_limit : (l : core.Limit) → IsRefusedStart type.params (kinds.Limit l) at → kinds.Limit l ≡ kinds.Memory
     by_limit limits.Locals refused = absurd (omega (arith, few, refused.0))
     by_limit _ refused = absurd refused
-only_memory type kinds.Memory at few refused = (refl, refused.1)
+only_memory type kinds.Memory at few refused = refl
 only_memory type kinds.Malformed at few refused = absurd refused
 only_memory type kinds.Invalid at few refused = absurd refused
 only_memory type kinds.Operator at few refused = absurd refused
@@ -84,13 +84,16 @@ only_memory type kinds.Total at few refused = absurd refused
 only_memory type kinds.Order at few refused = absurd refused
 only_memory type kinds.Failed at few refused = absurd refused
 
+-- a body that isn't begun is refused at its first byte
 pub not_begun : (s : ModuleState) (place index : ℕ) (body : Input) (e : Error) → AreKnownTypes s.types → IsReached s → AreNamed (context s) → slice_get (context s).own_functions place ≡ Some index
-    → IsRefusedStart (frame_type (state_resources s).items (Indexed index)).params e.kind e.offset → ValidatesOwn (features_of s) (state_resources s).items (context s) place body (Err e)
+    → IsRefusedStart (frame_type (state_resources s).items (Indexed index)).params e.kind e.offset
+    → ValidatesOwn (features_of s) (state_resources s).items (context s) place body (Err (record { offset = placed e.kind body.position e.offset; kind = e.kind }))
 not_begun s place index body e known reached named at refused =
-    validates_own s place index body (Err e) known named at (λ type is.
-    let there = subst (λ (found : Option (FuncType Index)). IsRefusedStart (unwrap_or found (from_to [] [])).params e.kind e.offset) is refused in
-    let memory = only_memory type e.kind e.offset (few_params s known reached index type is) there in
-    memory_answers (features_of s) (state_resources s).items type body e memory.0 memory.1)
+    let there : Error = record { offset = placed e.kind body.position e.offset; kind = e.kind } in
+    validates_own s place index body (Err there) known named at (λ type is.
+    let start = subst (λ (found : Option (FuncType Index)). IsRefusedStart (unwrap_or found (from_to [] [])).params e.kind e.offset) is refused in
+    let memory = only_memory type e.kind e.offset (few_params s known reached index type is) start in
+    memory_answers (features_of s) (state_resources s).items type body there memory (ap (λ k. placed k body.position e.offset) memory))
 
 -- what a validator answers that begins with what is known of a module
 abbrev pub AnswersFrom : Features → ModuleState → ℕ → List (Local Index) → Machine Index → Bool → Input → Result (Unit {0}) Error → Type 0

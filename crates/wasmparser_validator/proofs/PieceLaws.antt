@@ -1,5 +1,5 @@
 -- Judging what a piece says, kind by kind.
-use Rattle.std.proofs.Common.{◌≡◌, ◌≢◌, ◌⊎◌, inl, inr, ℕ, List, [], ◌∷◌, ◌++◌, Some, None, IsSome, is_some, IfErr, refl, sym, ap, subst, ◌∙◌, Ok, Err, Result}
+use Rattle.std.proofs.Common.{◌≡◌, ◌≢◌, ◌<◌, ◌⊎◌, inl, inr, ℕ, List, [], ◌∷◌, ◌++◌, Some, None, IfErr, refl, sym, ap, subst, ◌∙◌, Ok, Err, Result}
 use Rattle.std.specs.Prelude.{⊤}
 use Rattle.wasm_core_types.specs.Limits as core
 use Rattle.wasm_core_read.specs.Input.{Input, IsWithin}
@@ -17,25 +17,25 @@ use Rattle.wasmparser_payloads.specs.EntryReading.{type_entry_at, import_entry_a
 use Rattle.wasmparser_payloads.specs.PieceEntries.{items_of, said_first, with_items, entries_said}
 use Rattle.wasm_spec.specs.Trees.{DefType}
 use Rattle.wasmparser_module_state.specs.History.{EnterAll, EntersEntry, OneFindsNoRoom}
-use Rattle.wasmparser_module_state.specs.Judging.{Accepts, Adds, NamesEntry, IsAt, Fronts, NamesEntries, IsIn, AddsEntries}
+use Rattle.wasmparser_module_state.specs.Judging.{Accepts, Adds, NamesEntry, IsAt, Fronts, NamesEntries, OneRunsOut, AddsEntries}
 use Rattle.wasmparser_module_types.specs.ModuleTypes.{KnownTypes}
 use Rattle.wasmparser_payloads.specs.Pieces.{Piece, Place, Version, Types, Imports, Functions, Tables, Memories, Tags, Globals, Exports, Start, Elements, DataCount, CodeStart, Body, Segments, Custom, Unknown, End, Named}
 use Rattle.wasmparser_readers.specs.Sections.{Left, Limited, left_items}
-use Rattle.wasmparser_validator.specs.PieceJudging.{Says, by_itself, with_some, PieceBegins, IsFirstOf, IsAmong, IsInPiece, IsPlaced, NamesPiece, AddsPiece, RefusesAt}
-use Rattle.wasmparser_validator.proofs.EntryLists.{after_both, enter_both, keep_both, keep_others, no_room_both, within_both, past_others}
+use Rattle.wasmparser_validator.specs.PieceJudging.{Says, by_itself, with_some, PieceBegins, IsFirstOf, IsAmong, IsInPiece, ReadsGroups, NamesPiece, AddsPiece, RefusesAt}
+use Rattle.wasmparser_validator.proofs.EntryLists.{after_both, enter_both, keep_both, keep_others, no_room_both, past_others, runs_out_both, within_both}
 use Rattle.wasmparser_validator.proofs.PieceItems.{as_entries}
 
 -- ---- pieces that say one entry by themselves
 
 -- a refusal of the entry refuses the piece
 refused_first : (features : Features) (old : Context) (held : List DefType) (p : Piece) (entry : Entry) (place : ℕ) (kind : ErrorKind) (offset : ℕ) → said_first p ≡ entry ∷ [] → IsFirstOf p place
-    → (kind ≡ kinds.Memory → IsSome (items_of p)) → NamesEntry features old held entry kind × IsAt place kind offset → NamesPiece features old held p kind × IsPlaced p kind offset
+    → kind ≢ kinds.Memory → NamesEntry features old held entry kind × IsAt place kind offset → NamesPiece features old held p kind × IsInPiece p offset
 refused_first features old held p entry place kind offset said first takes h = by_kind kind takes h
   where
     placed : offset ≡ place → IsInPiece p offset
     placed e = inl (subst (IsFirstOf p) (sym e) first)
 
-    by_kind : (kind : ErrorKind) → (kind ≡ kinds.Memory → IsSome (items_of p)) → NamesEntry features old held entry kind × IsAt place kind offset → NamesPiece features old held p kind × IsPlaced p kind offset
+    by_kind : (kind : ErrorKind) → kind ≢ kinds.Memory → NamesEntry features old held entry kind × IsAt place kind offset → NamesPiece features old held p kind × IsInPiece p offset
     by_kind kinds.Invalid t h = (record { front = entry ∷ []; is = by_itself (sym said); holds = λ k. h.0 k.0 }, placed h.1)
     by_kind (kinds.Limit l) t h = (record { front = entry ∷ []; is = by_itself (sym said); holds = of_entry h.0 }, placed h.1)
       where
@@ -43,7 +43,7 @@ refused_first features old held p entry place kind offset said first takes h = b
         of_entry (inl q) = inl q
         of_entry (inr q) = inr (inl q)
     by_kind kinds.Total t h = (record { front = entry ∷ []; is = by_itself (sym said); holds = inl h.0 }, placed h.1)
-    by_kind kinds.Memory t h = (t refl, h.1)
+    by_kind kinds.Memory t h = absurd (t refl)
     by_kind kinds.Malformed t h = absurd h.0
     by_kind kinds.Operator t h = absurd h.0
     by_kind kinds.Body t h = absurd h.0
@@ -62,7 +62,7 @@ says_one features old held p entry new said enters h =
 adds_one : (features : Features) (old : Context) (held : List DefType) (p : Piece) (entry : Entry) (place : ℕ) (result : Result (Unit {0}) Error) (new : Context) → said_first p ≡ entry ∷ []
     → entries_said p ≡ Some (entry ∷ []) → IsFirstOf p place → EntersEntry features old held entry held → TakesNone result → Adds features old held entry place result new → AddsPiece features old held p result new held
 adds_one features old held p entry place (Ok x) new first said placed enters none h = says_one features old held p entry new said enters h
-adds_one features old held p entry place (Err e) new first said placed enters none h = refused_first features old held p entry place e.kind e.offset first placed (λ is. absurd (none is)) (h.0, h.1)
+adds_one features old held p entry place (Err e) new first said placed enters none h = refused_first features old held p entry place e.kind e.offset first placed none (h.0, h.1)
 
 pub adds_start : (features : Features) (old : Context) (held : List DefType) (function : ℕ) (place : Place) (result : Result (Unit {0}) Error) → TakesNone result → Adds features old held (OfStart function) place.start result old → AddsPiece features old held (Start function place) result old held
 unfolding said_first entries_said items_of IsFirstOf
@@ -109,10 +109,10 @@ record HasItems {A : Type 0} (p : Piece) (first : List Entry) (made : A → Entr
   says_first : said_first p ≡ first
   said : entries_said p ≡ with_items first (Some (record { entry_at = as_entries made form_at; left = left }))
 
-adds_items : {A : Type 0} (takes_memory : Type 0) (features : Features) (old mid : Context) (held : List DefType) (p : Piece) (first : List Entry) (made : A → Entry) (form_at : Features → ReadingOf A) (left : Left)
+adds_items : {A : Type 0} (takes_memory : Type 0) (p : Piece) (left : Left) → (takes_memory → 0 < left.count → ReadsGroups p) → (features : Features) (old mid : Context) (held : List DefType) (first : List Entry) (made : A → Entry) (form_at : Features → ReadingOf A)
     (result : Result (Unit {0}) Error) (new : Context) (new_held : List DefType) → HasItems p first made form_at left → KeepRules features old first → KeepLimits old first → EnterAll features old held first held
     → mid ≡ after_all old first → AddsEntries features (as_entries made form_at) takes_memory mid held left result new new_held → AddsPiece features old held p result new new_held
-adds_items takes_memory features old mid held p first made form_at left (Ok x) new new_held its rules limits enter known h =
+adds_items takes_memory p left reads features old mid held first made form_at (Ok x) new new_held its rules limits enter known h =
     record {
       entries = first ++ h.entries;
       said = its.said ∙ rw h.reads refl;
@@ -121,7 +121,7 @@ adds_items takes_memory features old mid held p first made form_at left (Ok x) n
       known = h.known ∙ ap (λ cx. after_all cx h.entries) known ∙ sym (after_both old first h.entries);
       entered = enter_both features old held held new_held first h.entries enter (subst (λ cx. EnterAll features cx held h.entries new_held) known h.entered);
     }
-adds_items takes_memory features old mid held p first made form_at left (Err e) new new_held its rules limits enter known h = by_kind e.kind h
+adds_items takes_memory p left reads features old mid held first made form_at (Err e) new new_held its rules limits enter known h = by_kind e.kind h
   where
     unread : left_items (as_entries made form_at) left ≡ None → entries_said p ≡ None
     unread none = its.said ∙ rw none refl
@@ -136,7 +136,11 @@ adds_items takes_memory features old mid held p first made form_at left (Err e) 
       holds = holds;
     }
 
-    by_kind : (kind : ErrorKind) → NamesEntries features (as_entries made form_at) takes_memory mid held left kind × IsIn left.input kind e.offset → NamesPiece features old held p kind × IsPlaced p kind e.offset
+    runs_out : (takes_memory × (0 < left.count)) ⊎ Fronts (as_entries made form_at) left (λ es. OneRunsOut features mid es) → ReadsGroups p ⊎ PieceBegins p (λ es. OneRunsOut features old es)
+    runs_out (inl (takes, some)) = inl (reads takes some)
+    runs_out (inr f) = inr (begun _ (λ es. OneRunsOut features old es) f (runs_out_both features old first f.front rules limits (subst (λ cx. OneRunsOut features cx f.front) known f.holds)))
+
+    by_kind : (kind : ErrorKind) → NamesEntries features (as_entries made form_at) takes_memory mid held left kind × IsWithin left.input e.offset → NamesPiece features old held p kind × IsInPiece p e.offset
     by_kind kinds.Malformed h = (unread h.0, placed h.1)
     by_kind kinds.Invalid h =
         (begun _ (λ es. ¬ (KeepRules features old es)) h.0 (λ k. h.0.holds (subst (λ cx. KeepRules features cx h.0.front) (sym known) (keep_others features old first h.0.front k))), placed h.1)
@@ -144,68 +148,68 @@ adds_items takes_memory features old mid held p first made form_at left (Err e) 
         (begun _ (PassLimit (core.limit l) old) h.0 (past_others (core.limit l) old first h.0.front (subst (λ cx. PassLimit (core.limit l) cx h.0.front) known h.0.holds)), placed h.1)
     by_kind kinds.Total h =
         (begun _ (OneFindsNoRoom features old held) h.0 (no_room_both features old held held first h.0.front rules limits enter (subst (λ cx. OneFindsNoRoom features cx held h.0.front) known h.0.holds)), placed h.1)
-    by_kind kinds.Memory h = (ap is_some its.items, h.1)
+    by_kind kinds.Memory h = (runs_out h.0, placed h.1)
     by_kind kinds.Operator h = absurd h.0
     by_kind kinds.Body h = absurd h.0
     by_kind kinds.Order h = absurd h.0
     by_kind kinds.Failed h = absurd h.0
 
 pub adds_types : (features : Features) (old : Context) (held : List DefType) (items : Limited) (result : Result (Unit {0}) Error) (new : Context) (new_held : List DefType) → AddsEntries features type_entry_at ⊤ old held items.left result new new_held → AddsPiece features old held (Types items) result new new_held
-unfolding said_first entries_said items_of
+unfolding said_first entries_said items_of ReadsGroups
 adds_types features old held items result new new_held h =
-    adds_items ⊤ features old old held (Types items) [] (λ x. OfType x) (λ _. rec_group_at) items.left result new new_held (record { items = refl; says_first = refl; said = refl }) tt tt refl refl h
+    adds_items ⊤ (Types items) items.left (λ takes some. some) features old old held [] (λ x. OfType x) (λ _. rec_group_at) result new new_held (record { items = refl; says_first = refl; said = refl }) tt tt refl refl h
 
 pub adds_imports : (features : Features) (old : Context) (held : List DefType) (items : Limited) (result : Result (Unit {0}) Error) (new : Context) (new_held : List DefType) → AddsEntries features import_entry_at ⊥ old held items.left result new new_held → AddsPiece features old held (Imports items) result new new_held
 unfolding said_first entries_said items_of
 adds_imports features old held items result new new_held h =
-    adds_items ⊥ features old old held (Imports items) [] (λ x. OfImport x) (λ g. import_at (has g CompactImports)) items.left result new new_held (record { items = refl; says_first = refl; said = refl }) tt tt refl refl h
+    adds_items ⊥ (Imports items) items.left (λ takes some. absurd takes) features old old held [] (λ x. OfImport x) (λ g. import_at (has g CompactImports)) result new new_held (record { items = refl; says_first = refl; said = refl }) tt tt refl refl h
 
 pub adds_functions : (features : Features) (old : Context) (held : List DefType) (items : Limited) (result : Result (Unit {0}) Error) (new : Context) (new_held : List DefType) → AddsEntries features function_entry_at ⊥ old held items.left result new new_held → AddsPiece features old held (Functions items) result new new_held
 unfolding said_first entries_said items_of
 adds_functions features old held items result new new_held h =
-    adds_items ⊥ features old old held (Functions items) [] (λ x. OfFunction x) (λ _. unsigned_at 32) items.left result new new_held (record { items = refl; says_first = refl; said = refl }) tt tt refl refl h
+    adds_items ⊥ (Functions items) items.left (λ takes some. absurd takes) features old old held [] (λ x. OfFunction x) (λ _. unsigned_at 32) result new new_held (record { items = refl; says_first = refl; said = refl }) tt tt refl refl h
 
 pub adds_tables : (features : Features) (old : Context) (held : List DefType) (items : Limited) (result : Result (Unit {0}) Error) (new : Context) (new_held : List DefType) → AddsEntries features table_entry_at ⊥ old held items.left result new new_held → AddsPiece features old held (Tables items) result new new_held
 unfolding said_first entries_said items_of
 adds_tables features old held items result new new_held h =
-    adds_items ⊥ features old old held (Tables items) [] (λ x. OfTable x) (λ _. table_at) items.left result new new_held (record { items = refl; says_first = refl; said = refl }) tt tt refl refl h
+    adds_items ⊥ (Tables items) items.left (λ takes some. absurd takes) features old old held [] (λ x. OfTable x) (λ _. table_at) result new new_held (record { items = refl; says_first = refl; said = refl }) tt tt refl refl h
 
 pub adds_memories : (features : Features) (old : Context) (held : List DefType) (items : Limited) (result : Result (Unit {0}) Error) (new : Context) (new_held : List DefType) → AddsEntries features memory_entry_at ⊥ old held items.left result new new_held → AddsPiece features old held (Memories items) result new new_held
 unfolding said_first entries_said items_of
 adds_memories features old held items result new new_held h =
-    adds_items ⊥ features old old held (Memories items) [] (λ x. OfMemory x) (λ _. limits_at) items.left result new new_held (record { items = refl; says_first = refl; said = refl }) tt tt refl refl h
+    adds_items ⊥ (Memories items) items.left (λ takes some. absurd takes) features old old held [] (λ x. OfMemory x) (λ _. limits_at) result new new_held (record { items = refl; says_first = refl; said = refl }) tt tt refl refl h
 
 pub adds_globals : (features : Features) (old : Context) (held : List DefType) (items : Limited) (result : Result (Unit {0}) Error) (new : Context) (new_held : List DefType) → AddsEntries features global_entry_at ⊥ old held items.left result new new_held → AddsPiece features old held (Globals items) result new new_held
 unfolding said_first entries_said items_of
 adds_globals features old held items result new new_held h =
-    adds_items ⊥ features old old held (Globals items) [] (λ x. OfGlobal x) (λ _. global_at) items.left result new new_held (record { items = refl; says_first = refl; said = refl }) tt tt refl refl h
+    adds_items ⊥ (Globals items) items.left (λ takes some. absurd takes) features old old held [] (λ x. OfGlobal x) (λ _. global_at) result new new_held (record { items = refl; says_first = refl; said = refl }) tt tt refl refl h
 
 pub adds_exports : (features : Features) (old : Context) (held : List DefType) (items : Limited) (result : Result (Unit {0}) Error) (new : Context) (new_held : List DefType) → AddsEntries features export_entry_at ⊥ old held items.left result new new_held → AddsPiece features old held (Exports items) result new new_held
 unfolding said_first entries_said items_of
 adds_exports features old held items result new new_held h =
-    adds_items ⊥ features old old held (Exports items) [] (λ x. OfExport x) (λ _. export_at) items.left result new new_held (record { items = refl; says_first = refl; said = refl }) tt tt refl refl h
+    adds_items ⊥ (Exports items) items.left (λ takes some. absurd takes) features old old held [] (λ x. OfExport x) (λ _. export_at) result new new_held (record { items = refl; says_first = refl; said = refl }) tt tt refl refl h
 
 pub adds_elements : (features : Features) (old : Context) (held : List DefType) (items : Limited) (result : Result (Unit {0}) Error) (new : Context) (new_held : List DefType) → AddsEntries features element_entry_at ⊥ old held items.left result new new_held → AddsPiece features old held (Elements items) result new new_held
 unfolding said_first entries_said items_of
 adds_elements features old held items result new new_held h =
-    adds_items ⊥ features old old held (Elements items) [] (λ x. OfElement x) (λ _. element_at) items.left result new new_held (record { items = refl; says_first = refl; said = refl }) tt tt refl refl h
+    adds_items ⊥ (Elements items) items.left (λ takes some. absurd takes) features old old held [] (λ x. OfElement x) (λ _. element_at) result new new_held (record { items = refl; says_first = refl; said = refl }) tt tt refl refl h
 
 pub adds_segments : (features : Features) (old : Context) (held : List DefType) (items : Limited) (result : Result (Unit {0}) Error) (new : Context) (new_held : List DefType) → AddsEntries features data_entry_at ⊥ old held items.left result new new_held → AddsPiece features old held (Segments items) result new new_held
 unfolding said_first entries_said items_of
 adds_segments features old held items result new new_held h =
-    adds_items ⊥ features old old held (Segments items) [] (λ x. OfData x) (λ _. data_at) items.left result new new_held (record { items = refl; says_first = refl; said = refl }) tt tt refl refl h
+    adds_items ⊥ (Segments items) items.left (λ takes some. absurd takes) features old old held [] (λ x. OfData x) (λ _. data_at) result new new_held (record { items = refl; says_first = refl; said = refl }) tt tt refl refl h
 
 -- a tag section was judged by itself, and then its items
 pub adds_tags : (features : Features) (old mid : Context) (held : List DefType) (items : Limited) (result : Result (Unit {0}) Error) (new : Context) (new_held : List DefType) → Accepts features old OfTags mid
     → AddsEntries features tag_entry_at ⊥ mid held items.left result new new_held → AddsPiece features old held (Tags items) result new new_held
 unfolding said_first entries_said items_of
 adds_tags features old mid held items result new new_held begins h =
-    adds_items ⊥ features old mid held (Tags items) (OfTags ∷ []) (λ x. OfTag x) (λ _. tag_type_at) items.left result new new_held (record { items = refl; says_first = refl; said = refl }) (begins.rule, tt) (begins.limits, tt)
+    adds_items ⊥ (Tags items) items.left (λ takes some. absurd takes) features old mid held (OfTags ∷ []) (λ x. OfTag x) (λ _. tag_type_at) result new new_held (record { items = refl; says_first = refl; said = refl }) (begins.rule, tt) (begins.limits, tt)
     (held, refl, refl) begins.known h
 
-pub tags_refused : (features : Features) (old : Context) (held : List DefType) (items : Limited) (kind : ErrorKind) (offset : ℕ) → NamesEntry features old held OfTags kind × IsAt items.start kind offset → NamesPiece features old held (Tags items) kind × IsPlaced (Tags items) kind offset
+pub tags_refused : (features : Features) (old : Context) (held : List DefType) (items : Limited) (kind : ErrorKind) (offset : ℕ) → NamesEntry features old held OfTags kind × IsAt items.start kind offset → NamesPiece features old held (Tags items) kind × IsInPiece (Tags items) offset
 unfolding said_first entries_said items_of IsFirstOf
-tags_refused features old held items kind offset h = refused_first features old held (Tags items) OfTags items.start kind offset refl refl (λ _. refl) h
+tags_refused features old held items kind offset h = refused_first features old held (Tags items) OfTags items.start kind offset refl refl (λ is. subst (NamesEntry features old held OfTags) is h.0) h
 
 -- ---- unknown sections
 

@@ -25,7 +25,7 @@ use Rattle.wasmparser_payloads.specs.Parsing.{Settings, whole_module, IsInside, 
 use Rattle.wasmparser_payloads.specs.Pieces.{Piece, Version, Types, Imports, Functions, Tables, Memories, Tags, Globals, Exports, Start, Elements, DataCount, CodeStart, Body, Segments, Custom, Unknown, End, Remains, next_piece}
 use Rattle.wasm_spec.specs.Trees.{DefType}
 use Rattle.wasmparser_module_state.specs.History.{EnterAll, OneFindsNoRoom}
-use Rattle.wasmparser_validator.specs.PieceJudging.{Says, IsFrontOf, by_itself, with_some, IsPlaced, NamesPiece, AddsPiece, body_in, count_in}
+use Rattle.wasmparser_validator.specs.PieceJudging.{Says, IsFrontOf, by_itself, with_some, IsInPiece, NamesPiece, AddsPiece, body_in, count_in}
 use Rattle.wasmparser_validator.specs.Judges.{stated_with}
 use Rattle.wasmparser_validator.specs.Sections.{contents_of, EndBy, AreRead, NamesSections, RefusesSections, latest}
 use Rattle.wasmparser_validator.proofs.EntryLists.{after_both, enter_both, keep_both, keep_others, no_room_both, within_both, past_others}
@@ -181,8 +181,8 @@ refused features bytes first_held cx new-cx held new_held given stated now new p
         front_is_begun (settings_of features) bytes (s.entries ++ front) are
         (record { before = s.entries; now = now; reached = s.reached; piece = p; next = new; is_next = e; items = items; has = has_items; front = others; reads = reads; say = ap (λ (l : List Entry). s.entries ++ l) is })
 
-    by_kind : (kind : ErrorKind) → NamesPiece features cx held p kind → IsPlaced p kind error.offset → NamesSections features first_held bytes kind × (error.offset ≤ length bytes) × (kind ≡ kinds.Memory → error.offset ≡ 0)
-    by_kind kinds.Malformed names placed = (λ sections m. unread_is_none (settings_of features) bytes are (no_items p s.reached e names) sections m, (lies.places error.offset placed).1, λ k. absurd cc)
+    by_kind : (kind : ErrorKind) → NamesPiece features cx held p kind → IsInPiece p error.offset → NamesSections features first_held bytes kind × (error.offset ≤ length bytes)
+    by_kind kinds.Malformed names placed = (λ sections m. unread_is_none (settings_of features) bytes are (no_items p s.reached e names) sections m, (lies.places error.offset placed).1)
     by_kind kinds.Invalid names placed = (
       record {
         entries = s.entries ++ names.front;
@@ -190,7 +190,6 @@ refused features bytes first_held cx new-cx held new_held given stated now new p
         breaks = λ keep. names.holds (subst (λ c. KeepRules features c names.front) (sym s.known) (keep_others features at_first s.entries names.front keep));
       },
       (lies.places error.offset placed).1,
-      λ k. absurd cc,
     )
     by_kind (kinds.Limit l) names placed = (
       record {
@@ -199,7 +198,6 @@ refused features bytes first_held cx new-cx held new_held given stated now new p
         passes = past_others (core.limit l) at_first s.entries names.front (subst (λ c. PassLimit (core.limit l) c names.front) s.known names.holds);
       },
       (lies.places error.offset placed).1,
-      λ k. absurd cc,
     )
     by_kind kinds.Total names placed = (
       record {
@@ -208,9 +206,8 @@ refused features bytes first_held cx new-cx held new_held given stated now new p
         no_room = no_room_both features at_first first_held held s.entries names.front s.rules s.limits s.entered (subst (λ c. OneFindsNoRoom features c held names.front) s.known names.holds);
       },
       (lies.places error.offset placed).1,
-      λ k. absurd cc,
     )
-    by_kind kinds.Memory names placed = (tt, omega (arith, placed), λ k. placed)
+    by_kind kinds.Memory names placed = (tt, (lies.places error.offset placed).1)
     by_kind kinds.Operator names placed = absurd names
     by_kind kinds.Body names placed = absurd names
     by_kind kinds.Order names placed = absurd names
@@ -225,7 +222,7 @@ pub unread : (features : Features) (bytes : List ℕ) (first_held : List DefType
     → Progress features bytes first_held cx held given stated now → ¬ (now.stage ≡ Done)
     → next_piece now ≡ None → error.kind ≡ kinds.Malformed → IsInside now error.offset → RefusesSections features first_held bytes error
 unread features bytes first_held cx held given stated now error are s going none kind inside =
-    rw kind (λ sections m. unread_is_none (settings_of features) bytes are (no_piece s.reached going none) sections m, (place_lies 0 (length bytes) now error.offset s.lie inside).1, λ k. absurd cc)
+    rw kind (λ sections m. unread_is_none (settings_of features) bytes are (no_piece s.reached going none) sections m, (place_lies 0 (length bytes) now error.offset s.lie inside).1)
 
 -- ---- the end
 

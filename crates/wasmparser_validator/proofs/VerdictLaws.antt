@@ -87,8 +87,8 @@ has_name features old_held bytes kinds.Failed n = absurd n
 has_name features old_held bytes kinds.Memory n = tt
 
 pub refused_sections : (features : Features) (old_held : List DefType) (bytes : List ℕ) (e : Error) → FrontsAreFirst → RulesInTurn → LimitsInTurn → NoneWithin → FirstFindRoom
-    → NamesSections features old_held bytes e.kind → e.offset ≤ length bytes → (e.kind ≡ kinds.Memory → e.offset ≡ 0) → IsValidated features old_held bytes (Err e)
-refused_sections features old_held bytes e fronts rules bounds within room named place memory =
+    → NamesSections features old_held bytes e.kind → e.offset ≤ length bytes → IsValidated features old_held bytes (Err e)
+refused_sections features old_held bytes e fronts rules bounds within room named place =
     let at : (kind : ErrorKind) → e.kind ≡ kind → NamesSections features old_held bytes kind = λ kind is. subst (NamesSections features old_held bytes) is named in
     record {
       right = tt;
@@ -103,7 +103,6 @@ refused_sections features old_held bytes e fronts rules bounds within room named
       first = λ none is. let full = at kinds.Total is in absurd (room features full.entries (subst (λ held. OneFindsNoRoom features at_first held full.entries) none full.no_room));
       others = has_name features old_held bytes e.kind named;
       place = place;
-      memory = memory;
     }
 
 -- ---- bodies
@@ -171,7 +170,6 @@ accepted_module features old_held bytes ended given w judged = record {
   body = tt;
   others = tt;
   place = tt;
-  memory = tt;
 }
 
 -- ---- refusals of bodies
@@ -242,10 +240,7 @@ module _ (features : Features) (old_held : List DefType) (bytes : List ℕ) (end
       (subst (λ type. IsTypedBody features w.sections type there.body) one.0 there.holds))
 
   ends_there : e.offset ≤ length bytes
-  ends_there = elim judged_there.judged.to [
-    | inl memory ↦ let at : e.offset ≡ 0 = judged_there.judged.nowhere memory in omega (arith, at)
-    | inr within ↦ omega (arith, within, ends_by (length bytes) given refused.0 judged_there.body w.inside judged_there.has)
-  ]
+  ends_there = omega (arith, judged_there.judged.to, ends_by (length bytes) given refused.0 judged_there.body w.inside judged_there.has)
 
   pub refused_body : IsValidated features old_held bytes (Err e)
   refused_body = record {
@@ -261,7 +256,6 @@ module _ (features : Features) (old_held : List DefType) (bytes : List ℕ) (end
     body = λ is. there_is (IsBrokenBody features) (judged_there.judged.broken is);
     others = is_named e.kind kind_there;
     place = ends_there;
-    memory = judged_there.judged.nowhere;
   }
 
 -- ---- what the list holds afterwards

@@ -18,7 +18,6 @@ pub record IsBodyJudged (features : Features) (sections : List Section) (type : 
   pub limit : IfErr answer (λ e. e.kind ≡ kinds.Limit core.Locals → IsBodyPast features sections type bytes)
   pub broken : IfErr answer (λ e. e.kind ≡ kinds.Body → IsBrokenBody features sections type bytes)
   pub others : IfErr answer (λ e. (e.kind ≡ kinds.Operator) ⊎ (e.kind ≡ kinds.Limit core.Locals) ⊎ (e.kind ≡ kinds.Body) ⊎ (e.kind ≡ kinds.Memory))
-  -- the place is among the body's bytes, or at their end; memory that ran out has none
-  pub from : IfErr answer (λ e. (e.kind ≡ kinds.Memory) ⊎ (position ≤ e.offset))
-  pub to : IfErr answer (λ e. (e.kind ≡ kinds.Memory) ⊎ (e.offset ≤ position + length bytes))
-  pub nowhere : IfErr answer (λ e. e.kind ≡ kinds.Memory → e.offset ≡ 0)
+  -- the place is among the body's bytes, or at their end
+  pub from : IfErr answer (λ e. position ≤ e.offset)
+  pub to : IfErr answer (λ e. e.offset ≤ position + length bytes)

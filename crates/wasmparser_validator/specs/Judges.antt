@@ -163,20 +163,19 @@ IsOutOfOrder stages.Failed place old e new = (e ≡ record { offset = place; kin
 IsOutOfOrder stages.End place old e new = (e ≡ record { offset = place; kind = kinds.Order }) × (new ≡ old)
 IsOutOfOrder stage place old e new = (e ≡ record { offset = place; kind = kinds.Order }) × (new ≡ waiting old stages.Failed)
 
--- what a refusal of a piece names that was waited for; items, bodies and the end take memory
+-- what a refusal of a piece names that was waited for; bodies and an end whose numbers agree take memory too
 abbrev pub NamesWaited : Judge → Piece → ErrorKind → Type 0
 NamesWaited j piece kinds.Malformed = (agrees j piece ≡ false) ⊎ (entries_said piece ≡ None)
-NamesWaited j piece kinds.Memory = IsSome (items_of piece) ⊎ (is_end piece ≡ true) ⊎ (is_body piece ≡ true)
+NamesWaited j piece kinds.Memory = NamesPiece j.features j.known j.held piece kinds.Memory ⊎ ((is_end piece ≡ true) × (agrees j piece ≡ true)) ⊎ (is_body piece ≡ true)
 NamesWaited j piece kind = NamesPiece j.features j.known j.held piece kind
 
 -- the place of a refusal of a piece that was waited for
-abbrev pub IsWaitedAt : Piece → ErrorKind → ℕ → Type 0
-IsWaitedAt piece kinds.Memory offset = offset ≡ 0
-IsWaitedAt piece kind offset = (offset ≡ place_of piece) ⊎ IsInPiece piece offset
+abbrev pub IsWaitedAt : Piece → ℕ → Type 0
+IsWaitedAt piece offset = (offset ≡ place_of piece) ⊎ IsInPiece piece offset
 
 -- what refuses a piece, and how a validator goes on
 abbrev pub RefusesPiece : Bool → Judge → Piece → Error → Judge → Type 0
-RefusesPiece true old piece e new = NamesWaited old piece e.kind × IsWaitedAt piece e.kind e.offset × (new ≡ waiting old stages.Failed)
+RefusesPiece true old piece e new = NamesWaited old piece e.kind × IsWaitedAt piece e.offset × (new ≡ waiting old stages.Failed)
 RefusesPiece false old piece e new = IsOutOfOrder old.stage (place_of piece) old e new
 
 -- A piece is accepted that is waited for, whose numbers agree, and which keeps the rules and limits after what is known.

@@ -1,5 +1,5 @@
 -- Judging the pieces of a module.
-use Rattle.std.specs.Prelude.{◌≡◌, ◌⊎◌, ℕ, Bool, true, false, List, [], ◌∷◌, ◌++◌, Option, Some, None, IsSome, Result, Ok, Err}
+use Rattle.std.specs.Prelude.{◌≡◌, ◌⊎◌, ◌<◌, ℕ, Bool, true, false, List, [], ◌∷◌, ◌++◌, Option, Some, None, Result, Ok, Err}
 use Rattle.wasm_core_types.specs.Limits as core
 use Rattle.wasm_core_read.specs.Input.{Input, IsWithin}
 use Rattle.wasm_spec.specs.Features.{Features}
@@ -12,6 +12,7 @@ use Rattle.wasmparser_error.specs.declared.error.ErrorKind.{ErrorKind}
 use Rattle.wasmparser_error.specs.declared.error.ErrorKind.TheVariants as kinds
 use Rattle.wasmparser_payloads.specs.PieceEntries.{Items, items_of, said_first, entries_said, HasFront}
 use Rattle.wasmparser_module_state.specs.History.{EnterAll, OneFindsNoRoom}
+use Rattle.wasmparser_module_state.specs.Judging.{OneRunsOut}
 use Rattle.wasmparser_payloads.specs.Pieces.{Piece, Version, Types, Imports, Functions, Tables, Memories, Tags, Globals, Exports, Start, Elements, DataCount, CodeStart, Body, Segments, Custom, Unknown, End}
 
 -- ---- what a piece says
@@ -82,26 +83,26 @@ IsAmong (Some items) offset = IsWithin items.left.input offset
 abbrev pub IsInPiece : Piece → ℕ → Type 0
 IsInPiece piece offset = IsFirstOf piece offset ⊎ IsAmong (items_of piece) offset
 
--- where a refusal is: within the piece, or nowhere where memory ran out
-abbrev pub IsPlaced : Piece → ErrorKind → ℕ → Type 0
-IsPlaced piece kinds.Memory offset = offset ≡ 0
-IsPlaced piece _ offset = IsInPiece piece offset
-
 -- ---- answers
 
--- what a refusal of a piece names; items alone take memory
+-- an item of a type section is left to read, which takes memory
+unfoldable pub ReadsGroups : Piece → Type 0
+ReadsGroups (Types items) = 0 < items.left.count
+ReadsGroups piece = ⊥
+
+-- what a refusal of a piece names
 abbrev pub NamesPiece : Features → Context → List DefType → Piece → ErrorKind → Type 0
 NamesPiece features old held piece kinds.Malformed = entries_said piece ≡ None
 NamesPiece features old held piece kinds.Invalid = PieceBegins piece (λ entries. ¬ (KeepRules features old entries))
 NamesPiece features old held piece (kinds.Limit l) = PieceBegins piece (λ entries. PassLimit (core.limit l) old entries)
 NamesPiece features old held piece kinds.Total = PieceBegins piece (λ entries. OneFindsNoRoom features old held entries)
-NamesPiece features old held piece kinds.Memory = IsSome (items_of piece)
+NamesPiece features old held piece kinds.Memory = ReadsGroups piece ⊎ PieceBegins piece (λ entries. OneRunsOut features old entries)
 NamesPiece features old held piece _ = ⊥
 
 -- the result of a call that validates a piece and adds its entries
 abbrev pub AddsPiece : Features → Context → List DefType → Piece → Result (Unit {0}) Error → Context → List DefType → Type 0
 AddsPiece features old old_held piece (Ok x) new new_held = Says features old old_held piece new new_held
-AddsPiece features old old_held piece (Err e) new new_held = NamesPiece features old old_held piece e.kind × IsPlaced piece e.kind e.offset
+AddsPiece features old old_held piece (Err e) new new_held = NamesPiece features old old_held piece e.kind × IsInPiece piece e.offset
 
 -- the result of a call that refuses what begins at a place
 abbrev pub RefusesAt : ℕ → Result (Unit {0}) Error → Type 0

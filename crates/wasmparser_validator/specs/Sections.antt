@@ -72,9 +72,9 @@ NamesSections features old_held bytes kinds.Total = BeginsWithoutRoom features o
 NamesSections features old_held bytes kinds.Memory = ⊤
 NamesSections features old_held bytes _ = ⊥
 
--- A refusal names what it finds, at a place of the bytes or their end, and at 0 where memory ran out.
+-- A refusal names what it finds, at a place of the bytes or their end.
 abbrev pub RefusesSections : Features → List DefType → List ℕ → Error → Type 0
-RefusesSections features old_held bytes e = NamesSections features old_held bytes e.kind × (e.offset ≤ length bytes) × (e.kind ≡ kinds.Memory → e.offset ≡ 0)
+RefusesSections features old_held bytes e = NamesSections features old_held bytes e.kind × (e.offset ≤ length bytes)
 
 -- the result of a call that reads all sections
 abbrev pub ReadsSections : Features → List ℕ → List DefType → Result (Unit {0}) Error → Context → List DefType → List Input → Option ℕ → Type 0

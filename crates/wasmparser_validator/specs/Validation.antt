@@ -63,5 +63,3 @@ pub record IsValidated (features : Features) (old_held : List DefType) (bytes : 
   pub others : IfErr verdict (λ e. IsNamed e.kind)
   -- the place of a refusal is among the bytes, or at their end; which place it is is open
   pub place : IfErr verdict (λ e. e.offset ≤ length bytes)
-  -- running out of memory has no place
-  pub memory : IfErr verdict (λ e. e.kind ≡ kinds.Memory → e.offset ≡ 0)

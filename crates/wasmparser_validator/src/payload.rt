@@ -96,7 +96,7 @@ fn add_exports<'a>(
 ///
 /// # Errors
 /// `Malformed` where items don't read or the section is unknown, `Invalid` where a rule is broken, `Limit` where one is passed, `Total` where the list of types has no
-/// room for a group, each at a place of the payload; `Memory` where memory runs out. Then it is open what the state holds.
+/// room for a group, `Memory` where memory runs out, each at a place of the payload. Then it is open what the state holds.
 #[tactic(auto, using(crate::proofs::PieceLaws::piece_steps), unfolding(wasmparser_payloads::specs::Parsing::piece, crate::specs::PieceJudging::has_groups))]
 pub fn add_payload<'a>(
     alloc: Global,

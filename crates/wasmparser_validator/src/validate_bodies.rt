@@ -58,7 +58,10 @@ fn validate_function(
         ty: state.type_of_own_function(place).unwrap(),
         features: state.features(),
     };
-    let mut validator = function.into_validator(allocations)?;
+    let mut validator = match function.into_validator(allocations) {
+        Ok(validator) => validator,
+        Err(error) => return Err(error.placed(body.range().start)),
+    };
     validator.validate(body)?;
     Ok(validator.into_allocations())
 }

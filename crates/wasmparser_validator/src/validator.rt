@@ -67,7 +67,7 @@ pub struct NotEnded;
 /// The types of modules that have ended stay in its list, so that equal types of all of its modules have one id where types are canonicalized.
 ///
 /// A section call returns `Order` where no section is waited for, `Failed` after a refusal, `Malformed` where the items don't read, `Invalid` and `Limit` where
-/// they break a rule or pass a limit, `Total` where the list has no room for a group, each at a place of the section, and `Memory` where memory runs out.
+/// they break a rule or pass a limit, `Total` where the list has no room for a group, `Memory` where memory runs out, each at a place of the section.
 #[derive(Drop)]
 pub struct Validator {
     pub(crate) alloc: Global,
@@ -401,10 +401,7 @@ impl Validator {
         ensures { RefusesPiece (waits_for (judge self.old) (piece payload.now)) (judge self.old) (piece payload.now) result (judge self.new) }
     {
         self.wait_for(Stage::Failed);
-        Error {
-            offset: 0,
-            kind: ErrorKind::Memory,
-        }
+        Error::out_of_memory(place_of(payload))
     }
 
     // Waits for sections, where a module may begin: nothing is known of it yet.
@@ -611,8 +608,8 @@ impl Validator {
     /// Checks the size of a body, and returns its function, by which it is to be validated.
     ///
     /// # Errors
-    /// `Limit` where the body has more bytes than its limit; `Memory` where memory runs out; `Order` before the code section begins and past the functions, `Failed`
-    /// after a refusal.
+    /// `Limit` where the body has more bytes than its limit, `Memory` where memory runs out, each at the body's first byte; `Order` before the code section begins and
+    /// past the functions, `Failed` after a refusal.
     #[tactic(auto, using(crate::proofs::JudgeLaws::body_steps), unfolding(wasmparser_payloads::specs::Parsing::piece, crate::specs::Judges::is_body, crate::specs::PieceJudging::has_groups))]
     pub fn code_section_entry(
         &mut self,
@@ -653,7 +650,7 @@ impl Validator {
     ///
     /// # Errors
     /// `Malformed` where there are more functions than bodies, or another number of data segments than was stated; `Order` where no module has begun or
-    /// it has ended, `Failed` after a refusal; `Memory` where memory runs out.
+    /// it has ended, `Failed` after a refusal, `Memory` where memory runs out, each at the place handed in.
     #[tactic(auto, unfolding(wasmparser_payloads::specs::Parsing::piece))]
     pub fn end(&mut self, offset: u64) -> Result<Types, Error>
         ensures ended { EndsModule (judge self.old) offset result (judge self.new) }
@@ -666,9 +663,9 @@ impl Validator {
                 self.rest();
                 Ok(ended)
             }
-            Err(error) => {
+            Err(_) => {
                 self.wait_for(Stage::Failed);
-                Err(Error::from(error))
+                Err(Error::out_of_memory(offset))
             }
         }
     }

@@ -12,9 +12,12 @@ const GROUP: [u8; 27] = [
     0x00, 0x5f, 0x02, 0x78, 0x00, 0x64, 0x03, 0x01, 0x5e, 0x7f, 0x01,
 ];
 
-// Whether the group that reads has all of its types.
+// The place of the group's first byte.
+const PLACE: u64 = 9;
+
+// Checks that the group that reads has all of its types.
 fn reads_all(alloc: Global) -> Result<bool, Error> {
-    match RecGroup::from_reader(alloc, &mut BinaryReader::new(&GROUP, 0)) {
+    match RecGroup::from_reader(alloc, &mut BinaryReader::new(&GROUP, PLACE)) {
         Ok(group) => Ok(group.types().len() == 4),
         Err(error) => Err(error),
     }
@@ -27,11 +30,11 @@ fn reads(alloc: Global) -> bool {
     }
 }
 
-// Checks that it reads, or memory ran out, which has no place.
+// Checks that it reads, or memory ran out, at its first byte.
 fn reads_or_runs_out(alloc: Global) -> bool {
     match reads_all(alloc) {
         Ok(are_all) => are_all,
-        Err(error) => error.kind == ErrorKind::Memory && error.offset == 0,
+        Err(error) => error.kind == ErrorKind::Memory && error.offset == PLACE,
     }
 }
 
@@ -42,7 +45,7 @@ fn a_group_reads_after_memory_ran_out(rt: HostRuntime) {
 }
 
 #[test]
-fn memory_that_ran_out_has_no_place(rt: HostRuntime) {
+fn memory_runs_out_at_the_first_byte(rt: HostRuntime) {
     let alloc = rt.alloc();
     assert!(rt; reads_or_runs_out(alloc), "or nothing was refused");
 }

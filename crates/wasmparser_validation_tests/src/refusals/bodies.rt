@@ -78,7 +78,7 @@ fn counts<R: WasmModuleResources>(validator: &FuncValidator<R>) -> (usize, usize
 pub(crate) fn is_memory(answer: &Result<(), Error>) -> bool {
     match answer {
         Ok(()) => false,
-        Err(Error { offset, kind }) => *offset == 0 && *kind == ErrorKind::Memory,
+        Err(error) => error.kind == ErrorKind::Memory,
     }
 }
 

@@ -42,7 +42,7 @@ const ITEMS: &str = "
 ";
 
 fn is_of_memory(error: Error) -> bool {
-    error.kind == ErrorKind::Memory && error.offset == 0
+    error.kind == ErrorKind::Memory
 }
 
 // Checks that a section is accepted; none where memory runs out, on its words or on its entries.

@@ -22,7 +22,7 @@ returns-in_err-read_run-clause-read g c =
     let p = err_from_is_err_and c.from_residual.result c.from_residual.ensures.1 in
     rw (p.1, p.2) (
       runs_fail (g.B.BodyValidator.state c.loop.body) _ _ _ _ _ c.loop-test.true c.in_err-read_run.ensures.read.0 c.loop.invariant.so_far,
-      placed_later _ _ _ _ c.loop.invariant.goes_on c.in_err-read_run.ensures.read.1,
+      placed_later _ _ _ c.loop.invariant.goes_on c.in_err-read_run.ensures.read.1,
     )
 
 pub loop-preserved : goal.loop-preserved

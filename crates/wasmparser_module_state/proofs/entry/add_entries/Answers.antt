@@ -21,23 +21,24 @@ pub items-preserved : goal.items-preserved
 items-preserved g c =
     let n = rw c.in_ok-offset.was at c.in-Some.ensures.steps in
     let e = entry_read _ _ _ _ _ g.met.T.Entry.is_made _ _ c.in_ok-offset.item _ n.0.reads in
-    let accepts = subst (λ f. Accepts f (context c.items.state) (g.T.Entry.entry c.in_ok-offset.item) (context c.add.new.state)) c.items.invariant.2 c.in_ok-add.ensures.added in
+    let added = rw c.in-Ok.is at c.add.ensures.added in
+    let accepts = subst (λ f. Accepts f (context c.items.state) (g.T.Entry.entry c.in_ok-offset.item) (context c.add.new.state)) c.items.invariant.2 added in
     let enters =
-    subst (λ f. EntersEntry f (context c.items.state) (held c.items.state) (g.T.Entry.entry c.in_ok-offset.item) (held c.add.new.state)) c.items.invariant.2 c.in_ok-add.ensures.entered in (
+    subst (λ f. EntersEntry f (context c.items.state) (held c.items.state) (g.T.Entry.entry c.in_ok-offset.item) (held c.add.new.state)) c.items.invariant.2 c.in-Ok.ensures.entered in (
       goes_on_entered _ _ _ _ _ _ _ _ _ _ _ (g.T.Entry.entry c.in_ok-offset.item) c.items.invariant.0 n.0.counted e n.0.goes_on accepts enters,
       subst (λ cx. length cx.types ≤ most Types) (sym accepts.known) (types_within _ _ accepts.limits c.items.invariant.1),
-      c.in_ok-add.ensures.features ∙ c.items.invariant.2,
-      c.in_ok-add.ensures.grows,
-      λ untyped. c.in_ok-add.ensures.types untyped ∙ c.items.invariant.4 untyped,
+      c.add.ensures.features ∙ c.items.invariant.2,
+      c.add.ensures.grows,
+      λ untyped. c.add.ensures.types untyped ∙ c.items.invariant.4 untyped,
     )
 
-pub returns-in_err-add-clause-added : goal.returns-in_err-add-clause-added
-returns-in_err-add-clause-added g c =
+pub returns-in-Err-clause-added : goal.returns-in-Err-clause-added
+returns-in-Err-clause-added g c =
     let n = rw c.in_ok-offset.was at c.in-Some.ensures.steps in
     let e = entry_read _ _ _ _ _ g.met.T.Entry.is_made _ _ c.in_ok-offset.item _ n.0.reads in
-    let p = err_from_is_err_and c.from_residual-in_err-add.result c.from_residual-in_err-add.ensures.1 in
-    let named = subst (λ f. NamesEntry f (context c.items.state) (held c.items.state) (g.T.Entry.entry c.in_ok-offset.item) c.in_err-add.field-0.0.kind) c.items.invariant.2 c.in_err-add.ensures.added.0 in
-    rw (p.1, p.2) (refused_entry _ _ _ _ _ _ _ _ _ _ _ _ c.items.invariant.0 n.0.counted e _ _ _ n.0.place (named, c.in_err-add.ensures.added.1))
+    let refused = rw c.in-Err.is at c.add.ensures.added in
+    let named = subst (λ f. NamesEntry f (context c.items.state) (held c.items.state) (g.T.Entry.entry c.in_ok-offset.item) c.in-Err.error.kind) c.items.invariant.2 refused.0 in
+    rw c.placed.ensures (refused_entry _ _ _ _ _ _ _ _ _ _ _ _ c.items.invariant.0 n.0.counted e _ _ _ n.0.place (named, refused.1))
 
 pub returns-clause-added : goal.returns-clause-added
 returns-clause-added g c = fills _ _ _ _ _ _ _ _ c.items.invariant.0 c.in_default.ensures.steps.0

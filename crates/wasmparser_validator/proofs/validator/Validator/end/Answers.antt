@@ -9,5 +9,5 @@ use Rattle.wasmparser_validator.proofs.validator.Validator.end.Goals as goal
 pub returns-in-Err-clause-ended : goal.returns-in-Err-clause-ended
 unfolding piece
 returns-in-Err-clause-ended c =
-    end_refused (judge c.args.self.now) _ c.args.offset _ c.in_ok-open.ensures.open.0 c.from.ensures
+    end_refused (judge c.args.self.now) _ c.args.offset _ c.in_ok-open.ensures.open.0 c.in_ok-open.ensures.open.1 c.out_of_memory.ensures
     (c.wait_for.ensures ∙ rw c.in-Err.ensures.refused (ap (λ (v : ValidatorState). waiting (judge v) stages.Failed) (c.self.view_is ∙ c.in_ok-open.ensures.same)))

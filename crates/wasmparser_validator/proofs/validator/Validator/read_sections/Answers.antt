@@ -44,7 +44,7 @@ returns-in_err-add-clause-read c =
 pub returns-in_err-keep-clause-read : goal.returns-in_err-keep-clause-read
 returns-in_err-keep-clause-read c =
     let p = err_from_is_err_and c.from_residual-in_err-keep.result c.from_residual-in_err-keep.ensures.1 in
-    rw (p.1, p.2, c.in_err-keep.ensures.memory.0) (tt, omega arith, λ is. refl)
+    rw (p.1, p.2, c.in_err-keep.ensures.memory.0) (tt, omega arith)
 
 pub returns-clause-read : goal.returns-clause-read
 returns-clause-read c = all_read _ _ _ _ _ _ _ _ (slice_bytes _ c.type_inv.bytes) c.payloads.invariant.0 c.in_default.ensures.steps.0

@@ -123,27 +123,32 @@ fn is_shown(alloc: Global, view: TypesRef<'_>, entity: EntityType, text: &str) -
     entity_text(alloc, view, entity).is_some_and(|shown| shown.as_str() == text)
 }
 
-// Checks that the first item of each index space that has one is what the text says.
-fn has_items(alloc: Global, view: TypesRef<'_>, expected: &str) -> bool {
-    let mut texts = expected.split("; ");
-    for kind in [
-        ExternalKind::Func,
-        ExternalKind::Table,
-        ExternalKind::Memory,
-        ExternalKind::Global,
-        ExternalKind::Tag,
-    ] {
-        let Some(entity) = entity_at(view, kind, 0) else {
-            continue;
-        };
-        let Some(text) = texts.next() else {
-            return false;
-        };
-        if !is_shown(alloc, view, entity, text) {
-            return false;
-        }
+// Returns the texts after that of the first item of a kind, which is what its text says; all of them where there is no such item.
+fn shown_item<'a>(
+    alloc: Global,
+    view: TypesRef<'_>,
+    kind: ExternalKind,
+    texts: &'a str,
+) -> Option<&'a str> {
+    let Some(entity) = entity_at(view, kind, 0) else {
+        return Some(texts);
+    };
+    let (text, rest) = texts.split_once("; ").unwrap_or((texts, ""));
+    if is_shown(alloc, view, entity, text) {
+        Some(rest)
+    } else {
+        None
     }
-    texts.next().is_none()
+}
+
+// Checks that the first item of each index space that has one is what the text says.
+fn has_items(alloc: Global, view: TypesRef<'_>, expected: &str) -> Option<bool> {
+    let texts = shown_item(alloc, view, ExternalKind::Func, expected)?;
+    let texts = shown_item(alloc, view, ExternalKind::Table, texts)?;
+    let texts = shown_item(alloc, view, ExternalKind::Memory, texts)?;
+    let texts = shown_item(alloc, view, ExternalKind::Global, texts)?;
+    let texts = shown_item(alloc, view, ExternalKind::Tag, texts)?;
+    Some(texts.is_empty())
 }
 
 // Checks that an export is what the text says, a name and what it stands for.
@@ -301,7 +306,7 @@ fn has(alloc: Global, view: TypesRef<'_>, bytes: &[u8], row: &str) -> Option<boo
         "types" => has_types(view, expected),
         "ids" | "own ids" => has_ids(view, expected),
         "supertypes" => has_supertypes(view, expected),
-        "items" => Some(has_items(alloc, view, expected)),
+        "items" => has_items(alloc, view, expected),
         "elements" => Some(has_elements(view, expected)),
         "exports" => Some(has_exports(alloc, view, expected)),
         "imports" => has_imports(alloc, view, bytes, expected),

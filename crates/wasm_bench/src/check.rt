@@ -34,7 +34,7 @@ fn tell<R: Print + Clock + AllocGlobal>(rt: &R, bytes: &[u8], times: u32) -> Opt
     })
 }
 
-// What a validator of its own says of a module: `yes`, or the kind of the refusal.
+// Returns what a validator of its own says of a module: `yes`, or the kind of the refusal.
 fn verdict_on(alloc: Global, bytes: &[u8]) -> &'static str {
     code_name(check(alloc, bytes, default_features()).kind)
 }

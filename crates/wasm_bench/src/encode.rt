@@ -27,7 +27,7 @@ pub(crate) fn tell<R: Print + Clock + AllocGlobal, S: Encode>(
     tell_shortest(rt, times, || written(rt.alloc(), section))
 }
 
-// The section's bytes.
+// Returns the section's bytes.
 fn written<S: Encode>(alloc: Global, section: &S) -> Option<Vec<u8>> {
     let mut sink = Vec::new(alloc);
     section.encode(&mut sink).ok()?;

@@ -34,14 +34,14 @@ enum Form {
 
 // A kind of numbers.
 trait Number: Copy {
-    // The number of this form that random bits make.
+    // Makes a number of this form of random bits.
     fn drawn(bits: u64, form: Form) -> Self;
 
     fn write(self, sink: &mut Vec<u8>) -> Option<()>;
 
     fn read(reader: &mut BinaryReader<'_>) -> Option<Self>;
 
-    // As bits, for a sum.
+    // Returns this as bits, for a sum.
     fn bits(self) -> u64;
 }
 

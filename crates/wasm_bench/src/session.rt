@@ -45,13 +45,13 @@ fn keep_each(
     Some(())
 }
 
-// The types of the module of a number.
+// Returns the types of the module of a number.
 fn types_of(alloc: Global, session: &mut Session, number: u32) -> Option<Types> {
     let bytes = module_of(alloc, number).ok()?;
     session.check(&bytes).ok()
 }
 
-// A module with one function type, whose 32 parameters tell the bits of a number.
+// Returns a module with one function type, whose 32 parameters tell the bits of a number.
 fn module_of(alloc: Global, number: u32) -> Result<Vec<u8>, AllocError> {
     let mut bytes = Vec::new(alloc);
     bytes.extend_from_slice(b"\0asm\x01\0\0\0\x01\x24\x01\x60\x20")?;

@@ -19,7 +19,7 @@ pub trait Encode {
     fn encode(&self, sink: &mut Vec<u8>) -> Result<(), EncodeError>
         ensures { Encodes sink.old sink.new result (encoding self.now) (longest self.now) };
 
-    /// The number of bytes that [`Encode::encode`] appends: an encoding is a frame at most, so below 2^33. It takes no memory.
+    /// Returns the number of bytes that [`Encode::encode`] appends: an encoding is a frame at most, so below 2^33. It takes no memory.
     ///
     /// # Errors
     /// `TooLong` exactly where `encode` answers it.
@@ -33,7 +33,7 @@ pub trait Encode {
 pub trait Section: Encode {
     ghost number: { Self → ℕ };
 
-    /// The id of the section.
+    /// Returns the id of the section.
     fn id(&self) -> u8
         ensures { result ≡ number self.now };
 }

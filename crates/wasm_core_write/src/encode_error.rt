@@ -17,7 +17,7 @@ impl EncodeError {
     ghost use Rattle.std.specs.Prelude.{◌≡◌};
     ghost use Rattle.wasm_core_write.specs.EncodeErrors.{error_name};
 
-    /// What went wrong, in lower case.
+    /// Returns what went wrong, in lower case.
     pub fn name(&self) -> &'static str
         ensures { result.now ≡ error_name self.now }
     {

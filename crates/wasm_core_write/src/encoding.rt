@@ -15,7 +15,7 @@ const MAX_LENGTH: u64 = 4_294_967_295;
 pub trait Encoding {
     ghost encoding: { Self → List ℕ };
 
-    /// The number of bytes of the encoding.
+    /// Returns the number of bytes of the encoding.
     fn size(&self) -> Result<u64, EncodeError>
         ensures { Measures result (length (encoding self.now)) (length (encoding self.now)) };
 
@@ -40,7 +40,7 @@ impl Encoding for u32 {
     }
 }
 
-/// The length of two encodings, one after the other.
+/// Returns the length of two encodings, one after the other.
 ///
 /// # Errors
 /// `TooLong` alone, exactly where that is more than 4,294,967,295.
@@ -56,7 +56,7 @@ pub fn add_sizes(first: u64, second: u64) -> Result<u64, EncodeError>
     Ok(sum)
 }
 
-/// The number of bytes of a list with its count.
+/// Returns the number of bytes of a list with its count.
 ///
 /// # Errors
 /// `TooLong` alone, exactly where that is more than 4,294,967,295.
@@ -84,7 +84,7 @@ pub fn put_list<T: Encoding>(items: &[T], sink: &mut Vec<u8>)
     }
 }
 
-/// The number of bytes of a list's encoding that are those of an item. Where the list's encoding is too long, an item's
+/// Returns the number of bytes of a list's encoding that are those of an item. Where the list's encoding is too long, an item's
 /// that is too long itself is told as 0.
 #[tactic(auto, using(wasm_spec::proofs::ListEncodings::item_steps))]
 pub fn item_len<T: Encoding>(items: &[T], i: u32) -> Option<u64>
@@ -94,7 +94,7 @@ pub fn item_len<T: Encoding>(items: &[T], i: u32) -> Option<u64>
     Some(item.size().unwrap_or(0))
 }
 
-/// The number of bytes of a content after its size.
+/// Returns the number of bytes of a content after its size.
 ///
 /// # Errors
 /// `TooLong` alone, exactly where the content is past 4,294,967,295 bytes.
@@ -122,7 +122,7 @@ pub fn encode_framed<T: Encoding>(content: &T, sink: &mut Vec<u8>) -> Result<(),
     Ok(())
 }
 
-/// The number of these bytes.
+/// Returns the number of these bytes.
 ///
 /// # Errors
 /// `TooLong` alone, exactly where there are more than 4,294,967,295.

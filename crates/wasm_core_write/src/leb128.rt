@@ -7,14 +7,14 @@ ghost use Rattle.wasm_spec.specs.Shortest.{unsigned_encoding, low_bits, magnitud
 
 use std::alloc::AllocError;
 
-/// The number of bytes that [`write_u32`] appends.
+/// Returns the number of bytes that [`write_u32`] appends.
 pub fn len_u32(n: u32) -> usize
     ensures { result ≡ length (unsigned_encoding n) }
 {
     len_u64(u64::from(n))
 }
 
-/// The number of bytes that [`write_u64`] appends.
+/// Returns the number of bytes that [`write_u64`] appends.
 #[tactic(auto, using(wasm_spec::proofs::UnsignedEncodings::unsigned_steps))]
 pub fn len_u64(n: u64) -> usize
     ensures bytes { result ≡ length (unsigned_encoding n) }
@@ -29,21 +29,21 @@ pub fn len_u64(n: u64) -> usize
     len
 }
 
-/// The number of bytes that [`write_s32`] appends.
+/// Returns the number of bytes that [`write_s32`] appends.
 pub fn len_s32(n: i32) -> usize
     ensures { result ≡ length (signed_encoding n) }
 {
     len_s64(i64::from(n))
 }
 
-/// The number of bytes that [`write_s33`] appends.
+/// Returns the number of bytes that [`write_s33`] appends.
 pub fn len_s33(n: i64) -> usize
     ensures { result ≡ length (signed_encoding n) }
 {
     len_s64(n)
 }
 
-/// The number of bytes that [`write_s64`] appends.
+/// Returns the number of bytes that [`write_s64`] appends.
 pub fn len_s64(n: i64) -> usize
     ensures bytes { result ≡ length (signed_encoding n) }
     ensures few { result ≤ 10 }
@@ -141,7 +141,7 @@ pub fn put_s64(sink: &mut Vec<u8>, n: i64)
     put_magnitude(sink, negative, magnitude);
 }
 
-// A number as its sign and m: it is m, or where it is negative -(m + 1).
+// Returns a number as its sign and m: it is m, or where it is negative -(m + 1).
 fn parts(n: i64) -> (bool, u64)
     ensures bytes { magnitude_encoding result.0 result.1 ≡ signed_encoding n }
     ensures below { result.1 < 2 ^ 63 }
@@ -153,7 +153,7 @@ fn parts(n: i64) -> (bool, u64)
     }
 }
 
-// The low seven bits in two's complement.
+// Returns the low seven bits in two's complement.
 fn low_bits(negative: bool, magnitude: u64) -> u8
     ensures bits { result ≡ low_bits negative magnitude }
     ensures below { result < 128 }

@@ -29,7 +29,7 @@ impl Module {
     ghost use Rattle.std.specs.Borrow.{sem, LendsIfOk};
     ghost use Rattle.wasm_core_write.specs.contracts.module.Module.{the_row};
 
-    /// A module without sections.
+    /// Creates a module without sections.
     ///
     /// # Errors
     /// `Memory` alone.
@@ -78,7 +78,7 @@ impl Module {
         }
     }
 
-    /// The bytes.
+    /// Returns the bytes.
     pub fn finish(self) -> Vec<u8>
         ensures { result.items ≡ self.bytes }
     {

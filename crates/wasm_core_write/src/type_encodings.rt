@@ -31,7 +31,7 @@ const OPEN: u8 = 0x50;
 
 const FINAL: u8 = 0x4f;
 
-/// The byte of an abstract heap type. Alone it is the nullable reference to that type.
+/// Returns the byte of an abstract heap type. Alone it is the nullable reference to that type.
 pub fn heap_code_of(heap: AbstractHeapType) -> u8
     ensures { result ≡ heap_code (abstract_heap_type heap) }
 {
@@ -96,7 +96,7 @@ impl Encoding for RefType {
     }
 }
 
-// The byte of a number or vector type. A call, since it is a look-up then: inlined, it becomes a jump for each type of a
+// Returns the byte of a number or vector type. A call, since it is a look-up then: inlined, it becomes a jump for each type of a
 // list, which is half as fast.
 #[inline(never)]
 fn number_code(value: ValType) -> u8

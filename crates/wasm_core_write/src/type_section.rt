@@ -76,7 +76,7 @@ impl TypeSection {
     ghost use Rattle.std.specs.Borrow.{sem, LendsIfOk};
     ghost use Rattle.wasm_core_write.specs.contracts.type_section.TypeSection.{the_row};
 
-    /// A section without entries.
+    /// Creates a section without entries.
     pub fn new(alloc: Global) -> TypeSection
         ensures { result ≡ [] }
     {
@@ -86,7 +86,7 @@ impl TypeSection {
         }
     }
 
-    /// The number of entries.
+    /// Returns the number of entries.
     pub fn len(&self) -> u32
         ensures { result ≡ length self.now }
     {
@@ -119,7 +119,7 @@ impl TypeSection {
         Ok(())
     }
 
-    // The length of the entries' encodings and of one after them.
+    // Returns the length of the entries' encodings and of one after them.
     #[tactic(auto, using(wasm_spec::proofs::ListEncodings::sizes))]
     fn size_with(&self, entry: &RecGroup) -> Result<u64, EncodeError>
         ensures { Measures result (length (flat_map rec_group_encoding self.now ++ core_group_encoding entry.now)) (length (flat_map rec_group_encoding self.now ++ core_group_encoding entry.now)) }
@@ -143,7 +143,7 @@ impl TypeSection {
         }
     }
 
-    // What `func` does.
+    // Does what `func` does.
     fn push_func(&mut self, ty: FuncType) -> Result<(), EncodeError>
         ensures added { IfOk result (λ _. self.new ≡ self.old ++ spec.Single (record { is_final = true; supertypes = []; composite_type = FuncComposite ty }) ∷ []) }
         ensures kept { IfErr result (λ _. self.new ≡ self.old) }
@@ -172,7 +172,7 @@ impl TypeSection {
         }
     }
 
-    // What `subtype` does.
+    // Does what `subtype` does.
     fn push_subtype(&mut self, ty: SubType) -> Result<(), EncodeError>
         ensures added { IfOk result (λ _. self.new ≡ self.old ++ spec.Single (sub_type ty) ∷ []) }
         ensures kept { IfErr result (λ _. self.new ≡ self.old) }
@@ -197,7 +197,7 @@ impl TypeSection {
         }
     }
 
-    // What `rec` does.
+    // Does what `rec` does.
     fn push_rec(&mut self, types: Vec<SubType>) -> Result<(), EncodeError>
         ensures added { IfOk result (λ _. self.new ≡ self.old ++ spec.Group (map sub_type types.items) ∷ []) }
         ensures kept { IfErr result (λ _. self.new ≡ self.old) }
@@ -206,7 +206,7 @@ impl TypeSection {
         self.push(RecGroup::Group(types))
     }
 
-    /// The number of bytes of the entry of the accepted adding call of this number, counted from 0. It takes no
+    /// Returns the number of bytes of the entry of the accepted adding call of this number, counted from 0. It takes no
     /// memory. Where [`Encode::encode`] answers `TooLong`, the number says nothing.
     pub fn item_len(&self, i: u32) -> Option<u64>
         ensures { TellsItem rec_group_encoding self.now i result }

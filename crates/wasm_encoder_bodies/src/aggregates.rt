@@ -13,7 +13,7 @@ impl InstructionSink {
     ghost use Rattle.std.specs.Borrow.{sem, LendsIfOk};
     ghost use Rattle.wasm_encoder_bodies.specs.contracts.instruction_sink.InstructionSink.{the_row};
 
-    // What `struct_new` does.
+    // Does what `struct_new` does.
     #[tactic(auto, unfolding(wasm_encoder_instructions::specs::Instructions::instruction_encoding))]
     fn push_struct_new(&mut self, type_index: u32) -> Result<(), EncodeError>
         ensures appended { IfOk result (λ _. Appends self.old self.new (operator_encoding (operators.StructNew type_index))) }
@@ -39,7 +39,7 @@ impl InstructionSink {
         }
     }
 
-    // What `struct_new_default` does.
+    // Does what `struct_new_default` does.
     #[tactic(auto, unfolding(wasm_encoder_instructions::specs::Instructions::instruction_encoding))]
     fn push_struct_new_default(&mut self, type_index: u32) -> Result<(), EncodeError>
         ensures appended { IfOk result (λ _. Appends self.old self.new (operator_encoding (operators.StructNewDefault type_index))) }
@@ -68,7 +68,7 @@ impl InstructionSink {
         }
     }
 
-    // What `array_new` does.
+    // Does what `array_new` does.
     #[tactic(auto, unfolding(wasm_encoder_instructions::specs::Instructions::instruction_encoding))]
     fn push_array_new(&mut self, type_index: u32) -> Result<(), EncodeError>
         ensures appended { IfOk result (λ _. Appends self.old self.new (operator_encoding (operators.ArrayNew type_index))) }
@@ -94,7 +94,7 @@ impl InstructionSink {
         }
     }
 
-    // What `array_new_default` does.
+    // Does what `array_new_default` does.
     #[tactic(auto, unfolding(wasm_encoder_instructions::specs::Instructions::instruction_encoding))]
     fn push_array_new_default(&mut self, type_index: u32) -> Result<(), EncodeError>
         ensures appended { IfOk result (λ _. Appends self.old self.new (operator_encoding (operators.ArrayNewDefault type_index))) }
@@ -123,7 +123,7 @@ impl InstructionSink {
         }
     }
 
-    // What `array_new_fixed` does.
+    // Does what `array_new_fixed` does.
     #[tactic(auto, unfolding(wasm_encoder_instructions::specs::Instructions::instruction_encoding))]
     fn push_array_new_fixed(
         &mut self,

@@ -13,7 +13,7 @@ impl InstructionSink {
     ghost use Rattle.std.specs.Borrow.{sem, LendsIfOk};
     ghost use Rattle.wasm_encoder_bodies.specs.contracts.instruction_sink.InstructionSink.{the_row};
 
-    // What `call` does.
+    // Does what `call` does.
     #[tactic(auto, unfolding(wasm_encoder_instructions::specs::Instructions::instruction_encoding))]
     fn push_call(&mut self, function: u32) -> Result<(), EncodeError>
         ensures appended { IfOk result (λ _. Appends self.old self.new (operator_encoding (operators.Call function))) }
@@ -39,7 +39,7 @@ impl InstructionSink {
         }
     }
 
-    // What `call_ref` does.
+    // Does what `call_ref` does.
     #[tactic(auto, unfolding(wasm_encoder_instructions::specs::Instructions::instruction_encoding))]
     fn push_call_ref(&mut self, type_index: u32) -> Result<(), EncodeError>
         ensures appended { IfOk result (λ _. Appends self.old self.new (operator_encoding (operators.CallRef type_index))) }
@@ -65,7 +65,7 @@ impl InstructionSink {
         }
     }
 
-    // What `call_indirect` does.
+    // Does what `call_indirect` does.
     #[tactic(auto, unfolding(wasm_encoder_instructions::specs::Instructions::instruction_encoding))]
     fn push_call_indirect(&mut self, table_index: u32, type_index: u32) -> Result<(), EncodeError>
         ensures appended { IfOk result (λ _. Appends self.old self.new (operator_encoding (operators.CallIndirect type_index table_index))) }
@@ -98,7 +98,7 @@ impl InstructionSink {
         }
     }
 
-    // What `return_call_ref` does.
+    // Does what `return_call_ref` does.
     #[tactic(auto, unfolding(wasm_encoder_instructions::specs::Instructions::instruction_encoding))]
     fn push_return_call_ref(&mut self, type_index: u32) -> Result<(), EncodeError>
         ensures appended { IfOk result (λ _. Appends self.old self.new (operator_encoding (operators.ReturnCallRef type_index))) }
@@ -124,7 +124,7 @@ impl InstructionSink {
         }
     }
 
-    // What `return_call` does.
+    // Does what `return_call` does.
     #[tactic(auto, unfolding(wasm_encoder_instructions::specs::Instructions::instruction_encoding))]
     fn push_return_call(&mut self, function: u32) -> Result<(), EncodeError>
         ensures appended { IfOk result (λ _. Appends self.old self.new (operator_encoding (operators.ReturnCall function))) }
@@ -150,7 +150,7 @@ impl InstructionSink {
         }
     }
 
-    // What `return_call_indirect` does.
+    // Does what `return_call_indirect` does.
     #[tactic(auto, unfolding(wasm_encoder_instructions::specs::Instructions::instruction_encoding))]
     fn push_return_call_indirect(
         &mut self,

@@ -46,7 +46,7 @@ impl Model for ConstExpr {
 }
 
 impl ConstExpr {
-    /// An expression without operators.
+    /// Creates an expression without operators.
     pub fn empty(alloc: Global) -> ConstExpr
         ensures { result ≡ [] }
     {
@@ -55,7 +55,7 @@ impl ConstExpr {
         }
     }
 
-    /// The expression of these bytes, which are operators without the end.
+    /// Returns the expression of these bytes, which are operators without the end.
     ///
     /// # Errors
     /// `Memory` alone.
@@ -77,7 +77,7 @@ impl ConstExpr {
         Ok(ConstExpr { bytes: kept })
     }
 
-    /// The expression of these instructions, one after the other. They are operators that may stand in constant expressions, without the end: which ones
+    /// Returns the expression of these instructions, one after the other. They are operators that may stand in constant expressions, without the end: which ones
     /// they are isn't looked at.
     ///
     /// # Errors
@@ -97,7 +97,7 @@ impl ConstExpr {
         Ok(ConstExpr { bytes })
     }
 
-    // The same with a code more, and an immediate after it, which are short.
+    // Returns the same with a code more, and an immediate after it, which are short.
     fn with<T: Encoding>(mut self, code: &[u8], immediate: &T) -> Result<ConstExpr, EncodeError>
         requires short { length code.now + length (T.encoding immediate.now) < 2 ^ 32 }
         ensures appended { IfOk result (λ e. e ≡ self ++ (code.now ++ T.encoding immediate.now)) }
@@ -110,7 +110,7 @@ impl ConstExpr {
         Ok(self)
     }
 
-    /// What a global holds, alone.
+    /// Returns what a global holds, alone.
     ///
     /// # Errors
     /// `Memory` alone.
@@ -121,7 +121,7 @@ impl ConstExpr {
         ConstExpr::empty(alloc).with_global_get(global)
     }
 
-    /// What a global holds, after the others.
+    /// Returns what a global holds, after the others.
     ///
     /// # Errors
     /// `Memory` alone. The expression is then gone.
@@ -133,7 +133,7 @@ impl ConstExpr {
         self.with(&[0x23], &global)
     }
 
-    /// Null, as a reference to this, alone.
+    /// Returns null, as a reference to this, alone.
     ///
     /// # Errors
     /// `Memory` alone.
@@ -144,7 +144,7 @@ impl ConstExpr {
         ConstExpr::empty(alloc).with_ref_null(heap_type)
     }
 
-    /// Null, as a reference to this, after the others.
+    /// Returns null, as a reference to this, after the others.
     ///
     /// # Errors
     /// `Memory` alone. The expression is then gone.
@@ -159,7 +159,7 @@ impl ConstExpr {
         }
     }
 
-    /// A reference to a function, alone.
+    /// Returns a reference to a function, alone.
     ///
     /// # Errors
     /// `Memory` alone.
@@ -170,7 +170,7 @@ impl ConstExpr {
         ConstExpr::empty(alloc).with_ref_func(function)
     }
 
-    /// A reference to a function, after the others.
+    /// Returns a reference to a function, after the others.
     ///
     /// # Errors
     /// `Memory` alone. The expression is then gone.
@@ -182,7 +182,7 @@ impl ConstExpr {
         self.with(&[0xd2], &function)
     }
 
-    /// A number of 32 bits, alone.
+    /// Returns a number of 32 bits, alone.
     ///
     /// # Errors
     /// `Memory` alone.
@@ -193,7 +193,7 @@ impl ConstExpr {
         ConstExpr::empty(alloc).with_i32_const(value)
     }
 
-    /// A number of 32 bits, after the others.
+    /// Returns a number of 32 bits, after the others.
     ///
     /// # Errors
     /// `Memory` alone. The expression is then gone.
@@ -205,7 +205,7 @@ impl ConstExpr {
         self.with(&[0x41], &signed(i64::from(value)))
     }
 
-    /// A number of 64 bits, alone.
+    /// Returns a number of 64 bits, alone.
     ///
     /// # Errors
     /// `Memory` alone.
@@ -216,7 +216,7 @@ impl ConstExpr {
         ConstExpr::empty(alloc).with_i64_const(value)
     }
 
-    /// A number of 64 bits, after the others.
+    /// Returns a number of 64 bits, after the others.
     ///
     /// # Errors
     /// `Memory` alone. The expression is then gone.
@@ -228,7 +228,7 @@ impl ConstExpr {
         self.with(&[0x42], &signed(value))
     }
 
-    /// A float of 32 bits, alone.
+    /// Returns a float of 32 bits, alone.
     ///
     /// # Errors
     /// `Memory` alone.
@@ -239,7 +239,7 @@ impl ConstExpr {
         ConstExpr::empty(alloc).with_f32_const(value)
     }
 
-    /// A float of 32 bits, after the others.
+    /// Returns a float of 32 bits, after the others.
     ///
     /// # Errors
     /// `Memory` alone. The expression is then gone.
@@ -251,7 +251,7 @@ impl ConstExpr {
         self.with(&[0x43], &value)
     }
 
-    /// A float of 64 bits, alone.
+    /// Returns a float of 64 bits, alone.
     ///
     /// # Errors
     /// `Memory` alone.
@@ -262,7 +262,7 @@ impl ConstExpr {
         ConstExpr::empty(alloc).with_f64_const(value)
     }
 
-    /// A float of 64 bits, after the others.
+    /// Returns a float of 64 bits, after the others.
     ///
     /// # Errors
     /// `Memory` alone. The expression is then gone.
@@ -274,7 +274,7 @@ impl ConstExpr {
         self.with(&[0x44], &value)
     }
 
-    /// A vector, the lowest byte of which is written first, alone.
+    /// Returns a vector, the lowest byte of which is written first, alone.
     ///
     /// # Errors
     /// `Memory` alone.
@@ -285,7 +285,7 @@ impl ConstExpr {
         ConstExpr::empty(alloc).with_v128_const(value)
     }
 
-    /// A vector, the lowest byte of which is written first, after the others.
+    /// Returns a vector, the lowest byte of which is written first, after the others.
     ///
     /// # Errors
     /// `Memory` alone. The expression is then gone.
@@ -297,7 +297,7 @@ impl ConstExpr {
         self.with(&[0xfd, 0x0c], &bytes_of(value))
     }
 
-    // The same with a code more that has no immediates.
+    // Returns the same with a code more that has no immediates.
     fn with_code(mut self, code: u8) -> Result<ConstExpr, EncodeError>
         ensures appended { IfOk result (λ e. e ≡ self ++ code ∷ []) }
         ensures memory_alone { IfErr result (λ e. e ≡ errors.Memory) }
@@ -372,7 +372,7 @@ impl ConstExpr {
         self.with_code(0x7e)
     }
 
-    /// The function that the expression begins with a reference to, if it does.
+    /// Returns the function that the expression begins with a reference to, if it does.
     #[tactic(auto, using(crate::proofs::FunctionFronts::function_fronts))]
     pub fn get_ref_func(&self) -> Option<u32>
         ensures found { IfSome result (BeginsWithFunction self.now) }

@@ -26,7 +26,7 @@ impl Encoding for SignedNumber {
     }
 }
 
-// A number to be written so, which takes ten bytes at most.
+// Returns a number to be written so, which takes ten bytes at most.
 pub(crate) fn signed(value: i64) -> SignedNumber
     ensures value { result.0 ≡ value }
     ensures short { length (signed_encoding value) ≤ 10 }
@@ -55,7 +55,7 @@ impl Encoding for Byte {
 #[derive(Clone, Copy)]
 pub(crate) struct Vector(pub(crate) [u8; 16]);
 
-// The bytes of a vector, the lowest first.
+// Returns the bytes of a vector, the lowest first.
 #[tactic(auto, unfolding(wasm_encoder_instructions::specs::Instructions::vector_bytes))]
 pub(crate) fn bytes_of(value: i128) -> Vector
     ensures { result.0 ≡ vector_bytes value }

@@ -15,7 +15,7 @@ impl InstructionSink {
     ghost use Rattle.std.specs.Borrow.{sem, LendsIfOk};
     ghost use Rattle.wasm_encoder_bodies.specs.contracts.instruction_sink.InstructionSink.{the_row};
 
-    // What `block` does.
+    // Does what `block` does.
     #[tactic(auto, unfolding(wasm_encoder_instructions::specs::Instructions::instruction_encoding))]
     fn push_block(&mut self, ty: BlockType) -> Result<(), EncodeError>
         ensures appended { IfOk result (λ _. Appends self.old self.new (operator_encoding (operators.Block (block_type ty)))) }
@@ -41,7 +41,7 @@ impl InstructionSink {
         }
     }
 
-    // What `loop_` does.
+    // Does what `loop_` does.
     #[tactic(auto, unfolding(wasm_encoder_instructions::specs::Instructions::instruction_encoding))]
     fn push_loop(&mut self, ty: BlockType) -> Result<(), EncodeError>
         ensures appended { IfOk result (λ _. Appends self.old self.new (operator_encoding (operators.Loop (block_type ty)))) }
@@ -67,7 +67,7 @@ impl InstructionSink {
         }
     }
 
-    // What `if_` does.
+    // Does what `if_` does.
     #[tactic(auto, unfolding(wasm_encoder_instructions::specs::Instructions::instruction_encoding))]
     fn push_if(&mut self, ty: BlockType) -> Result<(), EncodeError>
         ensures appended { IfOk result (λ _. Appends self.old self.new (operator_encoding (operators.If (block_type ty)))) }
@@ -93,7 +93,7 @@ impl InstructionSink {
         }
     }
 
-    // What `br` does.
+    // Does what `br` does.
     #[tactic(auto, unfolding(wasm_encoder_instructions::specs::Instructions::instruction_encoding))]
     fn push_br(&mut self, label: u32) -> Result<(), EncodeError>
         ensures appended { IfOk result (λ _. Appends self.old self.new (operator_encoding (operators.Br label))) }
@@ -119,7 +119,7 @@ impl InstructionSink {
         }
     }
 
-    // What `br_if` does.
+    // Does what `br_if` does.
     #[tactic(auto, unfolding(wasm_encoder_instructions::specs::Instructions::instruction_encoding))]
     fn push_br_if(&mut self, label: u32) -> Result<(), EncodeError>
         ensures appended { IfOk result (λ _. Appends self.old self.new (operator_encoding (operators.BrIf label))) }
@@ -145,7 +145,7 @@ impl InstructionSink {
         }
     }
 
-    // What `br_table` does.
+    // Does what `br_table` does.
     #[tactic(auto, unfolding(wasm_encoder_instructions::specs::Instructions::instruction_encoding))]
     fn push_br_table(&mut self, labels: &[u32], other: u32) -> Result<(), EncodeError>
         ensures appended { IfOk result (λ _. Appends self.old self.new (operator_encoding (operators.BrTable labels.now other))) }
@@ -175,7 +175,7 @@ impl InstructionSink {
         }
     }
 
-    // What `br_on_null` does.
+    // Does what `br_on_null` does.
     #[tactic(auto, unfolding(wasm_encoder_instructions::specs::Instructions::instruction_encoding))]
     fn push_br_on_null(&mut self, label: u32) -> Result<(), EncodeError>
         ensures appended { IfOk result (λ _. Appends self.old self.new (operator_encoding (operators.BrOnNull label))) }
@@ -201,7 +201,7 @@ impl InstructionSink {
         }
     }
 
-    // What `br_on_non_null` does.
+    // Does what `br_on_non_null` does.
     #[tactic(auto, unfolding(wasm_encoder_instructions::specs::Instructions::instruction_encoding))]
     fn push_br_on_non_null(&mut self, label: u32) -> Result<(), EncodeError>
         ensures appended { IfOk result (λ _. Appends self.old self.new (operator_encoding (operators.BrOnNonNull label))) }

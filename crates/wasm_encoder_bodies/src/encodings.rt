@@ -10,7 +10,7 @@ use wasm_core_write::encode_error::EncodeError;
 use wasm_core_write::encoding::Encoding;
 use wasm_encoder_instructions::alone::encode_alone;
 
-// The encodings of all items, one after the other.
+// Returns the encodings of all items, one after the other.
 #[tactic(auto, using(crate::proofs::EncodingLists::steps))]
 pub(crate) fn encodings_of<T: Encoding + Drop, I: ExactSizeIterator<Item = T> + Drop>(
     alloc: Global,

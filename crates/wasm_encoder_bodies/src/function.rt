@@ -37,7 +37,7 @@ impl Function {
     ghost use Rattle.wasm_encoder_bodies.specs.contracts.function.Function.{the_row};
     ghost use Rattle.wasm_encoder_bodies.specs.contracts.instruction_sink.InstructionSink.{the_row as sink_row};
 
-    /// A body with these runs of locals, each so many of a type, and without instructions.
+    /// Creates a body with these runs of locals, each so many of a type, and without instructions.
     ///
     /// # Errors
     /// `TooLong` where there are more than 4,294,967,295 runs, of which none is taken then, and else `Memory`.
@@ -66,7 +66,7 @@ impl Function {
         })
     }
 
-    /// A body with locals of these types, in runs of equal neighbours, and without instructions.
+    /// Creates a body with locals of these types, in runs of equal neighbours, and without instructions.
     ///
     /// # Errors
     /// `TooLong` where there are more than 4,294,967,295 runs or one of them is longer, which is told at the first type that is one too many, and
@@ -94,7 +94,7 @@ impl Function {
         })
     }
 
-    /// The sink that the body's instructions are appended to, by calls of their names. What is appended to it is the body's.
+    /// Returns the sink that the body's instructions are appended to, by calls of their names. What is appended to it is the body's.
     pub fn instructions(&mut self) -> &mut InstructionSink
         ensures* lent { sem 𝓛 (Lends the_row sink_row self.entry result (λ sink. sink.bytes)) }
         ensures shown { result.now.bytes ≡ self.old }
@@ -161,21 +161,21 @@ impl Function {
         }
     }
 
-    /// The number of bytes, without the size that stands before them where the body is written.
+    /// Returns the number of bytes, without the size that stands before them where the body is written.
     pub fn byte_len(&self) -> usize
         ensures { result ≡ length self.now }
     {
         self.sink.as_bytes().len()
     }
 
-    /// The bytes, without the size.
+    /// Returns the bytes, without the size.
     pub fn into_raw_body(self) -> Vec<u8>
         ensures { result.items ≡ self }
     {
         self.sink.into_bytes()
     }
 
-    /// The bytes, without the size.
+    /// Returns the bytes, without the size.
     pub fn as_raw_body(&self) -> &[u8]
         ensures { result.now ≡ self.now }
     {

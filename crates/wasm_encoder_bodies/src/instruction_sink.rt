@@ -29,7 +29,7 @@ impl InstructionSink {
     ghost use Rattle.std.specs.Borrow.{sem, LendsIfOk};
     ghost use Rattle.wasm_encoder_bodies.specs.contracts.instruction_sink.InstructionSink.{the_row};
 
-    /// No instructions.
+    /// Creates a sink without instructions.
     pub fn new(alloc: Global) -> InstructionSink
         ensures { result.bytes ≡ [] }
     {
@@ -38,7 +38,7 @@ impl InstructionSink {
         }
     }
 
-    /// These bytes, to which instructions are appended.
+    /// Creates a sink of these bytes, to which instructions are appended.
     pub fn from_bytes(bytes: Vec<u8>) -> InstructionSink
         ensures bytes { result.bytes ≡ bytes.items }
         ensures capacity { result.capacity ≡ vec_capacity bytes }
@@ -46,14 +46,14 @@ impl InstructionSink {
         InstructionSink { bytes }
     }
 
-    /// The bytes.
+    /// Returns the bytes.
     pub fn as_bytes(&self) -> &[u8]
         ensures { result.now ≡ self.now.bytes }
     {
         &self.bytes
     }
 
-    /// The bytes.
+    /// Returns the bytes.
     pub fn into_bytes(self) -> Vec<u8>
         ensures { result.items ≡ self.bytes }
     {

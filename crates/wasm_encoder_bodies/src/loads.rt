@@ -14,7 +14,7 @@ impl InstructionSink {
     ghost use Rattle.std.specs.Borrow.{sem, LendsIfOk};
     ghost use Rattle.wasm_encoder_bodies.specs.contracts.instruction_sink.InstructionSink.{the_row};
 
-    // What `i32_load` does.
+    // Does what `i32_load` does.
     #[tactic(auto, unfolding(wasm_encoder_instructions::specs::Instructions::instruction_encoding))]
     fn push_i32_load(&mut self, memarg: MemArg) -> Result<(), EncodeError>
         ensures appended { IfOk result (λ _. Appends self.old self.new (operator_encoding (loaded 0x28 memarg))) }
@@ -40,7 +40,7 @@ impl InstructionSink {
         }
     }
 
-    // What `i64_load` does.
+    // Does what `i64_load` does.
     #[tactic(auto, unfolding(wasm_encoder_instructions::specs::Instructions::instruction_encoding))]
     fn push_i64_load(&mut self, memarg: MemArg) -> Result<(), EncodeError>
         ensures appended { IfOk result (λ _. Appends self.old self.new (operator_encoding (loaded 0x29 memarg))) }
@@ -66,7 +66,7 @@ impl InstructionSink {
         }
     }
 
-    // What `f32_load` does.
+    // Does what `f32_load` does.
     #[tactic(auto, unfolding(wasm_encoder_instructions::specs::Instructions::instruction_encoding))]
     fn push_f32_load(&mut self, memarg: MemArg) -> Result<(), EncodeError>
         ensures appended { IfOk result (λ _. Appends self.old self.new (operator_encoding (loaded 0x2a memarg))) }
@@ -92,7 +92,7 @@ impl InstructionSink {
         }
     }
 
-    // What `f64_load` does.
+    // Does what `f64_load` does.
     #[tactic(auto, unfolding(wasm_encoder_instructions::specs::Instructions::instruction_encoding))]
     fn push_f64_load(&mut self, memarg: MemArg) -> Result<(), EncodeError>
         ensures appended { IfOk result (λ _. Appends self.old self.new (operator_encoding (loaded 0x2b memarg))) }
@@ -118,7 +118,7 @@ impl InstructionSink {
         }
     }
 
-    // What `i32_load8_s` does.
+    // Does what `i32_load8_s` does.
     #[tactic(auto, unfolding(wasm_encoder_instructions::specs::Instructions::instruction_encoding))]
     fn push_i32_load8_s(&mut self, memarg: MemArg) -> Result<(), EncodeError>
         ensures appended { IfOk result (λ _. Appends self.old self.new (operator_encoding (loaded 0x2c memarg))) }
@@ -144,7 +144,7 @@ impl InstructionSink {
         }
     }
 
-    // What `i32_load8_u` does.
+    // Does what `i32_load8_u` does.
     #[tactic(auto, unfolding(wasm_encoder_instructions::specs::Instructions::instruction_encoding))]
     fn push_i32_load8_u(&mut self, memarg: MemArg) -> Result<(), EncodeError>
         ensures appended { IfOk result (λ _. Appends self.old self.new (operator_encoding (loaded 0x2d memarg))) }
@@ -170,7 +170,7 @@ impl InstructionSink {
         }
     }
 
-    // What `i32_load16_s` does.
+    // Does what `i32_load16_s` does.
     #[tactic(auto, unfolding(wasm_encoder_instructions::specs::Instructions::instruction_encoding))]
     fn push_i32_load16_s(&mut self, memarg: MemArg) -> Result<(), EncodeError>
         ensures appended { IfOk result (λ _. Appends self.old self.new (operator_encoding (loaded 0x2e memarg))) }
@@ -196,7 +196,7 @@ impl InstructionSink {
         }
     }
 
-    // What `i32_load16_u` does.
+    // Does what `i32_load16_u` does.
     #[tactic(auto, unfolding(wasm_encoder_instructions::specs::Instructions::instruction_encoding))]
     fn push_i32_load16_u(&mut self, memarg: MemArg) -> Result<(), EncodeError>
         ensures appended { IfOk result (λ _. Appends self.old self.new (operator_encoding (loaded 0x2f memarg))) }
@@ -222,7 +222,7 @@ impl InstructionSink {
         }
     }
 
-    // What `i64_load8_s` does.
+    // Does what `i64_load8_s` does.
     #[tactic(auto, unfolding(wasm_encoder_instructions::specs::Instructions::instruction_encoding))]
     fn push_i64_load8_s(&mut self, memarg: MemArg) -> Result<(), EncodeError>
         ensures appended { IfOk result (λ _. Appends self.old self.new (operator_encoding (loaded 0x30 memarg))) }
@@ -248,7 +248,7 @@ impl InstructionSink {
         }
     }
 
-    // What `i64_load8_u` does.
+    // Does what `i64_load8_u` does.
     #[tactic(auto, unfolding(wasm_encoder_instructions::specs::Instructions::instruction_encoding))]
     fn push_i64_load8_u(&mut self, memarg: MemArg) -> Result<(), EncodeError>
         ensures appended { IfOk result (λ _. Appends self.old self.new (operator_encoding (loaded 0x31 memarg))) }
@@ -274,7 +274,7 @@ impl InstructionSink {
         }
     }
 
-    // What `i64_load16_s` does.
+    // Does what `i64_load16_s` does.
     #[tactic(auto, unfolding(wasm_encoder_instructions::specs::Instructions::instruction_encoding))]
     fn push_i64_load16_s(&mut self, memarg: MemArg) -> Result<(), EncodeError>
         ensures appended { IfOk result (λ _. Appends self.old self.new (operator_encoding (loaded 0x32 memarg))) }
@@ -300,7 +300,7 @@ impl InstructionSink {
         }
     }
 
-    // What `i64_load16_u` does.
+    // Does what `i64_load16_u` does.
     #[tactic(auto, unfolding(wasm_encoder_instructions::specs::Instructions::instruction_encoding))]
     fn push_i64_load16_u(&mut self, memarg: MemArg) -> Result<(), EncodeError>
         ensures appended { IfOk result (λ _. Appends self.old self.new (operator_encoding (loaded 0x33 memarg))) }
@@ -326,7 +326,7 @@ impl InstructionSink {
         }
     }
 
-    // What `i64_load32_s` does.
+    // Does what `i64_load32_s` does.
     #[tactic(auto, unfolding(wasm_encoder_instructions::specs::Instructions::instruction_encoding))]
     fn push_i64_load32_s(&mut self, memarg: MemArg) -> Result<(), EncodeError>
         ensures appended { IfOk result (λ _. Appends self.old self.new (operator_encoding (loaded 0x34 memarg))) }
@@ -352,7 +352,7 @@ impl InstructionSink {
         }
     }
 
-    // What `i64_load32_u` does.
+    // Does what `i64_load32_u` does.
     #[tactic(auto, unfolding(wasm_encoder_instructions::specs::Instructions::instruction_encoding))]
     fn push_i64_load32_u(&mut self, memarg: MemArg) -> Result<(), EncodeError>
         ensures appended { IfOk result (λ _. Appends self.old self.new (operator_encoding (loaded 0x35 memarg))) }

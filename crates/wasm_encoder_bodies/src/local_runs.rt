@@ -19,7 +19,7 @@ pub(crate) struct LocalRun {
     pub(crate) ty: ValType,
 }
 
-// The count of the last run, if that is of this type.
+// Returns the count of the last run, if that is of this type.
 #[tactic(auto, using(crate::proofs::LastRuns::last_steps))]
 fn last_count(runs: &[LocalRun], ty: &ValType) -> Option<u32>
     ensures found { IfSome result (λ n. (0 < length runs.now) × (map pair_of runs.now ≡ map pair_of (take (length runs.now - 1) runs.now) ++ (n, ty.now) ∷ [])) }
@@ -53,7 +53,7 @@ pub(crate) fn push_type(runs: &mut Vec<LocalRun>, ty: ValType) -> Result<(), Enc
     Ok(())
 }
 
-// The bytes of locals: the number of runs, and the runs.
+// Returns the bytes of locals: the number of runs, and the runs.
 #[tactic(auto, using(crate::proofs::LocalLists::written_steps))]
 pub(crate) fn write_runs(alloc: Global, runs: &[LocalRun]) -> Result<Vec<u8>, EncodeError>
     requires { length runs.now < 2 ^ 32 }
@@ -81,7 +81,7 @@ fn write_run(run: &LocalRun, bytes: &mut Vec<u8>) -> Result<(), EncodeError>
     Ok(())
 }
 
-// The number of bytes of a type, of which there are a few.
+// Returns the number of bytes of a type, of which there are a few.
 #[tactic(auto, unfolding(wasm_core_write::specs::CoreEncodings::val_type_encoding, wasm_spec::specs::TypeEncodings::val_encoding, wasm_spec::specs::TypeEncodings::ref_encoding, wasm_spec::specs::TypeEncodings::heap_encoding))]
 fn type_len(ty: &ValType) -> usize
     ensures exact { result ≡ length (val_type_encoding ty.now) }

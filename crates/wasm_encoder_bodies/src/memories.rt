@@ -13,7 +13,7 @@ impl InstructionSink {
     ghost use Rattle.std.specs.Borrow.{sem, LendsIfOk};
     ghost use Rattle.wasm_encoder_bodies.specs.contracts.instruction_sink.InstructionSink.{the_row};
 
-    // What `memory_size` does.
+    // Does what `memory_size` does.
     #[tactic(auto, unfolding(wasm_encoder_instructions::specs::Instructions::instruction_encoding))]
     fn push_memory_size(&mut self, memory: u32) -> Result<(), EncodeError>
         ensures appended { IfOk result (λ _. Appends self.old self.new (operator_encoding (operators.MemorySize memory))) }
@@ -39,7 +39,7 @@ impl InstructionSink {
         }
     }
 
-    // What `memory_grow` does.
+    // Does what `memory_grow` does.
     #[tactic(auto, unfolding(wasm_encoder_instructions::specs::Instructions::instruction_encoding))]
     fn push_memory_grow(&mut self, memory: u32) -> Result<(), EncodeError>
         ensures appended { IfOk result (λ _. Appends self.old self.new (operator_encoding (operators.MemoryGrow memory))) }
@@ -65,7 +65,7 @@ impl InstructionSink {
         }
     }
 
-    // What `memory_init` does.
+    // Does what `memory_init` does.
     #[tactic(auto, unfolding(wasm_encoder_instructions::specs::Instructions::instruction_encoding))]
     fn push_memory_init(&mut self, mem: u32, data_index: u32) -> Result<(), EncodeError>
         ensures appended { IfOk result (λ _. Appends self.old self.new (operator_encoding (operators.MemoryInit data_index mem))) }
@@ -95,7 +95,7 @@ impl InstructionSink {
         }
     }
 
-    // What `data_drop` does.
+    // Does what `data_drop` does.
     #[tactic(auto, unfolding(wasm_encoder_instructions::specs::Instructions::instruction_encoding))]
     fn push_data_drop(&mut self, segment: u32) -> Result<(), EncodeError>
         ensures appended { IfOk result (λ _. Appends self.old self.new (operator_encoding (operators.DataDrop segment))) }
@@ -121,7 +121,7 @@ impl InstructionSink {
         }
     }
 
-    // What `memory_copy` does.
+    // Does what `memory_copy` does.
     #[tactic(auto, unfolding(wasm_encoder_instructions::specs::Instructions::instruction_encoding))]
     fn push_memory_copy(&mut self, dst_mem: u32, src_mem: u32) -> Result<(), EncodeError>
         ensures appended { IfOk result (λ _. Appends self.old self.new (operator_encoding (operators.MemoryCopy dst_mem src_mem))) }
@@ -151,7 +151,7 @@ impl InstructionSink {
         }
     }
 
-    // What `memory_fill` does.
+    // Does what `memory_fill` does.
     #[tactic(auto, unfolding(wasm_encoder_instructions::specs::Instructions::instruction_encoding))]
     fn push_memory_fill(&mut self, memory: u32) -> Result<(), EncodeError>
         ensures appended { IfOk result (λ _. Appends self.old self.new (operator_encoding (operators.MemoryFill memory))) }

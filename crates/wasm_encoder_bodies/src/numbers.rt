@@ -15,7 +15,7 @@ impl InstructionSink {
     ghost use Rattle.std.specs.Borrow.{sem, LendsIfOk};
     ghost use Rattle.wasm_encoder_bodies.specs.contracts.instruction_sink.InstructionSink.{the_row};
 
-    // What `i32_const` does.
+    // Does what `i32_const` does.
     #[tactic(auto, unfolding(wasm_encoder_instructions::specs::Instructions::instruction_encoding))]
     fn push_i32_const(&mut self, value: i32) -> Result<(), EncodeError>
         ensures appended { IfOk result (λ _. Appends self.old self.new (operator_encoding (operators.I32Const value))) }
@@ -41,7 +41,7 @@ impl InstructionSink {
         }
     }
 
-    // What `i64_const` does.
+    // Does what `i64_const` does.
     #[tactic(auto, unfolding(wasm_encoder_instructions::specs::Instructions::instruction_encoding))]
     fn push_i64_const(&mut self, value: i64) -> Result<(), EncodeError>
         ensures appended { IfOk result (λ _. Appends self.old self.new (operator_encoding (operators.I64Const value))) }
@@ -67,7 +67,7 @@ impl InstructionSink {
         }
     }
 
-    // What `f32_const` does.
+    // Does what `f32_const` does.
     #[tactic(auto, unfolding(wasm_encoder_instructions::specs::Instructions::instruction_encoding))]
     fn push_f32_const(&mut self, value: Ieee32) -> Result<(), EncodeError>
         ensures appended { IfOk result (λ _. Appends self.old self.new (operator_encoding (operators.F32Const value.bits))) }
@@ -93,7 +93,7 @@ impl InstructionSink {
         }
     }
 
-    // What `f64_const` does.
+    // Does what `f64_const` does.
     #[tactic(auto, unfolding(wasm_encoder_instructions::specs::Instructions::instruction_encoding))]
     fn push_f64_const(&mut self, value: Ieee64) -> Result<(), EncodeError>
         ensures appended { IfOk result (λ _. Appends self.old self.new (operator_encoding (operators.F64Const value.bits))) }
@@ -119,7 +119,7 @@ impl InstructionSink {
         }
     }
 
-    // What `v128_const` does.
+    // Does what `v128_const` does.
     #[tactic(auto, unfolding(wasm_encoder_instructions::specs::Instructions::instruction_encoding))]
     fn push_v128_const(&mut self, bits: i128) -> Result<(), EncodeError>
         ensures appended { IfOk result (λ _. Appends self.old self.new (operator_encoding (operators.V128Const (vector_bytes bits)))) }

@@ -16,7 +16,7 @@ impl InstructionSink {
     ghost use Rattle.std.specs.Borrow.{sem, LendsIfOk};
     ghost use Rattle.wasm_encoder_bodies.specs.contracts.instruction_sink.InstructionSink.{the_row};
 
-    // What `typed_select` does.
+    // Does what `typed_select` does.
     #[tactic(auto, unfolding(wasm_encoder_instructions::specs::Instructions::instruction_encoding))]
     fn push_typed_select(&mut self, ty: ValType) -> Result<(), EncodeError>
         ensures appended { IfOk result (λ _. Appends self.old self.new (operator_encoding (operators.SelectTyped (val_type ty ∷ [])))) }
@@ -42,7 +42,7 @@ impl InstructionSink {
         }
     }
 
-    // What `typed_select_multi` does.
+    // Does what `typed_select_multi` does.
     #[tactic(auto, unfolding(wasm_encoder_instructions::specs::Instructions::instruction_encoding))]
     fn push_typed_select_multi(&mut self, types: &[ValType]) -> Result<(), EncodeError>
         ensures appended { IfOk result (λ _. Appends self.old self.new (operator_encoding (operators.SelectTyped (map val_type types.now)))) }
@@ -71,7 +71,7 @@ impl InstructionSink {
         }
     }
 
-    // What `ref_null` does.
+    // Does what `ref_null` does.
     #[tactic(auto, unfolding(wasm_encoder_instructions::specs::Instructions::instruction_encoding))]
     fn push_ref_null(&mut self, ty: HeapType) -> Result<(), EncodeError>
         ensures appended { IfOk result (λ _. Appends self.old self.new (operator_encoding (operators.RefNull (heap_type ty)))) }
@@ -97,7 +97,7 @@ impl InstructionSink {
         }
     }
 
-    // What `ref_func` does.
+    // Does what `ref_func` does.
     #[tactic(auto, unfolding(wasm_encoder_instructions::specs::Instructions::instruction_encoding))]
     fn push_ref_func(&mut self, function: u32) -> Result<(), EncodeError>
         ensures appended { IfOk result (λ _. Appends self.old self.new (operator_encoding (operators.RefFunc function))) }

@@ -14,7 +14,7 @@ impl InstructionSink {
     ghost use Rattle.std.specs.Borrow.{sem, LendsIfOk};
     ghost use Rattle.wasm_encoder_bodies.specs.contracts.instruction_sink.InstructionSink.{the_row};
 
-    // What `i32_store` does.
+    // Does what `i32_store` does.
     #[tactic(auto, unfolding(wasm_encoder_instructions::specs::Instructions::instruction_encoding))]
     fn push_i32_store(&mut self, memarg: MemArg) -> Result<(), EncodeError>
         ensures appended { IfOk result (λ _. Appends self.old self.new (operator_encoding (stored 0x36 memarg))) }
@@ -40,7 +40,7 @@ impl InstructionSink {
         }
     }
 
-    // What `i64_store` does.
+    // Does what `i64_store` does.
     #[tactic(auto, unfolding(wasm_encoder_instructions::specs::Instructions::instruction_encoding))]
     fn push_i64_store(&mut self, memarg: MemArg) -> Result<(), EncodeError>
         ensures appended { IfOk result (λ _. Appends self.old self.new (operator_encoding (stored 0x37 memarg))) }
@@ -66,7 +66,7 @@ impl InstructionSink {
         }
     }
 
-    // What `f32_store` does.
+    // Does what `f32_store` does.
     #[tactic(auto, unfolding(wasm_encoder_instructions::specs::Instructions::instruction_encoding))]
     fn push_f32_store(&mut self, memarg: MemArg) -> Result<(), EncodeError>
         ensures appended { IfOk result (λ _. Appends self.old self.new (operator_encoding (stored 0x38 memarg))) }
@@ -92,7 +92,7 @@ impl InstructionSink {
         }
     }
 
-    // What `f64_store` does.
+    // Does what `f64_store` does.
     #[tactic(auto, unfolding(wasm_encoder_instructions::specs::Instructions::instruction_encoding))]
     fn push_f64_store(&mut self, memarg: MemArg) -> Result<(), EncodeError>
         ensures appended { IfOk result (λ _. Appends self.old self.new (operator_encoding (stored 0x39 memarg))) }
@@ -118,7 +118,7 @@ impl InstructionSink {
         }
     }
 
-    // What `i32_store8` does.
+    // Does what `i32_store8` does.
     #[tactic(auto, unfolding(wasm_encoder_instructions::specs::Instructions::instruction_encoding))]
     fn push_i32_store8(&mut self, memarg: MemArg) -> Result<(), EncodeError>
         ensures appended { IfOk result (λ _. Appends self.old self.new (operator_encoding (stored 0x3a memarg))) }
@@ -144,7 +144,7 @@ impl InstructionSink {
         }
     }
 
-    // What `i32_store16` does.
+    // Does what `i32_store16` does.
     #[tactic(auto, unfolding(wasm_encoder_instructions::specs::Instructions::instruction_encoding))]
     fn push_i32_store16(&mut self, memarg: MemArg) -> Result<(), EncodeError>
         ensures appended { IfOk result (λ _. Appends self.old self.new (operator_encoding (stored 0x3b memarg))) }
@@ -170,7 +170,7 @@ impl InstructionSink {
         }
     }
 
-    // What `i64_store8` does.
+    // Does what `i64_store8` does.
     #[tactic(auto, unfolding(wasm_encoder_instructions::specs::Instructions::instruction_encoding))]
     fn push_i64_store8(&mut self, memarg: MemArg) -> Result<(), EncodeError>
         ensures appended { IfOk result (λ _. Appends self.old self.new (operator_encoding (stored 0x3c memarg))) }
@@ -196,7 +196,7 @@ impl InstructionSink {
         }
     }
 
-    // What `i64_store16` does.
+    // Does what `i64_store16` does.
     #[tactic(auto, unfolding(wasm_encoder_instructions::specs::Instructions::instruction_encoding))]
     fn push_i64_store16(&mut self, memarg: MemArg) -> Result<(), EncodeError>
         ensures appended { IfOk result (λ _. Appends self.old self.new (operator_encoding (stored 0x3d memarg))) }
@@ -222,7 +222,7 @@ impl InstructionSink {
         }
     }
 
-    // What `i64_store32` does.
+    // Does what `i64_store32` does.
     #[tactic(auto, unfolding(wasm_encoder_instructions::specs::Instructions::instruction_encoding))]
     fn push_i64_store32(&mut self, memarg: MemArg) -> Result<(), EncodeError>
         ensures appended { IfOk result (λ _. Appends self.old self.new (operator_encoding (stored 0x3e memarg))) }

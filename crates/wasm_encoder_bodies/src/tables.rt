@@ -13,7 +13,7 @@ impl InstructionSink {
     ghost use Rattle.std.specs.Borrow.{sem, LendsIfOk};
     ghost use Rattle.wasm_encoder_bodies.specs.contracts.instruction_sink.InstructionSink.{the_row};
 
-    // What `table_init` does.
+    // Does what `table_init` does.
     #[tactic(auto, unfolding(wasm_encoder_instructions::specs::Instructions::instruction_encoding))]
     fn push_table_init(&mut self, table: u32, elem_index: u32) -> Result<(), EncodeError>
         ensures appended { IfOk result (λ _. Appends self.old self.new (operator_encoding (operators.TableInit elem_index table))) }
@@ -43,7 +43,7 @@ impl InstructionSink {
         }
     }
 
-    // What `elem_drop` does.
+    // Does what `elem_drop` does.
     #[tactic(auto, unfolding(wasm_encoder_instructions::specs::Instructions::instruction_encoding))]
     fn push_elem_drop(&mut self, segment: u32) -> Result<(), EncodeError>
         ensures appended { IfOk result (λ _. Appends self.old self.new (operator_encoding (operators.ElemDrop segment))) }
@@ -69,7 +69,7 @@ impl InstructionSink {
         }
     }
 
-    // What `table_fill` does.
+    // Does what `table_fill` does.
     #[tactic(auto, unfolding(wasm_encoder_instructions::specs::Instructions::instruction_encoding))]
     fn push_table_fill(&mut self, table: u32) -> Result<(), EncodeError>
         ensures appended { IfOk result (λ _. Appends self.old self.new (operator_encoding (operators.TableFill table))) }
@@ -95,7 +95,7 @@ impl InstructionSink {
         }
     }
 
-    // What `table_set` does.
+    // Does what `table_set` does.
     #[tactic(auto, unfolding(wasm_encoder_instructions::specs::Instructions::instruction_encoding))]
     fn push_table_set(&mut self, table: u32) -> Result<(), EncodeError>
         ensures appended { IfOk result (λ _. Appends self.old self.new (operator_encoding (operators.TableSet table))) }
@@ -121,7 +121,7 @@ impl InstructionSink {
         }
     }
 
-    // What `table_get` does.
+    // Does what `table_get` does.
     #[tactic(auto, unfolding(wasm_encoder_instructions::specs::Instructions::instruction_encoding))]
     fn push_table_get(&mut self, table: u32) -> Result<(), EncodeError>
         ensures appended { IfOk result (λ _. Appends self.old self.new (operator_encoding (operators.TableGet table))) }
@@ -147,7 +147,7 @@ impl InstructionSink {
         }
     }
 
-    // What `table_grow` does.
+    // Does what `table_grow` does.
     #[tactic(auto, unfolding(wasm_encoder_instructions::specs::Instructions::instruction_encoding))]
     fn push_table_grow(&mut self, table: u32) -> Result<(), EncodeError>
         ensures appended { IfOk result (λ _. Appends self.old self.new (operator_encoding (operators.TableGrow table))) }
@@ -173,7 +173,7 @@ impl InstructionSink {
         }
     }
 
-    // What `table_size` does.
+    // Does what `table_size` does.
     #[tactic(auto, unfolding(wasm_encoder_instructions::specs::Instructions::instruction_encoding))]
     fn push_table_size(&mut self, table: u32) -> Result<(), EncodeError>
         ensures appended { IfOk result (λ _. Appends self.old self.new (operator_encoding (operators.TableSize table))) }
@@ -199,7 +199,7 @@ impl InstructionSink {
         }
     }
 
-    // What `table_copy` does.
+    // Does what `table_copy` does.
     #[tactic(auto, unfolding(wasm_encoder_instructions::specs::Instructions::instruction_encoding))]
     fn push_table_copy(&mut self, dst_table: u32, src_table: u32) -> Result<(), EncodeError>
         ensures appended { IfOk result (λ _. Appends self.old self.new (operator_encoding (operators.TableCopy dst_table src_table))) }

@@ -13,7 +13,7 @@ impl InstructionSink {
     ghost use Rattle.std.specs.Borrow.{sem, LendsIfOk};
     ghost use Rattle.wasm_encoder_bodies.specs.contracts.instruction_sink.InstructionSink.{the_row};
 
-    // What `local_get` does.
+    // Does what `local_get` does.
     #[tactic(auto, unfolding(wasm_encoder_instructions::specs::Instructions::instruction_encoding))]
     fn push_local_get(&mut self, local: u32) -> Result<(), EncodeError>
         ensures appended { IfOk result (λ _. Appends self.old self.new (operator_encoding (operators.LocalGet local))) }
@@ -39,7 +39,7 @@ impl InstructionSink {
         }
     }
 
-    // What `local_set` does.
+    // Does what `local_set` does.
     #[tactic(auto, unfolding(wasm_encoder_instructions::specs::Instructions::instruction_encoding))]
     fn push_local_set(&mut self, local: u32) -> Result<(), EncodeError>
         ensures appended { IfOk result (λ _. Appends self.old self.new (operator_encoding (operators.LocalSet local))) }
@@ -65,7 +65,7 @@ impl InstructionSink {
         }
     }
 
-    // What `local_tee` does.
+    // Does what `local_tee` does.
     #[tactic(auto, unfolding(wasm_encoder_instructions::specs::Instructions::instruction_encoding))]
     fn push_local_tee(&mut self, local: u32) -> Result<(), EncodeError>
         ensures appended { IfOk result (λ _. Appends self.old self.new (operator_encoding (operators.LocalTee local))) }
@@ -91,7 +91,7 @@ impl InstructionSink {
         }
     }
 
-    // What `global_get` does.
+    // Does what `global_get` does.
     #[tactic(auto, unfolding(wasm_encoder_instructions::specs::Instructions::instruction_encoding))]
     fn push_global_get(&mut self, global: u32) -> Result<(), EncodeError>
         ensures appended { IfOk result (λ _. Appends self.old self.new (operator_encoding (operators.GlobalGet global))) }
@@ -117,7 +117,7 @@ impl InstructionSink {
         }
     }
 
-    // What `global_set` does.
+    // Does what `global_set` does.
     #[tactic(auto, unfolding(wasm_encoder_instructions::specs::Instructions::instruction_encoding))]
     fn push_global_set(&mut self, global: u32) -> Result<(), EncodeError>
         ensures appended { IfOk result (λ _. Appends self.old self.new (operator_encoding (operators.GlobalSet global))) }

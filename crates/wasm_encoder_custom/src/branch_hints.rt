@@ -97,7 +97,7 @@ impl Model for BranchHints {
 }
 
 impl BranchHints {
-    /// A section without hints.
+    /// Creates a section without hints.
     pub fn new(alloc: Global) -> BranchHints
         ensures { result ≡ [] }
     {
@@ -107,7 +107,7 @@ impl BranchHints {
         }
     }
 
-    /// The number of functions that have hints: of the accepted adding calls.
+    /// Returns the number of functions that have hints: of the accepted adding calls.
     pub fn len(&self) -> u32
         ensures { result ≡ length self.now }
     {
@@ -143,7 +143,7 @@ impl BranchHints {
         })
     }
 
-    /// The number of bytes of the item of the accepted adding call of this number, counted from 0. It takes no
+    /// Returns the number of bytes of the item of the accepted adding call of this number, counted from 0. It takes no
     /// memory. Where [`Encode::encode`] answers `TooLong`, the number says nothing.
     pub fn item_len(&self, i: u32) -> Option<u64>
         ensures { TellsItem function_hints_encoding self.now i result }

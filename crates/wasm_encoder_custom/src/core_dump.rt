@@ -29,7 +29,7 @@ pub(crate) struct DumpedName {
 }
 
 impl DumpedName {
-    // A copy of a name.
+    // Creates a copy of a name.
     pub(crate) fn new(alloc: Global, name: &str) -> Result<DumpedName, EncodeError>
         ensures copied { IfOk result (λ n. dumped_name n ≡ name.now) }
         ensures memory_alone { IfErr result (λ e. e ≡ EncodeError.Memory) }
@@ -74,7 +74,7 @@ impl Model for CoreDumpSection {
 }
 
 impl CoreDumpSection {
-    /// The section of the program of this name, which is copied.
+    /// Creates the section of the program of this name, which is copied.
     ///
     /// # Errors
     /// `Memory` alone.
@@ -139,7 +139,7 @@ impl CoreDumpModulesSection {
     ghost use Rattle.std.specs.Borrow.{sem, LendsIfOk};
     ghost use Rattle.wasm_encoder_custom.specs.contracts.core_dump.CoreDumpModulesSection.{the_row};
 
-    /// A section without modules.
+    /// Creates a section without modules.
     pub fn new(alloc: Global) -> CoreDumpModulesSection
         ensures { result ≡ [] }
     {
@@ -149,7 +149,7 @@ impl CoreDumpModulesSection {
         }
     }
 
-    /// The number of modules.
+    /// Returns the number of modules.
     pub fn len(&self) -> u32
         ensures { result ≡ length self.now }
     {
@@ -186,7 +186,7 @@ impl CoreDumpModulesSection {
         }
     }
 
-    /// A custom section of the same bytes, which it owns.
+    /// Returns a custom section of the same bytes, which it owns.
     ///
     /// # Errors
     /// `TooLong` exactly where the modules are past 4,294,967,295 bytes, and else `Memory`.
@@ -203,7 +203,7 @@ impl CoreDumpModulesSection {
         })
     }
 
-    /// The number of bytes of the item of the accepted adding call of this number, counted from 0. It takes no
+    /// Returns the number of bytes of the item of the accepted adding call of this number, counted from 0. It takes no
     /// memory. Where [`Encode::encode`] answers `TooLong`, the number says nothing.
     pub fn item_len(&self, i: u32) -> Option<u64>
         ensures { TellsItem dumped_name_encoding self.now i result }

@@ -75,7 +75,7 @@ impl CoreDumpInstancesSection {
     ghost use Rattle.std.specs.Borrow.{sem, LendsIfOk};
     ghost use Rattle.wasm_encoder_custom.specs.contracts.core_dump_instances.CoreDumpInstancesSection.{the_row};
 
-    /// A section without instances.
+    /// Creates a section without instances.
     pub fn new(alloc: Global) -> CoreDumpInstancesSection
         ensures { result ≡ [] }
     {
@@ -85,7 +85,7 @@ impl CoreDumpInstancesSection {
         }
     }
 
-    /// The number of instances.
+    /// Returns the number of instances.
     pub fn len(&self) -> u32
         ensures { result ≡ length self.now }
     {
@@ -137,7 +137,7 @@ impl CoreDumpInstancesSection {
         }
     }
 
-    /// A custom section of the same bytes, which it owns.
+    /// Returns a custom section of the same bytes, which it owns.
     ///
     /// # Errors
     /// `TooLong` exactly where the instances are past 4,294,967,295 bytes, and else `Memory`.
@@ -154,7 +154,7 @@ impl CoreDumpInstancesSection {
         })
     }
 
-    /// The number of bytes of the item of the accepted adding call of this number, counted from 0. It takes no
+    /// Returns the number of bytes of the item of the accepted adding call of this number, counted from 0. It takes no
     /// memory. Where [`Encode::encode`] answers `TooLong`, the number says nothing.
     pub fn item_len(&self, i: u32) -> Option<u64>
         ensures { TellsItem dumped_instance_encoding self.now i result }

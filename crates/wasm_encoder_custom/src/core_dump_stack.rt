@@ -167,7 +167,7 @@ impl CoreDumpStackSection {
     ghost use Rattle.std.specs.Borrow.{sem, LendsIfOk};
     ghost use Rattle.wasm_encoder_custom.specs.contracts.core_dump_stack.CoreDumpStackSection.{the_row};
 
-    /// The section of the thread of this name, which is copied, without frames.
+    /// Creates the section of the thread of this name, which is copied, without frames.
     ///
     /// # Errors
     /// `Memory` alone.
@@ -183,7 +183,7 @@ impl CoreDumpStackSection {
         })
     }
 
-    /// The number of frames.
+    /// Returns the number of frames.
     pub fn len(&self) -> u32
         ensures { result ≡ length self.now.frames }
     {
@@ -242,7 +242,7 @@ impl CoreDumpStackSection {
         }
     }
 
-    /// A custom section of the same bytes, which it owns.
+    /// Returns a custom section of the same bytes, which it owns.
     ///
     /// # Errors
     /// `TooLong` exactly where the name and the frames are past 4,294,967,295 bytes, and else `Memory`.
@@ -259,7 +259,7 @@ impl CoreDumpStackSection {
         })
     }
 
-    /// The number of bytes of the item of the accepted adding call of this number, counted from 0. It takes no
+    /// Returns the number of bytes of the item of the accepted adding call of this number, counted from 0. It takes no
     /// memory. Where [`Encode::encode`] answers `TooLong`, the number says nothing.
     pub fn item_len(&self, i: u32) -> Option<u64>
         ensures { TellsItem dumped_frame_encoding self.now.frames i result }

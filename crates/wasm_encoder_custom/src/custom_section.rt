@@ -24,7 +24,7 @@ pub struct CustomSection<'a> {
 }
 
 impl CustomSection<'_> {
-    // The number of bytes of its content.
+    // Returns the number of bytes of its content.
     #[tactic(auto, using(wasm_spec::proofs::ListEncodings::parts), unfolding(crate::specs::CustomSections::custom_content))]
     fn content_size(&self) -> Result<u64, EncodeError>
         ensures { Measures result (length (custom_content (cow_str_bytes self.now.name) (cow_slice_items self.now.«data»))) (length (custom_content (cow_str_bytes self.now.name) (cow_slice_items self.now.«data»))) }

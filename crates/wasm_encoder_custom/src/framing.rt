@@ -12,7 +12,7 @@ use wasm_core_write::encoding::{Encoding, add_sizes};
 use wasm_core_write::leb128::{len_u64, put_u64};
 use wasm_encoder_sections::names::{name_size, put_name};
 
-// The number of bytes of a section's name and of what it holds.
+// Returns the number of bytes of a section's name and of what it holds.
 #[tactic(auto, using(wasm_spec::proofs::ListEncodings::parts), unfolding(crate::specs::CustomSections::custom_content))]
 fn content_size<T: Encoding>(name: &str, content: &T) -> Result<u64, EncodeError>
     ensures { Measures result (length (custom_content name.now (T.encoding content.now))) (length (custom_content name.now (T.encoding content.now))) }
@@ -20,7 +20,7 @@ fn content_size<T: Encoding>(name: &str, content: &T) -> Result<u64, EncodeError
     add_sizes(name_size(name)?, content.size()?)
 }
 
-/// The number of bytes of a custom section after its id.
+/// Returns the number of bytes of a custom section after its id.
 ///
 /// # Errors
 /// `TooLong` alone, exactly where the name after its length and the content are together past 4,294,967,295 bytes.
@@ -54,7 +54,7 @@ pub fn encode_custom<T: Encoding>(
     Ok(())
 }
 
-/// What a value is written as, by itself.
+/// Returns what a value is written as, by itself.
 ///
 /// # Errors
 /// `TooLong` exactly where that is more than 4,294,967,295 bytes, and else `Memory`.
@@ -69,7 +69,7 @@ pub fn written<T: Encoding>(alloc: Global, value: &T) -> Result<Vec<u8>, EncodeE
     Ok(bytes)
 }
 
-/// What a name is written as.
+/// Returns what a name is written as.
 ///
 /// # Errors
 /// `TooLong` exactly where the name after its length is past 4,294,967,295 bytes, and else `Memory`.
@@ -83,7 +83,7 @@ pub fn written_name(alloc: Global, name: &str) -> Result<Vec<u8>, EncodeError>
     Ok(bytes)
 }
 
-/// The number of bytes of a value by itself.
+/// Returns the number of bytes of a value by itself.
 ///
 /// # Errors
 /// `TooLong` alone, exactly where the value is written as more than 4,294,967,295 bytes.

@@ -69,7 +69,7 @@ impl LinkingSection {
     ghost use Rattle.std.specs.Borrow.{sem, LendsIfOk};
     ghost use Rattle.wasm_encoder_custom.specs.contracts.linking.LinkingSection.{the_row};
 
-    /// A section without subsections.
+    /// Creates a section without subsections.
     pub fn new(alloc: Global) -> LinkingSection
         ensures { result ≡ [] }
     {

@@ -54,7 +54,7 @@ impl Model for NameMap {
 }
 
 impl NameMap {
-    /// A map without names.
+    /// Creates a map without names.
     pub fn new(alloc: Global) -> NameMap
         ensures { result ≡ [] }
     {
@@ -158,7 +158,7 @@ impl Model for IndirectNameMap {
 }
 
 impl IndirectNameMap {
-    /// A map without names.
+    /// Creates a map without names.
     pub fn new(alloc: Global) -> IndirectNameMap
         ensures { result ≡ [] }
     {

@@ -49,7 +49,7 @@ impl Model for NameSection {
 }
 
 impl NameSection {
-    /// A section without names.
+    /// Creates a section without names.
     pub fn new(alloc: Global) -> NameSection
         ensures { result ≡ [] }
     {
@@ -216,7 +216,7 @@ impl NameSection {
         self.parts.push_bytes(self.alloc, id, content)
     }
 
-    /// A custom section of the same bytes, which it owns.
+    /// Returns a custom section of the same bytes, which it owns.
     ///
     /// # Errors
     /// `TooLong` exactly where the subsections are past 4,294,967,295 bytes, and else `Memory`.

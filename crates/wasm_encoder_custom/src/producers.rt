@@ -59,7 +59,7 @@ impl ProducersField {
     ghost use Rattle.std.specs.Borrow.{sem, LendsIfOk};
     ghost use Rattle.wasm_encoder_custom.specs.contracts.producers.ProducersField.{the_row};
 
-    /// A field without tools.
+    /// Creates a field without tools.
     pub fn new(alloc: Global) -> ProducersField
         ensures { result ≡ [] }
     {
@@ -182,7 +182,7 @@ impl ProducersSection {
     ghost use Rattle.std.specs.Borrow.{sem, LendsIfOk};
     ghost use Rattle.wasm_encoder_custom.specs.contracts.producers.ProducersSection.{the_row};
 
-    /// A section without fields.
+    /// Creates a section without fields.
     pub fn new(alloc: Global) -> ProducersSection
         ensures { result ≡ [] }
     {

@@ -37,7 +37,7 @@ impl Encoding for Subsection {
     }
 }
 
-// The number of bytes of items, one after the other.
+// Returns the number of bytes of items, one after the other.
 #[tactic(auto, using(wasm_spec::proofs::ListEncodings::list_steps))]
 fn items_size<T: Encoding>(items: &[T]) -> Result<u64, EncodeError>
     ensures { Measures result (length (flat_map T.encoding items.now)) (length (flat_map T.encoding items.now)) }
@@ -61,7 +61,7 @@ fn put_items<T: Encoding>(items: &[T], sink: &mut Vec<u8>)
     }
 }
 
-/// The number of bytes of a part that holds what a value is written as.
+/// Returns the number of bytes of a part that holds what a value is written as.
 ///
 /// # Errors
 /// `TooLong` alone, exactly where the value is written as more than 4,294,967,295 bytes.
@@ -112,7 +112,7 @@ impl Model for Subsections {
 }
 
 impl Subsections {
-    /// No parts.
+    /// Creates a list without parts.
     pub fn new(alloc: Global) -> Subsections
         ensures { result ≡ [] }
     {

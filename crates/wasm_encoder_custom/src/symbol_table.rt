@@ -48,7 +48,7 @@ impl Encoding for DataSymbolDefinition {
     }
 }
 
-// The number of bytes of what may be left out.
+// Returns the number of bytes of what may be left out.
 #[tactic(auto, unfolding(crate::specs::Linking::encoding_if_given))]
 fn optional_size<T: Encoding>(value: &Option<T>) -> Result<u64, EncodeError>
     ensures { Measures result (length (encoding_if_given T.encoding value.now)) (length (encoding_if_given T.encoding value.now)) }
@@ -80,7 +80,7 @@ struct IndexedSymbol {
 }
 
 impl IndexedSymbol {
-    // The symbol with a copy of its name.
+    // Creates the symbol with a copy of its name.
     fn new(
         alloc: Global,
         flags: u32,
@@ -260,7 +260,7 @@ impl SymbolTable {
     /// A symbol that the linked module keeps, whether it is used or not.
     pub const WASM_SYM_NO_STRIP: u32 = 128;
 
-    /// A table without symbols.
+    /// Creates a table without symbols.
     pub fn new(alloc: Global) -> SymbolTable
         ensures { result ≡ [] }
     {

@@ -43,7 +43,7 @@ impl CodeSection {
     ghost use Rattle.std.specs.Borrow.{sem, LendsIfOk};
     ghost use Rattle.wasm_encoder_expression_sections.specs.contracts.code_section.CodeSection.{the_row};
 
-    /// A section without bodies.
+    /// Creates a section without bodies.
     pub fn new(alloc: Global) -> CodeSection
         ensures { result ≡ [] }
     {
@@ -53,7 +53,7 @@ impl CodeSection {
         }
     }
 
-    /// The number of bodies.
+    /// Returns the number of bodies.
     pub fn len(&self) -> u32
         ensures { result ≡ length self.now }
     {
@@ -67,7 +67,7 @@ impl CodeSection {
         self.bodies.is_empty()
     }
 
-    /// The number of bytes of the bodies, each with its size, without the number of bodies. Where [`Encode::encode`]
+    /// Returns the number of bytes of the bodies, each with its size, without the number of bodies. Where [`Encode::encode`]
     /// answers `TooLong`, the number says nothing.
     #[tactic(auto, using(wasm_spec::proofs::ListEncodings::list_length))]
     pub fn byte_len(&self) -> usize
@@ -137,7 +137,7 @@ impl CodeSection {
         }
     }
 
-    /// The number of bytes of the body of the accepted adding call of this number, counted from 0, with its size. It takes
+    /// Returns the number of bytes of the body of the accepted adding call of this number, counted from 0, with its size. It takes
     /// no memory. Where [`Encode::encode`] answers `TooLong`, the number says nothing.
     pub fn item_len(&self, i: u32) -> Option<u64>
         ensures { TellsItem framed_encoding self.now i result }

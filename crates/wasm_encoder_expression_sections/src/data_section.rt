@@ -43,7 +43,7 @@ impl Model for KeptData {
     ghost view = { λ d. data_bytes d.0 };
 }
 
-// The number of bytes of the form of an active segment, and of its memory.
+// Returns the number of bytes of the form of an active segment, and of its memory.
 #[tactic(auto, using(wasm_spec::proofs::UnsignedEncodings::at_most_five), unfolding(crate::specs::ItemEncodings::memory_encoding))]
 fn memory_size(memory_index: u32) -> u64
     ensures exact { result ≡ length (memory_encoding memory_index) }
@@ -157,7 +157,7 @@ impl DataSection {
     ghost use Rattle.std.specs.Borrow.{sem, LendsIfOk};
     ghost use Rattle.wasm_encoder_expression_sections.specs.contracts.data_section.DataSection.{the_row};
 
-    /// A section without segments.
+    /// Creates a section without segments.
     pub fn new(alloc: Global) -> DataSection
         ensures { result ≡ [] }
     {
@@ -167,7 +167,7 @@ impl DataSection {
         }
     }
 
-    /// The number of segments.
+    /// Returns the number of segments.
     pub fn len(&self) -> u32
         ensures { result ≡ length self.now }
     {
@@ -312,7 +312,7 @@ impl DataSection {
         }
     }
 
-    /// The number of bytes of the item of the accepted adding call of this number, counted from 0. It takes no
+    /// Returns the number of bytes of the item of the accepted adding call of this number, counted from 0. It takes no
     /// memory. Where [`Encode::encode`] answers `TooLong`, the number says nothing.
     pub fn item_len(&self, i: u32) -> Option<u64>
         ensures { TellsItem (λ item. item) self.now i result }

@@ -81,7 +81,7 @@ impl ElementSection {
     ghost use Rattle.std.specs.Borrow.{sem, LendsIfOk};
     ghost use Rattle.wasm_encoder_expression_sections.specs.contracts.element_section.ElementSection.{the_row};
 
-    /// A section without segments.
+    /// Creates a section without segments.
     pub fn new(alloc: Global) -> ElementSection
         ensures { result ≡ [] }
     {
@@ -91,7 +91,7 @@ impl ElementSection {
         }
     }
 
-    /// The number of segments.
+    /// Returns the number of segments.
     pub fn len(&self) -> u32
         ensures { result ≡ length self.now }
     {
@@ -268,7 +268,7 @@ impl ElementSection {
         }
     }
 
-    /// The number of bytes of the item of the accepted adding call of this number, counted from 0. It takes no
+    /// Returns the number of bytes of the item of the accepted adding call of this number, counted from 0. It takes no
     /// memory. Where [`Encode::encode`] answers `TooLong`, the number says nothing.
     pub fn item_len(&self, i: u32) -> Option<u64>
         ensures { TellsItem (λ item. item) self.now i result }

@@ -85,7 +85,7 @@ impl GlobalSection {
     ghost use Rattle.std.specs.Borrow.{sem, LendsIfOk};
     ghost use Rattle.wasm_encoder_expression_sections.specs.contracts.global_section.GlobalSection.{the_row};
 
-    /// A section without globals.
+    /// Creates a section without globals.
     pub fn new(alloc: Global) -> GlobalSection
         ensures { result ≡ [] }
     {
@@ -95,7 +95,7 @@ impl GlobalSection {
         }
     }
 
-    /// The number of globals.
+    /// Returns the number of globals.
     pub fn len(&self) -> u32
         ensures { result ≡ length self.now }
     {
@@ -173,7 +173,7 @@ impl GlobalSection {
         }
     }
 
-    /// The number of bytes of the item of the accepted adding call of this number, counted from 0. It takes no
+    /// Returns the number of bytes of the item of the accepted adding call of this number, counted from 0. It takes no
     /// memory. Where [`Encode::encode`] answers `TooLong`, the number says nothing.
     pub fn item_len(&self, i: u32) -> Option<u64>
         ensures { TellsItem (λ item. item) self.now i result }

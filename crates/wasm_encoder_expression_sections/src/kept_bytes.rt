@@ -33,7 +33,7 @@ impl Model for RawBytes {
 }
 
 impl RawBytes {
-    /// A copy of these bytes.
+    /// Creates a copy of these bytes.
     ///
     /// # Errors
     /// `Memory` alone.
@@ -73,7 +73,7 @@ impl Model for CountedBytes {
 }
 
 impl CountedBytes {
-    /// A copy of these bytes.
+    /// Creates a copy of these bytes.
     ///
     /// # Errors
     /// `Memory` alone.

@@ -27,7 +27,7 @@ pub enum KeptElements {
 const FUNCTIONS: u8 = 0x00;
 
 impl KeptElements {
-    // The code of a segment, to which those of expressions add four.
+    // Returns the code of a segment, to which those of expressions add four.
     fn form(&self, form: u8) -> u8
         requires { form ≤ 3 }
         ensures { result ≡ form_code form (kept_elements self.now) }
@@ -58,7 +58,7 @@ impl KeptElements {
         }
     }
 
-    // The same after the kind or the type.
+    // Returns the same after the kind or the type.
     #[tactic(auto, using(wasm_spec::proofs::ListEncodings::parts), unfolding(wasm_core_write::specs::CoreEncodings::ref_type_encoding))]
     fn typed_size(&self) -> Result<u64, EncodeError>
         ensures { let len = length (typed_encoding (kept_elements self.now)) in Measures result len len }
@@ -168,7 +168,7 @@ impl Encoding for KeptSegment {
     }
 }
 
-// The table that is written of an active segment.
+// Returns the table that is written of an active segment.
 fn table_of(table: Option<u32>, elements: &Elements<'_>) -> Option<u32>
     ensures { result ≡ written_table table (lent_elements elements.now) }
 {
@@ -227,7 +227,7 @@ fn copied_mode(segment: &ElementSegment<'_>) -> Result<KeptMode, EncodeError>
     }
 }
 
-/// A copy of a segment.
+/// Returns a copy of a segment.
 ///
 /// # Errors
 /// `Memory` alone.

@@ -86,7 +86,7 @@ impl TableSection {
     ghost use Rattle.std.specs.Borrow.{sem, LendsIfOk};
     ghost use Rattle.wasm_encoder_expression_sections.specs.contracts.table_section.TableSection.{the_row};
 
-    /// A section without tables.
+    /// Creates a section without tables.
     pub fn new(alloc: Global) -> TableSection
         ensures { result ≡ [] }
     {
@@ -95,7 +95,7 @@ impl TableSection {
         }
     }
 
-    /// The number of tables.
+    /// Returns the number of tables.
     pub fn len(&self) -> u32
         ensures { result ≡ length self.now }
     {
@@ -171,7 +171,7 @@ impl TableSection {
         }
     }
 
-    /// The number of bytes of the item of the accepted adding call of this number, counted from 0. It takes no
+    /// Returns the number of bytes of the item of the accepted adding call of this number, counted from 0. It takes no
     /// memory. Where [`Encode::encode`] answers `TooLong`, the number says nothing.
     pub fn item_len(&self, i: u32) -> Option<u64>
         ensures { TellsItem (λ item. item) self.now i result }

@@ -14,14 +14,14 @@ pub struct Ieee32 {
 }
 
 impl Ieee32 {
-    /// The number with these bits.
+    /// Creates the number with these bits.
     pub fn new(bits: u32) -> Ieee32
         ensures { result.bits ≡ bits }
     {
         Ieee32 { bits }
     }
 
-    /// The bits.
+    /// Returns the bits.
     pub fn bits(self) -> u32
         ensures { result ≡ self.bits }
     {
@@ -50,14 +50,14 @@ pub struct Ieee64 {
 }
 
 impl Ieee64 {
-    /// The number with these bits.
+    /// Creates the number with these bits.
     pub fn new(bits: u64) -> Ieee64
         ensures { result.bits ≡ bits }
     {
         Ieee64 { bits }
     }
 
-    /// The bits.
+    /// Returns the bits.
     pub fn bits(self) -> u64
         ensures { result ≡ self.bits }
     {

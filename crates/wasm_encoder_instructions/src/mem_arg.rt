@@ -22,7 +22,7 @@ impl MemArg {
     ghost use Rattle.std.specs.Prelude.{◌≡◌, ◌≤◌, ◌+◌, ◌++◌, length, vec_len, vec_capacity};
     ghost use Rattle.wasm_encoder_instructions.specs.OperatorEncodings.{alignment_encoding};
 
-    // The number of bytes of the exponent and the memory.
+    // Returns the number of bytes of the exponent and the memory.
     #[tactic(auto, using(wasm_spec::proofs::ListEncodings::parts), unfolding(crate::specs::OperatorEncodings::alignment_encoding))]
     fn place_len(&self) -> usize
         ensures bytes { result ≡ length (alignment_encoding self.now.align self.now.memory_index) }

@@ -12,7 +12,7 @@ use crate::immediates::Immediates;
 use crate::instruction::Instruction;
 use crate::scalars::scalar_code;
 
-// What an instruction begins with.
+// Returns what an instruction begins with.
 pub(crate) fn code_of(instruction: &Instruction<'_>) -> Code
     ensures { operator_code result ≡ code_of (operator instruction.now) }
 {
@@ -104,7 +104,7 @@ pub(crate) fn code_of(instruction: &Instruction<'_>) -> Code
     }
 }
 
-// What stands after its code.
+// Returns what stands after its code.
 #[tactic(auto, unfolding(crate::specs::Instructions::vector_bytes, crate::specs::WrittenImmediates::written_immediates))]
 pub(crate) fn immediates_of<'a>(instruction: &Instruction<'a>) -> Immediates<'a>
     ensures { written_immediates result ≡ immediates_encoding (operator instruction.now) }

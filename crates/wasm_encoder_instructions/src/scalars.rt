@@ -7,7 +7,7 @@ ghost use Rattle.wasm_encoder_instructions.specs.ScalarRows.{scalar_row};
 use crate::code::Code;
 use wasm_core_types::scalar_operator::ScalarOperator;
 
-// What this instruction is written as.
+// Returns what this instruction is written as.
 #[tactic(auto, unfolding(crate::specs::ScalarRows::row_of))]
 pub(crate) fn scalar_code(instruction: ScalarOperator) -> Code
     ensures { operator_code result ≡ (scalar_row instruction).code }

@@ -309,7 +309,7 @@ fn is_small(instruction: &Instruction<'_>)
     }
 }
 
-/// What is written of an instruction is the shortest encoding of its operator, and so reads as it.
+/// Proves that an instruction is written as the shortest encoding of its operator, and so reads as it.
 pub fn reads_back(instruction: &Instruction<'_>)
     ensures { (features : Features) → HasWholeImmediates features → IsAligned instruction.now → length (instruction_encoding instruction.now) < 2 ^ 32
         → IsShortest (IsOperator features) (instruction_encoding instruction.now) (operator instruction.now) }

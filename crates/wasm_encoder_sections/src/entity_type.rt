@@ -28,7 +28,7 @@ pub struct MemoryType {
 }
 
 impl MemoryType {
-    /// Which power of two a page's size is.
+    /// Returns which power of two a page's size is.
     pub fn page_size_log2(&self) -> u32
         ensures { result ≡ page_power self.now.page_size_log2 }
     {
@@ -38,7 +38,7 @@ impl MemoryType {
         }
     }
 
-    /// The size of a page in bytes.
+    /// Returns the size of a page in bytes.
     pub fn page_size(&self) -> u32
         requires { page_power self.now.page_size_log2 < 32 }
         ensures { result ≡ 2 ^ page_power self.now.page_size_log2 }
@@ -46,7 +46,7 @@ impl MemoryType {
         1 << self.page_size_log2()
     }
 
-    // As its limits.
+    // Returns this as its limits.
     fn limits(&self) -> Limits
         ensures { limits result ≡ memory_type self.now }
     {
@@ -88,7 +88,7 @@ pub struct TableType {
 }
 
 impl TableType {
-    /// The type of the indexes of its elements.
+    /// Returns the type of the indexes of its elements.
     pub fn index_type(&self) -> ValType
         ensures { result ≡ (if self.now.table64 then ValType.I64 else ValType.I32) }
     {
@@ -99,7 +99,7 @@ impl TableType {
         }
     }
 
-    // Its bounds.
+    // Returns its bounds.
     fn limits(&self) -> Limits
         ensures { limits result ≡ (table_type self.now).limits }
     {
@@ -200,7 +200,7 @@ pub enum ExportKind {
     Tag,
 }
 
-/// The byte of a kind.
+/// Returns the byte of a kind.
 pub fn kind_byte(kind: ExportKind) -> u8
     ensures { result ≡ kind_code (export_kind kind) }
 {
@@ -229,7 +229,7 @@ pub enum EntityType {
 }
 
 impl EntityType {
-    // The byte of its kind.
+    // Returns the byte of its kind.
     fn kind(&self) -> u8
         ensures { result ≡ kind_code (kind_of (entity_type self.now)) }
     {

@@ -67,7 +67,7 @@ impl ExportSection {
     ghost use Rattle.std.specs.Borrow.{sem, LendsIfOk};
     ghost use Rattle.wasm_encoder_sections.specs.contracts.export_section.ExportSection.{the_row};
 
-    /// A section without exports.
+    /// Creates a section without exports.
     pub fn new(alloc: Global) -> ExportSection
         ensures { result ≡ [] }
     {
@@ -77,7 +77,7 @@ impl ExportSection {
         }
     }
 
-    /// The number of exports.
+    /// Returns the number of exports.
     pub fn len(&self) -> u32
         ensures { result ≡ length self.now }
     {
@@ -127,7 +127,7 @@ impl ExportSection {
         }
     }
 
-    /// The number of bytes of the item of the accepted adding call of this number, counted from 0. It takes no
+    /// Returns the number of bytes of the item of the accepted adding call of this number, counted from 0. It takes no
     /// memory. Where [`Encode::encode`] answers `TooLong`, the number says nothing.
     pub fn item_len(&self, i: u32) -> Option<u64>
         ensures { TellsItem export_encoding self.now i result }

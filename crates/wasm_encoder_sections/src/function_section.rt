@@ -35,7 +35,7 @@ impl FunctionSection {
     ghost use Rattle.std.specs.Borrow.{sem, LendsIfOk};
     ghost use Rattle.wasm_encoder_sections.specs.contracts.function_section.FunctionSection.{the_row};
 
-    /// A section without functions.
+    /// Creates a section without functions.
     pub fn new(alloc: Global) -> FunctionSection
         ensures { result ≡ [] }
     {
@@ -44,7 +44,7 @@ impl FunctionSection {
         }
     }
 
-    /// The number of functions.
+    /// Returns the number of functions.
     pub fn len(&self) -> u32
         ensures { result ≡ length self.now }
     {
@@ -86,7 +86,7 @@ impl FunctionSection {
         }
     }
 
-    /// The number of bytes of the item of the accepted adding call of this number, counted from 0. It takes no
+    /// Returns the number of bytes of the item of the accepted adding call of this number, counted from 0. It takes no
     /// memory. Where [`Encode::encode`] answers `TooLong`, the number says nothing.
     pub fn item_len(&self, i: u32) -> Option<u64>
         ensures { TellsItem unsigned_encoding self.now i result }

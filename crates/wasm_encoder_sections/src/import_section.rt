@@ -45,7 +45,7 @@ impl ImportSection {
     ghost use Rattle.std.specs.Borrow.{sem, LendsIfOk};
     ghost use Rattle.wasm_encoder_sections.specs.contracts.import_section.ImportSection.{the_row};
 
-    /// A section without imports.
+    /// Creates a section without imports.
     pub fn new(alloc: Global) -> ImportSection
         ensures { result ≡ [] }
     {
@@ -55,7 +55,7 @@ impl ImportSection {
         }
     }
 
-    /// The number of entries: of the accepted adding calls.
+    /// Returns the number of entries: of the accepted adding calls.
     pub fn len(&self) -> u32
         ensures { result ≡ length self.now }
     {
@@ -105,7 +105,7 @@ impl ImportSection {
         }
     }
 
-    // What `import` does.
+    // Does what `import` does.
     fn push_import(
         &mut self,
         module_name: &str,
@@ -139,7 +139,7 @@ impl ImportSection {
         }
     }
 
-    // What `imports` does.
+    // Does what `imports` does.
     fn push_imports(&mut self, imports: Imports<'_>) -> Result<(), EncodeError>
         ensures added { IfOk result (λ _. self.new ≡ self.old ++ lent_entry imports.entry ∷ []) }
         ensures kept { IfErr result (λ _. self.new ≡ self.old) }
@@ -148,7 +148,7 @@ impl ImportSection {
         self.push(&imports)
     }
 
-    /// The number of bytes of the entry of the accepted adding call of this number, counted from 0. It takes no
+    /// Returns the number of bytes of the entry of the accepted adding call of this number, counted from 0. It takes no
     /// memory. Where [`Encode::encode`] answers `TooLong`, the number says nothing.
     pub fn item_len(&self, i: u32) -> Option<u64>
         ensures { TellsItem import_encoding self.now i result }

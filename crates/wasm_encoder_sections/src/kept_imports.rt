@@ -104,7 +104,7 @@ impl Encoding for KeptImports {
     }
 }
 
-/// A copy of imports.
+/// Returns a copy of imports.
 ///
 /// # Errors
 /// `Memory` alone.

@@ -32,7 +32,7 @@ impl<T: Encoding + Drop> Model for KeptList<T> {
 }
 
 impl<T: Encoding + Drop> KeptList<T> {
-    /// A list without items.
+    /// Creates a list without items.
     pub fn new(alloc: Global) -> KeptList<T>
         ensures { result ≡ [] }
     {
@@ -42,7 +42,7 @@ impl<T: Encoding + Drop> KeptList<T> {
         }
     }
 
-    /// The number of items.
+    /// Returns the number of items.
     pub fn len(&self) -> u32
         ensures { result ≡ length self.now }
     {
@@ -69,7 +69,7 @@ impl<T: Encoding + Drop> KeptList<T> {
         keep(&mut self.items, &mut self.size, item, with_item)
     }
 
-    /// Whether another item can be added.
+    /// Checks that another item can be added.
     ///
     /// # Errors
     /// `TooLong` alone, exactly where [`KeptList::push`] would answer it: where there are 4,294,967,295 items.
@@ -80,7 +80,7 @@ impl<T: Encoding + Drop> KeptList<T> {
         check_count(self.items.len())
     }
 
-    // The length of the items' encodings and of one after them.
+    // Returns the length of the items' encodings and of one after them.
     #[tactic(auto, using(wasm_spec::proofs::ListEncodings::sizes))]
     fn size_with(&self, item: &T) -> Result<u64, EncodeError>
         ensures { Measures result (length (flat_map T.encoding self.now ++ T.encoding item.now)) (length (flat_map T.encoding self.now ++ T.encoding item.now)) }
@@ -88,7 +88,7 @@ impl<T: Encoding + Drop> KeptList<T> {
         add_sizes(self.size?, item.size()?)
     }
 
-    /// The number of bytes of the item of this number, counted from 0, as the list writes it. It takes no memory. Where the
+    /// Returns the number of bytes of the item of this number, counted from 0, as the list writes it. It takes no memory. Where the
     /// list is too long to be written, the number says nothing.
     pub fn item_len(&self, i: u32) -> Option<u64>
         ensures { TellsItem T.encoding self.now i result }

@@ -28,7 +28,7 @@ pub struct Limits {
 }
 
 impl Limits {
-    // The byte that limits begin with.
+    // Returns the byte that limits begin with.
     fn flags(&self) -> u8
         ensures { result ≡ limits_flags (limits self.now) }
     {
@@ -44,7 +44,7 @@ impl Limits {
     }
 }
 
-// The number of bytes of a number that may be absent.
+// Returns the number of bytes of a number that may be absent.
 #[tactic(auto, unfolding(crate::specs::ItemEncodings::optional_encoding))]
 fn optional_size(number: Option<u64>) -> u64
     ensures bytes { result ≡ length (optional_encoding number) }
@@ -67,7 +67,7 @@ fn put_optional(number: Option<u64>, sink: &mut Vec<u8>)
     }
 }
 
-// The page's size as a number of 64 bits.
+// Returns the page's size as a number of 64 bits.
 fn wide(number: Option<u32>) -> Option<u64>
     ensures { result ≡ number }
 {

@@ -41,7 +41,7 @@ impl MemorySection {
     ghost use Rattle.std.specs.Borrow.{sem, LendsIfOk};
     ghost use Rattle.wasm_encoder_sections.specs.contracts.memory_section.MemorySection.{the_row};
 
-    /// A section without memories.
+    /// Creates a section without memories.
     pub fn new(alloc: Global) -> MemorySection
         ensures { result ≡ [] }
     {
@@ -50,7 +50,7 @@ impl MemorySection {
         }
     }
 
-    /// The number of memories.
+    /// Returns the number of memories.
     pub fn len(&self) -> u32
         ensures { result ≡ length self.now }
     {
@@ -93,7 +93,7 @@ impl MemorySection {
         }
     }
 
-    /// The number of bytes of the item of the accepted adding call of this number, counted from 0. It takes no
+    /// Returns the number of bytes of the item of the accepted adding call of this number, counted from 0. It takes no
     /// memory. Where [`Encode::encode`] answers `TooLong`, the number says nothing.
     pub fn item_len(&self, i: u32) -> Option<u64>
         ensures { TellsItem memory_type_encoding self.now i result }

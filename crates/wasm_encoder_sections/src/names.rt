@@ -10,7 +10,7 @@ use wasm_core_write::encode_error::EncodeError;
 use wasm_core_write::encoding::{Encoding, add_sizes, bytes_size, put_bytes};
 use wasm_core_write::leb128::{len_u64, put_u64};
 
-/// The number of bytes of a name after the number of its bytes.
+/// Returns the number of bytes of a name after the number of its bytes.
 ///
 /// # Errors
 /// `TooLong` alone, exactly where the name after its length is past 4,294,967,295 bytes.
@@ -40,7 +40,7 @@ pub struct Name {
 }
 
 impl Name {
-    /// A copy of a name.
+    /// Creates a copy of a name.
     ///
     /// # Errors
     /// `Memory` alone.

@@ -39,7 +39,7 @@ impl TagSection {
     ghost use Rattle.std.specs.Borrow.{sem, LendsIfOk};
     ghost use Rattle.wasm_encoder_sections.specs.contracts.tag_section.TagSection.{the_row};
 
-    /// A section without tags.
+    /// Creates a section without tags.
     pub fn new(alloc: Global) -> TagSection
         ensures { result ≡ [] }
     {
@@ -48,7 +48,7 @@ impl TagSection {
         }
     }
 
-    /// The number of tags.
+    /// Returns the number of tags.
     pub fn len(&self) -> u32
         ensures { result ≡ length self.now }
     {
@@ -91,7 +91,7 @@ impl TagSection {
         }
     }
 
-    /// The number of bytes of the item of the accepted adding call of this number, counted from 0. It takes no
+    /// Returns the number of bytes of the item of the accepted adding call of this number, counted from 0. It takes no
     /// memory. Where [`Encode::encode`] answers `TooLong`, the number says nothing.
     pub fn item_len(&self, i: u32) -> Option<u64>
         ensures { TellsItem tag_type_encoding self.now i result }

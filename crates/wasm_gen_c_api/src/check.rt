@@ -15,14 +15,14 @@ use wasmparser_validator::validator_id::ValidatorId;
 // The bit above all features.
 const FEATURES_END: u32 = 1 << 22;
 
-/// The features that are on where nothing else is said, each as a bit.
+/// Returns the features that are on where nothing else is said, each as a bit.
 pub fn default_features() -> u32
     ensures { result ≡ default_features }
 {
     WasmFeatures::default().bits()
 }
 
-// The features of these bits, if each is one.
+// Returns the features of these bits, if each is one.
 fn features_of(bits: u32) -> Option<WasmFeatures>
     ensures known { bits < 2 ^ 22 → IsSomeAnd result (λ features. feature_set features ≡ bits) }
     ensures unknown { 2 ^ 22 ≤ bits → result ≡ None }

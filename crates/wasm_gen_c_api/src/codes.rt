@@ -26,7 +26,7 @@ const LIMIT: u32 = 3;
 // Memory ran out.
 const MEMORY: u32 = 9;
 
-/// The code of a refusal by the validator, from 1 to 9.
+/// Returns the code of a refusal by the validator, from 1 to 9.
 pub fn kind_code(kind: ErrorKind) -> u32
     ensures { result ≡ kind_code kind }
 {
@@ -43,7 +43,7 @@ pub fn kind_code(kind: ErrorKind) -> u32
     }
 }
 
-/// The code of a refusal by the generator: 3, 9, or from 13 to 17.
+/// Returns the code of a refusal by the generator: 3, 9, or from 13 to 17.
 pub fn refusal_code(error: &GenerateError) -> u32
     ensures { result ≡ refusal_code error.now }
 {

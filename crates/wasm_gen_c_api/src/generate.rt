@@ -8,7 +8,7 @@ use crate::codes::{CONFIG_TEXT, SHORT_BUFFER, YES, refusal_code};
 use std::alloc::Global;
 use wasm_gen_sessions::smith::Config;
 
-/// The features under which what is generated is valid, each as a bit.
+/// Returns the features under which what is generated is valid, each as a bit.
 pub fn generated_features() -> u32
     ensures { result ≡ generated_features }
 {

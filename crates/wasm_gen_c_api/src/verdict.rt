@@ -35,7 +35,7 @@ pub struct Verdict {
     pub exports: u64,
 }
 
-/// A refusal with this code, at this place.
+/// Returns a refusal with this code, at this place.
 pub fn refused(kind: u32, offset: u64) -> Verdict
     ensures { result ≡ refused kind offset }
 {
@@ -53,7 +53,7 @@ pub fn refused(kind: u32, offset: u64) -> Verdict
     }
 }
 
-// A valid module that has these index spaces.
+// Returns a valid module that has these index spaces.
 fn valid(types: TypesRef<'_>) -> Verdict
     ensures { result ≡ valid (sizes_in (spaces types.entry)) }
 {

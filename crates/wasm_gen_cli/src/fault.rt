@@ -13,7 +13,7 @@ pub fn tell<R: Eprint>(rt: &R, e: RunError) -> u8
     status_of(&[Outcome::Fault])
 }
 
-/// The same of a file that can't be read, or whose run has a fault.
+/// Does the same for a file that can't be read, or whose run has a fault.
 pub fn tell_of_file<R: Eprint>(rt: &R, e: RunError, name: &str) -> u8
     ensures { result ≡ 2 }
 {
@@ -34,7 +34,7 @@ pub fn tell_refusal<R: Eprint>(rt: &R, e: GenerateError) -> u8
     status_of(&[Outcome::Refused])
 }
 
-/// The same of the words of the command line, by a whole text.
+/// Does the same for the words of the command line, by a whole text.
 pub fn tell_of_words<R: Eprint>(rt: &R, text: &str) -> u8
     ensures { result ≡ 2 }
 {

@@ -40,14 +40,14 @@ impl From<AllocError> for WordsError {
     }
 }
 
-// The file that the seed is in, where a module is to be made.
+// Returns the file that the seed is in, where a module is to be made.
 fn seed_name<'a>(matches: &ArgMatches<'a>) -> Option<&'a str>
     ensures { option_map (λ name. name.now) result ≡ seed_of (subcommand_rows_of matches.now) }
 {
     matches.subcommand_matches("generate")?.get_str("SEED")
 }
 
-// The files that are to be validated.
+// Returns the files that are to be validated.
 fn file_names<'a>(alloc: Global, matches: &ArgMatches<'a>) -> Result<Vec<&'a str>, AllocError>
     ensures { IfOk result (λ names. map (λ name. name.now) names.items ≡ files_of (subcommand_rows_of matches.now)) }
 {

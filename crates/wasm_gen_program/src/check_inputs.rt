@@ -22,7 +22,7 @@ pub trait Inputs {
     // The inputs opened and the faults reported so far, where an implementation states them.
     ghost events: { Self → Option (List Event) };
 
-    /// The input of this name, where it can be opened.
+    /// Returns the input of this name, where it can be opened.
     fn open(&mut self, name: &str) -> Option<Self::Input>
         ensures { AddsEvents (events self.old) (events self.new) (opened name.now (option_map Self.Input.seen result) ∷ []) };
 
@@ -31,7 +31,7 @@ pub trait Inputs {
         ensures { AddsEvents (events self.old) (events self.new) (told fault name.now ∷ []) };
 }
 
-/// The session that the program begins with: under the default features.
+/// Returns the session that the program begins with: under the default features.
 pub fn first_session(alloc: Global) -> Session
     ensures { result ≡ beginning }
 {
@@ -78,7 +78,7 @@ pub fn check_next<R: Source, W: Sink>(
     answer
 }
 
-// The same of an input that may not have been opened, which is a fault.
+// Does the same for an input that may not have been opened, which is a fault.
 fn check_opened<R: Source + Drop, W: Sink>(
     alloc: Global,
     session: &mut Session,

@@ -8,7 +8,7 @@ ghost use Rattle.wasm_gen_program.specs.CommandLine as line;
 use clap::{Arg, ArgAction, ArgMatches, Command, Error};
 use std::alloc::{AllocError, Global};
 
-// The files that `check` validates.
+// Returns the files that `check` validates.
 fn files<'a>(alloc: Global) -> Arg<'a>
     ensures rule { rule_of result ≡ line.files }
     ensures own { result.global ≡ false }
@@ -20,7 +20,7 @@ fn files<'a>(alloc: Global) -> Arg<'a>
         .action(ArgAction::Append)
 }
 
-// The file that `generate` takes its seed from.
+// Returns the file that `generate` takes its seed from.
 fn seed<'a>(alloc: Global) -> Arg<'a>
     ensures rule { rule_of result ≡ line.seed }
     ensures own { result.global ≡ false }
@@ -30,7 +30,7 @@ fn seed<'a>(alloc: Global) -> Arg<'a>
         .required(true)
 }
 
-// The command that validates modules.
+// Returns the command that validates modules.
 fn check<'a>(alloc: Global) -> Result<Command<'a>, AllocError>
     ensures { IfOk result (λ c. app_of c ≡ line.check) }
 {
@@ -39,7 +39,7 @@ fn check<'a>(alloc: Global) -> Result<Command<'a>, AllocError>
         .arg(files(alloc))
 }
 
-// The command that makes a module.
+// Returns the command that makes a module.
 fn generate<'a>(alloc: Global) -> Result<Command<'a>, AllocError>
     ensures { IfOk result (λ c. app_of c ≡ line.generate) }
 {
@@ -48,7 +48,7 @@ fn generate<'a>(alloc: Global) -> Result<Command<'a>, AllocError>
         .arg(seed(alloc))
 }
 
-// The program with one more command, where that could be made.
+// Returns the program with one more command, where that could be made.
 fn add<'a>(
     program: Command<'a>,
     command: Result<Command<'a>, AllocError>,
@@ -58,7 +58,7 @@ fn add<'a>(
     program.subcommand(command?)
 }
 
-// The program without its commands.
+// Returns the program without its commands.
 fn program<'a>(alloc: Global) -> Result<Command<'a>, AllocError>
     ensures { IfOk result (λ c. app_of c ≡ line.alone) }
 {
@@ -69,7 +69,7 @@ fn program<'a>(alloc: Global) -> Result<Command<'a>, AllocError>
         .bin_name("wasm_gen")
 }
 
-// The whole command line.
+// Returns the whole command line.
 fn command<'a>(alloc: Global) -> Result<Command<'a>, AllocError>
     ensures { IfOk result (λ c. app_of c ≡ line.program) }
 {

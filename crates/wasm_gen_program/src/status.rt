@@ -14,7 +14,7 @@ pub enum Outcome {
     Fault,
 }
 
-/// The program's status after these outcomes: 2 where one is a fault, else 1 where one is not a yes,
+/// Returns the program's status after these outcomes: 2 where one is a fault, else 1 where one is not a yes,
 /// else 0.
 pub fn status_of(outcomes: &[Outcome]) -> u8
     ensures fault { (result ≡ 2) ↔ Contains outcomes.now Outcome.Fault }

@@ -58,7 +58,7 @@ fn put_no(line: &mut Vec<u8>, e: Error)
     put_bytes(b"\n", line);
 }
 
-/// An empty line, with room for any verdict's.
+/// Returns an empty line, with room for any verdict's.
 ///
 /// # Errors
 /// Where memory runs out.

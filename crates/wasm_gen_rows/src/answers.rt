@@ -9,7 +9,7 @@ use wasm_gen::judge::{Error, ValidatorId};
 use wasm_gen::session::Session;
 use wasm_test_rows::fields::has_word;
 
-/// The session's refusal, or none where the answer is a yes.
+/// Returns the session's refusal, or none where the answer is a yes.
 pub fn refusal_of(session: &mut Session, bytes: &[u8]) -> Option<Error>
     ensures failed { session.old.has_failed ≡ true → IsSomeAnd result (λ e. e.kind ≡ Failed) }
     ensures stays { session.old.has_failed ≡ true → session.new ≡ session.old }

@@ -3,7 +3,7 @@
 use std::alloc::Global;
 use wasm_test_rows::values::bytes_of;
 
-// The digits that a word stands for: those of a frequent part, or its own.
+// Returns the digits that a word stands for: those of a frequent part, or its own.
 fn digits_of(word: &str) -> &str {
     match word {
         "header" => "0061736d01000000",
@@ -38,14 +38,14 @@ fn extend_with(alloc: Global, bytes: &mut Vec<u8>, field: &str) -> Option<()> {
     Some(())
 }
 
-/// The bytes of a field: hexadecimal digits, names of frequent parts, and digits so many times over, as `7f*1000`.
+/// Returns the bytes of a field: hexadecimal digits, names of frequent parts, and digits so many times over, as `7f*1000`.
 pub fn parts_of(alloc: Global, field: &str) -> Option<Vec<u8>> {
     let mut bytes = Vec::new(alloc);
     extend_with(alloc, &mut bytes, field)?;
     Some(bytes)
 }
 
-/// The header, and the parts after it.
+/// Returns the header, and the parts after it.
 pub fn module_of(alloc: Global, field: &str) -> Option<Vec<u8>> {
     let mut bytes = Vec::new(alloc);
     extend_with(alloc, &mut bytes, "header")?;

@@ -50,7 +50,7 @@ pub fn on_types<F: Fn(Global, TypesRef<'_>, &str) -> bool>(
     found
 }
 
-/// The same of a row that also depends on what the modules before have left.
+/// Does the same for a row that also depends on what the modules before have left.
 pub fn on_types_after<S, F: Fn(&mut S, TypesRef<'_>, &str) -> bool>(
     session: &mut Session,
     bytes: &[u8],

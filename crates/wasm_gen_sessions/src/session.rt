@@ -40,7 +40,7 @@ impl Model for Session {
 impl Session {
     ghost use Rattle.wasm_gen_sessions.specs.Session.{Checks};
 
-    /// A session with these features, whose first validator has this name.
+    /// Creates a session with these features, whose first validator has this name.
     pub fn new(alloc: Global, features: WasmFeatures, id: ValidatorId) -> Session
         ensures { result ≡ record { features = feature_set features; id = id; has_failed = false; held = [] } }
     {
@@ -88,14 +88,14 @@ impl Session {
         self.has_failed
     }
 
-    /// The name of the validator, as it was handed in last.
+    /// Returns the name of the validator, as it was handed in last.
     pub fn id(&self) -> ValidatorId
         ensures { result ≡ self.now.id }
     {
         self.validator.id()
     }
 
-    /// The features under which modules are validated.
+    /// Returns the features under which modules are validated.
     pub fn features(&self) -> WasmFeatures
         ensures { feature_set result ≡ self.now.features }
     {

@@ -1,3 +1,3 @@
-//! The generator's items that users of `generate` need.
+//! The generator's configuration, its source of values, and its errors.
 
 pub use wasm_smith::config::Config;

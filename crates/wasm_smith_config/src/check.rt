@@ -18,7 +18,7 @@ struct Field {
 }
 
 impl Config {
-    /// Whether modules are made from this configuration.
+    /// Checks that modules are made from this configuration.
     ///
     /// # Errors
     /// `BadConfig` alone, exactly where some field has a value that is not allowed. It names one such field; where there are several, any of them.
@@ -31,7 +31,7 @@ impl Config {
         none_is_bad(&self.not_made_yet())
     }
 
-    // Each minimum.
+    // Returns each minimum.
     fn minimums(&self) -> [Field; 11]
         ensures { map field_of result ≡ table.minimums self.now }
     {
@@ -58,7 +58,7 @@ impl Config {
         ]
     }
 
-    // Each maximum.
+    // Returns each maximum.
     fn maximums(&self) -> [Field; 15]
         ensures { map field_of result ≡ table.maximums self.now }
     {
@@ -91,7 +91,7 @@ impl Config {
         ]
     }
 
-    // What asks for something that isn't supported.
+    // Returns what asks for something that isn't supported.
     fn not_made_yet(&self) -> [Field; 4]
         ensures { map field_of result ≡ table.not_made_yet self.now }
     {

@@ -225,7 +225,7 @@ impl Config {
         }
     }
 
-    /// The features of the modules that are made.
+    /// Returns the features of the modules that are made.
     pub fn features(&self) -> WasmFeatures
         ensures flags { AreFeaturesOf self.now (feature_set result) }
         ensures no_further_bits { feature_set result < 2 ^ 22 }
@@ -239,7 +239,7 @@ impl Config {
         features
     }
 
-    // Each flag, and whether it is on.
+    // Returns each flag, and whether it is on.
     fn switches(&self) -> [(WasmFeatures, bool); 22]
         ensures { rows_of result ≡ switches self.now }
     {

@@ -87,7 +87,7 @@ fn set_maximum(config: &mut Config, name: &str, count: u32) -> bool
     true
 }
 
-// The same of counts that are wider than 32 bits.
+// Does the same for counts that are wider than 32 bits.
 fn set_size(config: &mut Config, name: &str, value: &str) -> Option<()>
     ensures others { with_maximums config.new config.old ≡ config.old }
     ensures unknown { IfNone result (config.new ≡ config.old) }
@@ -114,7 +114,7 @@ fn set(config: &mut Config, name: &str, value: &str) -> bool
     }
 }
 
-/// A configuration with these settings.
+/// Returns a configuration with these settings.
 pub fn config_of(mut config: Config, settings: &str) -> Option<Config> {
     for setting in settings.split_whitespace() {
         let (name, value) = setting.split_once('=')?;

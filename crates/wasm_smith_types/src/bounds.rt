@@ -17,7 +17,7 @@ pub const MAX_FIELDS: usize = 20;
 /// The most supertypes above a type, one above the other.
 pub const MAX_HEIGHT: u32 = 63;
 
-/// The most results of a function type with this configuration.
+/// Returns the most results of a function type with this configuration.
 pub fn max_results(config: &Config) -> usize
     ensures { result ≡ max_results config.now }
 {

@@ -3,7 +3,7 @@
 ghost use Rattle.std.specs.Prelude.{◌≡◌, ℕ, ◌+◌, ◌-◌, ◌<◌, ◌≤◌, ◌^◌, length};
 ghost use Rattle.wasm_smith_unstructured.specs.Draws.{big_number, little_number, width};
 
-/// How many bytes a number takes, 0 taking none: the least count of bytes that can have it.
+/// Returns how many bytes a number takes, 0 taking none: the least count of bytes that can have it.
 pub fn width(number: u64) -> usize
     ensures exact { result ≡ width number }
     ensures enough { number < 256 ^ result }
@@ -20,7 +20,7 @@ pub fn width(number: u64) -> usize
     count
 }
 
-/// The number of at most eight bytes, most significant first.
+/// Returns the number of at most eight bytes, most significant first.
 pub fn big_number(bytes: &[u8]) -> u64
     requires { length bytes.now ≤ 8 }
     ensures { result ≡ big_number bytes.now }
@@ -32,7 +32,7 @@ pub fn big_number(bytes: &[u8]) -> u64
     number
 }
 
-/// The number of at most eight bytes, least significant first.
+/// Returns the number of at most eight bytes, least significant first.
 pub fn little_number(bytes: &[u8]) -> u64
     requires { length bytes.now ≤ 8 }
     ensures exact { result ≡ little_number bytes.now }

@@ -10,7 +10,7 @@ pub use crate::names::UniqueNames;
 use crate::unstructured::Unstructured;
 use std::alloc::{AllocError, Global};
 
-// The longest text at the front of the bytes.
+// Returns the longest text at the front of the bytes.
 fn text_front(bytes: &[u8]) -> &str
     ensures { result.now ≡ take (utf8_valid_len bytes.now) bytes.now }
 {
@@ -20,7 +20,7 @@ fn text_front(bytes: &[u8]) -> &str
     }
 }
 
-/// An encoding of at most `max` bytes: the longest at the front of so many bytes as
+/// Returns an encoding of at most `max` bytes: the longest at the front of so many bytes as
 /// [`arbitrary_len`](Unstructured::arbitrary_len) draws, or of `max` where that is less.
 #[tactic(auto, unfolding(crate::specs::Draws::text_at, crate::specs::Draws::bytes_at))]
 pub fn limited_str<'a>(unstructured: &mut Unstructured<'a>, max: usize) -> &'a str

@@ -30,7 +30,7 @@ impl<'a> Model for Unstructured<'a> {
 }
 
 impl<'a> Unstructured<'a> {
-    /// A source of these bytes.
+    /// Creates a source of these bytes.
     pub fn new(bytes: &'a [u8]) -> Self
         ensures { result ≡ bytes.now }
     {
@@ -44,7 +44,7 @@ impl<'a> Unstructured<'a> {
         self.rest.is_empty()
     }
 
-    /// The low bit of a byte.
+    /// Returns the low bit of a byte.
     #[tactic(auto, unfolding(crate::specs::Draws::bool_at))]
     pub fn bool(&mut self) -> bool
         ensures exact { IsDrawn (λ b. b) result self.new (bool_at self.old) }
@@ -59,7 +59,7 @@ impl<'a> Unstructured<'a> {
         }
     }
 
-    // The number of so many bytes, least significant first.
+    // Returns the number of so many bytes, least significant first.
     #[tactic(auto, unfolding(crate::specs::Draws::little_at))]
     fn little(&mut self, len: usize) -> u64
         requires { len ≤ 8 }
@@ -72,7 +72,7 @@ impl<'a> Unstructured<'a> {
         little_number(front)
     }
 
-    /// A byte.
+    /// Returns a byte.
     pub fn u8(&mut self) -> u8
         ensures exact { IsDrawn (λ n. n) result self.new (little_at 1 self.old) }
         ensures taken { length self.new ≤ length self.old }
@@ -80,7 +80,7 @@ impl<'a> Unstructured<'a> {
         self.little(1) as u8
     }
 
-    /// The number of four bytes, least significant first.
+    /// Returns the number of four bytes, least significant first.
     pub fn u32(&mut self) -> u32
         ensures exact { IsDrawn (λ n. n) result self.new (little_at 4 self.old) }
         ensures taken { length self.new ≤ length self.old }
@@ -88,7 +88,7 @@ impl<'a> Unstructured<'a> {
         self.little(4) as u32
     }
 
-    /// The number of eight bytes, least significant first.
+    /// Returns the number of eight bytes, least significant first.
     pub fn u64(&mut self) -> u64
         ensures exact { IsDrawn (λ n. n) result self.new (little_at 8 self.old) }
         ensures taken { length self.new ≤ length self.old }
@@ -96,7 +96,7 @@ impl<'a> Unstructured<'a> {
         self.little(8)
     }
 
-    /// A number of the range, its ends included, whether or not the range was iterated. Its bytes are read most
+    /// Returns a number of the range, its ends included, whether or not the range was iterated. Its bytes are read most
     /// significant first.
     #[tactic(auto, unfolding(crate::specs::Draws::int_at))]
     pub fn int_in_range(&mut self, range: RangeInclusive<u64>) -> u64
@@ -119,7 +119,7 @@ impl<'a> Unstructured<'a> {
         }
     }
 
-    /// One of the things.
+    /// Returns one of the things.
     ///
     /// # Errors
     /// Exactly where there are none; then nothing is taken.
@@ -145,7 +145,7 @@ impl<'a> Unstructured<'a> {
         self.int_in_range(1..=denominator) <= numerator
     }
 
-    /// The next `len` bytes.
+    /// Returns the next `len` bytes.
     ///
     /// # Errors
     /// Exactly where fewer are left; then nothing is taken.
@@ -162,7 +162,7 @@ impl<'a> Unstructured<'a> {
         Ok(front)
     }
 
-    /// The bytes that [`bytes`](Unstructured::bytes) would take.
+    /// Returns the bytes that [`bytes`](Unstructured::bytes) would take.
     #[tactic(auto, unfolding(crate::specs::Draws::bytes_at))]
     pub fn peek_bytes(&self, len: usize) -> Option<&'a [u8]>
         ensures { option_map (λ bytes. bytes.now) result ≡ (bytes_at len self.now).0 }
@@ -170,7 +170,7 @@ impl<'a> Unstructured<'a> {
         self.rest.get(..len)
     }
 
-    /// A length, drawn from the last bytes: at most the number of bytes that are left then.
+    /// Returns a length, drawn from the last bytes: at most the number of bytes that are left then.
     #[tactic(auto, unfolding(crate::specs::Draws::len_at))]
     pub fn arbitrary_len(&mut self) -> usize
         ensures exact { IsDrawn (λ n. n) result self.new (len_at self.old) }

@@ -6,7 +6,7 @@ pub fn is_row(line: &str) -> bool {
     !row.is_empty() && !row.starts_with("//")
 }
 
-/// How many rows a table has.
+/// Returns how many rows a table has.
 pub fn count_of_rows(table: &str) -> usize {
     table.lines().filter(|line| is_row(line)).count()
 }
@@ -16,27 +16,27 @@ pub fn has_word(field: &str, word: &str) -> bool {
     field.split_whitespace().any(|it| it == word)
 }
 
-/// The first word, and what stands after it.
+/// Returns the first word, and what stands after it.
 pub fn word_and_rest(field: &str) -> (&str, &str) {
     let field = field.trim();
     let (word, rest) = field.split_once(' ').unwrap_or((field, ""));
     (word, rest.trim())
 }
 
-/// The fields of a row of two, without the spaces around them.
+/// Returns the fields of a row of two, without the spaces around them.
 pub fn two_fields(row: &str) -> Option<(&str, &str)> {
     let (first, second) = row.split_once('|')?;
     Some((first.trim(), second.trim()))
 }
 
-/// The fields of a row of three.
+/// Returns the fields of a row of three.
 pub fn three_fields(row: &str) -> Option<(&str, &str, &str)> {
     let (first, rest) = row.split_once('|')?;
     let (second, third) = two_fields(rest)?;
     Some((first.trim(), second, third))
 }
 
-/// The fields of a row of four.
+/// Returns the fields of a row of four.
 pub fn four_fields(row: &str) -> Option<(&str, &str, &str, &str)> {
     let (first, rest) = row.split_once('|')?;
     let (second, third, fourth) = three_fields(rest)?;

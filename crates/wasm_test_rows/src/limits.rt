@@ -5,7 +5,7 @@ ghost use Rattle.wasm_core_types.specs.Limits.{limit_name};
 
 use wasm_core_types::limits::Limit;
 
-/// The limit of this name.
+/// Returns the limit of this name.
 pub fn limit_of(name: &str) -> Option<Limit>
     ensures { IfSome result (λ l. limit_name l ≡ name.now) }
 {

@@ -2,7 +2,7 @@
 
 use std::alloc::Global;
 
-/// What stands in digits in place of what differs from number to number.
+/// A place among digits where the bytes differ from number to number.
 #[derive(Clone, Copy)]
 pub enum Mark {
     /// The number itself, in as few bytes as it takes.
@@ -11,7 +11,7 @@ pub enum Mark {
     Letters,
 }
 
-/// The mark in digits, if there is one.
+/// Returns the mark in digits, if there is one.
 pub fn mark_in(digits: &str) -> Option<Mark> {
     if digits.contains('#') {
         Some(Mark::Number)
@@ -36,7 +36,7 @@ fn push_number(bytes: &mut Vec<u8>, number: u32) -> Option<()> {
     None
 }
 
-// Letters which are types of references too, so that they make as many types as names.
+// These letters are types of references too, so that they make as many types as names.
 const LETTERS: &[u8] = b"ijklmnopqrst";
 
 // Appends six letters, in the order of the numbers.
@@ -49,7 +49,7 @@ fn push_letters(bytes: &mut Vec<u8>, number: u32) -> Option<()> {
     Some(())
 }
 
-// The bytes around each mark.
+// Returns the bytes around each mark.
 fn pieces_of(alloc: Global, digits: &str, mark: Mark) -> Option<Vec<Vec<u8>>> {
     let mut pieces = Vec::new(alloc);
     let mark = match mark {

@@ -3,7 +3,7 @@
 use crate::fields::is_row;
 use std::alloc::Global;
 
-/// Whether each row of a table holds, and there are so many. The error is the first row that doesn't hold, or that couldn't be read.
+/// Checks that each row of a table holds, and there are so many. The error is the first row that doesn't hold, or that couldn't be read.
 pub fn check_rows<F: Fn(Global, &str) -> Option<bool>>(
     alloc: Global,
     table: &'static str,

@@ -14,7 +14,7 @@ fn push_bytes(alloc: Global, bytes: &mut Vec<u8>, digits: &str, count: u32) -> O
     Some(())
 }
 
-/// Bytes in hexadecimal digits, two for each, with spaces between them or none. They may be followed by how often they stand there: `00*254`. A word with `#`
+/// Returns bytes in hexadecimal digits, two for each, with spaces between them or none. They may be followed by how often they stand there: `00*254`. A word with `#`
 /// or `@` stands there once for each number up to one, or of a range: `21#*50000`, `06@0200*5..9`. The number stands in place of `#`, and six letters that no
 /// other number has in place of `@`.
 pub fn bytes_of(alloc: Global, field: &str) -> Option<Vec<u8>> {
@@ -37,12 +37,12 @@ pub fn are_bytes(alloc: Global, field: &str, bytes: &[u8]) -> bool {
     }
 }
 
-/// A number in decimal digits.
+/// Returns a number in decimal digits.
 pub fn number_of(field: &str) -> Option<u64> {
     field.parse().ok()
 }
 
-/// The same with a sign.
+/// Does the same with a sign.
 pub fn signed_of(field: &str) -> Option<i64> {
     field.parse().ok()
 }
@@ -60,7 +60,7 @@ pub fn numbers_of(alloc: Global, field: &str) -> Option<Vec<u32>> {
     Some(numbers)
 }
 
-/// Whether something is so: `yes` or `no`.
+/// Checks that something is so: `yes` or `no`.
 pub fn bool_of(field: &str) -> Option<bool>
     ensures { IfSome result (λ is_so. field.now ≡ (if is_so then codes "yes" else codes "no")) }
 {

@@ -11,7 +11,7 @@ use wasm_core_types::types::{
 };
 use wasm_test_rows::fields::word_and_rest;
 
-// The abstract heap type of this name.
+// Returns the abstract heap type of this name.
 fn abstract_heap_type_of(word: &str) -> Option<AbstractHeapType>
     ensures { IfSome result (λ type. heap_word type ≡ word.now) }
 {
@@ -34,7 +34,7 @@ fn abstract_heap_type_of(word: &str) -> Option<AbstractHeapType>
     }
 }
 
-// The heap type of this name or index.
+// Returns the heap type of this name or index.
 fn heap_type_of(word: &str) -> Option<HeapType> {
     match word.parse() {
         Ok(index) => Some(HeapType::Concrete(index)),
@@ -42,7 +42,7 @@ fn heap_type_of(word: &str) -> Option<HeapType> {
     }
 }
 
-// The reference type of this word.
+// Returns the reference type of this word.
 fn ref_type_of(word: &str) -> Option<RefType> {
     let name = word.strip_suffix('?').unwrap_or(word);
     Some(RefType {
@@ -51,7 +51,7 @@ fn ref_type_of(word: &str) -> Option<RefType> {
     })
 }
 
-/// A value type.
+/// Returns a value type.
 pub fn val_type_of(word: &str) -> Option<ValType>
     ensures { IfSome result (λ type. IfSome (number_word type) (λ it. it ≡ word.now)) }
 {
@@ -65,7 +65,7 @@ pub fn val_type_of(word: &str) -> Option<ValType>
     }
 }
 
-/// Value types with spaces between them. A type may be followed by how often it stands there: `i64*20`.
+/// Returns value types with spaces between them. A type may be followed by how often it stands there: `i64*20`.
 pub fn val_types_of(alloc: Global, field: &str) -> Option<Vec<ValType>> {
     let mut types = Vec::new(alloc);
     for word in field.split_whitespace() {
@@ -78,14 +78,14 @@ pub fn val_types_of(alloc: Global, field: &str) -> Option<Vec<ValType>> {
     Some(types)
 }
 
-/// A function type: its parameters, `->`, and its results.
+/// Returns a function type: its parameters, `->`, and its results.
 pub fn func_type_of(alloc: Global, field: &str) -> Option<FuncType> {
     let (params, results) = field.split_once("->")?;
     let params = val_types_of(alloc, params)?;
     Some(FuncType::new(params, val_types_of(alloc, results)?))
 }
 
-// What a field holds.
+// Returns what a field holds.
 fn storage_type_of(word: &str) -> Option<StorageType>
     ensures { IfSome result (λ type. IfSome (packed_word type) (λ it. it ≡ word.now)) }
 {
@@ -96,7 +96,7 @@ fn storage_type_of(word: &str) -> Option<StorageType>
     }
 }
 
-// A field: what it holds, after `mut:` where it can be set.
+// Returns a field: what it holds, after `mut:` where it can be set.
 fn field_type_of(word: &str) -> Option<FieldType> {
     let name = word.strip_prefix("mut:").unwrap_or(word);
     Some(FieldType {
@@ -114,7 +114,7 @@ pub fn field_types_of(alloc: Global, field: &str) -> Option<Vec<FieldType>> {
     Some(types)
 }
 
-// A composite type: `func`, `struct`, `array` or `cont`, and what it is made of.
+// Returns a composite type: `func`, `struct`, `array` or `cont`, and what it is made of.
 fn composite_type_of(alloc: Global, field: &str) -> Option<CompositeType> {
     let (kind, rest) = word_and_rest(field);
     match kind {
@@ -126,7 +126,7 @@ fn composite_type_of(alloc: Global, field: &str) -> Option<CompositeType> {
     }
 }
 
-// The index after `sub`, where that stands in front, and what is left.
+// Returns the index after `sub`, where that stands in front, and what is left.
 fn supertype_of(field: &str) -> Option<(Option<u32>, &str)> {
     match word_and_rest(field) {
         ("sub", rest) => {
@@ -137,7 +137,7 @@ fn supertype_of(field: &str) -> Option<(Option<u32>, &str)> {
     }
 }
 
-/// A sub type: `open` where it isn't final, `sub` and an index where it has a supertype, and its composite type.
+/// Returns a sub type: `open` where it isn't final, `sub` and an index where it has a supertype, and its composite type.
 pub fn sub_type_of(alloc: Global, field: &str) -> Option<SubType> {
     let (is_final, rest) = match word_and_rest(field) {
         ("open", rest) => (false, rest),
@@ -151,7 +151,7 @@ pub fn sub_type_of(alloc: Global, field: &str) -> Option<SubType> {
     })
 }
 
-/// Sub types with commas between them, or none.
+/// Returns sub types with commas between them, or none.
 pub fn sub_types_of(alloc: Global, field: &str) -> Option<Vec<SubType>> {
     let mut types = Vec::new(alloc);
     if field.trim().is_empty() {

@@ -132,7 +132,7 @@ fn add_locals(
     Ok(())
 }
 
-// The run that an index falls in, if it isn't past all of them.
+// Returns the run that an index falls in, if it isn't past all of them.
 fn run_at(runs: &[Run], index: u32) -> Option<&Run>
     ensures { (start end : ℕ) → AreJoined start runs.now end → start ≤ index → option_map (λ run. local_seen run.now.local) result ≡ slice_get (locals_in runs.now) (index - start) }
 {
@@ -225,7 +225,7 @@ impl Locals {
         }
     }
 
-    /// A run of locals, which a body declares.
+    /// Defines a run of locals, which a body declares.
     ///
     /// # Errors
     /// `Limit` exactly where there would be more than 50,000 locals, and else `Memory`. The locals are then as they were.

@@ -37,41 +37,41 @@ pub trait WasmModuleResources {
     // All that can be asked.
     ghost resources: { Self → Resources };
 
-    /// The type of a table.
+    /// Returns the type of a table.
     fn table_at(&self, at: u32) -> Option<TableType>
         ensures { option_map table_type result ≡ slice_get (resources self.now).items.tables at };
 
-    /// The type of a memory.
+    /// Returns the type of a memory.
     fn memory_at(&self, at: u32) -> Option<MemoryType>
         ensures { option_map memory_type result ≡ slice_get (resources self.now).items.memories at };
 
-    /// The function type of a tag.
+    /// Returns the function type of a tag.
     fn tag_at(&self, at: u32) -> Option<&FuncType>
         ensures { option_map func_type (option_copied result) ≡ tag_at (resources self.now).items at };
 
-    /// The type of a global.
+    /// Returns the type of a global.
     fn global_at(&self, at: u32) -> Option<GlobalType>
         ensures { option_map global_type result ≡ slice_get (resources self.now).items.globals at };
 
-    /// The sub type of a type index.
+    /// Returns the sub type of a type index.
     fn sub_type_at(&self, type_index: u32) -> Option<&SubType>
         ensures whole { option_map sub_type (option_copied result) ≡ sub_type_at (resources self.now) type_index }
         ensures named { option_map (λ type. (sub_type type).composite_type) (option_copied result) ≡ option_map (λ named. named.composite) (slice_get (resources self.now).items.types type_index) };
 
-    /// The sub type of an id, which stands for one.
+    /// Returns the sub type of an id, which stands for one.
     fn sub_type_at_id(&self, id: CoreTypeId) -> &SubType
         requires { IsSome ((resources self.now).sub_type_of (Id id)) }
         ensures { Some (sub_type result.now) ≡ (resources self.now).sub_type_of (Id id) };
 
-    /// The id of a function's type.
+    /// Returns the id of a function's type.
     fn type_id_of_function(&self, func_index: u32) -> Option<CoreTypeId>
         ensures { option_map (λ id. Id id) result ≡ function_reference (resources self.now).items func_index };
 
-    /// The type index of a function.
+    /// Returns the type index of a function.
     fn type_index_of_function(&self, func_index: u32) -> Option<u32>
         ensures { result ≡ slice_get (resources self.now).items.functions func_index };
 
-    /// The type of an element segment.
+    /// Returns the type of an element segment.
     fn element_type_at(&self, at: u32) -> Option<RefType>
         ensures { result ≡ slice_get (resources self.now).items.elements at };
 
@@ -104,7 +104,7 @@ pub trait WasmModuleResources {
         }
     }
 
-    /// The same of a reference type, under any features.
+    /// Does the same for a reference type, under any features.
     ///
     /// # Errors
     /// `Invalid` at the offset, where there is no such type. The type is then unchanged.
@@ -118,7 +118,7 @@ pub trait WasmModuleResources {
         Ok(())
     }
 
-    /// The same of a heap type. An id that takes its place can be packed.
+    /// Does the same for a heap type. An id that takes its place can be packed.
     ///
     /// # Errors
     /// `Invalid` at the offset, where there is no such type. The type is then unchanged.
@@ -127,7 +127,7 @@ pub trait WasmModuleResources {
         ensures meant { BecomesMeant heaps.heap_type offset (heap_meant (resources self.now).items (heap_map number_of (heaps.heap_type heap_type.old))) heap_type.old heap_type.new result }
         ensures packs { IfOk result (λ _. heaps.Packs (heaps.heap_type heap_type.new)) };
 
-    /// The greatest type above a heap type, which has an id if it has an index.
+    /// Returns the greatest type above a heap type, which has an id if it has an index.
     fn top_type(&self, heap_type: &HeapType) -> HeapType
         ensures { heaps.heap_type result ≡ (resources self.now).top_of (heaps.heap_type heap_type.now) };
 

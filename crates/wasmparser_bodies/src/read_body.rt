@@ -32,7 +32,7 @@ fn read_step<B: BodyValidator>(reader: &mut OperatorsReader<'_>, body: &mut B) -
     }
 }
 
-// The operators of these bytes, which are the last ones of a reader's.
+// Returns the operators of these bytes, which are the last ones of a reader's.
 fn operators_of<'a>(reader: &OperatorsReader<'a>, rest: &'a [u8]) -> OperatorsReader<'a>
     requires { length rest.now ≤ length reader.now.input.rest }
     ensures rest { result.input.rest ≡ rest.now }

@@ -45,7 +45,7 @@ fn read_run<B: BodyValidator>(reader: &mut BinaryReader<'_>, body: &mut B) -> Re
 ///
 /// # Errors
 /// `Body` where a run doesn't read, or its type is not allowed or there is none, `Limit` where there are too many locals, `Memory` where memory runs out: each at a
-/// place of the reader's bytes or their end.
+/// runs out: each at a place of the reader's bytes or their end.
 pub fn read_locals<B: BodyValidator>(
     reader: &mut BinaryReader<'_>,
     body: &mut B,

@@ -81,7 +81,7 @@ fn start_of(frames: &[Frame], len: usize, count: usize) -> usize
     }
 }
 
-// The place that is kept at an index.
+// Returns the place that is kept at an index.
 #[inline(always)]
 fn place_of(places: &[usize], index: usize) -> usize
     ensures { result ≡ slice_index places.now index }
@@ -406,7 +406,7 @@ impl Stacks {
         self.operands.len() - base(&self.frames)
     }
 
-    /// The operand below so many others of the innermost list, which is unknown below the known ones of an open list.
+    /// Returns the operand below so many others of the innermost list, which is unknown below the known ones of an open list.
     pub fn peek(&self, depth: usize) -> Option<Operand>
         ensures { MatchOption result (popped (lowered depth self.now.now) ≡ None) (λ x. popped (lowered depth self.now.now) ≡ Some (operand x, lowered (depth + 1) self.now.now)) }
     {
@@ -435,7 +435,7 @@ impl Stacks {
         self.frames.len()
     }
 
-    /// The open block at a depth, the innermost one at 0.
+    /// Returns the open block at a depth, the innermost one at 0.
     #[inline(always)]
     pub fn frame_at(&self, depth: usize) -> Option<&Frame>
         ensures block { option_map (λ f. block_kept f.now) result ≡ option_map block_seen (slice_get self.now.frames depth) }
@@ -455,7 +455,7 @@ impl Stacks {
         self.operands.len()
     }
 
-    /// The operand at a depth, in whichever list, the last one at 0.
+    /// Returns the operand at a depth, in whichever list, the last one at 0.
     pub fn operand_at(&self, depth: usize) -> Option<Operand>
         ensures { option_map operand result ≡ slice_get (all_known self.now) depth }
     {
@@ -479,7 +479,7 @@ impl Stacks {
         }
     }
 
-    /// A local without a value at the start has one from now on, as long as the innermost block is open.
+    /// Notes that a local without a value at the start has one from now on, as long as the innermost block is open.
     ///
     /// # Errors
     /// Where memory runs out. The stacks are then as they were.

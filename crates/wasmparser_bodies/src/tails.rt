@@ -39,7 +39,7 @@ pub(crate) fn replace_tail(
     Ok(())
 }
 
-// The same, with one operand after them.
+// Does the same, with one operand after them.
 pub(crate) fn replace_tail_with(
     operands: &mut Vec<Operand>,
     at: usize,

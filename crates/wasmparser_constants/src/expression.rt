@@ -72,7 +72,7 @@ impl<'a> Scope<'a> {
         }
     }
 
-    // The type of what an operator gives that takes no operands, where it may stand.
+    // Returns the type of what an operator gives that takes no operands, where it may stand.
     #[inline(always)]
     fn type_given(&self, operator: &ConstOperator) -> Option<ValType>
         ensures given { IfSome result (λ ty. effect (features_of self.now) (context self.now) (const_operator operator.now) ≡ Some (puts (meant_type (known self.now) (val_type ty)))) }
@@ -88,7 +88,7 @@ impl<'a> Scope<'a> {
         }
     }
 
-    // The type of what an expression gives that is a single operator without operands, where that may stand.
+    // Returns the type of what an expression gives that is a single operator without operands, where that may stand.
     #[tactic(auto, using(crate::proofs::AloneLaws::alone_steps))]
     fn type_alone(&self, expression: &ConstExpr<'_>) -> Option<ValType>
         ensures alone { IfSome result (λ ty. IsAlone (features_of self.now) (context self.now) (meant_type (known self.now) (val_type ty)) (expression_of expression.now.rest)) }
@@ -101,7 +101,7 @@ impl<'a> Scope<'a> {
         }
     }
 
-    // The same, of most expressions, in a fast way.
+    // Does the same, of most expressions, in a fast way.
     #[inline(always)]
     #[tactic(auto, using(crate::proofs::AloneLaws::alone_steps))]
     fn type_short(&self, expression: &ConstExpr<'_>) -> Option<ValType>

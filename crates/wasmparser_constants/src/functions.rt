@@ -31,7 +31,7 @@ pub struct Functions<'a> {
 }
 
 impl<'a> Functions<'a> {
-    // The type of a function, if there is one.
+    // Returns the type of a function, if there is one.
     #[inline(always)]
     fn func_type_of(&self, function: u32) -> Option<&FuncType>
         ensures { IfSome result (λ _. option_and_then (func_type_at self.now.types.now.types) (slice_get (self.now.imported.now ++ self.now.own.now) function) ≢ None) }
@@ -40,7 +40,7 @@ impl<'a> Functions<'a> {
         self.types.func_type(index)
     }
 
-    // The function that an operator refers to, if there is one.
+    // Returns the function that an operator refers to, if there is one.
     #[inline(always)]
     fn function_referred(&self, operator: &ConstOperator) -> Option<u32>
         ensures refers { IfSome result (λ function. const_operator operator.now ≡ RefFunc function) }
@@ -55,7 +55,7 @@ impl<'a> Functions<'a> {
         }
     }
 
-    /// The function that an expression refers to, where it does nothing else and a reference to any function is wanted, of whichever type: so most
+    /// Returns the function that an expression refers to, where it does nothing else and a reference to any function is wanted, of whichever type: so most
     /// expressions of segments of functions are. It has none of others.
     #[inline(always)]
     pub fn function_named(&self, expression: &ConstExpr<'_>, wanted: &ValType) -> Option<u32>

@@ -22,7 +22,7 @@ use wasmparser_types::ref_type::RefType;
 use wasmparser_types::val_type::{FieldType, ValType};
 
 impl<'a> Scope<'a> {
-    /// A value type that names types by their indexes in the module, with ids in place of these, if they name types.
+    /// Returns a value type that names types by their indexes in the module, with ids in place of these, if they name types.
     pub fn by_ids(&self, ty: &ValType) -> Option<ValType>
         ensures same { option_map (λ new. meant_type (known self.now) (val_type new)) result ≡ meant (context self.now) (val_map number_of (val_type ty.now)) }
         ensures ids { IfSome result (λ new. AreIds (known self.now) (val_refs (val_type new))) }
@@ -30,7 +30,7 @@ impl<'a> Scope<'a> {
         self.types.with_ids(*ty)
     }
 
-    // A reference to the type of an index that isn't null, if the index names a type.
+    // Returns a reference to the type of an index that isn't null, if the index names a type.
     pub(crate) fn reference_to(&self, index: u32) -> Option<ValType>
         ensures same { option_map (λ new. meant_type (known self.now) (val_type new)) result ≡ meant (context self.now) (spec.Ref false (spec.Concrete index)) }
         ensures ids { IfSome result (λ new. AreIds (known self.now) (val_refs (val_type new))) }
@@ -41,7 +41,7 @@ impl<'a> Scope<'a> {
         self.by_ids(&ValType::Ref(RefType::concrete(false, index)))
     }
 
-    // The type of null, as a reference to this, where it may be written.
+    // Returns the type of null, as a reference to this, where it may be written.
     pub(crate) fn null_type(&self, heap: &HeapType) -> Option<ValType>
         ensures same { option_map (λ ty. puts (meant_type (known self.now) (val_type ty))) result ≡ effect (features_of self.now) (context self.now) (RefNull (heap_map number_of (heap_type heap.now))) }
         ensures ids { IfSome result (λ ty. AreIds (known self.now) (val_refs (val_type ty))) }
@@ -49,7 +49,7 @@ impl<'a> Scope<'a> {
         self.written_null(heap)
     }
 
-    // The same, over what the type means.
+    // Does the same, over what the type means.
     #[tactic(auto, using(crate::proofs::Meanings::null_steps))]
     fn written_null(&self, heap: &HeapType) -> Option<ValType>
         ensures same { option_map (λ ty. meant_type (known self.now) (val_type ty)) result ≡ provided (is_allowed (features_of self.now) (spec.Ref true (heap_type heap.now))) (meant (context self.now) (spec.Ref true (heap_map number_of (heap_type heap.now)))) }
@@ -64,7 +64,7 @@ impl<'a> Scope<'a> {
         self.by_ids(&ty)
     }
 
-    // The type of a reference to a function, if there is one and it may be written.
+    // Returns the type of a reference to a function, if there is one and it may be written.
     pub(crate) fn function_type(&self, function: u32) -> Option<ValType>
         ensures same { option_map (λ ty. puts (meant_type (known self.now) (val_type ty))) result ≡ effect (features_of self.now) (context self.now) (RefFunc function) }
         ensures ids { IfSome result (λ ty. AreIds (known self.now) (val_refs (val_type ty))) }
@@ -80,7 +80,7 @@ impl<'a> Scope<'a> {
         self.reference_to(index)
     }
 
-    // The type of what a global holds, if an expression may see it.
+    // Returns the type of what a global holds, if an expression may see it.
     pub(crate) fn global_type(&self, global: u32) -> Option<ValType>
         ensures same { option_map (λ ty. puts (meant_type (known self.now) (val_type ty))) result ≡ effect (features_of self.now) (context self.now) (GlobalGet global) }
         ensures ids { IfSome result (λ ty. AreIds (known self.now) (val_refs (val_type ty))) }
@@ -104,7 +104,7 @@ impl<'a> Scope<'a> {
         Some(global.content_type)
     }
 
-    // The fields of the structure that an index names, if it names one.
+    // Returns the fields of the structure that an index names, if it names one.
     pub(crate) fn fields(&self, index: u32) -> Option<&'a [FieldType]>
         ensures same { option_map (λ fields. map (meant_type (known self.now)) (field_values fields.now)) result ≡ fields_at (context self.now) index }
         ensures ids { IfSome result (λ fields. AllByRecursion (λ type. AreIds (known self.now) (val_refs type)) (field_values fields.now)) }

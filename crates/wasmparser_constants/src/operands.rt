@@ -46,7 +46,7 @@ impl Operands {
         self.types.clear();
     }
 
-    /// The number of operands.
+    /// Returns the number of operands.
     #[tactic(auto, using(crate::proofs::OperandLists::as_many))]
     pub fn len(&self) -> usize
         ensures { result ≡ length self.now }

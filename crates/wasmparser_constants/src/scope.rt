@@ -22,7 +22,7 @@ pub struct Scope<'a> {
     pub offset: u64,
 }
 
-/// The item of a space with an index, if there is one: imported items stand before the module's own.
+/// Returns the item of a space with an index, if there is one: imported items stand before the module's own.
 #[tactic(auto, using(crate::proofs::Spaces::space_steps))]
 pub fn item_at<T: Copy>(imported: &[T], own: &[T], index: usize) -> Option<T>
     ensures { result ≡ slice_get (imported.now ++ own.now) index }

@@ -24,7 +24,7 @@ use wasmparser_types::ref_type::RefType;
 use wasmparser_types::val_type::{FieldType, ValType};
 
 impl<'a> Scope<'a> {
-    // A refusal of what is wrong.
+    // Returns a refusal of what is wrong.
     pub(crate) fn broken(&self) -> Error
         ensures { result ≡ record { offset = self.now.offset; kind = kinds.Invalid } }
     {
@@ -124,7 +124,7 @@ impl<'a> Scope<'a> {
         operands.push(ValType::Ref(RefType::I31REF.as_non_null()))
     }
 
-    // The type of a reference of one kind as one of another, if it is of this kind.
+    // Returns the type of a reference of one kind as one of another, if it is of this kind.
     fn converted(
         &self,
         operand: &ValType,

@@ -80,7 +80,7 @@ fn passes_short(reader: &mut BinaryReader<'_>) -> bool
     }
 }
 
-// The operator of an expression of three bytes, as most are: a code, a number below 64 and the end. Of others it has none.
+// Returns the operator of an expression of three bytes, as most are: a code, a number below 64 and the end. Of others it has none.
 #[inline(always)]
 #[tactic(auto, using(crate::proofs::ShortLaws::short_operators))]
 fn short_operator(bytes: &[u8]) -> Option<ConstOperator>
@@ -128,7 +128,7 @@ impl<'a> Model for ConstExpr<'a> {
 }
 
 impl<'a> ConstExpr<'a> {
-    /// A reader of the expression's bytes, the end among them.
+    /// Returns a reader of the expression's bytes, the end among them.
     pub fn get_binary_reader(&self) -> BinaryReader<'a>
         ensures bytes { result ≡ self.now }
         ensures are { IsExpression self.now.rest }
@@ -136,7 +136,7 @@ impl<'a> ConstExpr<'a> {
         fork(&self.reader)
     }
 
-    /// A copy to lend to a rarely made call, so that the original can stay in registers.
+    /// Returns a copy to lend to a rarely made call, so that the original can stay in registers.
     #[inline(always)]
     pub fn fork(&self) -> ConstExpr<'a>
         ensures { result ≡ self.now }
@@ -146,7 +146,7 @@ impl<'a> ConstExpr<'a> {
         }
     }
 
-    /// A fast way to the operator of most expressions: those of three bytes, which are a code, a number below 64 and the end. It has none where the
+    /// Returns a fast way to the operator of most expressions: those of three bytes, which are a code, a number below 64 and the end. It has none where the
     /// expression isn't like that, of one operator too.
     #[inline(always)]
     pub fn short_operator(&self) -> Option<ConstOperator>
@@ -155,7 +155,7 @@ impl<'a> ConstExpr<'a> {
         short_operator(self.reader.remaining_buffer())
     }
 
-    /// The operators one by one, the end aside.
+    /// Returns the operators one by one, the end aside.
     pub fn operators(&self) -> ConstOperators<'a>
         ensures { result ≡ expression_of self.now.rest }
     {

@@ -42,7 +42,7 @@ fn check_items(reader: &mut BinaryReader<'_>) -> Result<bool, Malformed>
     Ok(are_packable)
 }
 
-// The list of names that a reader has before it, which it passes over.
+// Returns the list of names that a reader has before it, which it passes over.
 #[tactic(auto, using(crate::proofs::GroupLaws::name_groups))]
 pub(crate) fn pass_names<'a>(
     reader: &mut BinaryReader<'a>,
@@ -54,7 +54,7 @@ pub(crate) fn pass_names<'a>(
     SectionLimited::new(passed_part(start, reader.bytes_remaining()))
 }
 
-// The list of items that a reader has before it, which it passes over, or none where a type index in it is too large to be packed.
+// Returns the list of items that a reader has before it, which it passes over, or none where a type index in it is too large to be packed.
 #[tactic(auto, using(crate::proofs::GroupLaws::item_groups))]
 pub(crate) fn pass_items<'a>(
     reader: &mut BinaryReader<'a>,

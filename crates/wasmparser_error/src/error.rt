@@ -36,7 +36,7 @@ impl ErrorKind {
     ghost use Rattle.std.specs.Prelude.{◌≡◌};
     ghost use Rattle.wasmparser_error.specs.Error.{kind_name};
 
-    /// The kind in lower case.
+    /// Returns the kind in lower case.
     pub fn name(&self) -> &'static str
         ensures { result.now ≡ kind_name self.now }
     {

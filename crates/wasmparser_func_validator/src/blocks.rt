@@ -118,7 +118,7 @@ impl<R: WasmModuleResources> Body<R> {
         Ok(())
     }
 
-    // The innermost block.
+    // Returns the innermost block.
     fn innermost(&self, stacks: &Stacks) -> Option<(FrameKind, BlockType)>
         ensures { option_map kind_kept result ≡ option_map block_seen (slice_get stacks.now.frames 0) }
     {

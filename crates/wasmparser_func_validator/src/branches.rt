@@ -39,7 +39,7 @@ fn is_loop(kind: FrameKind) -> bool
 }
 
 impl<R: WasmModuleResources> Body<R> {
-    // The block that a label is of.
+    // Returns the block that a label is of.
     #[tactic(auto, using(crate::proofs::BranchLaws::labels))]
     #[inline(always)]
     pub(crate) fn target(&self, stacks: &Stacks, label: u32) -> Option<(FrameKind, BlockType)>

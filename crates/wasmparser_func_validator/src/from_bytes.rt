@@ -87,7 +87,7 @@ impl<T: WasmModuleResources> FuncValidator<T> {
     /// # Errors
     /// `Limit` where there are too many locals, `Operator` where a code stands that no operator has, after locals and operators that a body
     /// may begin with, `Body` where the body is broken otherwise, `Memory` where memory runs out, each at a place of the body or its end. Or `Failed` at the body's
-    /// first byte after a refusal. There also `Limit`, of types, where the module has more of them than the 2^20 that types in bodies can name.
+    /// body or its end. Or `Failed` at the body's first byte after a refusal.
     pub fn validate(&mut self, body: &FunctionBody<'_>) -> Result<(), Error>
         ensures validated { self.old.failed ≡ false → length (items_in T.resources self.old.body).types ≤ packable → IsAtStart (⟦<FuncValidator<T> as BodyValidator>⟧.state self.old) → (type : types.FuncType Index) → func_at (items_in T.resources self.old.body) self.old.body.ty ≡ Some type → IsBodyValidated (feature_set self.old.body.features) (items_in T.resources self.old.body) type body.now.rest body.now.position result }
         ensures answers { self.old.failed ≡ false → length (items_in T.resources self.old.body).types ≤ packable → AnswersOutcome body.now result (rest_outcome (⟦<FuncValidator<T> as BodyValidator>⟧.state self.old) body.now.rest) }

@@ -48,7 +48,7 @@ pub struct FuncToValidate<T> {
 }
 
 impl<T: WasmModuleResources + Drop> FuncToValidate<T> {
-    /// The validator of the function's body, in this room. Its type is a function type.
+    /// Returns the validator of the function's body, in this room. Its type is a function type.
     ///
     /// # Errors
     /// At 0: `Limit` where the parameters alone are too many locals, or `Memory`.

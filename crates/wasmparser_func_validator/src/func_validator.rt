@@ -166,7 +166,7 @@ impl<T: WasmModuleResources> FuncValidator<T> {
         result
     }
 
-    /// The features under which the body is validated.
+    /// Returns the features under which the body is validated.
     pub fn features(&self) -> &WasmFeatures
         ensures { result.now ≡ self.now.body.features }
     {
@@ -180,7 +180,7 @@ impl<T: WasmModuleResources> FuncValidator<T> {
         &self.body.resources
     }
 
-    /// The index of the function.
+    /// Returns the index of the function.
     pub fn index(&self) -> u32
         ensures { result ≡ self.now.index }
     {
@@ -197,7 +197,7 @@ impl<T: WasmModuleResources> FuncValidator<T> {
         self.body.local_count()
     }
 
-    /// The type of a local.
+    /// Returns the type of a local.
     pub fn get_local_type(&self, index: u32) -> Option<ValType>
         ensures { option_map val_type result ≡ unless_failed self.now.failed None (option_map (λ local. local.type) (slice_get (locals_in_body T.resources self.now.body) index)) }
     {
@@ -220,7 +220,7 @@ impl<T: WasmModuleResources> FuncValidator<T> {
         self.stacks.operand_count()
     }
 
-    /// The type of an operand at a depth, in whichever block, the last one at 0: none where it is unknown.
+    /// Returns the type of an operand at a depth, in whichever block, the last one at 0: none where it is unknown.
     pub fn get_operand_type(&self, depth: usize) -> Option<Option<ValType>>
         ensures { option_map type_seen result ≡ unless_failed self.now.failed None (option_map known_type (slice_get (all_known self.now.stacks) depth)) }
     {
@@ -245,7 +245,7 @@ impl<T: WasmModuleResources> FuncValidator<T> {
         self.stacks.frame_count()
     }
 
-    /// The open block at a depth, the innermost one at 0.
+    /// Returns the open block at a depth, the innermost one at 0.
     pub fn get_control_frame(&self, depth: usize) -> Option<&Frame>
         ensures block { option_map (λ f. block_kept f.now) result ≡ unless_failed self.now.failed None (option_map block_seen (slice_get self.now.stacks.frames depth)) }
         ensures place { option_map (λ f. place_kept f.now) result ≡ unless_failed self.now.failed None (slice_get (places_of self.now.stacks) depth) }
@@ -258,7 +258,7 @@ impl<T: WasmModuleResources> FuncValidator<T> {
 }
 
 impl<T: Drop> FuncValidator<T> {
-    /// The room that was taken, for the next body.
+    /// Returns the room that was taken, for the next body.
     pub fn into_allocations(self) -> FuncValidatorAllocations {
         FuncValidatorAllocations {
             stacks: self.stacks,

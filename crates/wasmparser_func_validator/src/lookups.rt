@@ -30,7 +30,7 @@ use wasmparser_types::index::UnpackedIndex;
 use wasmparser_types::ref_type::RefType;
 use wasmparser_types::val_type::{FieldType, ValType};
 
-// The type of addresses of a memory, or of indexes of a table.
+// Returns the type of addresses of a memory, or of indexes of a table.
 #[inline(always)]
 pub(crate) fn address_type(is_64: bool) -> ValType
     ensures { val_type result ≡ (if is_64 then spec.I64 else spec.I32) }
@@ -45,7 +45,7 @@ pub(crate) fn fill_types(index: &ValType, item: &ValType) -> [ValType; 3]
     [*index, *item, *index]
 }
 
-// The function type of a type index, if it is one.
+// Returns the function type of a type index, if it is one.
 #[tactic(auto, using(crate::proofs::LookupLaws::composites))]
 pub(crate) fn func_type_in<R: WasmModuleResources>(resources: &R, index: u32) -> Option<&FuncType>
     ensures { option_map func_type (option_copied result) ≡ func_at (R.resources resources.now).items index }
@@ -56,7 +56,7 @@ pub(crate) fn func_type_in<R: WasmModuleResources>(resources: &R, index: u32) ->
     }
 }
 
-// The parameters of a type index, none where it is no function type's.
+// Returns the parameters of a type index, none where it is no function type's.
 pub(crate) fn params_at<R: WasmModuleResources>(resources: &R, index: u32) -> &[ValType]
     ensures { map val_type result.now ≡ (frame_type (R.resources resources.now).items (Indexed index)).params }
 {
@@ -75,14 +75,14 @@ fn is_offset(is_64: bool, offset: u64) -> bool
 }
 
 impl<R: WasmModuleResources> Body<R> {
-    // The function type of a type index, if it is one.
+    // Returns the function type of a type index, if it is one.
     pub(crate) fn func_type_at(&self, index: u32) -> Option<&FuncType>
         ensures { option_map func_type (option_copied result) ≡ func_at (items_in R.resources self.now) index }
     {
         func_type_in(&self.resources, index)
     }
 
-    // The type of a function.
+    // Returns the type of a function.
     pub(crate) fn function_type(&self, function: u32) -> Option<&FuncType>
         ensures { option_map func_type (option_copied result) ≡ function_at (items_in R.resources self.now) function }
     {
@@ -92,7 +92,7 @@ impl<R: WasmModuleResources> Body<R> {
         }
     }
 
-    // The fields of a type index, if it is a structure's.
+    // Returns the fields of a type index, if it is a structure's.
     #[tactic(auto, using(crate::proofs::LookupLaws::composites))]
     pub(crate) fn fields_at(&self, index: u32) -> Option<&[FieldType]>
         ensures { option_map (λ fields. map field_type fields) (option_copied result) ≡ fields_at (items_in R.resources self.now) index }
@@ -131,7 +131,7 @@ impl<R: WasmModuleResources> Body<R> {
         }
     }
 
-    // A value type that a body writes, with an id in place of a type index, if it is allowed and names a type.
+    // Returns a value type that a body writes, with an id in place of a type index, if it is allowed and names a type.
     pub(crate) fn written(&self, ty: &ValType) -> Option<ValType>
         requires { IsOfModule ty.now }
         ensures { option_map val_type result ≡ written (feature_set self.now.features) (items_in R.resources self.now) (module_type ty.now) }
@@ -143,7 +143,7 @@ impl<R: WasmModuleResources> Body<R> {
         }
     }
 
-    // The type of null, as a reference to this, if it may be written.
+    // Returns the type of null, as a reference to this, if it may be written.
     pub(crate) fn null_type(&self, heap: &HeapType) -> Option<ValType>
         requires { IsHeapOfModule heap.now }
         ensures { option_map val_type result ≡ written (feature_set self.now.features) (items_in R.resources self.now) (spec.Ref true (heap_map number_of (heap_type heap.now))) }
@@ -164,7 +164,7 @@ impl<R: WasmModuleResources> Body<R> {
 
     // ---- blocks
 
-    // A block type that a body writes, with an id in place of a type index, if it stands for something.
+    // Returns a block type that a body writes, with an id in place of a type index, if it stands for something.
     pub(crate) fn checked_block(&self, blockty: &BlockType) -> Option<BlockType>
         requires { IsBlockOfModule blockty.now }
         ensures { option_map block_with_ids result ≡ block_meant (body_context R.resources self.now) (block_type blockty.now) }
@@ -182,7 +182,7 @@ impl<R: WasmModuleResources> Body<R> {
         }
     }
 
-    // The types that a block takes.
+    // Returns the types that a block takes.
     #[inline(always)]
     pub(crate) fn block_params<'a>(&'a self, block_type: &'a BlockType) -> &'a [ValType]
         ensures { map val_type result.now ≡ (frame_type (items_in R.resources self.now) (block_with_ids block_type.now)).params }
@@ -197,7 +197,7 @@ impl<R: WasmModuleResources> Body<R> {
         }
     }
 
-    // The types that a block gives.
+    // Returns the types that a block gives.
     #[inline(always)]
     pub(crate) fn block_results<'a>(&'a self, block_type: &'a BlockType) -> &'a [ValType]
         ensures { map val_type result.now ≡ (frame_type (items_in R.resources self.now) (block_with_ids block_type.now)).results }
@@ -212,7 +212,7 @@ impl<R: WasmModuleResources> Body<R> {
         }
     }
 
-    // The types that the function gives.
+    // Returns the types that the function gives.
     pub(crate) fn results(&self) -> &[ValType]
         ensures { map val_type result.now ≡ (frame_type (items_in R.resources self.now) (Indexed self.now.ty)).results }
     {
@@ -222,7 +222,7 @@ impl<R: WasmModuleResources> Body<R> {
         }
     }
 
-    // The types that a jump to a block takes.
+    // Returns the types that a jump to a block takes.
     #[inline(always)]
     pub(crate) fn label<'a>(&'a self, kind: FrameKind, block_type: &'a BlockType) -> &'a [ValType]
         ensures { map val_type result.now ≡ label_types (frame_kind kind) (frame_type (items_in R.resources self.now) (block_with_ids block_type.now)) }
@@ -273,7 +273,7 @@ impl<R: WasmModuleResources> Body<R> {
         }
     }
 
-    // The type of an element segment.
+    // Returns the type of an element segment.
     pub(crate) fn segment_type(&self, segment: u32) -> Option<ValType>
         ensures { option_map val_type result ≡ option_map value_of (slice_get (items_in R.resources self.now).elements segment) }
     {

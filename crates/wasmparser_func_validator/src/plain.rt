@@ -86,7 +86,7 @@ impl<R: WasmModuleResources> Body<R> {
         stacks.pop_known(&global.content_type)
     }
 
-    // A jump to a label, where the operand on top isn't 0.
+    // Validates a jump to a label, where the operand on top isn't 0.
     #[inline(always)]
     fn jump_if(&self, stacks: &mut Stacks, label: u32) -> bool
         requires fit { NumbersFit (items_in R.resources self.now) }
@@ -101,7 +101,7 @@ impl<R: WasmModuleResources> Body<R> {
         stacks.pop_known(&ValType::I32)
     }
 
-    // An operator after whose code a number stands.
+    // Validates an operator after whose code a number stands.
     #[inline(always)]
     fn with_number(&self, code: u8, stacks: &mut Stacks, number: u32) -> bool
         requires inside { stacks.old.frames ≢ [] }
@@ -154,7 +154,7 @@ impl<R: WasmModuleResources> Body<R> {
         }
     }
 
-    // An operator that is its code.
+    // Validates an operator that is its code.
     #[inline(always)]
     fn bare(&self, code: u8, stacks: &mut Stacks) -> bool
         requires inside { stacks.old.frames ≢ [] }
@@ -222,7 +222,7 @@ impl<R: WasmModuleResources> Body<R> {
         }
     }
 
-    // The operator at the front, if it is plain, and the bytes after it.
+    // Returns the operator at the front, if it is plain, and the bytes after it.
     #[inline(never)]
     fn plain<'a>(&self, stacks: &mut Stacks, code: &'a [u8]) -> Option<&'a [u8]>
         requires inside { stacks.old.frames ≢ [] }

@@ -9,7 +9,7 @@ ghost use Rattle.wasmparser_func_validator.specs.Plain.{IsPast, IsPastFloat, IsS
 use wasm_core_read::binary_reader::BinaryReader;
 use wasm_core_types::features::WasmFeatures;
 
-// An unsigned number of so many bits that is less than 16 and one byte long, and the bytes after it.
+// Returns an unsigned number of so many bits that is less than 16 and one byte long, and the bytes after it.
 #[inline(always)]
 fn last_byte(bits: u32, code: &[u8]) -> Option<(u32, &[u8])>
     requires { 4 ≤ bits }
@@ -22,7 +22,7 @@ fn last_byte(bits: u32, code: &[u8]) -> Option<(u32, &[u8])>
     }
 }
 
-// The same with one byte before it, or without that one.
+// Does the same with one byte before it, or without that one.
 #[inline(always)]
 fn two_bytes(bits: u32, code: &[u8]) -> Option<(u32, &[u8])>
     requires { 11 ≤ bits }
@@ -39,7 +39,7 @@ fn two_bytes(bits: u32, code: &[u8]) -> Option<(u32, &[u8])>
     }
 }
 
-// The same with one byte more.
+// Does the same with one byte more.
 #[inline(always)]
 fn three_bytes(bits: u32, code: &[u8]) -> Option<(u32, &[u8])>
     requires { 18 ≤ bits }
@@ -56,7 +56,7 @@ fn three_bytes(bits: u32, code: &[u8]) -> Option<(u32, &[u8])>
     }
 }
 
-// The same with one byte more.
+// Does the same with one byte more.
 #[inline(always)]
 fn four_bytes(bits: u32, code: &[u8]) -> Option<(u32, &[u8])>
     requires { 25 ≤ bits }
@@ -73,7 +73,7 @@ fn four_bytes(bits: u32, code: &[u8]) -> Option<(u32, &[u8])>
     }
 }
 
-// An unsigned number of so many bits that fits 32 bits and is five bytes long at most, and the bytes after it.
+// Returns an unsigned number of so many bits that fits 32 bits and is five bytes long at most, and the bytes after it.
 #[inline(always)]
 pub(crate) fn five_bytes(bits: u32, code: &[u8]) -> Option<(u32, &[u8])>
     requires { 32 ≤ bits }
@@ -105,7 +105,7 @@ fn ends_signed(bits: u32, byte: u8) -> bool
     byte >= 0x78 || bits >= 7
 }
 
-// The bytes after a signed number of so many bits that is one byte long.
+// Returns the bytes after a signed number of so many bits that is one byte long.
 #[inline(always)]
 fn past_one_byte(bits: u32, code: &[u8]) -> Option<&[u8]>
     requires { 4 ≤ bits }
@@ -133,7 +133,7 @@ fn past_two_bytes(bits: u32, code: &[u8]) -> Option<&[u8]>
     }
 }
 
-// The same of three bytes.
+// Does the same for three bytes.
 #[inline(always)]
 fn past_three_bytes(bits: u32, code: &[u8]) -> Option<&[u8]>
     requires { 18 ≤ bits }
@@ -149,7 +149,7 @@ fn past_three_bytes(bits: u32, code: &[u8]) -> Option<&[u8]>
     }
 }
 
-// The same of four bytes.
+// Does the same for four bytes.
 #[inline(always)]
 fn past_four_bytes(bits: u32, code: &[u8]) -> Option<&[u8]>
     requires { 25 ≤ bits }
@@ -165,7 +165,7 @@ fn past_four_bytes(bits: u32, code: &[u8]) -> Option<&[u8]>
     }
 }
 
-// The same of five bytes.
+// Does the same for five bytes.
 #[inline(always)]
 fn past_five_bytes(bits: u32, code: &[u8]) -> Option<&[u8]>
     requires { 32 ≤ bits }
@@ -181,7 +181,7 @@ fn past_five_bytes(bits: u32, code: &[u8]) -> Option<&[u8]>
     }
 }
 
-// The same of six bytes.
+// Does the same for six bytes.
 #[inline(always)]
 fn past_six_bytes(bits: u32, code: &[u8]) -> Option<&[u8]>
     requires { 39 ≤ bits }
@@ -205,7 +205,7 @@ pub(crate) fn offset_bits(features: WasmFeatures) -> u32
     if features.memory64() { 64 } else { 32 }
 }
 
-// The bytes after a signed number of 32 bits.
+// Returns the bytes after a signed number of 32 bits.
 #[inline(always)]
 pub(crate) fn past_i32(code: &[u8]) -> Option<&[u8]>
     ensures { IfSome result (λ after. IsPast 32 code.now after.now) }
@@ -213,7 +213,7 @@ pub(crate) fn past_i32(code: &[u8]) -> Option<&[u8]>
     past_five_bytes(32, code)
 }
 
-// The same of 64 bits that is six bytes long at most.
+// Does the same for 64 bits, where the number is six bytes long at most.
 #[inline(always)]
 pub(crate) fn past_short_i64(code: &[u8]) -> Option<&[u8]>
     ensures { IfSome result (λ after. IsPast 64 code.now after.now) }
@@ -221,7 +221,7 @@ pub(crate) fn past_short_i64(code: &[u8]) -> Option<&[u8]>
     past_six_bytes(64, code)
 }
 
-// The same of any length.
+// Does the same for any length.
 #[inline(never)]
 pub(crate) fn past_i64(code: &[u8]) -> Option<&[u8]>
     ensures { IfSome result (λ after. IsPast 64 code.now after.now) }
@@ -233,7 +233,7 @@ pub(crate) fn past_i64(code: &[u8]) -> Option<&[u8]>
     }
 }
 
-// The bytes after a float of four bytes.
+// Returns the bytes after a float of four bytes.
 #[inline(always)]
 pub(crate) fn past_four(code: &[u8]) -> Option<&[u8]>
     ensures { IfSome result (λ after. IsPastFloat 4 code.now after.now) }
@@ -244,7 +244,7 @@ pub(crate) fn past_four(code: &[u8]) -> Option<&[u8]>
     }
 }
 
-// The same of eight bytes.
+// Does the same for eight bytes.
 #[inline(always)]
 pub(crate) fn past_eight(code: &[u8]) -> Option<&[u8]>
     ensures { IfSome result (λ after. IsPastFloat 8 code.now after.now) }

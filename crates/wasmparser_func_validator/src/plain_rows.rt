@@ -11,7 +11,7 @@ use crate::number_type::NumberType;
 use wasmparser_operators::immediates::BlockType;
 use wasmparser_types::val_type::ValType;
 
-// The type of what a load gives, and which power of two it is wide in memory, if the code is of a load.
+// Returns the type of what a load gives, and which power of two it is wide in memory, if the code is of a load.
 #[tactic(auto, unfolding(wasmparser_operators::specs::CodeTables::row_of, wasmparser_operators::specs::OperatorReading::shape_of))]
 pub(crate) fn load_form(code: u8) -> Option<(NumberType, u8)>
     ensures coded { IfSome result (λ x. IsCoded code (Access (λ argument. spec.Load (access code (number x.0) x.1) argument))) }
@@ -35,7 +35,7 @@ pub(crate) fn load_form(code: u8) -> Option<(NumberType, u8)>
     }
 }
 
-// The same of a store.
+// Does the same for a store.
 #[tactic(auto, unfolding(wasmparser_operators::specs::CodeTables::row_of, wasmparser_operators::specs::OperatorReading::shape_of))]
 pub(crate) fn store_form(code: u8) -> Option<(NumberType, u8)>
     ensures coded { IfSome result (λ x. IsCoded code (Access (λ argument. spec.Store (access code (number x.0) x.1) argument))) }
@@ -54,7 +54,7 @@ pub(crate) fn store_form(code: u8) -> Option<(NumberType, u8)>
     }
 }
 
-// The block type that is this byte, if it takes nothing and gives a number at most.
+// Returns the block type that is this byte, if it takes nothing and gives a number at most.
 pub(crate) fn plain_block_type(code: u8) -> Option<BlockType>
     ensures { IfSome result (IsPlainBlock code) }
 {

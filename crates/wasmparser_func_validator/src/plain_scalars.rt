@@ -7,7 +7,7 @@ ghost use Rattle.wasmparser_func_validator.specs.Plain.{IsScalarForm};
 use crate::number_type::NumberType;
 use crate::numeric::NumericForm;
 
-// The form of an operator on integers of 32 bits.
+// Returns the form of an operator on integers of 32 bits.
 #[tactic(auto, unfolding(wasmparser_operators::specs::CodeTables::row_of, wasmparser_operators::specs::OperatorReading::shape_of))]
 #[inline(always)]
 pub(crate) fn i32_form(code: u8) -> Option<NumericForm>
@@ -47,7 +47,7 @@ pub(crate) fn i32_form(code: u8) -> Option<NumericForm>
     }
 }
 
-// The form of an operator on integers of 64 bits.
+// Returns the form of an operator on integers of 64 bits.
 #[tactic(auto, unfolding(wasmparser_operators::specs::CodeTables::row_of, wasmparser_operators::specs::OperatorReading::shape_of))]
 #[inline(always)]
 pub(crate) fn i64_form(code: u8) -> Option<NumericForm>
@@ -87,7 +87,7 @@ pub(crate) fn i64_form(code: u8) -> Option<NumericForm>
     }
 }
 
-// The form of an operator on floats of 32 bits.
+// Returns the form of an operator on floats of 32 bits.
 #[tactic(auto, unfolding(wasmparser_operators::specs::CodeTables::row_of, wasmparser_operators::specs::OperatorReading::shape_of))]
 #[inline(always)]
 pub(crate) fn f32_form(code: u8) -> Option<NumericForm>
@@ -118,7 +118,7 @@ pub(crate) fn f32_form(code: u8) -> Option<NumericForm>
     }
 }
 
-// The form of an operator on floats of 64 bits.
+// Returns the form of an operator on floats of 64 bits.
 #[tactic(auto, unfolding(wasmparser_operators::specs::CodeTables::row_of, wasmparser_operators::specs::OperatorReading::shape_of))]
 #[inline(always)]
 pub(crate) fn f64_form(code: u8) -> Option<NumericForm>
@@ -149,7 +149,7 @@ pub(crate) fn f64_form(code: u8) -> Option<NumericForm>
     }
 }
 
-// The form of an operator on numbers that become numbers of another type.
+// Returns the form of an operator on numbers that become numbers of another type.
 #[tactic(auto, unfolding(wasmparser_operators::specs::CodeTables::row_of, wasmparser_operators::specs::OperatorReading::shape_of))]
 #[inline(always)]
 pub(crate) fn conversion_form(code: u8) -> Option<NumericForm>

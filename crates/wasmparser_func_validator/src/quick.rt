@@ -108,7 +108,7 @@ impl<R: WasmModuleResources> Body<R> {
         }
     }
 
-    // An operator with a number of one byte.
+    // Returns an operator with a number of one byte.
     #[inline(always)]
     fn quick_number<'a>(&self, code: u8, stacks: &mut Stacks, rest: &'a [u8]) -> Option<&'a [u8]>
         requires inside { stacks.old.frames ≢ [] }
@@ -159,7 +159,7 @@ impl<R: WasmModuleResources> Body<R> {
         }
     }
 
-    // An operator on numbers.
+    // Returns an operator on numbers.
     #[inline(always)]
     fn quick_scalar<'a>(
         &self,
@@ -396,7 +396,7 @@ impl<R: WasmModuleResources> Body<R> {
 
     // ---- the loop
 
-    // The operator at the front, if it is one of these, and the bytes after it. The two most frequent ones are told by tests of their own, which cost less
+    // Returns the operator at the front, if it is one of these, and the bytes after it. The two most frequent ones are told by tests of their own, which cost less
     // than a jump by a table that is guessed wrongly.
     #[inline(always)]
     fn quick<'a>(&self, stacks: &mut Stacks, code: &'a [u8]) -> Option<&'a [u8]>

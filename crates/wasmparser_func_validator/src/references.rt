@@ -39,7 +39,7 @@ fn may_be_ref(x: &Operand) -> bool
     }
 }
 
-// The reference, which isn't null.
+// Returns the reference, which isn't null.
 pub(crate) fn non_null(x: &Operand) -> Option<Operand>
     ensures { option_map operand result ≡ operands.non_null (operand x.now) }
 {
@@ -60,7 +60,7 @@ fn abstract_reference(nullable: bool, heap: AbstractHeapType) -> ValType
 }
 
 impl<R: WasmModuleResources> Body<R> {
-    // A reference of one kind as one of another.
+    // Returns a reference of one kind as one of another.
     fn converted(
         &self,
         from: AbstractHeapType,

@@ -26,7 +26,7 @@ impl From<AllocError> for Refusal {
 impl Refusal {
     ghost use Rattle.wasmparser_func_validator.specs.Refusals.{refused_at};
 
-    // The refusal of an operator at this place.
+    // Returns the refusal of an operator at this place.
     pub(crate) fn at(self, offset: u64) -> Error
         ensures { result ≡ refused_at self offset }
     {

@@ -36,7 +36,7 @@ impl<R: WasmModuleResources> Body<R> {
         self.apply(stacks, &[], &[ValType::V128])
     }
 
-    // An operator that neither opens, parts nor ends a block.
+    // Validates an operator that neither opens, parts nor ends a block.
     fn operate(&self, stacks: &mut Stacks, op: &Operator<'_>) -> Result<(), Refusal>
         requires open { stacks.old.frames ≢ [] }
         requires named { NamesModuleTypes op.now }

@@ -36,7 +36,7 @@ impl CheckedList {
     ghost use Rattle.wasmparser_type_relations.specs.Chains.{IsDepth};
     ghost use Rattle.wasmparser_type_list.specs.TypeTables.{TablesAgree, sub_types};
 
-    /// A list without types.
+    /// Creates a list without types.
     pub fn new(alloc: Global) -> CheckedList {
         CheckedList {
             alloc,
@@ -45,7 +45,7 @@ impl CheckedList {
         }
     }
 
-    /// The list.
+    /// Returns the list.
     pub fn list(&self) -> &TypeList
         ensures same { result.now ≡ self.now }
         ensures agree { TablesAgree result.now }
@@ -63,7 +63,7 @@ impl CheckedList {
         RecGroupId::list(&self.list).len()
     }
 
-    /// `TypeList::get`.
+    /// Calls `TypeList::get`.
     pub fn get<T: TypeIdentifier>(&self, id: T) -> Option<&T::Data> {
         self.list.get(id)
     }
@@ -77,12 +77,12 @@ impl CheckedList {
         }
     }
 
-    /// `TypeList::supertype_of`.
+    /// Calls `TypeList::supertype_of`.
     pub fn supertype_of(&self, id: CoreTypeId) -> Option<CoreTypeId> {
         self.list.supertype_of(id)
     }
 
-    /// `TypeList::set_subtyping_depth`, which asks for the depth that the type has.
+    /// Calls `TypeList::set_subtyping_depth`, which asks for the depth that the type has.
     pub fn set_subtyping_depth(&mut self, id: CoreTypeId, depth: u8)
         requires { IsDepth (slice_get (sub_types self.old)) id depth }
         ensures { self.new ≡ self.old }
@@ -90,7 +90,7 @@ impl CheckedList {
         self.list.set_subtyping_depth(id, depth);
     }
 
-    /// `TypeList::rec_group_id_of` for a known id.
+    /// Calls `TypeList::rec_group_id_of` for a known id.
     pub fn rec_group_id_of(&self, id: CoreTypeId) -> Option<RecGroupId> {
         if id.index() < CoreTypeId::list(&self.list).len() {
             Some(self.list.rec_group_id_of(id))
@@ -99,7 +99,7 @@ impl CheckedList {
         }
     }
 
-    /// `TypeList::rec_group_local_id` for a known group.
+    /// Calls `TypeList::rec_group_local_id` for a known group.
     pub fn rec_group_local_id(
         &self,
         group: RecGroupId,
@@ -113,7 +113,7 @@ impl CheckedList {
         }
     }
 
-    /// `TypeList::at_canonicalized_unpacked_index` for a known group, and an index that isn't one in a module.
+    /// Calls `TypeList::at_canonicalized_unpacked_index` for a known group, and an index that isn't one in a module.
     pub fn at_canonicalized_unpacked_index(
         &self,
         group: RecGroupId,
@@ -130,7 +130,7 @@ impl CheckedList {
         }
     }
 
-    /// The same of a packed index.
+    /// Does the same for a packed index.
     pub fn at_canonicalized_packed_index(
         &self,
         group: RecGroupId,
@@ -147,7 +147,7 @@ impl CheckedList {
         }
     }
 
-    /// `TypeList::intern_canonical_rec_group` in a list that grows, of a group that refers to its own types and to earlier ones.
+    /// Calls `TypeList::intern_canonical_rec_group` in a list that grows, of a group that refers to its own types and to earlier ones.
     pub fn intern(
         &mut self,
         is_canonical: bool,
@@ -164,7 +164,7 @@ impl CheckedList {
         )
     }
 
-    /// `TypeList::intern_sub_type`, likewise.
+    /// Calls `TypeList::intern_sub_type`, likewise.
     pub fn intern_sub_type(
         &mut self,
         it: SubType,
@@ -177,7 +177,7 @@ impl CheckedList {
         Some(self.list.intern_sub_type(it, offset))
     }
 
-    /// `TypeList::intern_func_type`, likewise.
+    /// Calls `TypeList::intern_func_type`, likewise.
     pub fn intern_func_type(
         &mut self,
         it: FuncType,
@@ -190,7 +190,7 @@ impl CheckedList {
         Some(self.list.intern_func_type(it, offset))
     }
 
-    /// `TypeList::commit`. The copy doesn't grow on.
+    /// Calls `TypeList::commit`. The copy doesn't grow on.
     pub fn commit(&mut self) -> Result<CheckedList, AllocError> {
         let list = self.list.commit()?;
         Ok(CheckedList {

@@ -34,7 +34,7 @@ impl Model for CheckedSection {
 }
 
 impl CheckedSection {
-    /// A section without types, and a new list.
+    /// Creates a section without types, and a new list.
     pub fn new(alloc: Global, features: WasmFeatures) -> CheckedSection {
         CheckedSection {
             list: TypeList::new(alloc),
@@ -42,7 +42,7 @@ impl CheckedSection {
         }
     }
 
-    /// The ids of the types, by type index.
+    /// Returns the ids of the types, by type index.
     pub fn type_ids(&self) -> &[CoreTypeId] {
         self.space.type_ids()
     }

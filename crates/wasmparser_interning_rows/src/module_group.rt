@@ -36,7 +36,7 @@ impl RemapIndex for ModuleIndexes {
     }
 }
 
-/// The group, if it names types by their indexes in a module alone.
+/// Returns the group, if it names types by their indexes in a module alone.
 pub(crate) fn module_group(mut it: RecGroup) -> Option<RecGroup>
     ensures { IfSome result (λ it. NamesModuleTypes (spec.rec_group it)) }
 {

@@ -15,7 +15,7 @@ pub struct TypeSpace {
 impl TypeSpace {
     ghost use Rattle.std.specs.Prelude.{◌≡◌, []};
 
-    /// A module without types.
+    /// Creates a module without types.
     pub fn new(alloc: Global, features: WasmFeatures) -> TypeSpace
         ensures { result.ids.items ≡ [] }
     {

@@ -47,7 +47,7 @@ impl RemapIndex for Within {
     }
 }
 
-/// The group, if it may come after so many types.
+/// Returns the group, if it may come after so many types.
 pub(crate) fn group_within(before: usize, mut it: RecGroup) -> Option<RecGroup>
     ensures { IfSome result (λ it. AreWithin before (members (rec_group it))) }
 {
@@ -58,7 +58,7 @@ pub(crate) fn group_within(before: usize, mut it: RecGroup) -> Option<RecGroup>
     }
 }
 
-/// The sub type, if it may come after so many types as a group of one.
+/// Returns the sub type, if it may come after so many types as a group of one.
 pub(crate) fn sub_type_within(before: usize, mut it: SubType) -> Option<SubType>
     ensures { IfSome result (λ it. AreWithin before (sub_type it ∷ [])) }
 {
@@ -68,7 +68,7 @@ pub(crate) fn sub_type_within(before: usize, mut it: SubType) -> Option<SubType>
     }
 }
 
-/// The function type, if it may come after so many types as a group of one.
+/// Returns the function type, if it may come after so many types as a group of one.
 pub(crate) fn func_type_within(alloc: Global, before: usize, it: FuncType) -> Option<FuncType>
     ensures { IfSome result (λ it. AreWithin before (final_func (func_type it) ∷ [])) }
 {

@@ -13,7 +13,7 @@ use wasmparser_readers::table_type::TableType;
 use wasmparser_types::ref_type::RefType;
 use wasmparser_types::val_type::ValType;
 
-/// A reference type with an id in place of the type index that it has, or None where the module has no type of that index. An index of any kind
+/// Returns a reference type with an id in place of the type index that it has, or None where the module has no type of that index. An index of any kind
 /// counts as a type index, by its number.
 #[tactic(auto, using(crate::proofs::IdLaws::ref_steps))]
 pub fn ref_by_ids(types: &ModuleTypes, ty: RefType) -> Option<RefType>
@@ -23,7 +23,7 @@ pub fn ref_by_ids(types: &ModuleTypes, ty: RefType) -> Option<RefType>
     types.with_ids(ValType::Ref(ty))?.as_reference_type()
 }
 
-/// A table type, likewise.
+/// Returns a table type, likewise.
 #[tactic(auto, using(crate::proofs::IdLaws::item_steps))]
 pub fn table_by_ids(types: &ModuleTypes, ty: TableType) -> Option<TableType>
     ensures same { option_map (λ new. table_map (stands_for types.now) (table_type new)) result ≡ meant_table types.now.types (table ty) }
@@ -33,7 +33,7 @@ pub fn table_by_ids(types: &ModuleTypes, ty: TableType) -> Option<TableType>
     Some(TableType { element_type, ..ty })
 }
 
-/// A global type, likewise.
+/// Returns a global type, likewise.
 #[tactic(auto, using(crate::proofs::IdLaws::item_steps))]
 pub fn global_by_ids(types: &ModuleTypes, ty: GlobalType) -> Option<GlobalType>
     ensures same { option_map (λ new. global_map (stands_for types.now) (global_type new)) result ≡ meant_global types.now.types (global ty) }

@@ -30,7 +30,7 @@ impl ModuleState {
         Ok(())
     }
 
-    /// A copy for bodies to ask, with a copy of the list of types that shares the types and doesn't grow. It knows neither imports nor exports by their names.
+    /// Returns a copy for bodies to ask, with a copy of the list of types that shares the types and doesn't grow. It knows neither imports nor exports by their names.
     ///
     /// # Errors
     /// Where memory runs out.

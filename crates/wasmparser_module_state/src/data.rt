@@ -23,7 +23,7 @@ use wasmparser_entries::data::{Data, DataKind};
 use wasmparser_error::error::{Error, ErrorKind};
 use wasmparser_types::val_type::ValType;
 
-/// The type of indexes of a table, or of addresses of a memory.
+/// Returns the type of indexes of a table, or of addresses of a memory.
 pub(crate) fn index_type(is_64: bool) -> ValType
     ensures is { val_type result ≡ (if is_64 then spec.I64 else spec.I32) }
     ensures meant { val_map number_of (val_type result) ≡ (if is_64 then spec.I64 else spec.I32) }

@@ -41,7 +41,7 @@ impl ElementTypes {
         self.types.len() as u32
     }
 
-    /// The type of the segment with this index, if there is one.
+    /// Returns the type of the segment with this index, if there is one.
     pub(crate) fn get(&self, index: u32) -> Option<RefType>
         ensures { result ≡ slice_get self.now index }
     {
@@ -63,7 +63,7 @@ impl ElementTypes {
         Ok(())
     }
 
-    /// A copy.
+    /// Returns a copy.
     pub(crate) fn copy(&self, alloc: Global) -> Result<ElementTypes, AllocError>
         ensures { IfOk result (λ copy. copy ≡ self.now) }
     {

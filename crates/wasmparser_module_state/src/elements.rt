@@ -85,7 +85,7 @@ fn add_functions<'a>(
 }
 
 impl ModuleState {
-    /// The type of the element segment with this index, if there is one.
+    /// Returns the type of the element segment with this index, if there is one.
     #[tactic(auto, using(crate::proofs::ExportLaws::item_steps))]
     pub fn element_type_at(&self, index: u32) -> Option<RefType>
         ensures { option_map reference result ≡ slice_get (context self.now).elements index }

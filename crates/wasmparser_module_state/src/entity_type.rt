@@ -33,7 +33,7 @@ pub enum EntityType {
 }
 
 impl ModuleState {
-    // The type of an item with ids in place of type indexes, or None where the module has no type of such an index.
+    // Returns the type of an item with ids in place of type indexes, or None where the module has no type of such an index.
     #[tactic(auto, using(crate::proofs::IdLaws::entity_steps))]
     fn entity(&self, ty: TypeRef) -> Option<EntityType>
         ensures same { option_map (entity_type self.now.types) result ≡ meant_item (context self.now).types (item ty) }
@@ -48,7 +48,7 @@ impl ModuleState {
         }
     }
 
-    /// The item of a kind with an index, with ids in place of type indexes, or None where there is no such item or its type has an index
+    /// Returns the item of a kind with an index, with ids in place of type indexes, or None where there is no such item or its type has an index
     /// that names no type.
     pub fn entity_at(&self, kind: ExternalKind, index: u32) -> Option<EntityType>
         ensures same { option_map (entity_type self.now.types) result ≡ option_and_then (meant_item (context self.now).types) (item_at (context self.now) (external_kind kind) index) }

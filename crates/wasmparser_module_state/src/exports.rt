@@ -25,7 +25,7 @@ use wasmparser_readers::tag_type::{TagKind, TagType};
 use wasmparser_readers::type_ref::TypeRef;
 
 impl ModuleState {
-    /// The exports in order.
+    /// Returns the exports in order.
     pub fn exports(&self) -> &ExportNames
         ensures { result.now ≡ (context self.now).exports }
     {

@@ -18,7 +18,7 @@ pub(crate) struct FunctionSet {
 }
 
 impl FunctionSet {
-    /// A set without functions.
+    /// Creates a set without functions.
     pub(crate) fn new(alloc: Global) -> FunctionSet
         ensures { members result ≡ (λ function. false) }
     {
@@ -35,7 +35,7 @@ impl FunctionSet {
         self.flags.get(function as usize).copied().unwrap_or(false)
     }
 
-    /// A copy.
+    /// Returns a copy.
     pub(crate) fn copy(&self, alloc: Global) -> Result<FunctionSet, AllocError>
         ensures { IfOk result (λ copy. members copy ≡ members self.now) }
     {
@@ -84,7 +84,7 @@ impl FunctionSet {
         }
     }
 
-    // The same operator by operator.
+    // Does the same operator by operator.
     #[inline(never)]
     fn insert_all(&mut self, expression: &ConstExpr<'_>)
         requires fits { AllByRecursion (λ function. function < room self.old) (named_in (expression_of expression.now.rest)) }

@@ -17,21 +17,21 @@ use wasmparser_error::error::{Error, ErrorKind};
 use wasmparser_types::composite_type::FuncType;
 
 impl ModuleState {
-    /// The number of functions of the module's own.
+    /// Returns the number of functions of the module's own.
     pub fn own_function_count(&self) -> usize
         ensures { result ≡ length (context self.now).own_functions }
     {
         self.own_functions.len()
     }
 
-    /// The type index of a function of the module's own, by its place among these, if there is that function.
+    /// Returns the type index of a function of the module's own, by its place among these, if there is that function.
     pub fn type_of_own_function(&self, place: usize) -> Option<u32>
         ensures { result ≡ slice_get (context self.now).own_functions place }
     {
         self.own_functions.get(place).copied()
     }
 
-    /// The type of a function of the module's own, by its place among these, as the module's list of types keeps it: by ids. There is none
+    /// Returns the type of a function of the module's own, by its place among these, as the module's list of types keeps it: by ids. There is none
     /// where there is no such function, or the index that it has as its type names another kind of type or none.
     #[tactic(auto, using(crate::proofs::FuncTypes::own_steps))]
     pub fn own_func_type(&self, place: usize) -> Option<&FuncType>

@@ -19,7 +19,7 @@ use wasmparser_readers::global_type::GlobalType;
 use wasmparser_types::val_type::ValType;
 
 impl ModuleState {
-    /// The type of the global with this index, if there is one.
+    /// Returns the type of the global with this index, if there is one.
     #[tactic(auto, using(crate::proofs::ExportLaws::global_steps))]
     pub fn global_at(&self, index: u32) -> Option<GlobalType>
         ensures { option_map global result ≡ slice_get (globals_in (context self.now)) index }

@@ -91,7 +91,7 @@ impl ModuleState {
         Ok(())
     }
 
-    // The same of a group whose imports have one type.
+    // Does the same for a group whose imports have one type.
     fn import_names<'a>(
         &mut self,
         origin: usize,

@@ -24,7 +24,7 @@ use wasmparser_readers::type_ref::TypeRef;
 // The least number of bytes of an entry of the section: the lengths of two names, a kind and a byte of a type.
 const LEAST_LEN: usize = 4;
 
-// The kind of an imported item.
+// Returns the kind of an imported item.
 pub(crate) fn kind_of(ty: &TypeRef) -> ExternalKind
     ensures { external_kind result ≡ kind_of (item ty.now) }
 {
@@ -38,7 +38,7 @@ pub(crate) fn kind_of(ty: &TypeRef) -> ExternalKind
 }
 
 impl ModuleState {
-    /// The imports by their names; those of the same two names stand together.
+    /// Returns the imports by their names; those of the same two names stand together.
     pub fn imported(&self) -> &ImportNames
         ensures { result.now.imports ≡ (context self.now).imported }
     {
@@ -56,7 +56,7 @@ impl ModuleState {
         self.imported.start_with(NameHasher::after(bytes), count);
     }
 
-    // The index that the next imported item of a kind has.
+    // Returns the index that the next imported item of a kind has.
     pub(crate) fn next_index(&self, kind: ExternalKind) -> usize
         ensures { result ≡ next_index (unnamed self.now) (external_kind kind) }
     {

@@ -48,7 +48,7 @@ impl ModuleState {
         scope.check_initialiser(&mut self.operands, expression, ty)
     }
 
-    /// The same of an expression that sees no globals but imported ones.
+    /// Does the same for an expression that sees no globals but imported ones.
     #[tactic(auto, using(crate::proofs::Judged::seen_steps))]
     pub(crate) fn check_table_initialiser(
         &mut self,
@@ -75,7 +75,7 @@ impl ModuleState {
         scope.check_initialiser(&mut self.operands, expression, ty)
     }
 
-    // The function that an expression refers to, where a reference to any function is wanted: a fast way, which has none of other expressions.
+    // Returns the function that an expression refers to, where a reference to any function is wanted: a fast way, which has none of other expressions.
     #[inline(always)]
     fn function_named(&self, expression: &ConstExpr<'_>, ty: &ValType) -> Option<u32>
         ensures names { IfSome result (λ function. expression_of expression.now.rest ≡ RefFunc function ∷ []) }

@@ -38,7 +38,7 @@ pub(crate) fn are_bounds(initial: u64, maximum: Option<u64>, greatest: u64) -> b
     }
 }
 
-// The most elements of a table.
+// Returns the most elements of a table.
 fn most_elements(ty: &TableType) -> u64
     ensures { result ≡ (if ty.now.table64 then 2 ^ 64 - 1 else 2 ^ 32 - 1) }
 {

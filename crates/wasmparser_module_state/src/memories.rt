@@ -17,7 +17,7 @@ use wasm_core_types::limits::{Limit, MAX_WASM_MEMORIES};
 use wasmparser_error::error::{Error, ErrorKind};
 use wasmparser_readers::memory_type::MemoryType;
 
-// The most pages of a memory, where the size of its pages is one that there is.
+// Returns the most pages of a memory, where the size of its pages is one that there is.
 fn most_pages(ty: MemoryType) -> u64
     ensures { result ≡ most_pages (memory_type ty).is_64 (memory_type ty).page_size_log2 }
 {
@@ -48,7 +48,7 @@ fn is_memory_type(features: WasmFeatures, ty: MemoryType) -> bool
 }
 
 impl ModuleState {
-    /// The type of the memory with this index, if there is one.
+    /// Returns the type of the memory with this index, if there is one.
     #[tactic(auto, using(crate::proofs::SegmentLaws::space_steps))]
     pub fn memory_at(&self, index: u32) -> Option<MemoryType>
         ensures { option_map memory_type result ≡ slice_get (context self.now).memories index }

@@ -44,7 +44,7 @@ pub struct ModuleState {
     pub(crate) operands: Operands,
 }
 
-// A refusal at a place.
+// Returns a refusal at a place.
 pub(crate) fn refusal(offset: u64, kind: ErrorKind) -> Error
     ensures { result ≡ record { offset = offset; kind = kind } }
 {
@@ -113,21 +113,21 @@ impl ModuleState {
         Ok(mem::replace(self, next))
     }
 
-    /// The features by which entries are judged.
+    /// Returns the features by which entries are judged.
     pub fn features(&self) -> WasmFeatures
         ensures { feature_set result ≡ features_of self.now }
     {
         self.types.features()
     }
 
-    /// The types, and the list that knows them.
+    /// Returns the types, and the list that knows them.
     pub fn types(&self) -> &ModuleTypes
         ensures { result.now ≡ self.now.types }
     {
         &self.types
     }
 
-    /// The number of types, which is within its limit.
+    /// Returns the number of types, which is within its limit.
     pub fn type_count(&self) -> usize
         ensures count { result ≡ length (context self.now).types }
         ensures few { result ≤ most Types }
@@ -135,49 +135,49 @@ impl ModuleState {
         self.types.len()
     }
 
-    /// The number of functions, imported ones counted.
+    /// Returns the number of functions, imported ones counted.
     pub fn function_count(&self) -> usize
         ensures { result ≡ length (context self.now).imported_functions + length (context self.now).own_functions }
     {
         self.imported_functions.len() + self.own_functions.len()
     }
 
-    /// The number of tables, imported ones counted.
+    /// Returns the number of tables, imported ones counted.
     pub fn table_count(&self) -> usize
         ensures { result ≡ length (context self.now).tables }
     {
         self.tables.len()
     }
 
-    /// The number of memories, imported ones counted.
+    /// Returns the number of memories, imported ones counted.
     pub fn memory_count(&self) -> usize
         ensures { result ≡ length (context self.now).memories }
     {
         self.memories.len()
     }
 
-    /// The number of globals, imported ones counted.
+    /// Returns the number of globals, imported ones counted.
     pub fn global_count(&self) -> usize
         ensures { result ≡ length (context self.now).imported_globals + length (context self.now).own_globals }
     {
         self.imported_globals.len() + self.own_globals.len()
     }
 
-    /// The number of tags, imported ones counted.
+    /// Returns the number of tags, imported ones counted.
     pub fn tag_count(&self) -> usize
         ensures { result ≡ length (context self.now).tags }
     {
         self.tags.len()
     }
 
-    /// The number of element segments.
+    /// Returns the number of element segments.
     pub fn element_count(&self) -> usize
         ensures { result ≡ length (context self.now).elements }
     {
         self.elements.len() as usize
     }
 
-    /// The number of data segments.
+    /// Returns the number of data segments.
     pub fn data_count(&self) -> u32
         ensures { result ≡ (context self.now).segments }
     {

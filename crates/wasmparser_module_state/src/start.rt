@@ -17,7 +17,7 @@ use wasmparser_error::error::{Error, ErrorKind};
 impl ModuleState {
     ghost use Rattle.std.specs.Prelude.{◌≡◌};
 
-    /// The type index of a function, if there is that function.
+    /// Returns the type index of a function, if there is that function.
     pub fn type_of_function(&self, function: u32) -> Option<u32>
         ensures { result ≡ slice_get (functions_in (context self.now)) function }
     {

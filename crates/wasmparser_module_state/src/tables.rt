@@ -20,7 +20,7 @@ use wasmparser_readers::table_type::TableType;
 use wasmparser_types::val_type::ValType;
 
 impl ModuleState {
-    /// The type of the table with this index, if there is one.
+    /// Returns the type of the table with this index, if there is one.
     #[tactic(auto, using(crate::proofs::SegmentLaws::space_steps))]
     pub fn table_at(&self, index: u32) -> Option<TableType>
         ensures { option_map table result ≡ slice_get (context self.now).tables index }

@@ -16,7 +16,7 @@ use wasmparser_error::error::{Error, ErrorKind};
 use wasmparser_readers::tag_type::TagType;
 
 impl ModuleState {
-    /// The type index of a tag, if there is that tag.
+    /// Returns the type index of a tag, if there is that tag.
     pub fn type_of_tag(&self, tag: u32) -> Option<u32>
         ensures { result ≡ slice_get (context self.now).tags tag }
     {

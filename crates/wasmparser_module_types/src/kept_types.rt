@@ -18,14 +18,14 @@ use wasmparser_types::composite_type::FuncType;
 use wasmparser_types::index::CoreTypeId;
 use wasmparser_types::sub_type::SubType;
 
-// The id of the type with this index.
+// Returns the id of the type with this index.
 pub(crate) fn id_at(ids: &[CoreTypeId], index: usize) -> Option<CoreTypeId>
     ensures { result ≡ slice_get ids.now index }
 {
     ids.get(index).copied()
 }
 
-// The sub type that an id stands for.
+// Returns the sub type that an id stands for.
 pub(crate) fn sub_type_in(list: &TypeList, id: CoreTypeId) -> &SubType
     requires agree { TablesAgree list.now }
     requires no_module { RefersToNoModule list.now }
@@ -37,7 +37,7 @@ pub(crate) fn sub_type_in(list: &TypeList, id: CoreTypeId) -> &SubType
     &list[id]
 }
 
-// The function type that an index names, if it names one.
+// Returns the function type that an index names, if it names one.
 pub(crate) fn func_type_in<'a>(
     list: &'a TypeList,
     ids: &'a [CoreTypeId],

@@ -37,7 +37,7 @@ use wasmparser_types::ref_type::RefType;
 use wasmparser_types::sub_type::{RecGroup, SubType};
 use wasmparser_types::val_type::ValType;
 
-// A limit that is passed.
+// Returns a limit that is passed.
 fn passed(limit: Limit, offset: u64) -> Error
     ensures { result ≡ record { offset = offset; kind = kinds.Limit limit } }
 {
@@ -174,7 +174,7 @@ impl ModuleTypes {
     ghost use Rattle.wasmparser_types.specs.UnpackedIndex as unpacked;
     ghost use Rattle.wasmparser_types.specs.ValTypes.{val_type};
 
-    /// A module without types, and a list without types.
+    /// Creates a module without types, and a list without types.
     #[tactic(auto, using(crate::proofs::AddedGroups::knows_nothing))]
     pub fn new(alloc: Global, features: WasmFeatures) -> ModuleTypes
         ensures { result ≡ record { features = feature_set features; types = []; groups = 0; interned = []; interned_groups = []; grows = true; ids = []; sub_types = [] } }
@@ -228,7 +228,7 @@ impl ModuleTypes {
         })
     }
 
-    /// A copy of the module's types, with a copy of the list that shares the types and doesn't grow.
+    /// Returns a copy of the module's types, with a copy of the list that shares the types and doesn't grow.
     ///
     /// # Errors
     /// Where memory runs out.
@@ -264,7 +264,7 @@ impl ModuleTypes {
         self.groups = 0;
     }
 
-    /// The function type that a type index names, by ids of the list, or None where the index names another kind of type or none.
+    /// Returns the function type that a type index names, by ids of the list, or None where the index names another kind of type or none.
     pub fn func_type(&self, index: u32) -> Option<&FuncType>
         ensures named { IsFuncTypeAt self.now index (option_map func_type (option_copied result)) }
         ensures ids { IfSome result (λ ty. AreIds self.now (func_refs (func_type ty.now))) }
@@ -273,7 +273,7 @@ impl ModuleTypes {
         func_type_in(&self.list, self.space.type_ids(), index)
     }
 
-    /// The id of the type that a type index names, or None where the index names none.
+    /// Returns the id of the type that a type index names, or None where the index names none.
     pub fn type_id(&self, index: u32) -> Option<CoreTypeId>
         ensures named { slice_get self.now.types index ≡ option_map (type_at self.now.interned) result }
         ensures known { IfSome result (λ id. id < length self.now.interned) }
@@ -285,7 +285,7 @@ impl ModuleTypes {
         id_at(self.space.type_ids(), index as usize)
     }
 
-    /// The sub type that an id stands for. It names others by ids.
+    /// Returns the sub type that an id stands for. It names others by ids.
     pub fn sub_type(&self, id: CoreTypeId) -> &SubType
         requires { id < length self.now.interned }
         ensures unrolled { unrolled (type_at self.now.interned id) ≡ Some (sub_map (stands_for self.now) (sub_type result.now)) }
@@ -295,7 +295,7 @@ impl ModuleTypes {
         sub_type_in(&self.list, id)
     }
 
-    /// The group that the type of a known id came in.
+    /// Returns the group that the type of a known id came in.
     pub fn rec_group_id_of(&self, id: CoreTypeId) -> RecGroupId
         requires { id < length self.now.interned }
         ensures { IsGroupOf self.now id result }
@@ -303,7 +303,7 @@ impl ModuleTypes {
         self.list.rec_group_id_of(id)
     }
 
-    /// The ids of a group's types, in the order in which it has them. An unknown group has none.
+    /// Returns the ids of a group's types, in the order in which it has them. An unknown group has none.
     pub fn rec_group_elements(&self, id: RecGroupId) -> RecGroupElements
         ensures ids { result ≡ ids_of_group self.now id }
         ensures whole { id < length self.now.interned_groups → IsWholeGroup self.now.interned result }
@@ -314,7 +314,7 @@ impl ModuleTypes {
         self.list.rec_group_elements(id)
     }
 
-    /// The same of any id, or None where the list doesn't know it.
+    /// Does the same for any id, or None where the list doesn't know it.
     pub fn get(&self, id: CoreTypeId) -> Option<&SubType>
         ensures all { id < length self.now.interned → IsSome result }
         ensures known { IfSome result (λ _. id < length self.now.interned) }
@@ -325,14 +325,14 @@ impl ModuleTypes {
         self.list.get(id)
     }
 
-    /// The sub type that a type index names, or None where the index names none. It names others by ids.
+    /// Returns the sub type that a type index names, or None where the index names none. It names others by ids.
     pub fn sub_type_at(&self, index: u32) -> Option<&SubType>
         ensures { option_map sub_type (option_copied result) ≡ sub_type_of_index self.now index }
     {
         self.get(self.type_id(index)?)
     }
 
-    /// A heap type with an id in place of the type index that it has, or None where the module has no type of that index. An index of any kind counts as a type
+    /// Returns a heap type with an id in place of the type index that it has, or None where the module has no type of that index. An index of any kind counts as a type
     /// index, by its number.
     pub fn heap_with_ids(&self, ty: HeapType) -> Option<HeapType>
         ensures named { is_some result ≡ names_only_heap self.now.types (heap_map number_of (heap_type ty)) }
@@ -343,14 +343,14 @@ impl ModuleTypes {
         heap_with_ids(self.space.type_ids(), ty)
     }
 
-    /// A reference type, likewise.
+    /// Returns a reference type, likewise.
     pub fn ref_with_ids(&self, ty: RefType) -> Option<RefType>
         ensures { result ≡ ref_by_ids self.now.ids ty }
     {
         ref_with_ids(self.space.type_ids(), ty)
     }
 
-    /// A value type with an id in place of the type index that it has, as [`ModuleTypes::heap_with_ids`] gives heap types.
+    /// Returns a value type with an id in place of the type index that it has, as [`ModuleTypes::heap_with_ids`] gives heap types.
     pub fn with_ids(&self, ty: ValType) -> Option<ValType>
         ensures named { is_some result ≡ names_only self.now.types (val_map number_of (val_type ty)) }
         ensures same { IfSome result (λ new. val_map (stands_for self.now) (val_type new) ≡ val_map (type_at self.now.types) (val_map number_of (val_type ty))) }
@@ -360,7 +360,7 @@ impl ModuleTypes {
         val_with_ids(self.space.type_ids(), ty)
     }
 
-    /// A reference type with an id in place of the type index that it has, if the module has a type of that index. An index of any kind counts as a type index, by
+    /// Returns a reference type with an id in place of the type index that it has, if the module has a type of that index. An index of any kind counts as a type index, by
     /// its number.
     pub fn listed_ref(&self, ty: RefType) -> RefType
         ensures { result ≡ ref_map (index_at self.now.ids) (ref_map number_of ty) }
@@ -368,14 +368,14 @@ impl ModuleTypes {
         listed_ref(self.space.type_ids(), ty)
     }
 
-    /// A value type, likewise.
+    /// Returns a value type, likewise.
     pub fn listed_val(&self, ty: ValType) -> ValType
         ensures { val_type result ≡ val_map (index_at self.now.ids) (val_map number_of (val_type ty)) }
     {
         listed_val(self.space.type_ids(), ty)
     }
 
-    /// The greatest type above a heap type that names a type by its id: the type itself, where an index stands for no known type.
+    /// Returns the greatest type above a heap type that names a type by its id: the type itself, where an index stands for no known type.
     pub fn top_type(&self, ty: &HeapType) -> HeapType
         ensures { heap_type result ≡ greatest_above (by_id (slice_get self.now.sub_types)) (heap_type ty.now) }
     {
@@ -388,7 +388,7 @@ impl ModuleTypes {
         }
     }
 
-    // The greatest type above the type that an index stands for, if it stands for one.
+    // Returns the greatest type above the type that an index stands for, if it stands for one.
     fn top_of_index(&self, index: &UnpackedIndex) -> Option<AbstractHeapType>
         ensures { option_map abstract_heap_type result ≡ top_above (by_id (slice_get self.now.sub_types)) (Concrete (unpacked.index index.now)) }
     {
@@ -415,7 +415,7 @@ impl ModuleTypes {
         self.space.type_ids().len()
     }
 
-    /// The features by which groups are judged.
+    /// Returns the features by which groups are judged.
     pub fn features(&self) -> WasmFeatures
         ensures { feature_set result ≡ self.now.features }
     {

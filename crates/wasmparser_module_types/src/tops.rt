@@ -9,7 +9,7 @@ ghost use Rattle.wasmparser_types.specs.HeapTypes.{abstract_heap_type};
 use wasmparser_types::composite_type::CompositeType;
 use wasmparser_types::heap_type::AbstractHeapType;
 
-// The greatest type above all types of a kind.
+// Returns the greatest type above all types of a kind.
 pub(crate) fn composite_top(it: &CompositeType) -> AbstractHeapType
     ensures { abstract_heap_type result ≡ top_of (abstract_of (composite_type it.now)) }
 {

@@ -15,7 +15,7 @@ pub(crate) struct TypeSpace {
 impl TypeSpace {
     ghost use Rattle.std.specs.Prelude.{◌≡◌, [], IfOk};
 
-    // A module without types.
+    // Creates a module without types.
     pub(crate) fn new(alloc: Global, features: WasmFeatures) -> TypeSpace
         ensures features { result.features ≡ features }
         ensures ids { result.ids.items ≡ [] }
@@ -26,7 +26,7 @@ impl TypeSpace {
         }
     }
 
-    // A copy, whose room is that of its types.
+    // Returns a copy, whose room is that of its types.
     pub(crate) fn copy(&self, alloc: Global) -> Result<TypeSpace, AllocError>
         ensures features { IfOk result (λ copy. copy.features ≡ self.now.features) }
         ensures ids { IfOk result (λ copy. copy.ids.items ≡ self.now.ids.items) }

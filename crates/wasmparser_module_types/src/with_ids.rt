@@ -15,7 +15,7 @@ use wasmparser_types::index::{CoreTypeId, PackedIndex, UnpackedIndex};
 use wasmparser_types::ref_type::RefType;
 use wasmparser_types::val_type::ValType;
 
-// The number of an index, of whichever kind.
+// Returns the number of an index, of whichever kind.
 fn number_of(it: UnpackedIndex) -> usize
     ensures { result ≡ number_of (unpacked.index it) }
 {
@@ -26,7 +26,7 @@ fn number_of(it: UnpackedIndex) -> usize
     }
 }
 
-// A heap type with an id in place of the index that it has; none where the index has no id.
+// Returns a heap type with an id in place of the index that it has; none where the index has no id.
 pub(crate) fn heap_with_ids(ids: &[CoreTypeId], ty: HeapType) -> Option<HeapType>
     ensures { option_map heap_type result ≡ heap_by_ids ids.now (heap_type ty) }
 {
@@ -39,7 +39,7 @@ pub(crate) fn heap_with_ids(ids: &[CoreTypeId], ty: HeapType) -> Option<HeapType
     }
 }
 
-// A reference type, likewise.
+// Returns a reference type, likewise.
 pub(crate) fn ref_with_ids(ids: &[CoreTypeId], ty: RefType) -> Option<RefType>
     requires { AllByRecursion (λ id. id < packable) ids.now }
     ensures { result ≡ ref_by_ids ids.now ty }
@@ -52,7 +52,7 @@ pub(crate) fn ref_with_ids(ids: &[CoreTypeId], ty: RefType) -> Option<RefType>
     Some(RefType::concrete(ty.is_nullable(), index))
 }
 
-// A value type, likewise.
+// Returns a value type, likewise.
 pub(crate) fn val_with_ids(ids: &[CoreTypeId], ty: ValType) -> Option<ValType>
     requires { AllByRecursion (λ id. id < packable) ids.now }
     ensures { option_map val_type result ≡ val_by_ids ids.now (val_type ty) }
@@ -63,7 +63,7 @@ pub(crate) fn val_with_ids(ids: &[CoreTypeId], ty: ValType) -> Option<ValType>
     }
 }
 
-// The type index that an index counts as, by its number.
+// Returns the type index that an index counts as, by its number.
 fn as_type_index(it: PackedIndex) -> PackedIndex
     ensures { result ≡ Module (number_of it) }
 {
@@ -72,7 +72,7 @@ fn as_type_index(it: PackedIndex) -> PackedIndex
     PackedIndex::from_module_index(number_of(it.unpack()) as u32).unwrap()
 }
 
-// A reference type with an id in place of the index that it has; an index without an id becomes a type index.
+// Returns a reference type with an id in place of the index that it has; an index without an id becomes a type index.
 pub(crate) fn listed_ref(ids: &[CoreTypeId], ty: RefType) -> RefType
     requires { AllByRecursion (λ id. id < packable) ids.now }
     ensures { result ≡ ref_map (index_at ids.now) (ref_map number_of ty) }
@@ -87,7 +87,7 @@ pub(crate) fn listed_ref(ids: &[CoreTypeId], ty: RefType) -> RefType
     RefType::concrete(ty.is_nullable(), listed)
 }
 
-// A value type, likewise.
+// Returns a value type, likewise.
 pub(crate) fn listed_val(ids: &[CoreTypeId], ty: ValType) -> ValType
     requires { AllByRecursion (λ id. id < packable) ids.now }
     ensures { val_type result ≡ val_map (index_at ids.now) (val_map number_of (val_type ty)) }

@@ -31,7 +31,7 @@ struct KeptExport {
     index: u32,
 }
 
-// The name of an export.
+// Returns the name of an export.
 fn name_at<'a>(names: &'a [u8], start: usize, export: &KeptExport) -> &'a str
     requires { IsNamed names.now start export.now }
     ensures { result.now ≡ name_in names.now start export.now }
@@ -153,7 +153,7 @@ impl ExportNames {
         Ok(true)
     }
 
-    /// The export at a place.
+    /// Returns the export at a place.
     pub fn get(&self, place: usize) -> Option<Export<'_>>
         ensures { option_map export_item result ≡ slice_get self.now place }
     {
@@ -251,7 +251,7 @@ fn keep_hash(
     Ok(!has_name(names, exports, name))
 }
 
-// The hashes of all names.
+// Returns the hashes of all names.
 fn hashes_of(
     names: &[u8],
     exports: &[KeptExport],

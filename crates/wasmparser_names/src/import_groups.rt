@@ -78,7 +78,7 @@ impl<'a> ImportGroups<'a> {
         Ok(())
     }
 
-    // The imports in order.
+    // Returns the imports in order.
     fn iter<'b>(&'b self) -> ImportGroupsIter<'b, 'a>
         ensures { result ≡ self.now.imports }
     {
@@ -91,7 +91,7 @@ impl<'a> ImportGroups<'a> {
         }
     }
 
-    /// The imports in order, without what finds them.
+    /// Returns the imports in order, without what finds them.
     ///
     /// # Errors
     /// Where memory runs out.

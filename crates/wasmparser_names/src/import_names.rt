@@ -77,7 +77,7 @@ impl ImportNames {
         let _ = self.imports.reserve(count);
     }
 
-    /// The number of a module's name, which is kept if it is new.
+    /// Returns the number of a module's name, which is kept if it is new.
     ///
     /// # Errors
     /// Where memory runs out; then nothing changes.
@@ -101,7 +101,7 @@ impl ImportNames {
         push(&mut self.imports, origin, name, item)
     }
 
-    /// The imports in order, those of the same two names together.
+    /// Returns the imports in order, those of the same two names together.
     ///
     /// # Errors
     /// Where memory runs out.

@@ -59,7 +59,7 @@ impl ImportedItems {
         Ok(())
     }
 
-    /// The first item, and those after it.
+    /// Returns the first item, and those after it.
     pub fn parts(&self) -> (&ImportedItem, &[ImportedItem])
         ensures { self.now ≡ result.0.now ∷ result.1.now }
     {

@@ -28,7 +28,7 @@ impl Model for KeptName {
 }
 
 impl KeptName {
-    /// A copy of a name.
+    /// Creates a copy of a name.
     pub(crate) fn new(alloc: Global, name: &str) -> Result<KeptName, AllocError>
         ensures copied { IfOk result (λ kept. kept ≡ name.now) }
         ensures no_room { OnErr result (16 < length name.now) }
@@ -44,7 +44,7 @@ impl KeptName {
         })
     }
 
-    /// The name.
+    /// Returns the name.
     pub(crate) fn as_str(&self) -> &str
         ensures { result.now ≡ self.now }
     {

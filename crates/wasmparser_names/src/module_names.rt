@@ -63,7 +63,7 @@ impl ModuleNames {
         self.names.is_empty()
     }
 
-    /// The number of a name, which is kept if it is new.
+    /// Returns the number of a name, which is kept if it is new.
     ///
     /// # Errors
     /// Where memory runs out; then nothing changes.
@@ -116,7 +116,7 @@ impl ModuleNames {
         Ok(number)
     }
 
-    /// The name of a number.
+    /// Returns the name of a number.
     pub fn get(&self, number: usize) -> Option<&str>
         ensures { option_copied result ≡ slice_get self.now.names number }
     {
@@ -124,7 +124,7 @@ impl ModuleNames {
     }
 }
 
-// The name at a place.
+// Returns the name at a place.
 fn name_at(names: &[String], place: usize) -> Option<&str>
     ensures { option_copied result ≡ slice_get (map string_bytes names.now) place }
 {
@@ -143,7 +143,7 @@ fn is_at(names: &[String], place: usize, name: &str) -> bool
     }
 }
 
-// The number of a name, by the number of its hash, and where that is another name's by looking at each.
+// Returns the number of a name, by the number of its hash, and where that is another name's by looking at each.
 fn number_of(
     names: &[String],
     numbers: &HashMap<u64, usize>,
@@ -161,7 +161,7 @@ fn number_of(
     place_of(names, name)
 }
 
-// The place of a name, by looking at each.
+// Returns the place of a name, by looking at each.
 fn place_of(names: &[String], name: &str) -> Option<usize>
     ensures found { IfSome result (λ place. slice_get (map string_bytes names.now) place ≡ Some name.now) }
     ensures none { result ≡ None → list_any (bytes_eq name.now) (map string_bytes names.now) ≡ false }

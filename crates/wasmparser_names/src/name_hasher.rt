@@ -35,7 +35,7 @@ impl NameHasher {
         NameHasher { start }
     }
 
-    /// The hash of a name.
+    /// Returns the hash of a name.
     #[inline(always)]
     #[tactic(auto, unfolding(crate::specs::KeptExports::hash_of))]
     pub fn hash_of(&self, name: &str) -> u64

@@ -14,7 +14,7 @@ use crate::second_codes::no_operator;
 use wasm_core_read::binary_reader::BinaryReader;
 use wasm_core_read::malformed::Malformed;
 
-// The exponent of the load that has this code.
+// Returns the exponent of the load that has this code.
 #[inline(always)]
 fn load_exponent(code: u8) -> u8
     requires from { 0x28 ≤ code }
@@ -31,7 +31,7 @@ fn load_exponent(code: u8) -> u8
     }
 }
 
-// The exponent of the store that has this code.
+// Returns the exponent of the store that has this code.
 #[inline(always)]
 fn store_exponent(code: u8) -> u8
     requires from { 0x36 ≤ code }

@@ -28,7 +28,7 @@ impl<'a> Model for BrTable<'a> {
 }
 
 impl<'a> BrTable<'a> {
-    /// The label for numbers that count no label.
+    /// Returns the label for numbers that count no label.
     pub fn default(&self) -> u32
         ensures { result ≡ self.now.default }
     {
@@ -53,7 +53,7 @@ impl<'a> BrTable<'a> {
         self.len() == 0
     }
 
-    /// The labels that are counted, from 0 on.
+    /// Returns the labels that are counted, from 0 on.
     #[tactic(auto, using(crate::proofs::BorrowedLaws::label_counts))]
     pub fn targets(&self) -> BrTableTargets<'a>
         ensures { result ≡ self.now.labels }

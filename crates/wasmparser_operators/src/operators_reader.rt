@@ -90,7 +90,7 @@ impl<'a> Model for OperatorsReader<'a> {
 }
 
 impl<'a> OperatorsReader<'a> {
-    /// The operators that a reader has before it, which stands past the locals of a body.
+    /// Creates the operators that a reader has before it, which stands past the locals of a body.
     pub fn new(reader: BinaryReader<'a>) -> OperatorsReader<'a>
         ensures { result ≡ record { input = reader.entry; is_ended = false } }
     {
@@ -107,14 +107,14 @@ impl<'a> OperatorsReader<'a> {
         self.reader.eof()
     }
 
-    /// The place of the next operator in the input.
+    /// Returns the place of the next operator in the input.
     pub fn original_position(&self) -> u64
         ensures { result ≡ self.now.input.position }
     {
         self.reader.original_position()
     }
 
-    /// A reader of the bytes that are left.
+    /// Returns a reader of the bytes that are left.
     pub fn get_binary_reader(&self) -> BinaryReader<'a>
         ensures { result ≡ self.now.input }
     {

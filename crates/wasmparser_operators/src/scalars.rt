@@ -8,7 +8,7 @@ ghost use Rattle.wasmparser_operators.specs.ScalarValues.{scalar_row};
 
 use wasm_core_types::scalar_operator::ScalarOperator;
 
-// The operator on numbers alone of a byte, if it is the code of one.
+// Returns the operator on numbers alone of a byte, if it is the code of one.
 #[inline(always)]
 #[tactic(auto, using(crate::proofs::CodeGaps::no_rows), unfolding(crate::specs::CodeTables::row_of))]
 pub(crate) fn scalar(code: u8) -> Option<ScalarOperator>

@@ -55,7 +55,7 @@ impl<'a> SelectTypes<'a> {
         self.len() == 0
     }
 
-    /// A reader of the list: the number of the types, and the types. It stands at place 0, under the default features.
+    /// Returns a reader of the list: the number of the types, and the types. It stands at place 0, under the default features.
     pub fn get_binary_reader(&self) -> BinaryReader<'a>
         ensures { list_at val_type_at result.rest ≡ Some (self.now, []) }
     {

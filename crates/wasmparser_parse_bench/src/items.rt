@@ -6,7 +6,7 @@ use wasmparser_payloads::payload::Payload;
 use wasmparser_readers::from_reader::FromReader;
 use wasmparser_readers::section_limited::SectionLimited;
 
-// The number of a section's items.
+// Returns the number of a section's items.
 fn count_in<'a, T: FromReader<'a> + Drop>(
     alloc: Global,
     section: SectionLimited<'a, T>,
@@ -19,7 +19,7 @@ fn count_in<'a, T: FromReader<'a> + Drop>(
     Some(count)
 }
 
-// The number of a segment's items.
+// Returns the number of a segment's items.
 fn count_in_segment(alloc: Global, segment: Element<'_>) -> Option<u64> {
     match segment.items {
         ElementItems::Functions(functions) => count_in(alloc, functions),
@@ -27,7 +27,7 @@ fn count_in_segment(alloc: Global, segment: Element<'_>) -> Option<u64> {
     }
 }
 
-// The number of element segments' items.
+// Returns the number of element segments' items.
 fn count_in_segments<'a>(alloc: Global, section: SectionLimited<'a, Element<'a>>) -> Option<u64> {
     let mut count: u64 = 0;
     for segment in section.into_iter(alloc) {

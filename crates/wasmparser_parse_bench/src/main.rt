@@ -63,7 +63,7 @@ fn show_file<R: Files + Print + AllocGlobal>(rt: &R, name: &str) -> Option<()> {
     Some(())
 }
 
-// The number of items of all sections, and of payloads.
+// Returns the number of items of all sections, and of payloads.
 fn count_in_module(alloc: Global, bytes: &[u8]) -> Option<u64> {
     let mut count: u64 = 0;
     for payload in Parser::new(0).parse_all(bytes) {

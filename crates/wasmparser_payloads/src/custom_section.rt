@@ -46,7 +46,7 @@ impl<'a> CustomSectionReader<'a> {
         })
     }
 
-    /// The section's name.
+    /// Returns the section's name.
     pub fn name(&self) -> &'a str
         ensures { result.now ≡ self.now.name }
     {
@@ -60,14 +60,14 @@ impl<'a> CustomSectionReader<'a> {
         self.data
     }
 
-    /// The place in the input of the first byte after the name.
+    /// Returns the place in the input of the first byte after the name.
     pub fn data_offset(&self) -> u64
         ensures { result ≡ self.now.contents_start }
     {
         self.data_offset
     }
 
-    /// The place of the whole content in the input, the name included.
+    /// Returns the place of the whole content in the input, the name included.
     pub fn range(&self) -> Range<u64>
         ensures start { result.start ≡ self.now.start }
         ensures end { result.end ≡ self.now.contents_start + length self.now.contents }

@@ -28,14 +28,14 @@ impl<'a> Model for FunctionBody<'a> {
 }
 
 impl<'a> FunctionBody<'a> {
-    /// The body that a reader has before it.
+    /// Creates the body that a reader has before it.
     pub fn new(reader: BinaryReader<'a>) -> FunctionBody<'a>
         ensures { result ≡ reader.entry }
     {
         FunctionBody { reader }
     }
 
-    /// A reader of the whole body, under the features of the parser.
+    /// Returns a reader of the whole body, under the features of the parser.
     pub fn get_binary_reader(&self) -> BinaryReader<'a>
         ensures same { result ≡ self.now }
         ensures are { AreBytes self.now.rest }
@@ -43,7 +43,7 @@ impl<'a> FunctionBody<'a> {
         fork(&self.reader)
     }
 
-    /// The operators of the body, which stand past its locals; none is read yet. The locals are read as the grammar has them: whether the
+    /// Returns the operators of the body, which stand past its locals; none is read yet. The locals are read as the grammar has them: whether the
     /// features allow their types, and whether there are too many, is not asked.
     ///
     /// # Errors
@@ -56,14 +56,14 @@ impl<'a> FunctionBody<'a> {
         read_past_locals(&self.reader)
     }
 
-    /// The bytes of the body.
+    /// Returns the bytes of the body.
     pub fn as_bytes(&self) -> &'a [u8]
         ensures { result.now ≡ self.now.rest }
     {
         self.reader.remaining_buffer()
     }
 
-    /// The place of the body in the input.
+    /// Returns the place of the body in the input.
     pub fn range(&self) -> Range<u64>
         ensures start { result.start ≡ self.now.position }
         ensures end { result.end ≡ end self.now }

@@ -29,7 +29,7 @@ impl Pass for LocalRun {
     }
 }
 
-// The operators of a body, which stand past its locals.
+// Returns the operators of a body, which stand past its locals.
 pub(crate) fn read_past_locals<'a>(body: &BinaryReader<'a>) -> Result<OperatorsReader<'a>, Error>
     ensures exact { ReadsPastLocals body.now result }
     ensures are { AreBytes body.now.rest }

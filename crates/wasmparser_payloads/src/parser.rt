@@ -28,7 +28,7 @@ impl Model for Parser {
 }
 
 impl Parser {
-    /// A parser of a module whose first byte stands at `offset` of the input, under the default features.
+    /// Creates a parser of a module whose first byte stands at `offset` of the input, under the default features.
     pub fn new(offset: u64) -> Parser
         ensures { result ≡ record { offset = offset; features = default_features } }
     {
@@ -45,21 +45,21 @@ impl Parser {
         self.features = features;
     }
 
-    /// The place of the module in the input.
+    /// Returns the place of the module in the input.
     pub fn offset(&self) -> u64
         ensures { result ≡ self.now.offset }
     {
         self.offset
     }
 
-    /// The features under which the module is read.
+    /// Returns the features under which the module is read.
     pub fn features(&self) -> WasmFeatures
         ensures { feature_set result ≡ self.now.features }
     {
         self.features
     }
 
-    /// The payloads of a module's bytes, which end below 2^64 of the input. Nothing is read yet.
+    /// Returns the payloads of a module's bytes, which end below 2^64 of the input. Nothing is read yet.
     pub fn parse_all<'a>(self, bytes: &'a [u8]) -> Payloads<'a>
         requires { self.offset + length bytes.now < 2 ^ 64 }
         ensures { result ≡ whole_module self bytes.now }

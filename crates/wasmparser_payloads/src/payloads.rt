@@ -53,7 +53,7 @@ impl<'a> Model for Payloads<'a> {
     ghost view = { λ p. record { stage = p.stage; last = p.last; bodies = record { count = p.bodies_left; input = p.bodies }; input = p.reader } };
 }
 
-// The place in the input of what a reader has before it.
+// Returns the place in the input of what a reader has before it.
 fn range_of(reader: &BinaryReader<'_>) -> Range<u64>
     ensures start { result.start ≡ reader.now.position }
     ensures end { result.end ≡ end reader.now }
@@ -62,7 +62,7 @@ fn range_of(reader: &BinaryReader<'_>) -> Range<u64>
     start..start + reader.bytes_remaining() as u64
 }
 
-// The place of the sections of an id in the order of the grammar; custom and unknown sections have none.
+// Returns the place of the sections of an id in the order of the grammar; custom and unknown sections have none.
 #[tactic(auto, unfolding(crate::specs::Pieces::place_of_id))]
 fn place_of_id(id: u8) -> Option<u32>
     ensures { result ≡ place_of_id id }
@@ -122,7 +122,7 @@ fn read_frame<'a>(reader: &mut BinaryReader<'a>) -> Result<(u8, BinaryReader<'a>
     Ok((id, content))
 }
 
-// The first payload of a code section. Its bodies follow.
+// Returns the first payload of a code section. Its bodies follow.
 #[tactic(auto, unfolding(crate::specs::Pieces::piece_of, crate::specs::Parsing::piece, wasmparser_readers::specs::Sections::limited_of))]
 fn read_code_start<'a>(mut content: BinaryReader<'a>) -> Result<Payload<'a>, Malformed>
     ensures { AnswersAll piece content.entry result (piece_of 10 content.entry) }
@@ -136,7 +136,7 @@ fn read_code_start<'a>(mut content: BinaryReader<'a>) -> Result<Payload<'a>, Mal
     })
 }
 
-// The first payload of a section.
+// Returns the first payload of a section.
 #[tactic(auto, unfolding(crate::specs::Pieces::piece_of, crate::specs::Parsing::piece))]
 fn read_content<'a>(id: u8, content: BinaryReader<'a>) -> Result<Payload<'a>, Malformed>
     ensures { AnswersAll piece content.entry result (piece_of id content.entry) }
@@ -178,7 +178,7 @@ impl<'a> Payloads<'a> {
     ghost use Rattle.wasmparser_payloads.specs.Pieces.{header_piece, body_piece, section_piece, piece_within, next_piece};
     ghost use Rattle.wasmparser_payloads.specs.declared.payloads.Stage.TheVariants as payloads;
 
-    // The payloads of the module that a reader has before it. What the reader of bodies has before it is to be nothing.
+    // Creates the payloads of the module that a reader has before it. What the reader of bodies has before it is to be nothing.
     pub(crate) fn new(reader: BinaryReader<'a>, bodies: BinaryReader<'a>) -> Payloads<'a>
         ensures { result ≡ record { stage = payloads.Header; last = 0; bodies = record { count = 0; input = bodies.entry }; input = reader.entry } }
     {
@@ -259,7 +259,7 @@ impl<'a> Payloads<'a> {
         read_content(id, content)
     }
 
-    // The next payload after the header.
+    // Returns the next payload after the header.
     #[tactic(auto, using(crate::proofs::PieceLaws::part_steps), unfolding(crate::specs::Parsing::piece))]
     fn part(&mut self) -> Result<Payload<'a>, Malformed>
         ensures { GivesPiece self.old self.new result (piece_within self.old.bodies.count self.old.bodies.input.rest self.old) }

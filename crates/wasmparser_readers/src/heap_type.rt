@@ -19,7 +19,7 @@ use wasmparser_types::heap_type::{AbstractHeapType, HeapType};
 use wasmparser_types::index::{PackedIndex, UnpackedIndex};
 use wasmparser_types::ref_type::RefType;
 
-// The abstract heap type that a byte stands for.
+// Returns the abstract heap type that a byte stands for.
 pub(crate) fn abstract_of(code: u8) -> Option<AbstractHeapType>
     ensures { option_map abstract_heap_type result ≡ look_up heap_codes code }
 {
@@ -51,7 +51,7 @@ fn unpackable() -> PackedIndex
     PackedIndex::from_rec_group_index(0).unwrap()
 }
 
-// The type index, packed.
+// Returns the type index, packed.
 pub(crate) fn packed(index: u32) -> PackedIndex
     ensures { result ≡ packed_index index }
 {
@@ -124,7 +124,7 @@ pub(crate) fn read_reference(
     }
 }
 
-// The reference to an abstract heap type.
+// Returns the reference to an abstract heap type.
 pub(crate) fn abstract_reference(nullable: bool, heap: AbstractHeapType) -> RefType
     ensures { result ≡ abstract_ref nullable (abstract_heap_type heap) }
 {

@@ -9,7 +9,7 @@ ghost use Rattle.wasmparser_readers.specs.Passing.{Passes, passed};
 use wasm_core_read::binary_reader::BinaryReader;
 use wasm_core_read::malformed::Malformed;
 
-/// A reader of what another one has before it. The other one can then go on, and this one read again what it passed.
+/// Returns a reader of what another one has before it. The other one can then go on, and this one read again what it passed.
 pub fn fork<'a>(reader: &BinaryReader<'a>) -> BinaryReader<'a>
     ensures same { result ≡ reader.now }
     ensures are { AreBytes reader.now.rest }
@@ -20,7 +20,7 @@ pub fn fork<'a>(reader: &BinaryReader<'a>) -> BinaryReader<'a>
     fork
 }
 
-/// A reader of what was passed since a reader stood at `start`, where so many bytes are left.
+/// Returns a reader of what was passed since a reader stood at `start`, where so many bytes are left.
 pub fn passed_part<'a>(start: BinaryReader<'a>, left: usize) -> BinaryReader<'a>
     requires { left ≤ length start.rest }
     ensures { result ≡ passed start.entry left }

@@ -56,7 +56,7 @@ impl<'a, T> Clone for SectionLimited<'a, T> {
 }
 
 impl<'a, T> SectionLimited<'a, T> {
-    /// The section whose content a reader has before it. The number of its items stands first (Core Specification 3.0,
+    /// Creates the section whose content a reader has before it. The number of its items stands first (Core Specification 3.0,
     /// Binary Format, "Lists").
     ///
     /// # Errors
@@ -75,21 +75,21 @@ impl<'a, T> SectionLimited<'a, T> {
         })
     }
 
-    /// The number of items that is stated.
+    /// Returns the number of items that is stated.
     pub fn count(&self) -> u32
         ensures { result ≡ self.now.left.count }
     {
         self.count
     }
 
-    /// The bytes of the items.
+    /// Returns the bytes of the items.
     pub fn remaining_buffer(&self) -> &'a [u8]
         ensures { result.now ≡ self.now.left.input.rest }
     {
         self.reader.remaining_buffer()
     }
 
-    /// The place of the content in the input.
+    /// Returns the place of the content in the input.
     pub fn range(&self) -> Range<u64>
         ensures start { result.start ≡ self.now.start }
         ensures end { result.end ≡ end self.now.left.input }
@@ -98,7 +98,7 @@ impl<'a, T> SectionLimited<'a, T> {
         self.start..self.reader.original_position() + self.reader.bytes_remaining() as u64
     }
 
-    /// The items. Those of types take memory.
+    /// Returns the items. Those of types take memory.
     pub fn into_iter(self, alloc: Global) -> SectionLimitedIntoIter<'a, T>
         ensures { result ≡ self.entry.left }
     {
@@ -107,7 +107,7 @@ impl<'a, T> SectionLimited<'a, T> {
         }
     }
 
-    /// The items, each with its place in the input.
+    /// Returns the items, each with its place in the input.
     pub fn into_iter_with_offsets(self, alloc: Global) -> SectionLimitedIntoIterWithOffsets<'a, T>
         ensures { result ≡ self.entry.left }
     {

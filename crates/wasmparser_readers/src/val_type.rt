@@ -29,7 +29,7 @@ const NULLABLE: u8 = 0x63;
 // The first byte of a reference type that may not be null.
 const NOT_NULL: u8 = 0x64;
 
-// The value type that a byte alone stands for.
+// Returns the value type that a byte alone stands for.
 #[tactic(auto, using(crate::proofs::ValLaws::bare_heap))]
 fn val_type_of(code: u8) -> Option<ValType>
     ensures { option_map val_type result ≡ option_map (val_map packed_index) (look_up val_type_codes code) }
@@ -61,7 +61,7 @@ fn read_any_from(code: u8, reader: &mut BinaryReader<'_>) -> Result<ValType, Mal
     }
 }
 
-// The same, with a fast way to types of numbers.
+// Does the same, with a fast way to types of numbers.
 #[inline(always)]
 pub(crate) fn read_val_type_from(
     code: u8,
@@ -113,7 +113,7 @@ pub fn read_ref_type_from(code: u8, reader: &mut BinaryReader<'_>) -> Result<Ref
     }
 }
 
-/// The same with its first byte.
+/// Does the same with its first byte.
 ///
 /// # Errors
 /// Where none reads.
@@ -206,7 +206,7 @@ pub fn ref_is_of_module(reference: &RefType) -> bool
     }
 }
 
-/// The same of a value type.
+/// Does the same for a value type.
 pub fn val_is_of_module(type_of_value: &ValType) -> bool
     ensures { IsTrue result ↔ AllByRecursion IsModuleIndex (val_refs (val_type type_of_value.now)) }
 {

@@ -44,11 +44,11 @@ pub trait InternRecGroup {
     // The features that are on.
     ghost enabled: { Self → Features };
 
-    /// The features by which groups are judged.
+    /// Returns the features by which groups are judged.
     fn features(&self) -> WasmFeatures
         ensures { feature_set result ≡ enabled self.now };
 
-    /// The ids of the types, by type index.
+    /// Returns the ids of the types, by type index.
     fn type_ids(&self) -> &[CoreTypeId]
         ensures { result.now ≡ ids self.now };
 
@@ -119,7 +119,7 @@ pub trait InternRecGroup {
     }
 }
 
-// A rule that is broken.
+// Returns a rule that is broken.
 fn invalid(offset: u64) -> Error
     ensures { result ≡ record { offset = offset; kind = kinds.Invalid } }
 {
@@ -129,7 +129,7 @@ fn invalid(offset: u64) -> Error
     }
 }
 
-// A limit that is passed.
+// Returns a limit that is passed.
 fn passed(limit: Limit, offset: u64) -> Error
     ensures { result ≡ record { offset = offset; kind = kinds.Limit limit } }
 {
@@ -139,7 +139,7 @@ fn passed(limit: Limit, offset: u64) -> Error
     }
 }
 
-// A group in canonical form, if it may be interned, and its types have few enough parameters, results and fields.
+// Returns a group in canonical form, if it may be interned, and its types have few enough parameters, results and fields.
 fn canonical_rec_group(
     features: WasmFeatures,
     ids: &[CoreTypeId],

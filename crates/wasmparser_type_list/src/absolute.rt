@@ -37,7 +37,7 @@ impl RemapIndex for Start {
     }
 }
 
-/// The places in a group become ids, the first of which is this one.
+/// Turns the places in a group into ids, the first of which is this one.
 pub(crate) fn make_absolute(types: &mut Vec<SubType>, start: u32)
     requires { AllByRecursion (CanBeAbsolute start) (subs_refs (map sub_type types.old.items)) }
     ensures { map sub_type types.new.items ≡ subs_map (absolute start) (map sub_type types.old.items) }

@@ -104,7 +104,7 @@ impl TypeList {
         subtyping::val_is_subtype(self, a, b)
     }
 
-    /// The greatest type above a heap type: the type itself, where an index stands for no known type.
+    /// Returns the greatest type above a heap type: the type itself, where an index stands for no known type.
     pub fn top_type(&self, it: &HeapType) -> HeapType
         ensures { IsTop (type_by_id self.now) (heap_type it.now) (heap_type result) }
     {

@@ -67,7 +67,7 @@ impl<T: Drop> MaybeOwned<T> {
     ghost use Rattle.wasmparser_type_list.specs.HeldValues.{owned, shared_from_now, shared_value};
     ghost use Rattle.wasmparser_type_list.specs.LentValues.{EndsShared, LendsHeld};
 
-    /// A value with one owner. Its place in memory is taken from the allocator where it is first shared.
+    /// Creates a value with one owner. Its place in memory is taken from the allocator where it is first shared.
     pub fn new(alloc: Global, value: T) -> MaybeOwned<T>
         ensures { result ≡ owned value }
     {
@@ -77,14 +77,14 @@ impl<T: Drop> MaybeOwned<T> {
         }
     }
 
-    /// The value.
+    /// Returns the value.
     pub fn get(&self) -> &T
         ensures { self.now.value ≡ Some result.now }
     {
         self.holder.get().unwrap()
     }
 
-    /// The value, to be changed, as long as it isn't shared.
+    /// Returns the value, to be changed, as long as it isn't shared.
     pub fn assert_mut(&mut self) -> &mut T
         requires { self.old.is_shared ≡ false }
         ensures* lends { sem 𝓛 (LendsHeld T.row self.entry result) }
@@ -121,7 +121,7 @@ impl<T: Drop> MaybeOwned<T> {
         }
     }
 
-    /// The shared value, if it is shared.
+    /// Returns the shared value, if it is shared.
     pub fn shared(&self) -> Option<&Rc<T>>
         ensures { option_map (λ rc. rc.value) (option_copied result) ≡ shared_value self.now }
     {
@@ -131,7 +131,7 @@ impl<T: Drop> MaybeOwned<T> {
         }
     }
 
-    /// The shared value, which is shared from now on.
+    /// Returns the shared value, which is shared from now on.
     ///
     /// # Errors
     /// Where memory runs out, it is as it was.

@@ -32,7 +32,7 @@ impl<'a> ReadCounter<'a> {
     ghost use Rattle.wasmparser_type_relations.specs.Chains.{AreBelowEarlier};
     ghost use Rattle.wasmparser_type_list.specs.TypeTables.{TablesAgree, sub_types};
 
-    /// A list of which nothing was read yet.
+    /// Creates a list of which nothing was read yet.
     pub fn new(list: &'a TypeList) -> ReadCounter<'a>
         requires agree { TablesAgree list.now }
         requires earlier { AreBelowEarlier (slice_get (sub_types list.now)) }

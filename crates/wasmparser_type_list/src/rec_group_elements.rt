@@ -58,7 +58,7 @@ impl TypeList {
     ghost use Rattle.std.specs.Prelude.{◌≡◌};
     ghost use Rattle.wasmparser_type_list.specs.TypeTables.{TablesAgree, group_ids};
 
-    /// The ids of a group's types, in order. An unknown group has none.
+    /// Returns the ids of a group's types, in order. An unknown group has none.
     pub fn rec_group_elements(&self, id: RecGroupId) -> RecGroupElements
         requires { TablesAgree self.now }
         ensures { result ≡ group_ids self.now id }

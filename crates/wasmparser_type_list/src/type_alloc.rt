@@ -26,7 +26,7 @@ impl TypeAlloc {
     ghost use Rattle.wasmparser_type_list.specs.Lending.{LendsList};
     ghost use Rattle.wasmparser_type_list.specs.TypeTables.{TablesAgree, no_types};
 
-    /// A list without types.
+    /// Creates a list without types.
     pub fn new(alloc: Global) -> TypeAlloc
         ensures empty { result ≡ no_types }
         ensures agree { TablesAgree result }
@@ -36,14 +36,14 @@ impl TypeAlloc {
         }
     }
 
-    /// The list.
+    /// Returns the list.
     pub fn list(&self) -> &TypeList
         ensures { result.now ≡ self.now }
     {
         &self.list
     }
 
-    /// The list, to be changed.
+    /// Returns the list, to be changed.
     pub fn list_mut(&mut self) -> &mut TypeList
         ensures* lends { sem 𝓛 (LendsList self.entry result) }
         ensures value { result.now ≡ self.old }

@@ -75,7 +75,7 @@ impl TypeData for Range<CoreTypeId> {
     }
 }
 
-/// Returns that types and groups of them are both of core modules.
+/// Returns [`IS_CORE_SUB_TYPE`](TypeData::IS_CORE_SUB_TYPE) of types and of groups, which are both of core modules.
 pub fn are_of_core_modules() -> [bool; 2]
     ensures { result ≡ true ∷ true ∷ [] }
 {
@@ -86,7 +86,7 @@ pub fn are_of_core_modules() -> [bool; 2]
 }
 
 impl TypeList {
-    /// Appends a type or a group to those of its kind, as it is, and answers its id. No other table follows, so that the tables no longer agree, which most
+    /// Appends a type or a group to those of its kind, as it is, and returns its id. No other table follows, so that the tables no longer agree, which most
     /// calls ask for: a list that is to be asked on interns groups instead.
     ///
     /// # Errors

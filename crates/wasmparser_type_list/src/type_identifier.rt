@@ -27,21 +27,21 @@ pub trait TypeIdentifier: Debug + Copy + Eq {
     // A list of types with other data, which leaves the other kinds of data as they are.
     ghost with_listed: { TypeTables → List Self.Data → TypeTables };
 
-    /// The id with this number.
+    /// Returns the id with this number.
     fn from_index(index: u32) -> Self
         ensures { number result ≡ index };
 
-    /// The data of all such ids.
+    /// Returns the data of all such ids.
     fn list(types: &TypeList) -> &SnapshotList<Self::Data>
         ensures { result.now.items ≡ listed types.now };
 
-    /// The data of all such ids, to be changed. No other table follows: unless each change is made in all of them, the tables no longer agree, which most
+    /// Returns the data of all such ids, to be changed. No other table follows: unless each change is made in all of them, the tables no longer agree, which most
     /// calls ask for.
     fn list_mut(types: &mut TypeList) -> &mut SnapshotList<Self::Data>
         ensures* lends { sem 𝓛 (Lends tables_row (list_row Self.Data.row) types.entry result (λ list. with_listed types.old list.items)) }
         ensures value { result.now.items ≡ listed types.old };
 
-    /// The number.
+    /// Returns the number.
     fn index(&self) -> usize
         ensures { result ≡ number self.now };
 

@@ -31,7 +31,7 @@ impl TypeInfo {
         TypeInfo { size }
     }
 
-    /// The size, which fits in 24 bits.
+    /// Returns the size, which fits in 24 bits.
     pub fn size(&self) -> u32
         ensures same { result ≡ self.now }
         ensures fits { result < 2 ^ 24 }

@@ -60,7 +60,7 @@ fn enter(
     }
 }
 
-// The key under which a group is sought, where equal ones are to be one.
+// Returns the key under which a group is sought, where equal ones are to be one.
 fn key_of(
     alloc: Global,
     is_canonical: bool,
@@ -113,7 +113,7 @@ impl TypeList {
     ghost use Rattle.std.specs.Borrow.{sem};
     ghost use Rattle.wasmparser_type_list.specs.Lending.{LendsGroups, LendsTypes};
 
-    /// A list without types.
+    /// Creates a list without types.
     pub fn new(alloc: Global) -> TypeList
         ensures empty { result ≡ record { types = []; rec_groups = []; chains = []; groups = []; known = Some [] } }
         ensures agree { TablesAgree result }
@@ -128,7 +128,7 @@ impl TypeList {
         }
     }
 
-    // The number of the next group, unless there are as many as a `u32` counts.
+    // Returns the number of the next group, unless there are as many as a `u32` counts.
     fn next_group(&self) -> Result<RecGroupId, AllocError>
         ensures next { IfOk result (λ id. id ≡ length self.now.groups) }
         ensures full { IfErr result (λ _. 2 ^ 32 ≤ length self.now.groups) }
@@ -175,14 +175,14 @@ impl TypeList {
         Ok(id)
     }
 
-    // The types, by id.
+    // Returns the types, by id.
     pub(crate) fn core_types(&self) -> &SnapshotList<SubType>
         ensures { result.now.items ≡ self.now.types }
     {
         &self.core_types
     }
 
-    // The types, to be changed.
+    // Returns the types, to be changed.
     pub(crate) fn core_types_mut(&mut self) -> &mut SnapshotList<SubType>
         ensures* lends { sem 𝓛 (LendsTypes self.entry result) }
         ensures value { result.now.items ≡ self.old.types }
@@ -190,7 +190,7 @@ impl TypeList {
         &mut self.core_types
     }
 
-    // The ids of each group, to be changed.
+    // Returns the ids of each group, to be changed.
     pub(crate) fn groups_mut(&mut self) -> &mut SnapshotList<Range<CoreTypeId>>
         ensures* lends { sem 𝓛 (LendsGroups self.entry result) }
         ensures value { result.now.items ≡ self.old.groups }
@@ -198,14 +198,14 @@ impl TypeList {
         &mut self.rec_group_elements
     }
 
-    // The chain of a type, where it is known and has one.
+    // Returns the chain of a type, where it is known and has one.
     pub(crate) fn chain(&self, id: CoreTypeId) -> Option<&Chain>
         ensures { option_copied result ≡ chain_of (slice_get self.now.chains id) }
     {
         self.core_type_to_chain.get(id.index())?.as_ref()
     }
 
-    // The ids of each group.
+    // Returns the ids of each group.
     pub(crate) fn groups(&self) -> &SnapshotList<Range<CoreTypeId>>
         ensures { result.now.items ≡ self.now.groups }
     {
@@ -226,7 +226,7 @@ impl TypeList {
         count <= MAX_TYPES && self.core_types.len() <= MAX_TYPES - count
     }
 
-    // The group with this key.
+    // Returns the group with this key.
     fn find(&self, key: &Option<Vec<u32>>) -> Option<RecGroupId>
         ensures { result ≡ found_by self.now.known key.now }
     {
@@ -335,7 +335,7 @@ impl TypeList {
         self.intern_sub_type(SubType::func(self.alloc, it), offset)
     }
 
-    /// The supertype that a type declares, if it does.
+    /// Returns the supertype that a type declares, if it does.
     pub fn supertype_of(&self, id: CoreTypeId) -> Option<CoreTypeId>
         ensures { result ≡ supertype_at self.now id }
     {
@@ -346,7 +346,7 @@ impl TypeList {
             .as_core_type_id()
     }
 
-    /// The group that a known type was defined in.
+    /// Returns the group that a known type was defined in.
     pub fn rec_group_id_of(&self, id: CoreTypeId) -> RecGroupId
         requires agree { TablesAgree self.now }
         requires known { id < length self.now.types }
@@ -355,7 +355,7 @@ impl TypeList {
         self.core_type_to_rec_group[id.index()]
     }
 
-    // The id of a place in a group, if the group is known and has such a place.
+    // Returns the id of a place in a group, if the group is known and has such a place.
     pub(crate) fn place_in_group(&self, rec_group: RecGroupId, place: u32) -> Option<CoreTypeId>
         requires { TablesAgree self.now }
         ensures { result ≡ local_id self.now rec_group place }
@@ -370,7 +370,7 @@ impl TypeList {
         }
     }
 
-    /// The id of the type at a place in a group.
+    /// Returns the id of the type at a place in a group.
     ///
     /// # Errors
     /// `Invalid` at the offset where the group has no such place, or is unknown.
@@ -393,7 +393,7 @@ impl TypeList {
         }
     }
 
-    /// The id that an index of a type in a group stands for.
+    /// Returns the id that an index of a type in a group stands for.
     ///
     /// # Errors
     /// `Invalid` at the offset where the group has no such place or is unknown, or for a type index in a module.
@@ -417,7 +417,7 @@ impl TypeList {
         }
     }
 
-    /// The id that a packed index of a type in a group stands for.
+    /// Returns the id that a packed index of a type in a group stands for.
     ///
     /// # Errors
     /// `Invalid` at the offset where the group has no such place or is unknown, or for a type index in a module.

@@ -33,7 +33,7 @@ impl Model for Chain {
 impl Chain {
     ghost use Rattle.std.specs.Prelude.{◌≡◌, [], ◌∷◌, ◌++◌, suc, length, slice_get, IfOk};
 
-    // The chain of a type without supertypes.
+    // Returns the chain of a type without supertypes.
     fn greatest(alloc: Global, id: CoreTypeId) -> Chain
         ensures { result ≡ id ∷ [] }
     {
@@ -43,7 +43,7 @@ impl Chain {
         }
     }
 
-    // The chain of a type right below.
+    // Returns the chain of a type right below.
     fn extended(&self, alloc: Global, id: CoreTypeId) -> Result<Chain, AllocError>
         ensures { IfOk result (λ chain. chain ≡ self.now ++ id ∷ []) }
     {
@@ -60,7 +60,7 @@ impl Chain {
         self.above.len()
     }
 
-    /// The supertype that has so many supertypes itself, or the type itself at its own depth.
+    /// Returns the supertype that has so many supertypes itself, or the type itself at its own depth.
     pub fn at(&self, depth: usize) -> Option<CoreTypeId>
         ensures { result ≡ slice_get self.now depth }
     {
@@ -71,7 +71,7 @@ impl Chain {
     }
 }
 
-// The chain of an id, among those of earlier types and of a group that comes after them.
+// Returns the chain of an id, among those of earlier types and of a group that comes after them.
 fn chain_at<'a>(
     earlier: &'a SnapshotList<Option<Chain>>,
     added: &'a [Option<Chain>],
@@ -88,7 +88,7 @@ fn chain_at<'a>(
     chain?.as_ref()
 }
 
-// The chain of the type that comes next.
+// Returns the chain of the type that comes next.
 fn next_chain(
     alloc: Global,
     earlier: &SnapshotList<Option<Chain>>,
@@ -112,7 +112,7 @@ fn next_chain(
     }
 }
 
-/// The chains of the types of a group that comes after these ones.
+/// Returns the chains of the types of a group that comes after these ones.
 ///
 /// # Errors
 /// Where memory runs out.

@@ -150,7 +150,7 @@ fn put_sub_type(key: &mut Vec<u32>, it: &SubType) -> Result<(), AllocError>
     put_composite_type(key, &it.composite_type)
 }
 
-/// The numbers that stand for a group: equal exactly for equal groups.
+/// Returns the numbers that stand for a group: equal exactly for equal groups.
 ///
 /// # Errors
 /// Where memory runs out.

@@ -33,7 +33,7 @@ impl GroupMap {
         }
     }
 
-    /// The group with this key.
+    /// Returns the group with this key.
     pub fn get(&self, key: &[u32]) -> Option<RecGroupId>
         ensures { result ≡ found self.now key.now }
     {

@@ -28,7 +28,7 @@ pub trait KnownTypes {
     // States that an id was defined in this recursive group.
     ghost is_group_of: { Self → ℕ → ℕ → Type 0 };
 
-    /// The composite type of what an index stands for.
+    /// Returns the composite type of what an index stands for.
     fn composite_type(&self, it: UnpackedIndex) -> Option<&CompositeType>
         ensures { option_map composite_type (option_copied result) ≡ option_map (λ (type : spec.SubType Index). type.composite_type) (sub_at self.now (index it)) };
 
@@ -42,7 +42,7 @@ pub trait KnownTypes {
         requires { can_ask self.now }
         ensures { index result ≡ resolved self.now rec_group (index it) };
 
-    /// The recursive group that a known id was defined in.
+    /// Returns the recursive group that a known id was defined in.
     fn rec_group_id_of(&self, id: CoreTypeId) -> RecGroupId
         requires can_ask { can_ask self.now }
         requires known { is_known self.now id }

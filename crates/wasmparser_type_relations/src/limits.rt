@@ -16,7 +16,7 @@ fn passes(count: usize, it: Limit) -> bool
     it.max() < count as u64
 }
 
-/// A limit that the number of a type's parameters, results or fields passes.
+/// Returns a limit that the number of a type's parameters, results or fields passes.
 pub fn passed_limit(it: &CompositeType) -> Option<Limit>
     ensures passed { IfSome result (λ l. spec.IsPassedBy (limit l) (items_in (composite_type it.now) (limit l))) }
     ensures none { (l : spec.Limit) → spec.IsPassedBy l (items_in (composite_type it.now) l) → IsSome result }

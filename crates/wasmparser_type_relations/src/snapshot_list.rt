@@ -19,7 +19,7 @@ enum Tree<T> {
     Pair(usize, Rc<Tree<T>>, Rc<Tree<T>>),
 }
 
-// The element at a place.
+// Returns the element at a place.
 fn tree_get<T>(tree: &Tree<T>, index: usize) -> Option<&T>
     requires { KnowsLengths tree.now }
     ensures { option_copied result ≡ slice_get (elements tree.now) index }
@@ -45,7 +45,7 @@ struct Snapshot<T: Drop> {
     height: u32,
 }
 
-// The element at a place, if the snapshots have one there.
+// Returns the element at a place, if the snapshots have one there.
 fn snapshot_get<T: Drop>(snapshots: &[Snapshot<T>], index: usize) -> Option<&T>
     requires { AllByRecursion IsCounted snapshots.now }
     ensures { option_copied result ≡ slice_get (snapshot_elements snapshots.now) index }
@@ -80,7 +80,7 @@ fn pair<T: Drop>(
     })
 }
 
-// The last two snapshots as one, where they are of one height.
+// Returns the last two snapshots as one, where they are of one height.
 fn last_pair<T: Drop>(
     alloc: Global,
     snapshots: &[Snapshot<T>],
@@ -143,7 +143,7 @@ fn add_leaf<T: Drop>(
     }
 }
 
-// The same snapshots once more, which share their elements.
+// Returns the same snapshots once more, which share their elements.
 fn share<T: Drop>(alloc: Global, snapshots: &[Snapshot<T>]) -> Result<Vec<Snapshot<T>>, AllocError>
     requires counted { AllByRecursion IsCounted snapshots.now }
     ensures counted { IfOk result (λ shared. AllByRecursion IsCounted shared.items) }
@@ -188,7 +188,7 @@ impl<T: Drop> Model for SnapshotList<T> {
 impl<T: Drop> SnapshotList<T> {
     ghost use Rattle.std.specs.Prelude.{◌≡◌, ◌+◌, ◌-◌, ◌<◌, ◌≤◌, ◌^◌, ◌⊎◌, [], ◌∷◌, ◌++◌, length, slice_get, IfOk, IfErr};
 
-    /// A list without elements.
+    /// Creates a list without elements.
     pub fn new(alloc: Global) -> SnapshotList<T>
         ensures { result.items ≡ [] }
     {
@@ -214,7 +214,7 @@ impl<T: Drop> SnapshotList<T> {
         self.len() == 0
     }
 
-    /// The element at a place, if there is one. It takes logarithmic time, and what was pushed since the last copy is found at once.
+    /// Returns the element at a place, if there is one. It takes logarithmic time, and what was pushed since the last copy is found at once.
     #[tactic(auto, using(crate::proofs::Places::before_current, crate::proofs::Places::in_current))]
     pub fn get(&self, index: usize) -> Option<&T>
         ensures { option_copied result ≡ slice_get self.now.items index }
@@ -317,7 +317,7 @@ impl<T: Drop> Index<usize> for SnapshotList<T> {
 
     ghost index_gives = { λ list place element. slice_get list.items place ≡ Some element };
 
-    /// The element at a place, which is below the length.
+    /// Returns the element at a place, which is below the length.
     fn index(&self, index: usize) -> &T {
         self.get(index).unwrap()
     }

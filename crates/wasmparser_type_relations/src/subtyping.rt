@@ -17,7 +17,7 @@ use wasmparser_types::index::UnpackedIndex;
 use wasmparser_types::ref_type::RefType;
 use wasmparser_types::val_type::ValType;
 
-// The abstract type right above all types of a kind.
+// Returns the abstract type right above all types of a kind.
 fn kind_of(it: &CompositeType) -> AbstractHeapType
     ensures { abstract_heap_type result ≡ abstract_of (composite_type it.now) }
 {
@@ -29,7 +29,7 @@ fn kind_of(it: &CompositeType) -> AbstractHeapType
     }
 }
 
-// The abstract type below all types of a kind.
+// Returns the abstract type below all types of a kind.
 fn bottom_of(it: &CompositeType) -> AbstractHeapType
     ensures { abstract_heap_type result ≡ bottom_of (composite_type it.now) }
 {
@@ -164,7 +164,7 @@ pub fn abstract_top(it: AbstractHeapType) -> AbstractHeapType
     }
 }
 
-// The abstract type right above what an index stands for.
+// Returns the abstract type right above what an index stands for.
 fn kind_at<L: KnownTypes>(types: &L, it: UnpackedIndex) -> Option<AbstractHeapType>
     ensures { option_map abstract_heap_type result ≡ option_map (λ (type : spec.SubType Index). abstract_of type.composite_type) (L.sub_at types.now (index it)) }
 {
@@ -174,7 +174,7 @@ fn kind_at<L: KnownTypes>(types: &L, it: UnpackedIndex) -> Option<AbstractHeapTy
     }
 }
 
-// The abstract type above all that are above a heap type, if there is one.
+// Returns the abstract type above all that are above a heap type, if there is one.
 fn top_of<L: KnownTypes>(types: &L, it: &HeapType) -> Option<AbstractHeapType>
     ensures { option_map abstract_heap_type result ≡ top_above (L.sub_at types.now) (heap_type it.now) }
 {
@@ -187,7 +187,7 @@ fn top_of<L: KnownTypes>(types: &L, it: &HeapType) -> Option<AbstractHeapType>
     }
 }
 
-/// The greatest type above a heap type: the type itself, where an index stands for no type.
+/// Returns the greatest type above a heap type: the type itself, where an index stands for no type.
 pub fn top_type<L: KnownTypes>(types: &L, it: &HeapType) -> HeapType
     ensures { IsTop (L.sub_at types.now) (heap_type it.now) (heap_type result) }
 {

@@ -24,7 +24,7 @@ impl<T> Model for WithRecGroup<T> {
 }
 
 impl WithRecGroup<CoreTypeId> {
-    /// A known id, with the group that it was defined in.
+    /// Creates a known id, with the group that it was defined in.
     pub fn new<L: KnownTypes>(types: &L, id: CoreTypeId) -> WithRecGroup<CoreTypeId>
         requires can_ask { L.can_ask types.now }
         requires known { L.is_known types.now id }
@@ -39,21 +39,21 @@ impl WithRecGroup<CoreTypeId> {
 }
 
 impl<T> WithRecGroup<T> {
-    /// The part.
+    /// Returns the part.
     pub fn inner(&self) -> &T
         ensures { result.now ≡ self.now.inner }
     {
         &self.inner
     }
 
-    /// The group.
+    /// Returns the group.
     pub fn rec_group_id(&self) -> RecGroupId
         ensures { result ≡ self.now.rec_group_id }
     {
         self.rec_group_id
     }
 
-    /// A part of this part, or what it stands for, in the same group.
+    /// Returns a part of this part, or what it stands for, in the same group.
     pub fn map<U, F: FnOnce(T) -> U>(self, part: F) -> WithRecGroup<U>
         requires { F.pre part self.inner }
         ensures inner { F.post part self.inner result.inner }

@@ -13,7 +13,7 @@ pub fn named<T: Copy>(table: &[(&str, T)], name: &str) -> Option<T> {
     None
 }
 
-/// The value type of this name. `func` is a reference without null.
+/// Returns the value type of this name. `func` is a reference without null.
 pub fn named_val_type(name: &str) -> Option<ValType> {
     match name {
         "i32" => Some(ValType::I32),

@@ -10,7 +10,7 @@ use wasmparser_types::ref_type::RefType;
 use wasmparser_types::sub_type::{RecGroup, SubType};
 use wasmparser_types::val_type::{FieldType, StorageType, ValType};
 
-/// The id after `#`.
+/// Returns the id after `#`.
 pub fn id_of(word: &str) -> Option<CoreTypeId> {
     Some(CoreTypeId::from_index(word.strip_prefix('#')?.parse().ok()?))
 }
@@ -27,7 +27,7 @@ pub fn are_ids(ids: &[CoreTypeId], expected: &str) -> bool {
     words.next().is_none()
 }
 
-/// An id, the place after `own.`, or an index in a module.
+/// Returns an id, the place after `own.`, or an index in a module.
 pub fn index_of(word: &str) -> Option<PackedIndex> {
     if let Some(place) = word.strip_prefix("own.") {
         return PackedIndex::from_rec_group_index(place.parse().ok()?);
@@ -38,7 +38,7 @@ pub fn index_of(word: &str) -> Option<PackedIndex> {
     }
 }
 
-/// A value type.
+/// Returns a value type.
 pub fn val_type_of(word: &str) -> Option<ValType> {
     if let Some(it) = named_val_type(word) {
         return Some(it);
@@ -56,7 +56,7 @@ fn val_types_of(alloc: Global, field: &str) -> Option<Vec<ValType>> {
     Some(types)
 }
 
-/// A function type: its parameters, `->`, and its results.
+/// Returns a function type: its parameters, `->`, and its results.
 pub fn func_type_of(alloc: Global, field: &str) -> Option<FuncType> {
     let (params, results) = field.split_once("->")?;
     let params = val_types_of(alloc, params)?;
@@ -84,7 +84,7 @@ fn fields_of(alloc: Global, field: &str) -> Option<Vec<FieldType>> {
     Some(fields)
 }
 
-// A composite type: `func`, `struct`, `array` or `cont`, and what it is made of.
+// Returns a composite type: `func`, `struct`, `array` or `cont`, and what it is made of.
 fn composite_type_of(alloc: Global, field: &str) -> Option<CompositeType> {
     let (kind, rest) = word_and_rest(field);
     match kind {
@@ -107,7 +107,7 @@ fn indexes_of(alloc: Global, field: &str) -> Option<Vec<PackedIndex>> {
     Some(indexes)
 }
 
-/// A sub type: its composite type. In front of that and ` : ` stand `open`, where it isn't final, and its supertypes.
+/// Returns a sub type: its composite type. In front of that and ` : ` stand `open`, where it isn't final, and its supertypes.
 pub fn sub_type_of(alloc: Global, field: &str) -> Option<SubType> {
     let (head, shape) = field.split_once(" : ").unwrap_or(("", field));
     let supertypes = head.trim().strip_prefix("open");
@@ -130,7 +130,7 @@ pub fn sub_types_of(alloc: Global, field: &str) -> Option<Vec<SubType>> {
     Some(types)
 }
 
-/// A group: the word `single` and a sub type, or `group` or `apart` and sub types.
+/// Returns a group: the word `single` and a sub type, or `group` or `apart` and sub types.
 pub fn group_of(alloc: Global, word: &str, types: &str) -> Option<RecGroup> {
     match word {
         "single" => Some(RecGroup::implicit(sub_type_of(alloc, types)?)),

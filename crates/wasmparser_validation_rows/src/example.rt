@@ -32,7 +32,7 @@ const FUNCTIONS: [u32; 5] = [0, 1, 2, 7, 11];
 const DECLARED: [bool; 5] = [true, false, true, false, true];
 
 impl ListedResources {
-    /// A module that has types alone, which these ids stand for.
+    /// Creates a module that has types alone, which these ids stand for.
     pub fn new(alloc: Global, known: Vec<SubType>) -> ListedResources {
         ListedResources {
             types: ListedTypes {
@@ -128,7 +128,7 @@ impl ListedResources {
         Some(())
     }
 
-    // The same of items in words.
+    // Does the same for items in words.
     fn fill(&mut self, alloc: Global) -> Option<()> {
         let tables = sub_type_of(alloc, TABLES)?;
         let globals = sub_type_of(alloc, GLOBALS)?;
@@ -137,7 +137,7 @@ impl ListedResources {
         self.add_items(&tables.fields, &globals.fields)
     }
 
-    /// A module with types of all kinds, functions of which one is imported, tables and memories of which one has 64 bits, globals of which some can be set,
+    /// Returns a module with types of all kinds, functions of which one is imported, tables and memories of which one has 64 bits, globals of which some can be set,
     /// tags, element segments, and data segments that are counted. None where memory runs out.
     pub fn example(alloc: Global) -> Option<ListedResources> {
         let known = sub_types_of(alloc, TYPES)?;

@@ -47,7 +47,7 @@ impl Model for JudgedState {
 }
 
 impl JudgedState {
-    /// A new state.
+    /// Creates a new state.
     pub fn new(alloc: Global, features: WasmFeatures) -> JudgedState {
         JudgedState {
             state: ModuleState::new(alloc, features),
@@ -127,7 +127,7 @@ fn imports(alloc: Global, state: &mut JudgedState, content: &[u8]) -> Result<(),
     Ok(())
 }
 
-// A custom section from its name on.
+// Judges a custom section from its name on.
 fn custom(state: &ModuleState, content: &[u8]) -> Result<(), Error> {
     let mut reader = BinaryReader::new(content, OFFSET);
     let name = reader.read_string()?;

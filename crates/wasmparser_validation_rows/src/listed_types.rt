@@ -46,7 +46,7 @@ impl ListedTypes {
         &self.sub(id).composite_type
     }
 
-    /// The id of a type index. It can be packed.
+    /// Returns the id of a type index. It can be packed.
     pub fn id_at(&self, type_index: u32) -> Option<CoreTypeId>
         ensures id { result ≡ slice_get self.now.ids.items type_index }
         ensures packs { IfSome result (λ id. id < packable) }
@@ -111,7 +111,7 @@ impl ListedTypes {
         }
     }
 
-    /// The greatest type above a heap type.
+    /// Returns the greatest type above a heap type.
     pub fn top(&self, heap: &HeapType) -> HeapType
         ensures { heap_type result ≡ heap_top self.now (heap_type heap.now) }
     {

@@ -11,7 +11,7 @@ use wasmparser_types::composite_type::CompositeType;
 use wasmparser_types::heap_type::AbstractHeapType;
 use wasmparser_types::index::UnpackedIndex;
 
-/// The number of a type, whatever kind of index it is named by.
+/// Returns the number of a type, whatever kind of index it is named by.
 pub(crate) fn number(it: UnpackedIndex) -> usize
     ensures { result ≡ number_of (index it) }
 {
@@ -22,7 +22,7 @@ pub(crate) fn number(it: UnpackedIndex) -> usize
     }
 }
 
-/// The abstract type right above all types of a kind.
+/// Returns the abstract type right above all types of a kind.
 pub(crate) fn kind_of(it: &CompositeType) -> AbstractHeapType
     ensures { abstract_heap_type result ≡ abstract_of (composite_type it.now) }
 {
@@ -34,7 +34,7 @@ pub(crate) fn kind_of(it: &CompositeType) -> AbstractHeapType
     }
 }
 
-/// The abstract type below all types of a kind.
+/// Returns the abstract type below all types of a kind.
 pub(crate) fn bottom_of(it: &CompositeType) -> AbstractHeapType
     ensures { abstract_heap_type result ≡ bottom_of (composite_type it.now) }
 {

@@ -25,7 +25,7 @@ fn is_function_type<R: WasmModuleResources>(resources: &R, ty: u32) -> bool
     }
 }
 
-/// The validator of a body in this room, or None where the type index names no function type.
+/// Returns the validator of a body in this room, or None where the type index names no function type.
 pub fn validator_in<R: WasmModuleResources + Drop>(
     resources: R,
     ty: u32,

@@ -128,7 +128,7 @@ fn step_through(
     broken(operators.original_position())
 }
 
-// Validates a body's locals, and then its operators one by one.
+/// Validates a body's locals, and then its operators one by one.
 fn validate_by_steps(
     validator: &mut FuncValidator<&ListedResources>,
     bytes: &[u8],
@@ -157,7 +157,7 @@ fn answer_at_once(
     if holds { Some(answer) } else { None }
 }
 
-// The same, at once or by steps.
+// Does the same, at once or by steps.
 fn answer_of(
     alloc: Global,
     resources: &ListedResources,

@@ -35,7 +35,7 @@ impl<'a> Model for CoreImports<'a> {
 }
 
 impl<'a> TypesRef<'a> {
-    /// The imports. Always `Some`, since there are no components. Those of the same two names are put together when this is called.
+    /// Returns the imports. Always `Some`, since there are no components. Those of the same two names are put together when this is called.
     ///
     /// # Errors
     /// Where memory runs out.

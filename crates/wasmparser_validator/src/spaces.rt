@@ -30,7 +30,7 @@ use wasmparser_types::index::{CoreTypeId, RecGroupId};
 use wasmparser_types::ref_type::RefType;
 use wasmparser_types::sub_type::SubType;
 
-// The id that a type has for its supertype.
+// Returns the id that a type has for its supertype.
 fn supertype_in(ty: &SubType) -> Option<CoreTypeId>
     ensures { result ≡ supertype_in (sub_type ty.now) }
 {
@@ -38,7 +38,7 @@ fn supertype_in(ty: &SubType) -> Option<CoreTypeId>
 }
 
 impl<'a> TypesRef<'a> {
-    /// The sub type that an id stands for, which names others by ids, or None where there is no such id.
+    /// Returns the sub type that an id stands for, which names others by ids, or None where there is no such id.
     pub fn get(&self, id: CoreTypeId) -> Option<&'a SubType>
         ensures all { id < length (known self.now).interned → IsSome result }
         ensures known { IfSome result (λ _. id < length (known self.now).interned) }
@@ -48,7 +48,7 @@ impl<'a> TypesRef<'a> {
         self.state().types().get(id)
     }
 
-    /// The id of the supertype that a type declares, if it does. The id is one of these types'.
+    /// Returns the id of the supertype that a type declares, if it does. The id is one of these types'.
     #[tactic(auto, using(crate::proofs::SpaceLaws::supertype_steps))]
     pub fn supertype_of(&self, id: CoreTypeId) -> Option<CoreTypeId>
         requires { id < length (known self.now).interned }
@@ -58,7 +58,7 @@ impl<'a> TypesRef<'a> {
         supertype_in(self.state().types().sub_type(id))
     }
 
-    /// The group that the type of an id came in, which is one of these types'.
+    /// Returns the group that the type of an id came in, which is one of these types'.
     pub fn rec_group_id_of(&self, id: CoreTypeId) -> RecGroupId
         requires { id < length (known self.now).interned }
         ensures { IsGroupOf (known self.now) id result }
@@ -66,7 +66,7 @@ impl<'a> TypesRef<'a> {
         self.state().types().rec_group_id_of(id)
     }
 
-    /// The ids of a group's types, in the order in which it has them. A group that isn't one of these types' has none.
+    /// Returns the ids of a group's types, in the order in which it has them. A group that isn't one of these types' has none.
     pub fn rec_group_elements(&self, id: RecGroupId) -> RecGroupElements
         ensures ids { result ≡ ids_of_group (known self.now) id }
         ensures whole { id < length (known self.now).interned_groups → IsWholeGroup (known self.now).interned result }
@@ -77,7 +77,7 @@ impl<'a> TypesRef<'a> {
         self.state().types().rec_group_elements(id)
     }
 
-    /// The id of the type with this index, which is below their number.
+    /// Returns the id of the type with this index, which is below their number.
     #[tactic(auto, using(crate::proofs::SpaceLaws::found_steps))]
     pub fn core_type_at_in_module(&self, index: u32) -> CoreTypeId
         requires { index < length (spaces self.now).types }
@@ -90,7 +90,7 @@ impl<'a> TypesRef<'a> {
         self.state().types().type_id(index).unwrap()
     }
 
-    /// The id of the type of the function with this index, which is below their number.
+    /// Returns the id of the type of the function with this index, which is below their number.
     #[tactic(auto, using(crate::proofs::SpaceLaws::found_steps))]
     pub fn core_function_at(&self, index: u32) -> CoreTypeId
         requires { index < length (spaces self.now).functions }
@@ -107,7 +107,7 @@ impl<'a> TypesRef<'a> {
         id
     }
 
-    /// The type of the table with this index, which is below their number.
+    /// Returns the type of the table with this index, which is below their number.
     pub fn table_at(&self, index: u32) -> TableType
         requires { index < length (spaces self.now).tables }
         ensures same { option_map (table_map (type_at (spaces self.now).types)) (slice_get (spaces self.now).tables index) ≡ Some (table_map (stands_for (known self.now)) (table_type result)) }
@@ -123,7 +123,7 @@ impl<'a> TypesRef<'a> {
         ty
     }
 
-    /// The type of the memory with this index, which is below their number.
+    /// Returns the type of the memory with this index, which is below their number.
     #[tactic(auto, using(crate::proofs::SpaceLaws::found_steps))]
     pub fn memory_at(&self, index: u32) -> MemoryType
         requires { index < length (spaces self.now).memories }
@@ -132,7 +132,7 @@ impl<'a> TypesRef<'a> {
         self.state().memory_at(index).unwrap()
     }
 
-    /// The type of the global with this index, which is below their number.
+    /// Returns the type of the global with this index, which is below their number.
     pub fn global_at(&self, index: u32) -> GlobalType
         requires { index < length (spaces self.now).globals }
         ensures same { option_map (global_map (type_at (spaces self.now).types)) (slice_get (spaces self.now).globals index) ≡ Some (global_map (stands_for (known self.now)) (global_type result)) }
@@ -148,7 +148,7 @@ impl<'a> TypesRef<'a> {
         ty
     }
 
-    /// The id of the function type of the tag with this index, which is below their number.
+    /// Returns the id of the function type of the tag with this index, which is below their number.
     #[tactic(auto, using(crate::proofs::SpaceLaws::found_steps))]
     pub fn tag_at(&self, index: u32) -> CoreTypeId
         requires { index < length (spaces self.now).tags }
@@ -165,7 +165,7 @@ impl<'a> TypesRef<'a> {
         id
     }
 
-    /// The type of the items of the element segment with this index, which is below their number.
+    /// Returns the type of the items of the element segment with this index, which is below their number.
     pub fn element_at(&self, index: u32) -> RefType
         requires { index < length (spaces self.now).elements }
         ensures same { option_map (ref_map (type_at (spaces self.now).types)) (slice_get (spaces self.now).elements index) ≡ Some (ref_map (stands_for (known self.now)) result) }
@@ -181,7 +181,7 @@ impl<'a> TypesRef<'a> {
         ty
     }
 
-    // The item of a kind with an index, or None where there is no such item.
+    // Returns the item of a kind with an index, or None where there is no such item.
     pub(crate) fn entity(&self, kind: ExternalKind, index: u32) -> Option<EntityType>
         ensures same { option_map (entity_type (known self.now)) result ≡ shown_item self.now.types.now.state (external_kind kind) index }
         ensures ids { IfSome result (λ entity. AreIds (known self.now) (entity_refs entity)) }
@@ -224,7 +224,7 @@ impl<'a> Index<CoreTypeId> for TypesRef<'a> {
 
     ghost index_gives = { λ types id ty. StandsFor (known types) id (sub_type ty) };
 
-    /// The sub type that a known id stands for, as [`TypesRef::get`] gives it.
+    /// Returns the sub type that a known id stands for, as [`TypesRef::get`] gives it.
     fn index(&self, id: CoreTypeId) -> &SubType {
         self.state().types().sub_type(id)
     }
@@ -241,7 +241,7 @@ impl Index<CoreTypeId> for Types {
 
     ghost index_gives = { λ types id ty. StandsFor types.state.types id (sub_type ty) };
 
-    /// The sub type that a known id stands for, as [`TypesRef::get`] gives it.
+    /// Returns the sub type that a known id stands for, as [`TypesRef::get`] gives it.
     fn index(&self, id: CoreTypeId) -> &SubType {
         let types = self.state().types();
         types.sub_type(id)

@@ -123,7 +123,7 @@ impl Types {
         self.state.copy_resources()
     }
 
-    /// The index spaces, borrowed.
+    /// Returns the index spaces, borrowed.
     pub fn as_ref(&self) -> TypesRef<'_>
         ensures { result.types.now ≡ self.now }
     {
@@ -138,7 +138,7 @@ pub struct TypesRef<'a> {
 }
 
 impl<'a> TypesRef<'a> {
-    // The state of the module.
+    // Returns the state of the module.
     pub(crate) fn state(&self) -> &'a ModuleState
         ensures same { result.now ≡ self.now.types.now.state }
         ensures shown { CanBeShown result.now }
@@ -147,7 +147,7 @@ impl<'a> TypesRef<'a> {
         types.state()
     }
 
-    /// The name of the validator that made this.
+    /// Returns the name of the validator that made this.
     pub fn id(&self) -> ValidatorId
         ensures { result ≡ self.now.types.now.id }
     {
@@ -155,63 +155,63 @@ impl<'a> TypesRef<'a> {
         types.id
     }
 
-    /// The number of types.
+    /// Returns the number of types.
     pub fn core_type_count_in_module(&self) -> u32
         ensures { result ≡ length (spaces self.now).types }
     {
         self.state().type_count() as u32
     }
 
-    /// The number of functions, imported ones counted.
+    /// Returns the number of functions, imported ones counted.
     pub fn function_count(&self) -> u32
         ensures { result ≡ length (spaces self.now).functions }
     {
         self.state().function_count() as u32
     }
 
-    /// The number of tables, imported ones counted.
+    /// Returns the number of tables, imported ones counted.
     pub fn table_count(&self) -> u32
         ensures { result ≡ length (spaces self.now).tables }
     {
         self.state().table_count() as u32
     }
 
-    /// The number of memories, imported ones counted.
+    /// Returns the number of memories, imported ones counted.
     pub fn memory_count(&self) -> u32
         ensures { result ≡ length (spaces self.now).memories }
     {
         self.state().memory_count() as u32
     }
 
-    /// The number of globals, imported ones counted.
+    /// Returns the number of globals, imported ones counted.
     pub fn global_count(&self) -> u32
         ensures { result ≡ length (spaces self.now).globals }
     {
         self.state().global_count() as u32
     }
 
-    /// The number of tags, imported ones counted.
+    /// Returns the number of tags, imported ones counted.
     pub fn tag_count(&self) -> u32
         ensures { result ≡ length (spaces self.now).tags }
     {
         self.state().tag_count() as u32
     }
 
-    /// The number of element segments.
+    /// Returns the number of element segments.
     pub fn element_count(&self) -> u32
         ensures { result ≡ length (spaces self.now).elements }
     {
         self.state().element_count() as u32
     }
 
-    /// The number of exports.
+    /// Returns the number of exports.
     pub fn export_count(&self) -> u32
         ensures { result ≡ length (spaces self.now).exports }
     {
         self.state().exports().len() as u32
     }
 
-    /// The exports in order. Always `Some`, since there are no components.
+    /// Returns the exports in order. Always `Some`, since there are no components.
     pub fn core_exports(&self) -> Option<CoreExports<'a>>
         ensures all { IsSomeAnd result (λ exports. exports_left exports ≡ (spaces self.now).exports) }
         ensures fits { IsSomeAnd result (λ exports. length (exports_left exports) < 2 ^ 64) }

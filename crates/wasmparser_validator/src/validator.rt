@@ -162,14 +162,14 @@ fn agrees_with_stated(number: u32, stated: Option<u32>) -> bool
 }
 
 impl Validator {
-    /// A validator of this name, under the default features.
+    /// Creates a validator of this name, under the default features.
     pub fn new(alloc: Global, id: ValidatorId) -> Validator
         ensures { judge result ≡ record { id = id; stage = stages.Header; features = default_features; known = at_first; held = []; bodies = 0; stated = None } }
     {
         Validator::new_with_features(alloc, WasmFeatures::default(), id)
     }
 
-    /// A validator of this name, under these features.
+    /// Creates a validator of this name, under these features.
     pub fn new_with_features(alloc: Global, features: WasmFeatures, id: ValidatorId) -> Validator
         ensures { judge result ≡ record { id = id; stage = stages.Header; features = feature_set features; known = at_first; held = []; bodies = 0; stated = None } }
     {
@@ -183,14 +183,14 @@ impl Validator {
         }
     }
 
-    /// The features under which modules are validated.
+    /// Returns the features under which modules are validated.
     pub fn features(&self) -> WasmFeatures
         ensures { feature_set result ≡ (judge self.now).features }
     {
         self.types.state().features()
     }
 
-    /// The validator's name.
+    /// Returns the validator's name.
     pub fn id(&self) -> ValidatorId
         ensures { result ≡ (judge self.now).id }
     {
@@ -698,7 +698,7 @@ impl Validator {
         }
     }
 
-    /// The module so far, in the middle of one. There are no components, so no other level than 0.
+    /// Returns the module so far, in the middle of one. There are no components, so no other level than 0.
     pub fn types(&self, level: usize) -> Option<TypesRef<'_>>
         ensures middle { is_some result ≡ ((level == 0) && is_middle (judge self.now).stage) }
         ensures shown { IfSome result (λ shown. shown.types.now ≡ self.now.types) }

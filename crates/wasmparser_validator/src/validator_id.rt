@@ -20,7 +20,7 @@ impl Model for ValidatorId {
 }
 
 impl ValidatorId {
-    /// The name with this number.
+    /// Creates the name with this number.
     pub fn new(number: usize) -> ValidatorId
         ensures { result ≡ number }
     {

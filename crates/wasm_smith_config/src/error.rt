@@ -2,6 +2,7 @@
 
 use std::alloc::AllocError;
 use thiserror::Error;
+pub use wasm_smith_unstructured::error::{EmptyChoose, NotEnoughData};
 
 /// Why no module is made.
 #[derive(Clone, Copy, Debug, PartialEq, Eq, Error)]
@@ -40,6 +41,28 @@ impl From<AllocError> for Error {
 
     fn from(_e: AllocError) -> Error {
         Error::Memory
+    }
+}
+
+impl From<EmptyChoose> for Error {
+    ghost use Rattle.std.specs.Prelude.{◌≡◌};
+    ghost use Rattle.wasm_smith_config.specs.declared.error.Error.TheVariants as errors;
+
+    ghost from_gives = { λ _ e. e ≡ errors.EmptyChoose };
+
+    fn from(_e: EmptyChoose) -> Error {
+        Error::EmptyChoose
+    }
+}
+
+impl From<NotEnoughData> for Error {
+    ghost use Rattle.std.specs.Prelude.{◌≡◌};
+    ghost use Rattle.wasm_smith_config.specs.declared.error.Error.TheVariants as errors;
+
+    ghost from_gives = { λ _ e. e ≡ errors.NotEnoughData };
+
+    fn from(_e: NotEnoughData) -> Error {
+        Error::NotEnoughData
     }
 }
 

@@ -150,11 +150,11 @@ module _ {R : Type 0} (features : Features) (items : ModuleItems R) (index : ℕ
   abbrev IsBodyKind : ErrorKind → Type 0
   IsBodyKind kind = (kind ≡ kinds.Operator) ⊎ (kind ≡ kinds.Limit core.Locals) ⊎ (kind ≡ kinds.Body) ⊎ (kind ≡ kinds.Memory)
 
-  limit_kind : (limit : Limit) (outcome : BodyOutcome) → NamesFault (kinds.Limit limit) outcome → IsBodyKind (kinds.Limit limit)
+  limit_kind : (limit : Limit) (outcome : BodyOutcome) → NamesFault ⊥ (kinds.Limit limit) outcome → IsBodyKind (kinds.Limit limit)
   limit_kind core.Locals outcome n = inr (inl refl)
   limit_kind _ outcome n = absurd n
 
-  body_kind : (kind : ErrorKind) (outcome : BodyOutcome) → NamesFault kind outcome → IsBodyKind kind
+  body_kind : (kind : ErrorKind) (outcome : BodyOutcome) → NamesFault ⊥ kind outcome → IsBodyKind kind
   body_kind (kinds.Limit l) outcome n = limit_kind l outcome n
   body_kind kinds.Operator outcome n = inl refl
   body_kind kinds.Body outcome n = inr (inr (inl refl))
@@ -162,18 +162,23 @@ module _ {R : Type 0} (features : Features) (items : ModuleItems R) (index : ℕ
   body_kind _ outcome n = absurd n
 
   -- a body is refused only where memory runs out
-  fine_limit : (limit : Limit) (outcome : BodyOutcome) → outcome ≡ Fine → NamesFault (kinds.Limit limit) outcome → ⊥
+  fine_limit : (limit : Limit) (outcome : BodyOutcome) → outcome ≡ Fine → NamesFault ⊥ (kinds.Limit limit) outcome → ⊥
   fine_limit core.Locals outcome e n = let f = sym n ∙ e in absurd cc
   fine_limit _ outcome e n = absurd n
 
-  fine_fault : (kind : ErrorKind) (outcome : BodyOutcome) → outcome ≡ Fine → NamesFault kind outcome → kind ≡ kinds.Memory
+  fine_fault : (kind : ErrorKind) (outcome : BodyOutcome) → outcome ≡ Fine → NamesFault ⊥ kind outcome → kind ≡ kinds.Memory
   fine_fault (kinds.Limit l) outcome e n = absurd (fine_limit l outcome e n)
   fine_fault kinds.Operator outcome e n = let f = sym n ∙ e in absurd cc
-  fine_fault kinds.Body outcome e n = let f = sym n ∙ e in absurd cc
+  fine_fault kinds.Body outcome e (inl n) = let f = sym n ∙ e in absurd cc
+  fine_fault kinds.Body outcome e (inr n) = absurd n
   fine_fault kinds.Memory outcome e n = refl
   fine_fault _ outcome e n = absurd n
 
-  pub validated : (body : Input) (answer : Result (Unit {0}) Error) → AreBytes body.rest → AnswersOutcome body answer (body_outcome features items index body.rest)
+  broken_alone : (outcome : BodyOutcome) → NamesFault ⊥ kinds.Body outcome → outcome ≡ Broken
+  broken_alone outcome (inl n) = n
+  broken_alone outcome (inr n) = absurd n
+
+  pub validated : (body : Input) (answer : Result (Unit {0}) Error) → AreBytes body.rest → AnswersOutcome ⊥ body answer (body_outcome features items index body.rest)
       → IsBodyValidated features items type body.rest body.position answer
   validated body (Ok x) are h = record {
     right = body_found body.rest are h;
@@ -187,13 +192,13 @@ module _ {R : Type 0} (features : Features) (items : ModuleItems R) (index : ℕ
   }
   validated body (Err e) are h =
       let outcome = body_outcome features items index body.rest in
-      let at : (kind : ErrorKind) → e.kind ≡ kind → NamesFault kind outcome = λ kind k. subst (λ k. NamesFault k outcome) k h.0 in
+      let at : (kind : ErrorKind) → e.kind ≡ kind → NamesFault ⊥ kind outcome = λ kind k. subst (λ k. NamesFault ⊥ k outcome) k h.0 in
       record {
         right = tt;
         complete = λ b. fine_fault e.kind outcome (body_again body.rest b) h.0;
         operator = λ k. operator_found body.rest are (at kinds.Operator k);
         limit = λ k. many_found body.rest are (at (kinds.Limit core.Locals) k);
-        broken = λ k. broken_is body.rest (at kinds.Body k);
+        broken = λ k. broken_is body.rest (broken_alone outcome (at kinds.Body k));
         others = body_kind e.kind outcome h.0;
         from = h.1.from;
         to = h.1.to;

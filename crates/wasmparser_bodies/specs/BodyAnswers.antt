@@ -1,5 +1,5 @@
 -- What is answered to the bytes of a body.
-use Rattle.std.specs.Prelude.{◌≡◌, ◌≤◌, ◌⊎◌, ◌+◌, ⊤, ℕ, List, length, map, Result, Ok, Err, IfErr, OnOk}
+use Rattle.std.specs.Prelude.{◌≡◌, ◌≤◌, ◌<◌, ◌⊎◌, ◌+◌, ⊤, ℕ, List, length, map, Result, Ok, Err, IfErr, OnOk}
 use Rattle.wasm_bodies.specs.Bodies.{IsFunctionBody, HasManyLocals, HasOtherOperator, parameter}
 use Rattle.wasm_bodies.specs.BodyContext.{ModuleItems, BodyContext, Local}
 use Rattle.wasm_bodies.specs.Operators.{Indexed}
@@ -11,6 +11,7 @@ use Rattle.wasm_spec.specs.Types.{FuncType}
 use Rattle.wasmparser_error.specs.declared.error.Error.{Error}
 use Rattle.wasmparser_error.specs.declared.error.ErrorKind.{ErrorKind}
 use Rattle.wasmparser_error.specs.declared.error.ErrorKind.TheVariants as kinds
+use Rattle.wasmparser_types.specs.Index.{packable}
 use Rattle.wasmparser_bodies.specs.CodeReading.{BodyOutcome, Fine, ManyLocals, OtherOperator, Broken, code_outcome}
 use Rattle.wasmparser_bodies.specs.LocalsReading.{LocalsOutcome, Locals, TooMany, NoLocals, locals_outcome}
 
@@ -37,18 +38,22 @@ body_outcome features items index bytes = typed_outcome features items index (fr
 
 -- ---- what calls return
 
--- what a refusal names
-abbrev pub NamesFault : ErrorKind → BodyOutcome → Type 0
-NamesFault kinds.Body outcome = outcome ≡ Broken
-NamesFault kinds.Operator outcome = outcome ≡ OtherOperator
-NamesFault (kinds.Limit core.Locals) outcome = outcome ≡ ManyLocals
-NamesFault kinds.Memory outcome = ⊤
-NamesFault _ outcome = ⊥
+-- There are more types than type indexes that can be packed, so that the bytes of a body may name one that its reader can't.
+abbrev pub HasManyTypes : {R : Type 0} → ModuleItems R → Type 0
+HasManyTypes items = packable < length items.types
+
+-- what a refusal names; a body that is right may be refused as broken where a type that it names can't be packed
+abbrev pub NamesFault : Type 0 → ErrorKind → BodyOutcome → Type 0
+NamesFault unpacked kinds.Body outcome = (outcome ≡ Broken) ⊎ unpacked
+NamesFault unpacked kinds.Operator outcome = outcome ≡ OtherOperator
+NamesFault unpacked (kinds.Limit core.Locals) outcome = outcome ≡ ManyLocals
+NamesFault unpacked kinds.Memory outcome = ⊤
+NamesFault unpacked _ outcome = ⊥
 
 -- the result of a call that validates what stands before a reader; a refusal has its place there
-abbrev pub AnswersOutcome : {X : Type 0} → Input → Result X Error → BodyOutcome → Type 0
-AnswersOutcome old (Ok x) outcome = outcome ≡ Fine
-AnswersOutcome old (Err e) outcome = NamesFault e.kind outcome × IsWithin old e.offset
+abbrev pub AnswersOutcome : {X : Type 0} → Type 0 → Input → Result X Error → BodyOutcome → Type 0
+AnswersOutcome unpacked old (Ok x) outcome = outcome ≡ Fine
+AnswersOutcome unpacked old (Err e) outcome = NamesFault unpacked e.kind outcome × IsWithin old e.offset
 
 -- ---- what they mean
 

@@ -10,7 +10,7 @@ use Rattle.wasmparser_error.specs.declared.error.Error.{Error}
 use Rattle.wasmparser_error.specs.declared.error.ErrorKind.{ErrorKind}
 use Rattle.wasmparser_error.specs.declared.error.ErrorKind.TheVariants as kinds
 use Rattle.wasmparser_types.specs.Index.{Index}
-use Rattle.wasmparser_bodies.specs.BodyAnswers.{NamesFault, context_of, with_code}
+use Rattle.wasmparser_bodies.specs.BodyAnswers.{HasManyTypes, NamesFault, context_of, with_code}
 use Rattle.wasmparser_bodies.specs.CodeReading.{BodyOutcome, code_outcome}
 use Rattle.wasmparser_bodies.specs.LocalsReading.{locals_outcome}
 
@@ -66,4 +66,4 @@ ValidatesOperator offset operator old new (Err e) = IsRefusedStep e.kind e.offse
 abbrev pub ReadsStep : BodyState → BodyState → Input → Input → Result (Unit {0}) Error → Type 0
 ReadsStep old new from to (Ok x) =
     (code_outcome (context_in old) old.machine from.rest ≡ code_outcome (context_in old) new.machine to.rest) × (new ≡ with_machine_in new.machine old) × GoesOn from to
-ReadsStep old new from to (Err e) = NamesFault e.kind (code_outcome (context_in old) old.machine from.rest) × IsWithin from e.offset
+ReadsStep old new from to (Err e) = NamesFault (HasManyTypes old.items) e.kind (code_outcome (context_in old) old.machine from.rest) × IsWithin from e.offset

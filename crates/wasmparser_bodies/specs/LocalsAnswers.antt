@@ -15,6 +15,7 @@ use Rattle.wasmparser_types.specs.Index.{Index}
 use Rattle.wasmparser_types.specs.declared.val_type.ValType as code
 use Rattle.wasmparser_readers.specs.Answers.{HasLargeIndex}
 use Rattle.wasmparser_operators.specs.OperatorValues.{IsOfModule, module_type}
+use Rattle.wasmparser_bodies.specs.BodyAnswers.{HasManyTypes}
 use Rattle.wasmparser_bodies.specs.BodyStates.{BodyState, with_locals_in}
 use Rattle.wasmparser_bodies.specs.LocalsReading.{LocalsOutcome, Locals, TooMany, NoLocals, run_at, with_run, locals_outcome}
 
@@ -40,12 +41,12 @@ ReadsLocalType old new None = (val_type_at old.rest ≡ None) ⊎ HasLargeIndex 
 
 -- ---- what is validated
 
--- what a refusal names
-abbrev pub NamesLocalsFault : ErrorKind → LocalsOutcome Index → Type 0
-NamesLocalsFault kinds.Body outcome = outcome ≡ NoLocals
-NamesLocalsFault (kinds.Limit core.Locals) outcome = outcome ≡ TooMany
-NamesLocalsFault kinds.Memory outcome = ⊤
-NamesLocalsFault _ outcome = ⊥
+-- what a refusal names; locals that are right may be refused as broken where a type that they name can't be packed
+abbrev pub NamesLocalsFault : Type 0 → ErrorKind → LocalsOutcome Index → Type 0
+NamesLocalsFault unpacked kinds.Body outcome = (outcome ≡ NoLocals) ⊎ unpacked
+NamesLocalsFault unpacked (kinds.Limit core.Locals) outcome = outcome ≡ TooMany
+NamesLocalsFault unpacked kinds.Memory outcome = ⊤
+NamesLocalsFault unpacked _ outcome = ⊥
 
 abbrev pub Others : Type 0
 Others = List (Local Index) → List ℕ → LocalsOutcome Index
@@ -56,9 +57,9 @@ run_outcome state bytes others = with_run state.features state.items state.local
 -- What a call returned that reads a run: whatever the outcome of the rest is, it is the same with the run as without it, or the run is refused.
 abbrev pub ReadsRun : BodyState → BodyState → Input → Input → Result (Unit {0}) Error → Type 0
 ReadsRun old new from to (Ok x) = ((others : Others) → run_outcome old from.rest others ≡ others new.locals to.rest) × (new ≡ with_locals_in new.locals old) × GoesOn from to
-ReadsRun old new from to (Err e) = ((others : Others) → NamesLocalsFault e.kind (run_outcome old from.rest others)) × IsWithin from e.offset
+ReadsRun old new from to (Err e) = ((others : Others) → NamesLocalsFault (HasManyTypes old.items) e.kind (run_outcome old from.rest others)) × IsWithin from e.offset
 
 -- What a call returned that reads all runs.
 abbrev pub ReadsLocals : BodyState → BodyState → Input → Input → Result (Unit {0}) Error → Type 0
 ReadsLocals old new from to (Ok x) = (locals_outcome old.features old.items old.locals from.rest ≡ Locals new.locals to.rest) × (new ≡ with_locals_in new.locals old) × GoesOn from to
-ReadsLocals old new from to (Err e) = NamesLocalsFault e.kind (locals_outcome old.features old.items old.locals from.rest) × IsWithin from e.offset
+ReadsLocals old new from to (Err e) = NamesLocalsFault (HasManyTypes old.items) e.kind (locals_outcome old.features old.items old.locals from.rest) × IsWithin from e.offset

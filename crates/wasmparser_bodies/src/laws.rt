@@ -47,10 +47,10 @@ pub fn bodies<R>()
         ↔ ((¬ (IsFunctionBody features items type bytes)) × (¬ (HasManyLocals features items type bytes)) × (¬ (HasOtherOperator features items type bytes))) }
 {}
 
-/// An answer that is the outcome of the bytes is the right one.
+/// An answer that is the outcome of the bytes, none of whose types is too many to be named, is the right one.
 pub fn answers<R>()
     ensures { (features : Features) (items : ModuleItems R) (index : ℕ) (type : FuncType R) (body : Input) (answer : Result (Unit {0}) Error) → func_at items index ≡ Some type → AreBytes body.rest
-        → AnswersOutcome body answer (body_outcome features items index body.rest) → IsBodyValidated features items type body.rest body.position answer }
+        → AnswersOutcome ⊥ body answer (body_outcome features items index body.rest) → IsBodyValidated features items type body.rest body.position answer }
 {}
 
 /// Where nothing was validated, the rest is a whole body.

@@ -3,10 +3,9 @@
 ghost use Rattle.std.specs.Prelude.{◌≡◌, ◌≢◌, ◌<◌, ◌≤◌, [], IfOk, length, true};
 ghost use Rattle.wasm_core_read.specs.Input.{GoesOn};
 ghost use Rattle.wasm_spec.specs.Limits as limits;
-ghost use Rattle.wasmparser_bodies.specs.BodyAnswers.{AnswersOutcome};
+ghost use Rattle.wasmparser_bodies.specs.BodyAnswers.{AnswersOutcome, HasManyTypes};
 ghost use Rattle.wasmparser_bodies.specs.BodyStates.{HasEnded, ReadsStep, context_in, rest_outcome, with_machine_in};
 ghost use Rattle.wasmparser_bodies.specs.CodeReading.{code_outcome};
-ghost use Rattle.wasmparser_types.specs.Index.{packable};
 
 use crate::body_validator::{BodyValidator, broken};
 use crate::read_locals::read_locals;
@@ -18,7 +17,6 @@ use wasmparser_readers::passing::fork;
 // Reads the next operator and validates it.
 fn read_step<B: BodyValidator>(reader: &mut OperatorsReader<'_>, body: &mut B) -> Result<(), Error>
     requires ready { (B.state body.old).is_ready ≡ true }
-    requires few { length (B.state body.old).items.types ≤ packable }
     requires open { (B.state body.old).machine.frames ≢ [] }
     requires same_features { reader.old.input.features ≡ (B.state body.old).features }
     ensures kept { B.kept body.new ≡ B.kept body.old }
@@ -48,7 +46,6 @@ fn operators_of<'a>(reader: &OperatorsReader<'a>, rest: &'a [u8]) -> OperatorsRe
 // Validates operators at once, and then reads the next one and validates it.
 fn read_on<B: BodyValidator>(reader: &mut OperatorsReader<'_>, body: &mut B) -> Result<(), Error>
     requires ready { (B.state body.old).is_ready ≡ true }
-    requires few { length (B.state body.old).items.types ≤ packable }
     requires open { (B.state body.old).machine.frames ≢ [] }
     requires same_features { reader.old.input.features ≡ (B.state body.old).features }
     ensures kept { B.kept body.new ≡ B.kept body.old }
@@ -63,9 +60,8 @@ fn read_on<B: BodyValidator>(reader: &mut OperatorsReader<'_>, body: &mut B) -> 
 // Reads operators up to the end of the body, after which nothing may stand.
 fn read_code<B: BodyValidator>(reader: &mut OperatorsReader<'_>, body: &mut B) -> Result<(), Error>
     requires ready { (B.state body.old).is_ready ≡ true }
-    requires few { length (B.state body.old).items.types ≤ packable }
     requires same_features { reader.old.input.features ≡ (B.state body.old).features }
-    ensures answers { AnswersOutcome reader.old.input result (code_outcome (context_in (B.state body.old)) (B.state body.old).machine reader.old.input.rest) }
+    ensures answers { AnswersOutcome (HasManyTypes (B.state body.old).items) reader.old.input result (code_outcome (context_in (B.state body.old)) (B.state body.old).machine reader.old.input.rest) }
     ensures kept { B.kept body.new ≡ B.kept body.old }
     ensures ended { IfOk result (λ _. ((B.state body.new).machine.frames ≡ []) × (B.state body.new ≡ with_machine_in (B.state body.new).machine (B.state body.old))) }
 {
@@ -83,13 +79,13 @@ fn read_code<B: BodyValidator>(reader: &mut OperatorsReader<'_>, body: &mut B) -
 ///
 /// # Errors
 /// `Limit` where there are too many locals, `Operator` where a code stands that no operator has, after locals and operators that a body may
-/// begin with, `Body` where the body is broken otherwise, `Memory` where memory runs out: each at a place of the body or its end.
+/// begin with, `Body` where the body is broken otherwise or names a type whose index can't be packed, `Memory` where memory runs out: each at a place of the body
+/// or its end.
 pub fn read_body<B: BodyValidator>(reader: &mut BinaryReader<'_>, body: &mut B) -> Result<(), Error>
     requires ready { (B.state body.old).is_ready ≡ true }
-    requires few { length (B.state body.old).items.types ≤ packable }
     requires same_features { reader.old.features ≡ (B.state body.old).features }
     requires within { length (B.state body.old).locals ≤ limits.most limits.Locals }
-    ensures answers { AnswersOutcome reader.old result (rest_outcome (B.state body.old) reader.old.rest) }
+    ensures answers { AnswersOutcome (HasManyTypes (B.state body.old).items) reader.old result (rest_outcome (B.state body.old) reader.old.rest) }
     ensures kept { B.kept body.new ≡ B.kept body.old }
     ensures ended { IfOk result (λ _. HasEnded (B.state body.old) (B.state body.new)) }
 {

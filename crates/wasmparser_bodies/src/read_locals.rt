@@ -3,7 +3,6 @@
 ghost use Rattle.std.specs.Prelude.{◌≡◌, ◌≤◌, length, true};
 ghost use Rattle.wasm_spec.specs.Limits as limits;
 ghost use Rattle.wasmparser_bodies.specs.LocalsAnswers.{ReadsLocalType, ReadsLocals, ReadsRun};
-ghost use Rattle.wasmparser_types.specs.Index.{packable};
 
 use crate::body_validator::{BodyValidator, broken};
 use wasm_core_read::binary_reader::BinaryReader;
@@ -27,7 +26,6 @@ fn read_local_type(reader: &mut BinaryReader<'_>) -> Option<ValType>
 // Reads a run of locals, and adds them.
 fn read_run<B: BodyValidator>(reader: &mut BinaryReader<'_>, body: &mut B) -> Result<(), Error>
     requires ready { (B.state body.old).is_ready ≡ true }
-    requires few { length (B.state body.old).items.types ≤ packable }
     ensures read { ReadsRun (B.state body.old) (B.state body.new) reader.old reader.new result }
     ensures kept { B.kept body.new ≡ B.kept body.old }
 {
@@ -44,14 +42,13 @@ fn read_run<B: BodyValidator>(reader: &mut BinaryReader<'_>, body: &mut B) -> Re
 /// Reads the locals that a body declares, and adds them to its parameters. The reader stands at the body's first byte.
 ///
 /// # Errors
-/// `Body` where a run doesn't read, or its type is not allowed or there is none, `Limit` where there are too many locals, `Memory` where memory runs out: each at a
+/// `Body` where a run doesn't read, its type is not allowed, there is none, or its index can't be packed, `Limit` where there are too many locals, `Memory` where memory
 /// runs out: each at a place of the reader's bytes or their end.
 pub fn read_locals<B: BodyValidator>(
     reader: &mut BinaryReader<'_>,
     body: &mut B,
 ) -> Result<(), Error>
     requires ready { (B.state body.old).is_ready ≡ true }
-    requires few { length (B.state body.old).items.types ≤ packable }
     requires within { length (B.state body.old).locals ≤ limits.most limits.Locals }
     ensures read { ReadsLocals (B.state body.old) (B.state body.new) reader.old reader.new result }
     ensures kept { B.kept body.new ≡ B.kept body.old }

@@ -2,7 +2,6 @@ mod BlockLaws
 mod BranchLaws
 mod EmptyBlocks
 mod LookupLaws
-mod ManyTypes
 mod OperandLaws
 mod PlainCodes
 mod PlainLaws

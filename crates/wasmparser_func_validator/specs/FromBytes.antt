@@ -31,10 +31,6 @@ pub record Given (T : Type 0) : Type 0 where
 abbrev pub failed_at : ℕ → Error
 failed_at position = record { offset = position; kind = kinds.Failed }
 
--- what is refused where there are more types than type indexes that can be packed
-abbrev pub past_types : ℕ → Error
-past_types position = record { offset = position; kind = kinds.Limit core.Types }
-
 -- no runs declare locals of a function of this type
 abbrev pub DeclaresNone : Features → ModuleItems Index → FuncType Index → List ℕ → Type 0
 DeclaresNone features items type bytes = (locals : List (Local Index)) (rest : List ℕ) → ¬ (Declares features items type bytes locals rest)

@@ -1,64 +1,38 @@
 //! Bodies validated from their bytes.
 
-ghost use Rattle.std.specs.Prelude.{◌≡◌, ◌≤◌, ◌<◌, [], Err, IfErr, IfOk, Some, false, length, map, true};
+ghost use Rattle.std.specs.Prelude.{◌≡◌, ◌≤◌, [], Err, IfErr, IfOk, Some, false, length, map, true};
 ghost use Rattle.wasm_bodies.specs.Bodies.{parameter};
 ghost use Rattle.wasm_bodies.specs.BodyContext.{func_at};
 ghost use Rattle.wasm_core_types.specs.Features.{feature_set};
 ghost use Rattle.wasm_spec.specs.Types as types;
-ghost use Rattle.wasmparser_bodies.specs.BodyAnswers.{AnswersOutcome, IsBodyValidated};
+ghost use Rattle.wasmparser_bodies.specs.BodyAnswers.{AnswersOutcome, HasManyTypes, IsBodyValidated};
 ghost use Rattle.wasmparser_bodies.specs.LocalsAnswers.{ReadsLocals};
 ghost use Rattle.wasmparser_bodies.specs.BodyStates.{IsAtStart, rest_outcome};
-ghost use Rattle.wasmparser_func_validator.specs.FromBytes.{ReadsDeclared, failed_at, past_types};
+ghost use Rattle.wasmparser_func_validator.specs.FromBytes.{ReadsDeclared, failed_at};
 ghost use Rattle.wasmparser_func_validator.specs.Steps.{items_in, locals_in_body};
 ghost use Rattle.wasmparser_func_validator.specs.Validation.{is_refused};
 ghost use Rattle.wasmparser_types.specs.Index.{Index, packable};
 
 use crate::func_validator::{FuncValidator, failed};
 use wasm_core_read::binary_reader::BinaryReader;
-use wasm_core_types::limits::Limit;
 use wasmparser_bodies::body_validator::BodyValidator;
 use wasmparser_bodies::module_resources::WasmModuleResources;
 use wasmparser_bodies::read_body::read_body;
 use wasmparser_bodies::read_locals::read_locals;
-use wasmparser_error::error::{Error, ErrorKind};
+use wasmparser_error::error::Error;
 use wasmparser_payloads::function_body::FunctionBody;
 use wasmparser_readers::passing::fork;
 
-// The first type index that can't be packed. A module that the limits let through has fewer types.
-const FIRST_UNPACKED: u32 = 1 << 20;
-
-// Creates the error for a module with more types than indexes that can be packed.
-fn past_types(offset: u64) -> Error
-    ensures { result ≡ past_types offset }
-{
-    Error {
-        offset,
-        kind: ErrorKind::Limit(Limit::Types),
-    }
-}
-
 impl<T: WasmModuleResources> FuncValidator<T> {
-    // Checks that the module has more types than indexes that can be packed.
-    #[tactic(auto, using(crate::proofs::ManyTypes::type_counts))]
-    fn has_many_types(&self) -> bool
-        ensures few { result ≡ false → length (items_in T.resources self.now.body).types ≤ packable }
-        ensures many { result ≡ true → packable < length (items_in T.resources self.now.body).types }
-    {
-        let first = self.body.resources.sub_type_at(FIRST_UNPACKED);
-        first.is_some()
-    }
-
     /// Reads the locals that a body declares, and adds them to those that there are. The reader stands at the body's first byte, and after a refusal
     /// it stands there still.
     ///
     /// # Errors
-    /// `Body` where a run doesn't read, or its type is not allowed or there is none, `Limit` where there are too many locals, `Memory` where memory runs out, each at a
-    /// place of the reader's bytes or their end; or `Failed` at the body's first byte after a refusal. There also `Limit`, of types, where the module has more of them
-    /// than the 2^20 that types of locals can name.
+    /// `Body` where a run doesn't read, its type is not allowed, there is none, or its index is 2^20 or more, `Limit` where there are too many locals, `Memory` where
+    /// memory runs out, each at a place of the reader's bytes or their end; or `Failed` at the body's first byte after a refusal.
     pub fn read_locals(&mut self, reader: &mut BinaryReader<'_>) -> Result<(), Error>
-        ensures read { self.old.failed ≡ false → length (items_in T.resources self.old.body).types ≤ packable → ReadsLocals (⟦<FuncValidator<T> as BodyValidator>⟧.state self.old) (⟦<FuncValidator<T> as BodyValidator>⟧.state self.new) reader.old reader.new result }
+        ensures read { self.old.failed ≡ false → ReadsLocals (⟦<FuncValidator<T> as BodyValidator>⟧.state self.old) (⟦<FuncValidator<T> as BodyValidator>⟧.state self.new) reader.old reader.new result }
         ensures declared { self.old.failed ≡ false → length (items_in T.resources self.old.body).types ≤ packable → (type : types.FuncType Index) → locals_in_body T.resources self.old.body ≡ map parameter type.params → ReadsDeclared (feature_set self.old.body.features) (items_in T.resources self.old.body) type reader.old reader.new (locals_in_body T.resources self.new.body) result }
-        ensures many_types { self.old.failed ≡ false → packable < length (items_in T.resources self.old.body).types → result ≡ Err (past_types reader.old.position) }
         ensures after_refusal { self.old.failed ≡ true → (result ≡ Err (failed_at reader.old.position)) × (self.new ≡ self.old) }
         ensures failed { self.new.failed ≡ is_refused result }
         ensures stays { IfErr result (λ _. reader.new ≡ reader.old) }
@@ -66,10 +40,6 @@ impl<T: WasmModuleResources> FuncValidator<T> {
     {
         if self.failed {
             return Err(failed(reader.original_position()));
-        }
-        if self.has_many_types() {
-            self.failed = true;
-            return Err(past_types(reader.original_position()));
         }
         // (there are no more locals than the limit lets through)
         let _ = self.body.local_count();
@@ -86,12 +56,11 @@ impl<T: WasmModuleResources> FuncValidator<T> {
     ///
     /// # Errors
     /// `Limit` where there are too many locals, `Operator` where a code stands that no operator has, after locals and operators that a body
-    /// may begin with, `Body` where the body is broken otherwise, `Memory` where memory runs out, each at a place of the body or its end. Or `Failed` at the body's
+    /// may begin with, `Body` where the body is broken otherwise, or names a value type whose index is 2^20 or more, `Memory` where memory runs out, each at a place of the
     /// body or its end. Or `Failed` at the body's first byte after a refusal.
     pub fn validate(&mut self, body: &FunctionBody<'_>) -> Result<(), Error>
         ensures validated { self.old.failed ≡ false → length (items_in T.resources self.old.body).types ≤ packable → IsAtStart (⟦<FuncValidator<T> as BodyValidator>⟧.state self.old) → (type : types.FuncType Index) → func_at (items_in T.resources self.old.body) self.old.body.ty ≡ Some type → IsBodyValidated (feature_set self.old.body.features) (items_in T.resources self.old.body) type body.now.rest body.now.position result }
-        ensures answers { self.old.failed ≡ false → length (items_in T.resources self.old.body).types ≤ packable → AnswersOutcome body.now result (rest_outcome (⟦<FuncValidator<T> as BodyValidator>⟧.state self.old) body.now.rest) }
-        ensures many_types { self.old.failed ≡ false → packable < length (items_in T.resources self.old.body).types → result ≡ Err (past_types body.now.position) }
+        ensures answers { self.old.failed ≡ false → AnswersOutcome (HasManyTypes (items_in T.resources self.old.body)) body.now result (rest_outcome (⟦<FuncValidator<T> as BodyValidator>⟧.state self.old) body.now.rest) }
         ensures after_refusal { self.old.failed ≡ true → (result ≡ Err (failed_at body.now.position)) × (self.new ≡ self.old) }
         ensures failed { self.new.failed ≡ is_refused result }
         ensures ended { IfOk result (λ _. self.new.stacks.frames ≡ []) }
@@ -100,10 +69,6 @@ impl<T: WasmModuleResources> FuncValidator<T> {
         let mut reader = body.get_binary_reader();
         if self.failed {
             return Err(failed(reader.original_position()));
-        }
-        if self.has_many_types() {
-            self.failed = true;
-            return Err(past_types(reader.original_position()));
         }
         // (there are no more locals than the limit lets through)
         let _ = self.body.local_count();

@@ -10,7 +10,7 @@ use Rattle.wasmparser_constants.proofs.TakingLaws.{judges_on}
 use Rattle.wasmparser_constants.specs.Steps as steps
 use Rattle.wasmparser_constants.specs.Steps.{BeginsRightly}
 use Rattle.wasmparser_error.specs.declared.error.Error.{Error}
-use Rattle.wasmparser_module_state.specs.Initialisers.{Judges}
+use Rattle.wasmparser_module_state.specs.Initialisers.{BeginsAddress, Judges}
 
 pub mapped_item : {A B : Type 0} (f : A → B) (xs : List A) (i : ℕ) → option_map f (slice_get xs i) ≡ slice_get (map f xs) i
 mapped_item f [] i = refl
@@ -29,9 +29,10 @@ module _ (features : Features) (cx : Context) where
   of_index false expression is = is
 
   pub fits_memory : (found : Option MemoryType) (memory : MemoryType) (type : ValType ℕ) (expression : ConstantExpression) (place : ℕ) (result : Result (Unit {0}) Error) → Some memory ≡ found
-      → type ≡ (if memory.is_64 then I64 else I32) → steps.Judges place (IsConstantFor features cx type expression) (BeginsRightly features cx expression) result → Judges place (FitsMemory features cx expression found) result
+      → type ≡ (if memory.is_64 then I64 else I32) → steps.Judges place (IsConstantFor features cx type expression) (BeginsRightly features cx expression) result
+      → steps.Judges place (FitsMemory features cx expression found) (BeginsAddress features cx expression found) result
   fits_memory found memory type expression place result is typed judged =
-      rw (← is) (judges_on place (as_index memory.is_64 expression) (of_index memory.is_64 expression) (λ begins. tt) result (subst (λ t. steps.Judges place (IsConstantFor features cx t expression) (BeginsRightly features cx expression) result) typed judged))
+      rw (← is) (judges_on place (as_index memory.is_64 expression) (of_index memory.is_64 expression) (λ begins. begins) result (subst (λ t. steps.Judges place (IsConstantFor features cx t expression) (BeginsRightly features cx expression) result) typed judged))
 
   pub fits_table : (found : Option (TableType ℕ)) (table : TableType ℕ) (items type : ValType ℕ) (expression : ConstantExpression) (place : ℕ) (result : Result (Unit {0}) Error) → Some table ≡ found
       → IsBelow cx items (value_of table.element_type) → type ≡ (if table.limits.is_64 then I64 else I32) → steps.Judges place (IsConstantFor features cx type expression) (BeginsRightly features cx expression) result

@@ -21,13 +21,13 @@ use Rattle.wasmparser_error.specs.declared.error.ErrorKind.TheVariants as kinds
 use Rattle.wasmparser_payloads.specs.EntryReading.{EntryReading}
 use Rattle.wasmparser_module_types.specs.ModuleTypes.{IsGroupRightSoFar}
 use Rattle.wasmparser_constants.specs.Steps.{BeginsRightly}
-use Rattle.wasmparser_module_state.specs.Initialisers.{BeginsFilled}
+use Rattle.wasmparser_module_state.specs.Initialisers.{BeginsFilled, BeginsPlaced}
 use Rattle.wasmparser_module_state.specs.History.{EnterAll, OneFindsNoRoom, FindsNoRoom}
 use Rattle.wasmparser_readers.specs.Sections.{Left, left_items}
 use Rattle.wasmparser_types.specs.Index.{packable}
 
 -- An entry for which memory ran out keeps this. Functions, memories and tags keep all rules and limits; tables and globals the limits, and the rule on their type, and
--- what they begin as is right up to an operator of it; exports the limits, and may name their item; segments the limits; imports are few enough; groups of types keep
+-- what they begin as is right up to an operator of it; data segments the limits, and what they begin with is right likewise; element segments the limits; exports the limits, and may name their item; imports are few enough; groups of types keep
 -- the limits but that on depth, are allowed, and refer to types that are there. Other entries take no memory.
 abbrev pub IsRightSoFar : Features → Context → Entry → Type 0
 IsRightSoFar features cx (OfType group) = IsGroupRightSoFar features cx.types cx.groups group
@@ -39,7 +39,7 @@ IsRightSoFar features cx (OfTag index) = Keeps features cx (OfTag index) × IsWi
 IsRightSoFar features cx (OfGlobal global) = (is_value features cx global.type.value_type ≡ true) × IsWithinLimits cx (OfGlobal global) × BeginsRightly features cx global.initialiser
 IsRightSoFar features cx (OfExport export) = (may_leave features (item_at cx export.kind export.index) ≡ true) × IsWithinLimits cx (OfExport export)
 IsRightSoFar features cx (OfElement segment) = IsWithinLimits cx (OfElement segment)
-IsRightSoFar features cx (OfData segment) = IsWithinLimits cx (OfData segment)
+IsRightSoFar features cx (OfData segment) = IsWithinLimits cx (OfData segment) × BeginsPlaced features cx segment.mode
 IsRightSoFar features cx _ = ⊥
 
 -- memory ran out for one of these entries, and those before it keep all rules and limits

@@ -1,9 +1,10 @@
 //! Element segments (Core Specification 3.0, Validation, "Element Segments").
 
-ghost use Rattle.std.specs.Prelude.{◌≡◌, ◌≤◌, ◌<◌, ◌++◌, ◌∷◌, [], refl, IfErr, IfOk, Some, option_map, slice_get, false};
+ghost use Rattle.std.specs.Prelude.{◌≡◌, ◌≤◌, ◌<◌, ◌++◌, ◌∷◌, [], refl, IfErr, IfOk, Some, option_map, slice_get, true, false};
 ghost use Rattle.std.specs.List.{AllByRecursion, flat_map};
 ghost use Rattle.wasm_core_read.specs.ConstantReading.{expression_at};
 ghost use Rattle.wasm_core_read.specs.Reading.{unsigned_at};
+ghost use Rattle.wasm_spec.specs.Features.{BulkMemory, has};
 ghost use Rattle.wasm_spec.specs.TypeReferences.{ref_map, val_map};
 ghost use Rattle.wasm_validity.specs.ConstantTyping.{IsConstantFor};
 ghost use Rattle.wasm_validity.specs.Context.{element_type, named_at_element, named_in, named_in_items, with_functions};
@@ -168,6 +169,16 @@ impl ModuleState {
             return Err(refusal(offset, ErrorKind::Invalid));
         }
         self.add_initialiser(index, &index_type(table.table64), offset)
+    }
+
+    // Checks that bulk memory is on, with which segments came that aren't active.
+    fn check_bulk_memory(&self, offset: u64) -> Result<(), Error>
+        ensures { Judges offset (has (features_of self.now) BulkMemory ≡ true) result }
+    {
+        if !self.features().bulk_memory() {
+            return Err(refusal(offset, ErrorKind::Invalid));
+        }
+        Ok(())
     }
 
     // Judges when a segment is used whose items are of this type, and declares the functions that its index names.

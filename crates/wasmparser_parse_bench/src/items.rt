@@ -36,7 +36,7 @@ fn count_in_segments<'a>(alloc: Global, section: SectionLimited<'a, Element<'a>>
     Some(count)
 }
 
-/// The number of items of a payload, or None where one is refused.
+/// Returns the number of items of a payload, or None where one is refused.
 pub fn count_items(alloc: Global, payload: Payload<'_>) -> Option<u64> {
     match payload {
         Payload::TypeSection(section) => count_in(alloc, section),

@@ -168,7 +168,7 @@ answered_by_ids features sections ids interned sub_types index type test bytes p
 pub answer_by_ids : (features : Features) (sections : List Section) (ids : List ℕ) (interned : List DefType) (sub_types : List (SubType Index)) (index : ℕ) (type : FuncType ℕ) (body : Input)
     (answer : Result (Unit {0}) Error) → KeepRules features at_first (entries_of sections) → AreKnown features (context_of sections).types ids interned sub_types
     → func_type_in (types_of sections) index ≡ Some type → AreBytes body.rest
-    → AnswersOutcome body answer (body_outcome features (items_by_ids ids sub_types (context_of sections)) index body.rest) → IsBodyJudged features sections type body.rest body.position answer
+    → AnswersOutcome ⊥ body answer (body_outcome features (items_by_ids ids sub_types (context_of sections)) index body.rest) → IsBodyJudged features sections type body.rest body.position answer
 answer_by_ids features sections ids interned sub_types index type body answer keep known named are outcome =
     let function = same_function features sections keep ids interned sub_types known index ∙ ap (option_map (func_map (index_at ids))) named in
     judged_by_ids features sections ids interned sub_types index type body.rest body.position answer keep known named

@@ -1,18 +1,19 @@
 -- How a validator goes from piece to piece.
-use Rattle.std.proofs.Common.{◌≡◌, inl, inr, ◌<◌, ℕ, true, false, List, [], ◌∷◌, length, Ok, refl, sym, ap, ◌∙◌, arith}
+use Rattle.std.proofs.Common.{◌≡◌, inl, inr, ◌<◌, ℕ, true, false, List, [], ◌∷◌, length, Ok, refl, sym, ap, subst, ◌∙◌, arith}
 use Rattle.std.proofs.lemmas.Bool.Decides.{nat_tests}
 use Rattle.wasm_core_read.specs.Input.{Input}
 use Rattle.wasm_spec.specs.Trees.{DefType}
 use Rattle.wasm_spec.specs.Features.{Features}
 use Rattle.wasm_validity.specs.Context.{Context, after_all}
 use Rattle.wasm_validity.specs.Entries.{OfBody}
+use Rattle.wasm_validity.specs.Rules.{KeepLimits}
 use Rattle.wasmparser_payloads.specs.PieceEntries.{entries_said, items_of, said_first}
 use Rattle.wasmparser_error.specs.declared.error.Error.{Error}
 use Rattle.wasmparser_error.specs.declared.error.ErrorKind.{ErrorKind}
 use Rattle.wasmparser_error.specs.declared.error.ErrorKind.TheVariants as kinds
 use Rattle.wasmparser_payloads.specs.Pieces.{Piece, Version, Types, Imports, Functions, Tables, Memories, Tags, Globals, Exports, Start, Elements, DataCount, CodeStart, Body, Segments, Custom, Unknown, End}
 use Rattle.wasmparser_validator.specs.PieceJudging.{AddsPiece, IsInPiece, NamesPiece, Says}
-use Rattle.wasmparser_validator.specs.Judges.{AcceptsPiece, IsOutOfOrder, Judge, NamesWaited, RefusesPiece, after_piece, agrees, follows_bodies, is_body, is_end, may_stand_between, is_version, place_of, stage_after, waiting, waits_for, waits_in}
+use Rattle.wasmparser_validator.specs.Judges.{AcceptsPiece, IsBodyWithin, IsOutOfOrder, Judge, NamesWaited, RefusesPiece, after_piece, agrees, follows_bodies, is_end, may_stand_between, is_version, place_of, stage_after, waiting, waits_for, waits_in}
 use Rattle.wasmparser_validator.specs.Stages.{may_begin}
 use Rattle.wasmparser_validator.specs.declared.validator.Stage.{Stage}
 use Rattle.wasmparser_validator.specs.declared.validator.Stage.TheVariants as stages
@@ -99,10 +100,14 @@ pub end_refused : (old new : Judge) (position : ℕ) (e : Error) → waits_for o
 unfolding is_end place_of
 end_refused old new position e waited agreed memory failed = rw (waited, memory) (inr (inl (refl, agreed)), inl refl, failed)
 
--- memory runs out at a body
-pub body_refused : (old new : Judge) (piece : Piece) (e : Error) (offset : ℕ) → waits_for old piece ≡ true → is_body piece ≡ true → offset ≡ place_of piece → e ≡ record { offset = offset; kind = kinds.Memory }
-    → new ≡ waiting old stages.Failed → RefusesPiece (waits_for old piece) old piece e new
-body_refused old new piece e offset waited is at memory failed = rw (waited, memory) (inr (inr is), inl at, failed)
+-- memory runs out for a body that is accepted otherwise
+pub body_refused : (old mid new : Judge) (body : Input) (e : Error) (offset : ℕ) → AcceptsPiece old (Body body) mid → offset ≡ body.position → e ≡ record { offset = offset; kind = kinds.Memory }
+    → new ≡ waiting mid stages.Failed → RefusesPiece (waits_for old (Body body)) old (Body body) e new
+unfolding entries_said said_first items_of place_of IsBodyWithin
+body_refused old mid new body e offset accepts at memory failed =
+    let entries : OfBody body.rest ∷ [] ≡ accepts.says.entries = cc in
+    let limits = subst (KeepLimits old.known) (sym entries) accepts.says.limits in
+    rw (accepts.waited, memory) (inr (inr limits.0), inl at, failed ∙ ap (λ j. waiting j stages.Failed) accepts.after)
 
 -- a body adds nothing to what is known
 pub body_adds_nothing : (features : Features) (old new : Context) (old_held new_held : List DefType) (body : Input) (x : Unit {0}) → AddsPiece features old old_held (Body body) (Ok x) new new_held → new ≡ old
@@ -111,6 +116,4 @@ body_adds_nothing features old new old_held new_held body x says =
     let entries : OfBody body.rest ∷ [] ≡ says.entries = cc in
     says.known ∙ ap (after_all old) (sym entries)
 
-pub ruleset body_steps = (body_waited)
-
-pub ruleset refusal_steps = (body_refused)
+pub ruleset body_steps = (body_waited, body_refused)

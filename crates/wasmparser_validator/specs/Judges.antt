@@ -7,7 +7,8 @@ use Rattle.wasm_spec.specs.Grammar.{IsModule}
 use Rattle.wasm_spec.specs.Syntax.{Section}
 use Rattle.wasm_spec.specs.Trees.{DefType}
 use Rattle.wasm_validity.specs.Context.{Context, at_first}
-use Rattle.wasm_validity.specs.Entries.{entries_of}
+use Rattle.wasm_validity.specs.Entries.{OfBody, entries_of}
+use Rattle.wasm_validity.specs.Rules.{IsWithin}
 use Rattle.wasmparser_error.specs.declared.error.Error.{Error}
 use Rattle.wasmparser_error.specs.declared.error.ErrorKind.{ErrorKind}
 use Rattle.wasmparser_error.specs.declared.error.ErrorKind.TheVariants as kinds
@@ -105,10 +106,6 @@ unfoldable pub is_end : Piece → Bool
 is_end (End position) = true
 is_end piece = false
 
-unfoldable pub is_body : Piece → Bool
-is_body (Body body) = true
-is_body piece = false
-
 unfoldable pub bodies_with : Piece → ℕ → ℕ
 bodies_with (Body body) bodies = bodies + 1
 bodies_with piece bodies = bodies
@@ -163,10 +160,15 @@ IsOutOfOrder stages.Failed place old e new = (e ≡ record { offset = place; kin
 IsOutOfOrder stages.End place old e new = (e ≡ record { offset = place; kind = kinds.Order }) × (new ≡ old)
 IsOutOfOrder stage place old e new = (e ≡ record { offset = place; kind = kinds.Order }) × (new ≡ waiting old stages.Failed)
 
--- what a refusal of a piece names that was waited for; bodies and an end whose numbers agree take memory too
+-- a body within the limits
+unfoldable pub IsBodyWithin : Context → Piece → Type 0
+IsBodyWithin known (Body body) = IsWithin known (OfBody body.rest)
+IsBodyWithin known piece = ⊥
+
+-- what a refusal of a piece names that was waited for; bodies within the limits and an end whose numbers agree take memory too
 abbrev pub NamesWaited : Judge → Piece → ErrorKind → Type 0
 NamesWaited j piece kinds.Malformed = (agrees j piece ≡ false) ⊎ (entries_said piece ≡ None)
-NamesWaited j piece kinds.Memory = NamesPiece j.features j.known j.held piece kinds.Memory ⊎ ((is_end piece ≡ true) × (agrees j piece ≡ true)) ⊎ (is_body piece ≡ true)
+NamesWaited j piece kinds.Memory = NamesPiece j.features j.known j.held piece kinds.Memory ⊎ ((is_end piece ≡ true) × (agrees j piece ≡ true)) ⊎ IsBodyWithin j.known piece
 NamesWaited j piece kind = NamesPiece j.features j.known j.held piece kind
 
 -- the place of a refusal of a piece that was waited for

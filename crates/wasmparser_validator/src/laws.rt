@@ -71,7 +71,7 @@ pub fn answers()
         (body : Input) (answer : Result (Unit {0}) Error)
         → KeepRules features at_first (entries_of sections) → AreKnown features (context_of sections).types ids interned sub_types
         → func_type_in (types_of sections) index ≡ Some type → AreBytes body.rest
-        → AnswersOutcome body answer (body_outcome features (items_by_ids ids sub_types (context_of sections)) index body.rest)
+        → AnswersOutcome ⊥ body answer (body_outcome features (items_by_ids ids sub_types (context_of sections)) index body.rest)
         → IsBodyJudged features sections type body.rest body.position answer }
 {}
 

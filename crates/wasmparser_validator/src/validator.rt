@@ -8,7 +8,7 @@ ghost use Rattle.wasmparser_module_state.specs.StateResources.{state_resources};
 ghost use Rattle.wasmparser_payloads.specs.Parsing.{piece};
 ghost use Rattle.wasmparser_payloads.specs.Pieces as pieces;
 ghost use Rattle.wasmparser_validator.specs.Functions.{AsksFor, HasFunction, resources_of};
-ghost use Rattle.wasmparser_validator.specs.Judges.{EndsModule, GivesFunction, IsOutOfOrder, JudgesPayload, JudgesPiece, Opens, RefusesPiece, ShowsAll, after_piece, agrees, follows_bodies, is_body, is_end, is_middle, agrees_with_stated, judge, place_of, waiting, waits_for};
+ghost use Rattle.wasmparser_validator.specs.Judges.{EndsModule, GivesFunction, IsOutOfOrder, JudgesPayload, JudgesPiece, Opens, RefusesPiece, ShowsAll, after_piece, agrees, follows_bodies, is_end, is_middle, agrees_with_stated, judge, place_of, waiting, waits_for};
 ghost use Rattle.wasmparser_validator.specs.KnownSpaces.{IsEndOf};
 ghost use Rattle.wasmparser_validator.specs.PieceJudging.{AddsPiece, has_groups};
 ghost use Rattle.wasmparser_validator.specs.Stages.{may_begin};
@@ -107,7 +107,7 @@ fn share_copy(alloc: Global, copy: ModuleState) -> Result<ValidatorResources, Al
     }
 }
 
-// The place at which a payload is refused that isn't waited for.
+// Returns the place at which a payload is refused that isn't waited for.
 #[tactic(auto, unfolding(wasmparser_payloads::specs::Parsing::piece, crate::specs::Judges::place_of))]
 fn place_of(payload: &Payload<'_>) -> u64
     ensures { result ≡ place_of (piece payload.now) }
@@ -393,17 +393,6 @@ impl Validator {
         })
     }
 
-    // Refuses a body for which memory runs out.
-    #[tactic(auto, using(crate::proofs::JudgeLaws::refusal_steps))]
-    fn refuse_memory(&mut self, payload: &Payload<'_>) -> Error
-        requires waited { waits_for (judge self.old) (piece payload.now) ≡ true }
-        requires body { is_body (piece payload.now) ≡ true }
-        ensures { RefusesPiece (waits_for (judge self.old) (piece payload.now)) (judge self.old) (piece payload.now) result (judge self.new) }
-    {
-        self.wait_for(Stage::Failed);
-        Error::out_of_memory(place_of(payload))
-    }
-
     // Waits for sections, where a module may begin: nothing is known of it yet.
     pub(crate) fn begin(&mut self)
         requires { may_begin (judge self.old).stage ≡ true }
@@ -610,7 +599,7 @@ impl Validator {
     /// # Errors
     /// `Limit` where the body has more bytes than its limit, `Memory` where memory runs out, each at the body's first byte; `Order` before the code section begins and
     /// past the functions, `Failed` after a refusal.
-    #[tactic(auto, using(crate::proofs::JudgeLaws::body_steps), unfolding(wasmparser_payloads::specs::Parsing::piece, crate::specs::Judges::is_body, crate::specs::PieceJudging::has_groups))]
+    #[tactic(auto, using(crate::proofs::JudgeLaws::body_steps), unfolding(wasmparser_payloads::specs::Parsing::piece, crate::specs::PieceJudging::has_groups))]
     pub fn code_section_entry(
         &mut self,
         body: &FunctionBody<'_>,
@@ -621,12 +610,15 @@ impl Validator {
     {
         let payload = Payload::CodeSectionEntry(body.clone()?);
         self.open(&payload)?;
-        match self.next_function() {
-            Ok(function) => {
-                self.judge(&payload)?;
-                Ok(function)
+        let function = self.next_function();
+        // (a body that passes its limit is refused for that, even if there was no memory)
+        self.judge(&payload)?;
+        match function {
+            Ok(function) => Ok(function),
+            Err(_) => {
+                self.wait_for(Stage::Failed);
+                Err(Error::out_of_memory(body.range().start))
             }
-            Err(_) => Err(self.refuse_memory(&payload)),
         }
     }
 

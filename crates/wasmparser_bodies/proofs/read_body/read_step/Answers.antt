@@ -9,4 +9,4 @@ returns-in-Ok-clause-validated g c =
 
 pub returns-in-Err-clause-validated : goal.returns-in-Err-clause-validated
 returns-in-Err-clause-validated g c =
-    step_unread (g.B.BodyValidator.state c.args.body.now) c.args.reader.now.input c.in-Err.error.kind c.in-Err.error.offset c.requires.open c.requires.few c.requires.same_features c.in-Err.ensures.exact.0 c.in-Err.ensures.exact.1
+    step_unread (g.B.BodyValidator.state c.args.body.now) c.args.reader.now.input c.in-Err.error.kind c.in-Err.error.offset c.requires.open c.requires.same_features c.in-Err.ensures.exact.0 c.in-Err.ensures.exact.1

@@ -2,12 +2,13 @@ use Rattle.std.proofs.Common.{refl, ◌∙◌}
 use Rattle.std.proofs.lemmas.Result.{err_from_is_err_and}
 use Rattle.wasm_core_read.proofs.ReadingLaws.{goes_further}
 use Rattle.wasmparser_bodies.proofs.AnswerLaws.{placed_later}
+use Rattle.wasmparser_bodies.specs.BodyAnswers.{HasManyTypes}
 use Rattle.wasmparser_bodies.proofs.LocalsSteps.{all_read, broken_locals, locals_unread, runs_begin, runs_fail, runs_go_on, since}
 use Rattle.wasmparser_bodies.proofs.read_locals.read_locals.Goals as goal
 
 pub returns-in_default-clause-read : goal.returns-in_default-clause-read
 returns-in_default-clause-read g c =
-    broken_locals c.args.reader.now _ _ _ c.broken.ensures c.original_position-offset.ensures.place (locals_unread (g.B.BodyValidator.state c.args.body.now) _ c.in_default.ensures.exact.0)
+    broken_locals (HasManyTypes (g.B.BodyValidator.state c.args.body.now).items) c.args.reader.now _ _ _ c.broken.ensures c.original_position-offset.ensures.place (locals_unread (g.B.BodyValidator.state c.args.body.now) _ c.in_default.ensures.exact.0)
 
 pub loop-init : goal.loop-init
 loop-init g c = record {
@@ -21,7 +22,7 @@ pub returns-in_err-read_run-clause-read : goal.returns-in_err-read_run-clause-re
 returns-in_err-read_run-clause-read g c =
     let p = err_from_is_err_and c.from_residual.result c.from_residual.ensures.1 in
     rw (p.1, p.2) (
-      runs_fail (g.B.BodyValidator.state c.loop.body) _ _ _ _ _ c.loop-test.true c.in_err-read_run.ensures.read.0 c.loop.invariant.so_far,
+      runs_fail (g.B.BodyValidator.state c.args.body.now) (g.B.BodyValidator.state c.loop.body) _ _ _ _ _ c.loop.invariant.same c.loop-test.true c.in_err-read_run.ensures.read.0 c.loop.invariant.so_far,
       placed_later _ _ _ c.loop.invariant.goes_on c.in_err-read_run.ensures.read.1,
     )
 

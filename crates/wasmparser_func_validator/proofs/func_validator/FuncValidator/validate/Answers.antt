@@ -1,7 +1,7 @@
 use Rattle.std.proofs.Common.{ap, subst, ◌∙◌}
 use Rattle.wasm_core_types.specs.Features.{feature_set}
 use Rattle.wasm_core_read.specs.Input.{Input}
-use Rattle.wasmparser_bodies.specs.BodyAnswers.{AnswersOutcome}
+use Rattle.wasmparser_bodies.specs.BodyAnswers.{AnswersOutcome, HasManyTypes}
 use Rattle.wasmparser_bodies.specs.BodyStates.{rest_outcome}
 use Rattle.wasmparser_func_validator.specs.FromBytes.{state_of}
 use Rattle.wasmparser_func_validator.proofs.ReadBodies.{answered, validated}
@@ -16,6 +16,6 @@ returns-clause-validated g c = λ ready few start type named.
     let items = items_in g.T.WasmModuleResources.resources v.body in
     let state = state_of f items v.body.ty (locals_in_body g.T.WasmModuleResources.resources v.body) v.stacks v.failed in
     let is = c.set_features.ensures ∙ ap (λ (i : Input). record i { features = f }) c.get_binary_reader-reader.ensures.same in
-    let answers = subst (λ (i : Input). AnswersOutcome i c.read_body-result.result (rest_outcome state i.rest)) is c.read_body-result.ensures.answers in
-    validated f items type v.body.ty (locals_in_body g.T.WasmModuleResources.resources v.body) v.stacks v.failed body c.read_body-result.result c.get_binary_reader-reader.ensures.are start named
-    (answered body f c.read_body-result.result (rest_outcome state body.rest) answers)
+    let answers = subst (λ (i : Input). AnswersOutcome (HasManyTypes items) i c.read_body-result.result (rest_outcome state i.rest)) is c.read_body-result.ensures.answers in
+    validated f items type few v.body.ty (locals_in_body g.T.WasmModuleResources.resources v.body) v.stacks v.failed body c.read_body-result.result c.get_binary_reader-reader.ensures.are start named
+    (answered (HasManyTypes items) body f c.read_body-result.result (rest_outcome state body.rest) answers)

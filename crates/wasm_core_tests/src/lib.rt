@@ -12,6 +12,8 @@ mod numbers;
 #[cfg(test)]
 mod read_numbers;
 #[cfg(test)]
+mod refusals;
+#[cfg(test)]
 mod type_section;
 #[cfg(test)]
 mod widths;

@@ -2,7 +2,6 @@
 
 use crate::type_section::section_of;
 use std::alloc::Global;
-use wasm_core::encode_error::EncodeError;
 use wasm_core::module::Module;
 use wasm_core::type_section::TypeSection;
 
@@ -14,7 +13,7 @@ fn add_both(module: &mut Module, first: &TypeSection, second: &TypeSection) -> b
     }
 }
 
-// A module of a section of one function type, and of one without entries.
+// Returns a module of a section of one function type, and of one without entries.
 fn two_sections(alloc: Global) -> Option<Vec<u8>> {
     let first = section_of(alloc, "func ->")?;
     let mut module = Module::new(alloc).ok()?;
@@ -39,32 +38,4 @@ fn no_sections(alloc: Global) -> Option<Vec<u8>> {
 fn header_alone(rt: HostRuntime) {
     let expected: &[u8] = b"\0asm\x01\0\0\0";
     assert!(rt; no_sections(rt.alloc()).as_deref() == Some(expected));
-}
-
-// For `rt try --test --fail-alloc N`, which refuses an allocation: the module is as it was, and takes the same call again.
-
-// Checks that the section goes in, at the second call where the first is refused.
-fn is_taken(module: &mut Module, types: &TypeSection) -> bool {
-    match module.section(types).err() {
-        Some(refusal) => refusal == EncodeError::Memory && module.section(types).is_ok(),
-        None => true,
-    }
-}
-
-// Checks that 40 sections without entries go in.
-fn are_taken(module: &mut Module, types: &TypeSection) -> bool {
-    for _ in 0..40_u32 {
-        if !is_taken(module, types) {
-            return false;
-        }
-    }
-    true
-}
-
-#[test]
-fn refusals_change_nothing(rt: HostRuntime) {
-    if let Ok(mut module) = Module::new(rt.alloc()) {
-        let are_taken = are_taken(&mut module, &TypeSection::new(rt.alloc()));
-        assert!(rt; are_taken && module.finish().len() == 128);
-    }
 }

@@ -21,7 +21,7 @@ fn is_kept(width: &str, number: i128, bytes: &[u8]) -> bool {
     is_read && value(width, bytes) == number && length(width, number) == Some(bytes.len())
 }
 
-// Whether the number fills just the room of its length.
+// Checks that the number fills just the room of its length.
 fn unsigned_fills_its_room(alloc: Global, number: u64) -> Result<bool, AllocError> {
     let mut sink = Vec::with_capacity(alloc, len_u64(number))?;
     put_u64(&mut sink, number);
@@ -34,7 +34,7 @@ fn signed_fills_its_room(alloc: Global, number: i64) -> Result<bool, AllocError>
     Ok(value("s64", &sink) == i128::from(number) && sink.capacity() == len_s64(number))
 }
 
-// The same of a number of 64 bits, with a sign or without one.
+// Does the same for a number of 64 bits, with a sign or without one.
 fn fills_its_room(alloc: Global, widths: &str, number: i128) -> Option<bool> {
     if widths.ends_with("u64") {
         unsigned_fills_its_room(alloc, number.try_into().ok()?).ok()
@@ -54,8 +54,8 @@ fn is_written(alloc: Global, widths: &str, number: i128, bytes: &[u8]) -> bool {
     !widths.is_empty()
 }
 
-// Widths, a number, and what is written of it.
-const WRITTEN: &str = "
+/// Widths, a number, and what is written of it.
+pub const WRITTEN: &str = "
     u32 u64 | 0 | 00
     u32 u64 | 1 | 01
     u32 u64 | 63 | 3f
@@ -164,7 +164,7 @@ fn numbers_are_read_back(rt: HostRuntime) {
     assert!(rt; drawn_are_read_back(rt.alloc()), "drawn");
 }
 
-// Three bytes, two numbers, and two bytes more.
+// Returns three bytes, two numbers, and two bytes more.
 fn surrounded(alloc: Global) -> Option<Vec<u8>> {
     let mut sink = b"abc".to_vec(alloc).ok()?;
     write_u32(&mut sink, 16_384).ok()?;

@@ -137,7 +137,7 @@ const READ: &str = "
     u8 malformed | | 0
 ";
 
-// Whether the value that is read next is this.
+// Checks that the value that is read next is this.
 fn answer(reader: &mut BinaryReader<'_>, kind: &str, expected: &str) -> Result<bool, Malformed> {
     match kind {
         "string" => Ok(reader.read_string()? == expected),

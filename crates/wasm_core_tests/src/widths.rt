@@ -8,7 +8,7 @@ use wasm_core_write::leb128::{
     write_u64,
 };
 
-/// How long a number is at a width, if it is one of that width.
+/// Returns how long a number is at a width, if it is one of that width.
 pub fn length(width: &str, number: i128) -> Option<usize> {
     match width {
         "u32" => u32::try_from(number).ok().map(len_u32),
@@ -20,8 +20,8 @@ pub fn length(width: &str, number: i128) -> Option<usize> {
     }
 }
 
-// Writes a number at a width, if it is one of that width.
-fn write(sink: &mut Vec<u8>, width: &str, number: i128) -> Option<()> {
+/// Writes a number at a width, if it is one of that width.
+pub fn write(sink: &mut Vec<u8>, width: &str, number: i128) -> Option<()> {
     match width {
         "u32" => write_u32(sink, u32::try_from(number).ok()?).ok(),
         "u64" => write_u64(sink, u64::try_from(number).ok()?).ok(),
@@ -32,14 +32,14 @@ fn write(sink: &mut Vec<u8>, width: &str, number: i128) -> Option<()> {
     }
 }
 
-/// What is written of a number at a width.
+/// Returns what is written of a number at a width.
 pub fn written(alloc: Global, width: &str, number: i128) -> Option<Vec<u8>> {
     let mut sink = Vec::new(alloc);
     write(&mut sink, width, number)?;
     Some(sink)
 }
 
-/// The number that is read at a width, or a byte. Another width is refused at a place where no reader stands.
+/// Returns the number that is read at a width, or a byte. Another width is refused at a place where no reader stands.
 pub fn read(reader: &mut BinaryReader<'_>, width: &str) -> Result<i128, Malformed> {
     match width {
         "u8" => reader.read_u8().map(i128::from),
@@ -54,7 +54,7 @@ pub fn read(reader: &mut BinaryReader<'_>, width: &str) -> Result<i128, Malforme
     }
 }
 
-/// The number of these bytes, by shifts from the last to the first.
+/// Returns the number of these bytes, by shifts from the last to the first.
 pub fn value(width: &str, bytes: &[u8]) -> i128 {
     let is_signed = width.starts_with('s');
     let is_negative = is_signed && bytes.last().is_some_and(|last| last & 0x40 != 0);

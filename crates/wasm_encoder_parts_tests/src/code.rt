@@ -9,7 +9,7 @@ use wasm_test_rows::fields::word_and_rest;
 use wasm_test_rows::rows::check_rows;
 use wasm_test_rows::values::bytes_of;
 
-// A body without locals, of these instructions.
+// Returns a body without locals, of these instructions.
 fn body_of(alloc: Global, instructions: &str) -> Option<Function> {
     let instructions = bytes_of(alloc, instructions)?;
     let mut body = Function::new(alloc, []).ok()?;
@@ -22,7 +22,7 @@ impl Rows for CodeSection {
         CodeSection::new(alloc)
     }
 
-    // The instructions of a body, which goes in as it is or as its bytes.
+    // Adds the instructions of a body, which goes in as it is or as its bytes.
     fn add(&mut self, alloc: Global, entry: &str) -> Option<()> {
         let (way, instructions) = word_and_rest(entry);
         let body = body_of(alloc, instructions)?;
@@ -33,7 +33,8 @@ impl Rows for CodeSection {
     }
 }
 
-const BODIES: &str = "
+/// Bodies, how long each is, and the section.
+pub const BODIES: &str = "
     | | 0a 01 00
     function 00 0b | 4 | 0a 05 01 03 00 00 0b
     raw 00 0b | 4 | 0a 05 01 03 00 00 0b

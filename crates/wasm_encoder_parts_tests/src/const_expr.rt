@@ -13,8 +13,8 @@ use wasm_test_rows::fields::two_fields;
 use wasm_test_rows::rows::check_rows;
 use wasm_test_rows::values::bytes_of;
 
-// How expressions are made, and their bytes with the end.
-const WRITTEN: &str = "
+/// How expressions are made, and their bytes with the end.
+pub const WRITTEN: &str = "
     empty | 0b
     raw | 41 80 00 0b
     global_get | 23 80 01 0b
@@ -70,7 +70,8 @@ fn extended_pair(alloc: Global) -> Result<ConstExpr, EncodeError> {
     ConstExpr::extended(alloc, [null, function, Instruction::ArrayNew(2)])
 }
 
-fn made(alloc: Global, name: &str) -> Result<ConstExpr, EncodeError> {
+/// Returns the expression that is made so.
+pub fn made(alloc: Global, name: &str) -> Result<ConstExpr, EncodeError> {
     match name {
         "raw" => ConstExpr::raw(alloc, [0x41, 0x80, 0x00]),
         "global_get" => ConstExpr::global_get(alloc, 128),
@@ -92,7 +93,7 @@ fn made(alloc: Global, name: &str) -> Result<ConstExpr, EncodeError> {
     }
 }
 
-// Whether these bytes are written, so many as are told beforehand, after what stood there.
+// Checks that these bytes are written, so many as are told beforehand, after what stood there.
 fn is_written(alloc: Global, expression: &ConstExpr, bytes: &[u8]) -> Option<bool> {
     let mut sink = Vec::new(alloc);
     sink.push(0xff).ok()?;

@@ -57,7 +57,8 @@ impl Rows for DataSection {
     }
 }
 
-const DATA: &str = "
+/// Segments, how long each is, and the section.
+pub const DATA: &str = "
     | | 0b 01 00
     active 0 41 00 : 68 69 | 7 | 0b 08 01 00 41 00 0b 02 68 69
     passive : 00 | 3 | 0b 04 01 01 01 00

@@ -114,7 +114,8 @@ impl Rows for ElementSection {
     }
 }
 
-const ELEMENTS: &str = "
+/// Segments, how long each is, and the section.
+pub const ELEMENTS: &str = "
     | | 09 01 00
     active - 41 00 : indexes 0 128 | 8 | 09 09 01 00 41 00 0b 02 00 80 01
     active - 41 00 : indexes 64 | 6 | 09 07 01 00 41 00 0b 01 40

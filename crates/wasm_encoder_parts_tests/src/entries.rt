@@ -18,7 +18,7 @@ use wasm_test_rows::values::numbers_of;
 
 /// A section that has entries.
 pub trait Entries: Section {
-    /// How many there are, whether there are none, and how many bytes one is written as, if there is such an entry. (One call tells all three, since
+    /// Returns how many there are, whether there are none, and how many bytes one is written as, if there is such an entry. (One call tells all three, since
     /// each impl is proved.)
     fn entry(&self, i: u32) -> (u32, bool, Option<u64>);
 }
@@ -85,7 +85,7 @@ impl Entries for TableSection {
 
 /// A section whose entries are told in words.
 pub trait Rows: Entries {
-    /// One without entries.
+    /// Creates one without entries.
     fn empty(alloc: Global) -> Self;
 
     /// Adds the entry that is told, if it can.
@@ -106,13 +106,13 @@ fn has_lengths<S: Entries>(section: &S, lengths: &[u32]) -> bool {
     is_counted && past.is_none() && section.entry(u32::MAX).2.is_none()
 }
 
-/// Whether a section is the bytes of a field, and its entries have the lengths of another.
+/// Checks that a section is the bytes of a field, and its entries have the lengths of another.
 pub fn holds<S: Entries>(alloc: Global, section: &S, lengths: &str, bytes: &str) -> Option<bool> {
     let lengths = numbers_of(alloc, lengths)?;
     Some(has_lengths(section, &lengths) && writes(alloc, section, bytes))
 }
 
-// A section of these entries, with `;` between them.
+// Returns a section of these entries, with `;` between them.
 fn section_of<S: Rows + Drop>(alloc: Global, entries: &str) -> Option<S> {
     let mut section = S::empty(alloc);
     for entry in entries.split_terminator(';') {
@@ -121,7 +121,7 @@ fn section_of<S: Rows + Drop>(alloc: Global, entries: &str) -> Option<S> {
     Some(section)
 }
 
-/// Whether a row holds: entries, how long each is, and the section. (Once for all kinds, since who owns a section proves how it is let go of.)
+/// Checks that a row holds: entries, how long each is, and the section. (Once for all kinds, since who owns a section proves how it is let go of.)
 pub fn row<S: Rows + Drop>(alloc: Global, row: &str) -> Option<bool> {
     let (entries, lengths, bytes) = three_fields(row)?;
     let section = section_of::<S>(alloc, entries)?;

@@ -3,7 +3,6 @@
 use crate::entries::{Rows, row};
 use std::alloc::Global;
 use std::test::Fail;
-use wasm_core_write::encode_error::EncodeError;
 use wasm_encoder_sections::entity_type::ExportKind;
 use wasm_encoder_sections::export_section::ExportSection;
 use wasm_test_rows::fields::word_and_rest;
@@ -38,7 +37,8 @@ impl Rows for ExportSection {
     }
 }
 
-const EXPORTS: &str = "
+/// Exports, how long each is, and the section.
+pub const EXPORTS: &str = "
     func 0 f | 4 | 07 05 01 01 66 00 00
     memory 0 a ; memory 0 a | 4 4 | 07 09 02 01 61 02 00 01 61 02 00
     table 1 ; global 128 äb ; tag 3 t | 3 7 4 | 07 0f 03 00 01 01 03 c3 a4 62 03 80 01 01 74 04 03
@@ -48,25 +48,4 @@ const EXPORTS: &str = "
 fn export_sections(rt: HostRuntime) -> Result<(), Fail> {
     check_rows(rt.alloc(), EXPORTS, 3, row::<ExportSection>)?;
     Ok(())
-}
-
-// For `rt try --test --fail-alloc N`: an export goes in at the second call where the first is refused.
-fn is_taken(section: &mut ExportSection) -> bool {
-    let before = section.len();
-    match section.export("name", ExportKind::Func, 1).err() {
-        Some(refusal) => {
-            let is_kept = refusal == EncodeError::Memory && section.len() == before;
-            is_kept && section.export("name", ExportKind::Func, 1).is_ok()
-        }
-        None => true,
-    }
-}
-
-#[test]
-fn refusals_change_nothing(rt: HostRuntime) {
-    let mut section = ExportSection::new(rt.alloc());
-    for _ in 0..10_u32 {
-        assert!(rt; is_taken(&mut section));
-    }
-    assert!(rt; section.len() == 10);
 }

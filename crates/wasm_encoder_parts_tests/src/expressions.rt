@@ -5,7 +5,7 @@ use wasm_core_types::types::{AbstractHeapType, HeapType, RefType};
 use wasm_encoder_bodies::const_expr::ConstExpr;
 use wasm_test_rows::values::bytes_of;
 
-/// The expression of these operators, which are bytes in hexadecimal digits.
+/// Returns the expression of these operators, which are bytes in hexadecimal digits.
 pub fn expression_of(alloc: Global, operators: &str) -> Option<ConstExpr> {
     let bytes = bytes_of(alloc, operators)?;
     ConstExpr::raw(alloc, bytes).ok()
@@ -18,7 +18,7 @@ const fn reference(nullable: bool, heap: AbstractHeapType) -> RefType {
     }
 }
 
-/// The type of this name.
+/// Returns the type of this name.
 pub fn reference_of(name: &str) -> Option<RefType> {
     match name {
         "funcref" => Some(reference(true, AbstractHeapType::Func)),

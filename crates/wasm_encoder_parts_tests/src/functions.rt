@@ -12,8 +12,8 @@ use wasm_test_rows::fields::two_fields;
 use wasm_test_rows::rows::check_rows;
 use wasm_test_rows::values::bytes_of;
 
-// How bodies are made, and what is written of them.
-const WRITTEN: &str = "
+/// How bodies are made, and what is written of them.
+pub const WRITTEN: &str = "
     empty | 01 00
     runs | 08 03 01 7f 00 7e 80 01 7d
     joined | 05 02 02 7f 01 7e
@@ -75,7 +75,8 @@ fn lent(alloc: Global) -> Result<Function, EncodeError> {
     Ok(body)
 }
 
-fn made(alloc: Global, name: &str) -> Result<Function, EncodeError> {
+/// Returns the body that is made so.
+pub fn made(alloc: Global, name: &str) -> Result<Function, EncodeError> {
     match name {
         "runs" => Function::new(
             alloc,
@@ -99,7 +100,7 @@ fn made(alloc: Global, name: &str) -> Result<Function, EncodeError> {
     }
 }
 
-// Whether these bytes are written, so many as are told beforehand, after what stood there.
+// Checks that these bytes are written, so many as are told beforehand, after what stood there.
 fn is_written(alloc: Global, body: &Function, bytes: &[u8]) -> Option<bool> {
     let mut sink = Vec::new(alloc);
     sink.push(0xff).ok()?;

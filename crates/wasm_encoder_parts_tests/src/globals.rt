@@ -58,7 +58,8 @@ impl Rows for GlobalSection {
     }
 }
 
-const GLOBALS: &str = "
+/// Globals, how long each is, and the section.
+pub const GLOBALS: &str = "
     | | 06 01 00
     i32 var 41 00 | 5 | 06 06 01 7f 01 41 00 0b
     i64 const 42 00 ; raw 7f 00 23 00 0b | 5 5 | 06 0b 02 7e 00 42 00 0b 7f 00 23 00 0b

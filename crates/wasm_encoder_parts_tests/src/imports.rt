@@ -3,14 +3,14 @@
 use crate::entries::holds;
 use std::alloc::Global;
 use wasm_core_types::types::{AbstractHeapType, HeapType, RefType, ValType};
-use wasm_core_write::encode_error::EncodeError;
 use wasm_encoder_sections::entity_type::{
     EntityType, GlobalType, MemoryType, TableType, TagKind, TagType,
 };
 use wasm_encoder_sections::import_section::ImportSection;
 use wasm_encoder_sections::imports::{ImportCompact, Imports};
 
-const MEMORY: MemoryType = MemoryType {
+/// A memory of one page or more.
+pub const MEMORY: MemoryType = MemoryType {
     minimum: 1,
     maximum: None,
     memory64: false,
@@ -129,31 +129,4 @@ fn alike(alloc: Global) -> Option<bool> {
 #[test]
 fn of_one_module_and_type(rt: HostRuntime) {
     assert!(rt; alike(rt.alloc()) == Some(true));
-}
-
-// For `rt try --test --fail-alloc N`: imports go in at the second call where the first is refused.
-fn is_taken(section: &mut ImportSection) -> bool {
-    let names: &[&str] = &["a", "bc"];
-    let several = Imports::Compact2 {
-        module: "m",
-        ty: EntityType::Function(1),
-        names,
-    };
-    let before = section.len();
-    match section.imports(several).err() {
-        Some(refusal) => {
-            let is_kept = refusal == EncodeError::Memory && section.len() == before;
-            is_kept && section.imports(several).is_ok()
-        }
-        None => true,
-    }
-}
-
-#[test]
-fn refusals_change_nothing(rt: HostRuntime) {
-    let mut section = ImportSection::new(rt.alloc());
-    for _ in 0..6_u32 {
-        assert!(rt; is_taken(&mut section));
-    }
-    assert!(rt; section.len() == 6);
 }

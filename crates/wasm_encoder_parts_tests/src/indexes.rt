@@ -4,7 +4,6 @@ use crate::entries::holds;
 use crate::written::writes;
 use std::alloc::Global;
 use std::test::Fail;
-use wasm_core_write::encode_error::EncodeError;
 use wasm_encoder_sections::data_count_section::DataCountSection;
 use wasm_encoder_sections::entity_type::{TagKind, TagType};
 use wasm_encoder_sections::function_section::FunctionSection;
@@ -112,27 +111,4 @@ const DATA_COUNTS: &str = "
 fn data_count_sections(rt: HostRuntime) -> Result<(), Fail> {
     check_rows(rt.alloc(), DATA_COUNTS, 2, data_count_row)?;
     Ok(())
-}
-
-// For `rt try --test --fail-alloc N`, which refuses an allocation: the section is as it was, and takes the same call again.
-
-// Checks that a function goes in, at the second call where the first is refused.
-fn is_taken(section: &mut FunctionSection) -> bool {
-    let before = section.len();
-    match section.function(7).err() {
-        Some(refusal) => {
-            let is_kept = refusal == EncodeError::Memory && section.len() == before;
-            is_kept && section.function(7).is_ok()
-        }
-        None => true,
-    }
-}
-
-#[test]
-fn refusals_change_nothing(rt: HostRuntime) {
-    let mut section = FunctionSection::new(rt.alloc());
-    for _ in 0..20_u32 {
-        assert!(rt; is_taken(&mut section));
-    }
-    assert!(rt; section.len() == 20);
 }

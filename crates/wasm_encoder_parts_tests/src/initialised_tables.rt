@@ -4,15 +4,13 @@ use crate::entries::{Rows, row};
 use crate::expressions::{expression_of, reference_of};
 use std::alloc::Global;
 use std::test::Fail;
-use wasm_core_write::encode_error::EncodeError;
-use wasm_encoder_bodies::const_expr::ConstExpr;
 use wasm_encoder_expression_sections::table_section::TableSection;
 use wasm_encoder_sections::entity_type::TableType;
 use wasm_test_rows::fields::word_and_rest;
 use wasm_test_rows::rows::check_rows;
 use wasm_test_rows::values::{bool_of, number_of};
 
-// The type of the elements, the least number of them, the greatest or `-`, and whether there are indexes of 64 bits.
+// Returns the type of the elements, the least number of them, the greatest or `-`, and whether there are indexes of 64 bits.
 fn table_type_of(words: &str) -> Option<TableType> {
     let (name, numbers) = word_and_rest(words);
     let mut words = numbers.split_whitespace();
@@ -54,7 +52,8 @@ impl Rows for TableSection {
     }
 }
 
-const TABLES: &str = "
+/// Tables, how long each is, and the section.
+pub const TABLES: &str = "
     | | 04 01 00
     funcref 10 - no | 3 | 04 04 01 70 00 0a
     funcref 0 128 no ; extern 1 - yes | 5 4 | 04 0a 02 70 01 00 80 01 64 6f 04 01
@@ -67,38 +66,4 @@ const TABLES: &str = "
 fn table_sections(rt: HostRuntime) -> Result<(), Fail> {
     check_rows(rt.alloc(), TABLES, 6, row::<TableSection>)?;
     Ok(())
-}
-
-// For `rt try --test --fail-alloc N`: a table goes in at the second call where the first is refused.
-fn is_taken(section: &mut TableSection, ty: TableType, init: &ConstExpr) -> bool {
-    let before = section.len();
-    match section.table_with_init(ty, init).err() {
-        Some(refusal) => {
-            let is_kept = refusal == EncodeError::Memory && section.len() == before;
-            is_kept && section.table_with_init(ty, init).is_ok()
-        }
-        None => true,
-    }
-}
-
-// Checks that six tables go in.
-fn are_taken(section: &mut TableSection, ty: TableType, init: &ConstExpr) -> bool {
-    for _ in 0..6_u32 {
-        if !is_taken(section, ty, init) {
-            return false;
-        }
-    }
-    section.len() == 6
-}
-
-fn all_are_taken(alloc: Global) -> Option<bool> {
-    let ty = table_type_of("func 1 - no")?;
-    let init = expression_of(alloc, "d2 00").or_else(|| expression_of(alloc, "d2 00"))?;
-    let mut section = TableSection::new(alloc);
-    Some(are_taken(&mut section, ty, &init))
-}
-
-#[test]
-fn refusals_change_nothing(rt: HostRuntime) {
-    assert!(rt; all_are_taken(rt.alloc()) == Some(true));
 }

@@ -12,7 +12,7 @@ use wasm_test_rows::fields::two_fields;
 use wasm_test_rows::rows::check_rows;
 use wasm_test_rows::values::bytes_of;
 
-// The instruction of this name that has no immediates.
+// Returns the instruction of this name that has no immediates.
 fn bare(name: &str) -> Option<Instruction<'static>> {
     match name {
         "Unreachable" => Some(Instruction::Unreachable),
@@ -32,7 +32,7 @@ fn bare(name: &str) -> Option<Instruction<'static>> {
     }
 }
 
-// The instruction of this name that has an index or a label.
+// Returns the instruction of this name that has an index or a label.
 fn of_index(name: &str, index: u32) -> Option<Instruction<'static>> {
     match name {
         "Br" => Some(Instruction::Br(index)),
@@ -67,7 +67,7 @@ fn of_index(name: &str, index: u32) -> Option<Instruction<'static>> {
     }
 }
 
-// The instruction of this name that has two numbers: 1 is the first of its fields, and 2 the second.
+// Returns the instruction of this name that has two numbers: 1 is the first of its fields, and 2 the second.
 fn of_two(name: &str) -> Option<Instruction<'static>> {
     match name {
         "CallIndirect" => Some(Instruction::CallIndirect {
@@ -102,7 +102,7 @@ fn of_two(name: &str) -> Option<Instruction<'static>> {
     }
 }
 
-// The load or store of this name.
+// Returns the load or store of this name.
 fn of_memory(name: &str, argument: MemArg) -> Option<Instruction<'static>> {
     match name {
         "I32Load" => Some(Instruction::I32Load(argument)),
@@ -132,7 +132,7 @@ fn of_memory(name: &str, argument: MemArg) -> Option<Instruction<'static>> {
     }
 }
 
-// An instruction of another form, of this name.
+// Returns an instruction of another form, of this name.
 fn control_or_number(name: &str) -> Option<Instruction<'static>> {
     match name {
         "Block of nothing" => Some(Instruction::Block(BlockType::Empty)),
@@ -147,7 +147,7 @@ fn control_or_number(name: &str) -> Option<Instruction<'static>> {
     }
 }
 
-// The same for the others.
+// Returns the same for the others.
 fn of_other_form(name: &str) -> Option<Instruction<'static>> {
     match name {
         "F32Const" => Some(Instruction::F32Const(Ieee32::new(0x3f80_0000))),
@@ -163,8 +163,8 @@ fn of_other_form(name: &str) -> Option<Instruction<'static>> {
     }
 }
 
-// The instruction of this name: its indexes are 128, and its memory argument is of the first memory.
-fn named(name: &str) -> Option<Instruction<'static>> {
+/// Returns the instruction of this name: its indexes are 128, and its memory argument is of the first memory.
+pub fn named(name: &str) -> Option<Instruction<'static>> {
     let argument = MemArg {
         offset: 16,
         align: 2,
@@ -178,8 +178,8 @@ fn named(name: &str) -> Option<Instruction<'static>> {
         .or_else(|| of_other_form(name))
 }
 
-// Names, and what is written.
-const ROWS: &str = "
+/// Names, and what is written.
+pub const ROWS: &str = "
     Unreachable | 00
     Nop | 01
     Else | 05
@@ -268,7 +268,7 @@ const ROWS: &str = "
     V128Const | fd 0c fe ff ff ff ff ff ff ff ff ff ff ff ff ff ff ff
 ";
 
-// Whether these bytes are appended of an instruction, and are as many as it says.
+// Checks that these bytes are appended of an instruction, and are as many as it says.
 fn appends(alloc: Global, instruction: &Instruction<'_>, bytes: &[u8]) -> Option<bool> {
     let mut sink = Vec::new(alloc);
     sink.push(7).ok()?;

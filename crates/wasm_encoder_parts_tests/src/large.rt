@@ -13,7 +13,7 @@ use wasm_encoder_sections::entity_type::GlobalType;
 
 const COUNT: u32 = 100_000;
 
-// Whether so many bytes are written.
+// Checks that so many bytes are written.
 fn has_len<E: Encode>(alloc: Global, section: &E, expected: u64) -> Option<bool> {
     let len = section.encoded_len().ok()?;
     let mut sink = Vec::new(alloc);

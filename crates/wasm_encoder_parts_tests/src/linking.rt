@@ -8,12 +8,12 @@ use wasm_encoder_custom::symbol_table::{DataSymbolDefinition, SymbolTable};
 use wasm_test_rows::fields::two_fields;
 use wasm_test_rows::rows::check_rows;
 
-// What stands before the first colon, or the whole field.
+// Returns what stands before the first colon, or the whole field.
 fn before_colon(field: &str) -> &str {
     field.split_once(':').unwrap_or((field, "")).0
 }
 
-// What stands after the first colon.
+// Returns what stands after the first colon.
 fn after_colon(field: &str) -> Option<&str> {
     Some(field.split_once(':')?.1)
 }
@@ -47,7 +47,7 @@ fn add_indexed(table: &mut SymbolTable, kind: &str, flags: u32, rest: &str) -> O
     Some(is_added)
 }
 
-// A symbol: `function:FLAGS:INDEX`, with `:NAME` or without, and `data:FLAGS:NAME`, with `:INDEX:OFFSET:SIZE` or without.
+// Returns a symbol: `function:FLAGS:INDEX`, with `:NAME` or without, and `data:FLAGS:NAME`, with `:INDEX:OFFSET:SIZE` or without.
 fn add_symbol(table: &mut SymbolTable, word: &str) -> Option<bool> {
     let kind = before_colon(word);
     let rest = after_colon(word)?;

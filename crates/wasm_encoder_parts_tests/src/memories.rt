@@ -8,7 +8,7 @@ use wasm_encoder_sections::memory_section::MemorySection;
 use wasm_test_rows::rows::check_rows;
 use wasm_test_rows::values::{bool_of, number_of};
 
-// The least size, the greatest, whether it is shared, whether it has 64 bits, and the page's size; `-` for what isn't there.
+// Returns the least size, the greatest, whether it is shared, whether it has 64 bits, and the page's size; `-` for what isn't there.
 fn memory_of(entry: &str) -> Option<MemoryType> {
     let mut words = entry.split_whitespace();
     let minimum = number_of(words.next()?)?;
@@ -38,7 +38,8 @@ impl Rows for MemorySection {
     }
 }
 
-const MEMORIES: &str = "
+/// Memories, how long each is, and the section.
+pub const MEMORIES: &str = "
     1 - no no - | 2 | 05 03 01 00 01
     1 5 no no - | 3 | 05 04 01 01 01 05
     1 2 yes no - ; 0 - no yes - | 3 2 | 05 06 02 03 01 02 04 00

@@ -167,14 +167,14 @@ fn are_code(bytes: &[u8], number: u8) -> bool {
     bytes == [0xfc, number - 0xc5].as_slice()
 }
 
-// Whether this one is called so, and the code of this number is written of it.
+// Checks that this one is called so, and the code of this number is written of it.
 fn is_written(alloc: Global, scalar: ScalarOperator, name: &str, number: u8) -> Option<bool> {
     let mut sink = Vec::new(alloc);
     Instruction::Scalar(scalar).encode(&mut sink).ok()?;
     Some(are_code(&sink, number) && debugs(alloc, &scalar, name))
 }
 
-// How many have the names and the codes in their order.
+// Returns how many have the names and the codes in their order.
 fn count_written(alloc: Global) -> u32 {
     let mut count: u32 = 0;
     let mut number: u8 = 0x45;

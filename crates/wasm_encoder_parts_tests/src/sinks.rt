@@ -8,7 +8,7 @@ use wasm_encoder_instructions::block_type::BlockType;
 use wasm_encoder_instructions::instruction::Instruction;
 use wasm_encoder_instructions::mem_arg::MemArg;
 
-// A loop that goes on while what a memory holds is not 0.
+// Appends a loop that goes on while what a memory holds is not 0.
 fn push_loop(sink: &mut InstructionSink) -> Result<(), EncodeError> {
     let place = MemArg {
         offset: 128,
@@ -21,7 +21,7 @@ fn push_loop(sink: &mut InstructionSink) -> Result<(), EncodeError> {
     sink.push(&Instruction::End)
 }
 
-// What is appended to a byte that was there.
+// Returns what is appended to a byte that was there.
 fn written_loop(alloc: Global) -> Option<Vec<u8>> {
     let mut bytes = Vec::new(alloc);
     bytes.push(7).ok()?;
@@ -38,7 +38,7 @@ fn instructions_follow_one_another(rt: HostRuntime) {
     assert!(rt; written_loop(rt.alloc()).as_deref() == Some(expected));
 }
 
-// The calls of two numbers, the first of which is 1 and the second 2.
+// Appends the calls of two numbers, the first of which is 1 and the second 2.
 fn push_pairs(sink: &mut InstructionSink) -> Result<(), EncodeError> {
     sink.call_indirect(1, 2)?.return_call_indirect(1, 2)?;
     sink.memory_init(1, 2)?.memory_copy(1, 2)?;

@@ -8,7 +8,7 @@ use wasm_encoder_instructions::ieee::{Ieee32, Ieee64};
 use wasm_test_rows::fields::four_fields;
 use wasm_test_rows::rows::check_rows;
 
-// A value: `missing`, `i32/-1`, or `f32/BITS`.
+// Returns a value: `missing`, `i32/-1`, or `f32/BITS`.
 fn value_of(word: &str) -> Option<CoreDumpValue> {
     let (kind, value) = word.split_once('/').unwrap_or((word, ""));
     match kind {
@@ -39,7 +39,7 @@ fn values_of(alloc: Global, field: &str) -> Option<Vec<CoreDumpValue>> {
     Some(values)
 }
 
-// Three numbers: an instance, a function and an offset.
+// Returns three numbers: an instance, a function and an offset.
 fn place_of(field: &str) -> Option<[u32; 3]> {
     let mut words = field.split_whitespace();
     let instance = words.next()?.parse().ok()?;
@@ -115,7 +115,7 @@ const STACKS: &str = "
     t | 1 | 0 1 2 : missing*100000 : i32/0*100000 ; | 00 f8 a7 12 09 63 6f 72 65 73 74 61 63 6b 00 01 74 01 00 00 01 02 a0 8d 06 01*100000 a0 8d 06 7f00*100000
 ";
 
-// Whether the section, also as a custom section, is these bytes, and so many frames.
+// Checks that the section, also as a custom section, is these bytes, and so many frames.
 fn is_written(
     alloc: Global,
     section: &CoreDumpStackSection,

@@ -4,7 +4,7 @@ use std::alloc::Global;
 use wasm_core_write::encode::{Encode, Section};
 use wasm_test_rows::values::are_bytes;
 
-/// A section's id and what it writes.
+/// Returns a section's id and what it writes.
 pub fn written<S: Section>(alloc: Global, section: &S) -> Option<Vec<u8>> {
     let len = section.encoded_len().ok()?;
     let mut sink = Vec::with_capacity(alloc, len as usize + 1).ok()?;
@@ -25,7 +25,7 @@ pub fn writes<S: Section>(alloc: Global, section: &S, bytes: &str) -> bool {
     }
 }
 
-// What a value writes.
+// Returns what a value writes.
 fn encoded<E: Encode>(alloc: Global, value: &E) -> Option<Vec<u8>> {
     let len = value.encoded_len().ok()?;
     let mut sink = Vec::with_capacity(alloc, len as usize).ok()?;

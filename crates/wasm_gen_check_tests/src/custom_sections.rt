@@ -1,5 +1,8 @@
 //! Custom sections, and the ids of sections.
 
+/// How many rows there are.
+pub const COUNT: usize = 45;
+
 /// Features, sections, and the answer.
 pub const ROWS: &str = "
     // Empty names.

@@ -1,5 +1,8 @@
 //! Modules that are cut.
 
+/// How many rows there are.
+pub const COUNT: usize = 51;
+
 /// Features, sections, and where a cut leaves a module.
 pub const ROWS: &str = "
     cuts |                             | 8
@@ -35,6 +38,7 @@ pub const ROWS: &str = "
     // A section of most kinds, an item of each space, a table with an initialiser.
     cuts | types 02 07 01 01 6d 01 66 00 00 05 03 01 00 01 07 05 01 01 66 00 00 08 01 00 0c 01 01 0b 08 01 00 41 00 0b 02 68 69 00 03 01 63 07 | 8 14 23 28 35 38 51 56
     cuts | 01 0c 02 60 02 7f 7e 01 7f 60 02 7e 7f 00 functions 04 04 01 70 00 0a 05 04 01 01 01 05 0d 03 01 00 01 06 06 01 7f 01 41 00 0b 09 07 01 05 70 01 d2 00 0b 0a 06 01 04 00 41 00 0b | 8 22 68
+    cuts | 01 0c 02 60 02 7f 7e 01 7f 60 02 7e 7f 00 functions 04 04 01 70 00 0a 05 04 01 01 01 05 0d 03 01 00 01 06 06 01 7f 01 41 00 0b 09 07 01 05 70 01 d2 00 0b code | 8 22 67
     cuts | types functions 04 04 01 70 00 01 0d 03 01 00 00 06 06 01 7f 01 41 07 0b 08 01 00 09 07 01 00 41 00 0b 01 00 code | 8 14 56
     cuts | types functions 04 0a 01 40 00 64 70 00 00 d2 00 0b 07 09 02 01 66 00 00 01 74 01 00 code | 8 14 48
     // Continuations.
@@ -51,4 +55,12 @@ pub const ROWS: &str = "
     cuts all | 01 05 01 60 01 68 00 functions code | 8 15 26
     cuts | types 03 03 02 00 00 07 08 02 00 00 00 01 31 00 01 0a 09 02 03 00 00 0b 03 00 00 0b | 8 14 40
     cuts | 00 01 00 | 8 11
+    // As many locals, parameters, results, types above one, tables, memories and imports as there may be.
+    cuts | types functions 0a 09 01 07 01 d0 86 03 7f 00 0b | 8 14 29
+    cuts | 01 ed 07 01 60 e8 07 7f*1000 00 | 8 1016
+    cuts | 01 ed 07 01 60 00 e8 07 7f*1000 | 8 1016
+    cuts | 01 c002 40 50005f00 5001#5f00*63 | 8 331
+    cuts | 04 ad 02 64 700000*100 | 8 312
+    cuts | 05 c9 01 64 0000*100 | 8 212
+    cuts | 01 ed07 01 60 e807 7f*1000 00 02 a41f e807 00000000*998 0000037f00*2 | 8 1016 5023
 ";

@@ -1,5 +1,8 @@
 //! Data segments and data counts.
 
+/// How many rows there are.
+pub const COUNT: usize = 43;
+
 /// Features, sections, the answer, and what the row shows.
 pub const ROWS: &str = "
     // Data segments: bytes that are put into a memory.

@@ -1,5 +1,8 @@
 //! Element segments.
 
+/// How many rows there are.
+pub const COUNT: usize = 43;
+
 /// Features, sections, the answer, and what the row shows.
 pub const ROWS: &str = "
     // Element segments: functions that are put into a table.

@@ -74,7 +74,7 @@ fn push_greeting(alloc: Global, module: &mut Module) -> Result<(), EncodeError> 
     module.push(&segments)
 }
 
-// An imported function that is exported and starts the module, and a segment of a memory.
+// Adds an imported function that is exported and starts the module, and a segment of a memory.
 fn push_greeted(alloc: Global, module: &mut Module) -> Result<(), EncodeError> {
     push_bare_type(alloc, module)?;
     push_import(alloc, module)?;
@@ -89,7 +89,7 @@ fn push_greeted(alloc: Global, module: &mut Module) -> Result<(), EncodeError> {
     })
 }
 
-// The module of these sections. (What owns a module has it alive at one exit alone, since each is to be proved.)
+// Returns the module of these sections. (What owns a module has it alive at one exit alone, since each is to be proved.)
 fn greeting(alloc: Global) -> Result<Vec<u8>, EncodeError> {
     let mut module = Module::new(alloc)?;
     push_greeted(alloc, &mut module)?;
@@ -170,7 +170,7 @@ fn push_body(alloc: Global, module: &mut Module) -> Result<(), EncodeError> {
     module.push(&code)
 }
 
-// An item of each space.
+// Adds an item of each space.
 fn push_each(alloc: Global, module: &mut Module) -> Result<(), EncodeError> {
     push_types(alloc, module)?;
     push_functions(alloc, module)?;
@@ -182,7 +182,7 @@ fn push_each(alloc: Global, module: &mut Module) -> Result<(), EncodeError> {
     push_body(alloc, module)
 }
 
-// A module with an item of each space.
+// Returns a module with an item of each space.
 fn each_space(alloc: Global) -> Result<Vec<u8>, EncodeError> {
     let mut module = Module::new(alloc)?;
     push_each(alloc, &mut module)?;
@@ -194,7 +194,7 @@ const EACH_SPACE: &str =
     04 04 01 70 00 0a 05 04 01 01 01 05 0d 03 01 00 01 06 06 01 7f 01 41 00 0b 09 07 01 05 70 01 d2 00 0b \
     0a 06 01 04 00 41 00 0b";
 
-// A body that traps.
+// Returns a body that traps.
 fn trap(alloc: Global) -> Result<Function, EncodeError> {
     let mut body = Function::new(alloc, [])?;
     body.push(&Instruction::Unreachable)?;
@@ -202,7 +202,7 @@ fn trap(alloc: Global) -> Result<Function, EncodeError> {
     Ok(body)
 }
 
-// A code section of this body, or of its bytes.
+// Adds a code section of this body, or of its bytes.
 fn push_code(
     alloc: Global,
     module: &mut Module,
@@ -224,7 +224,7 @@ fn push_function(alloc: Global, module: &mut Module, is_raw: bool) -> Result<(),
     push_code(alloc, module, trap(alloc)?, is_raw)
 }
 
-// A module of one function.
+// Returns a module of one function.
 fn one_function(alloc: Global, is_raw: bool) -> Result<Vec<u8>, EncodeError> {
     let mut module = Module::new(alloc)?;
     push_function(alloc, &mut module, is_raw)?;

@@ -126,7 +126,7 @@ fn push_data(alloc: Global, module: &mut Module) -> Result<(), EncodeError> {
     module.push(&segments)
 }
 
-// A body that drops a local.
+// Returns a body that drops a local.
 fn body(alloc: Global) -> Result<Function, EncodeError> {
     let mut body = Function::new(alloc, [(1, ValType::I32)])?;
     body.push(&Instruction::LocalGet(0))?;
@@ -168,7 +168,7 @@ fn push_sections(alloc: Global, module: &mut Module, start: u32) -> Result<(), E
     push_names(alloc, module)
 }
 
-// A module of these sections. (What owns a module has it alive at one exit alone, since each is to be proved.)
+// Returns a module of these sections. (What owns a module has it alive at one exit alone, since each is to be proved.)
 fn module_of(alloc: Global, start: u32) -> Result<Vec<u8>, EncodeError> {
     let mut module = Module::new(alloc)?;
     push_sections(alloc, &mut module, start)?;

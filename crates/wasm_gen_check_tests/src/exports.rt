@@ -1,5 +1,8 @@
 //! Exports.
 
+/// How many rows there are.
+pub const COUNT: usize = 53;
+
 /// Features, sections, the answer, and what the row shows.
 pub const ROWS: &str = "
     // An item of each kind, and one that isn't there.

@@ -1,5 +1,8 @@
 //! The limits on types, functions and bodies.
 
+/// How many rows there are.
+pub const COUNT: usize = 20;
+
 /// Features, sections, and the answer.
 pub const ROWS: &str = "
     // 50,000 locals in one run and in two, and one more.
@@ -18,9 +21,9 @@ pub const ROWS: &str = "
     default | 01 d6 0f 01 60 e8 07 7f*1000 e8 07 7f*1000   | yes
     default | 01 ee 07 01 60 e9 07 7f*1001 00              | Limit(Params)
     default | 01 ee 07 01 60 00 e9 07 7f*1001              | Limit(Results)
-    // A body of 7,654,321 bytes, and of one more.
-    default | types functions 0a b6 97 d3 03 01 b1 97 d3 03 00*7654320 0b | yes
-    default | types functions 0a b7 97 d3 03 01 b2 97 d3 03 00*7654321 0b | Limit(BodySize)
+    // A body of 7,654,321 bytes, of operators that do nothing, and of one more.
+    default | types functions 0a b6 97 d3 03 01 b1 97 d3 03 00 01*7654319 0b | yes
+    default | types functions 0a b7 97 d3 03 01 b2 97 d3 03 00 01*7654320 0b | Limit(BodySize)
     // 1,000,000 functions, one more, and so many that aren't there.
     default | types 03 c3 84 3d c0 84 3d 00*1000000 0a c3 8d b7 01 c0 84 3d 02000b*1000000 | yes
     default | types 03 c4 84 3d c1 84 3d 00*1000001 0a c6 8d b7 01 c1 84 3d 02000b*1000001 | Limit(Functions)

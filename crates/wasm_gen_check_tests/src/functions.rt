@@ -1,5 +1,8 @@
 //! Type, function and code sections.
 
+/// How many rows there are.
+pub const COUNT: usize = 58;
+
 /// Features, sections, and the answer.
 pub const ROWS: &str = "
     // Sections come once, and in order.

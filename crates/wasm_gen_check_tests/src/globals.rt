@@ -1,5 +1,8 @@
 //! Globals of a module's own.
 
+/// How many rows there are.
+pub const COUNT: usize = 57;
+
 /// Features, sections, the answer, and what the row shows.
 pub const ROWS: &str = "
     // Numbers and vectors, each with an initialiser of its type and of another one.

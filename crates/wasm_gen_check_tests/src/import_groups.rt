@@ -7,7 +7,7 @@ use wasm_gen::judge::{CoreImports, TypesRef};
 use wasm_gen::session::Session;
 use wasm_gen_rows::new_session::{on_new_session, on_types};
 
-// An import section with one group: the name of its module has 100,000 bytes, and 200,000 functions of the first type have one of 25 names each.
+// Adds an import section with one group: the name of its module has 100,000 bytes, and 200,000 functions of the first type have one of 25 names each.
 fn push_group(section: &mut Vec<u8>) -> Result<(), AllocError> {
     section.extend_from_slice(b"\x02\xab\xc2\x1e\x01\xa0\x8d\x06")?;
     for _ in 0..100_000 {

@@ -61,7 +61,7 @@ fn is_refused(module: &str) -> bool {
     module.ends_with('!')
 }
 
-// The letters of a module's groups.
+// Returns the letters of a module's groups.
 fn groups_of(module: &str) -> &[u8] {
     module.trim_end_matches('!').as_bytes()
 }
@@ -99,7 +99,7 @@ impl Met {
         }
     }
 
-    // The first id of a group that comes now.
+    // Returns the first id of a group that comes now.
     fn enter(&mut self, letter: u8) -> Option<u32> {
         let known = self.first.get_mut(usize::from(letter.checked_sub(b'a')?))?;
         if let Some(id) = *known {
@@ -169,7 +169,7 @@ fn are_all_met(
     Some(true)
 }
 
-// The same of a new session in the place of this one.
+// Does the same for a new session in the place of this one.
 fn are_met(alloc: Global, session: &mut Session, modules: [&str; 3]) -> Option<bool> {
     renew(alloc, session);
     let mut met = Met::new(session.features().needs_type_canonicalization());

@@ -1,5 +1,8 @@
 //! The lines that are written of modules, and what they export.
 
+/// How many rows there are.
+pub const COUNT: usize = 19;
+
 /// Features, sections, and the line on their module, or what it exports.
 pub const ROWS: &str = "
     line |                                | yes types=0 functions=0 tables=0 memories=0 globals=0 tags=0 elements=0 exports=0
@@ -15,6 +18,7 @@ pub const ROWS: &str = "
     line | types 02 07 01 01 6d 01 66 00 00 05 03 01 00 01 07 05 01 01 66 00 00 08 01 00 0c 01 01 0b 08 01 00 41 00 0b 02 68 69 00 03 01 63 07 | yes types=1 functions=1 tables=0 memories=1 globals=0 tags=0 elements=0 exports=1
     line | 01 0c 02 60 02 7f 7e 01 7f 60 02 7e 7f 00 functions 04 04 01 70 00 0a 05 04 01 01 01 05 0d 03 01 00 01 06 06 01 7f 01 41 00 0b 09 07 01 05 70 01 d2 00 0b 0a 06 01 04 00 41 00 0b | yes types=2 functions=1 tables=1 memories=1 globals=1 tags=1 elements=1 exports=0
     line | 01 0c 02 60 02 7f 7e 01 7f 60 02 7e 7f 00 functions 04 04 01 70 00 0a 05 04 01 01 01 05 0d 03 01 00 01 06 06 01 7f 01 41 00 0b 09 07 01 05 70 01 d2 00 0b code | yes types=2 functions=1 tables=1 memories=1 globals=1 tags=1 elements=1 exports=0
+    line | types 02 05 01 00 00 00 00 | yes types=1 functions=1 tables=0 memories=0 globals=0 tags=0 elements=0 exports=0
     line all | types 02 05 01 00 00 00 00 | yes types=1 functions=1 tables=0 memories=0 globals=0 tags=0 elements=0 exports=0
     line all | 01 06 02 60 00 00 5d 00 | yes types=2 functions=0 tables=0 memories=0 globals=0 tags=0 elements=0 exports=0
     line all | 01 05 01 60 00 01 7f 0d 03 01 00 00 | yes types=1 functions=0 tables=0 memories=0 globals=0 tags=1 elements=0 exports=0

@@ -1,5 +1,8 @@
 //! The limits on fields, depths, groups, imports, globals, tags, items of segments and exports.
 
+/// How many rows there are.
+pub const COUNT: usize = 26;
+
 /// Features, sections, and the answer.
 pub const ROWS: &str = "
     // 10,000 fields, and one more.

@@ -1,5 +1,8 @@
 //! Imports, memories, tags and the start function.
 
+/// How many rows there are.
+pub const COUNT: usize = 64;
+
 /// Features, sections, and the answer.
 pub const ROWS: &str = "
     // Imports, which may start a module: their types, their names, and such as aren't there. Bodies belong to a module's own functions.

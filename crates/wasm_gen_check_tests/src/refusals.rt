@@ -3,4 +3,5 @@
 
 mod generated;
 mod inputs;
+mod runs;
 mod sessions;

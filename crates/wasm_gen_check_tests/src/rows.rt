@@ -27,7 +27,7 @@ fn all_but(name: &str) -> Option<WasmFeatures> {
     Some(WasmFeatures::all().difference(WasmFeatures::from_name(name)?))
 }
 
-/// The features of a field: `default` or `all`, or one of them `but` for some. The default ones stand for none too.
+/// Returns the features of a field: `default` or `all`, or one of them `but` for some. The default ones stand for none too.
 pub fn features_of(field: &str) -> Option<WasmFeatures> {
     let (most, others) = field.split_once(" but ").unwrap_or((field, ""));
     let mut features = match most {
@@ -65,7 +65,7 @@ fn has_number(field: &str, number: usize) -> bool {
     false
 }
 
-// The answer at a place: `yes` at those of the field.
+// Returns the answer at a place: `yes` at those of the field.
 fn expected_at(field: &str, place: usize) -> &'static str {
     if has_number(field, place) {
         "yes"
@@ -102,7 +102,7 @@ fn has_ids(alloc: Global, bytes: &mut [u8], field: &str) -> Option<bool> {
     Some(holds)
 }
 
-// The answer of a field, which may be followed by what the row shows.
+// Returns the answer of a field, which may be followed by what the row shows.
 fn answer_in(field: &str) -> &str {
     match field.split_once('|') {
         Some((answer, _shown)) => answer.trim(),
@@ -136,20 +136,20 @@ fn holds(alloc: Global, row: &str) -> Option<bool> {
 #[test]
 fn new_sessions_give_these_answers(rt: HostRuntime) -> Result<(), Fail> {
     for (table, count) in [
-        (custom_sections::ROWS, 45),
-        (cuts::ROWS, 43),
-        (data_segments::ROWS, 43),
-        (elements::ROWS, 43),
-        (exports::ROWS, 53),
-        (function_limits::ROWS, 20),
-        (functions::ROWS, 58),
-        (globals::ROWS, 57),
-        (lines::ROWS, 18),
-        (other_limits::ROWS, 26),
-        (other_sections::ROWS, 64),
-        (tables::ROWS, 34),
-        (types::ROWS, 41),
-        (value_types::ROWS, 38),
+        (custom_sections::ROWS, custom_sections::COUNT),
+        (cuts::ROWS, cuts::COUNT),
+        (data_segments::ROWS, data_segments::COUNT),
+        (elements::ROWS, elements::COUNT),
+        (exports::ROWS, exports::COUNT),
+        (function_limits::ROWS, function_limits::COUNT),
+        (functions::ROWS, functions::COUNT),
+        (globals::ROWS, globals::COUNT),
+        (lines::ROWS, lines::COUNT),
+        (other_limits::ROWS, other_limits::COUNT),
+        (other_sections::ROWS, other_sections::COUNT),
+        (tables::ROWS, tables::COUNT),
+        (types::ROWS, types::COUNT),
+        (value_types::ROWS, value_types::COUNT),
     ] {
         check_rows(rt.alloc(), table, count, holds)?;
     }

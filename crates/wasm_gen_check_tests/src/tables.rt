@@ -1,5 +1,8 @@
 //! Tables of a module's own.
 
+/// How many rows there are.
+pub const COUNT: usize = 34;
+
 /// Features, sections, the answer, and what the row shows.
 pub const ROWS: &str = "
     // Own tables.

@@ -1,5 +1,8 @@
 //! Structures, arrays, groups, supertypes, and references to types of the module's own.
 
+/// How many rows there are.
+pub const COUNT: usize = 41;
+
 /// Features, sections, and the answer.
 pub const ROWS: &str = "
     // A structure, an array, a group of none, one of one, a type that isn't final, and a final structure that is written out.

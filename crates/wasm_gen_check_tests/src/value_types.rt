@@ -1,5 +1,8 @@
 //! The features that value types ask for.
 
+/// How many rows there are.
+pub const COUNT: usize = 38;
+
 /// The function types from and to each value type of one byte, and the features that they ask for.
 pub const ROWS: &str = "
     each | 01 05 01 60 01 7f 00 |

@@ -16,7 +16,7 @@ fn writes(alloc: Global, session: &mut Session, bytes: &[u8], line: &str) -> boo
     answer == Ok(line.starts_with("yes")) && written.strip_suffix(b"\n") == Some(line.as_bytes())
 }
 
-// The number of a view's exports.
+// Returns the number of a view's exports.
 fn export_count(view: TypesRef<'_>) -> usize {
     match view.core_exports() {
         Some(exports) => exports.count(),

@@ -10,9 +10,8 @@ use wasm_core::types::{
     StorageType, StructType, SubType, ValType,
 };
 use wasm_gen::seed::seed_for;
-use wasm_gen::smith::Config;
+use wasm_gen::smith::{Config, Unstructured};
 use wasm_smith::module::Module;
-use wasm_smith::unstructured::Unstructured;
 
 // The abstract heap types, those of continuations last.
 const HEAPS: &[AbstractHeapType] = &[

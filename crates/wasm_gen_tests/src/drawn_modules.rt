@@ -5,10 +5,8 @@ use crate::lists::put;
 use crate::numbers::Numbers;
 use crate::parts::{PartCount, are_all_there, count_parts, no_parts};
 use std::alloc::Global;
-use wasm_gen::smith::Config;
-use wasm_smith::error::Error;
+use wasm_gen::smith::{Config, Error, Unstructured};
 use wasm_smith::module::Module;
-use wasm_smith::unstructured::Unstructured;
 
 // Returns so many bytes, which are odd in so many more of eight draws.
 fn drawn_bytes(alloc: Global, numbers: &mut Numbers, len: u32, made_odd: u32) -> Vec<u8> {

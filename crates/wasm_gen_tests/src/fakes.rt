@@ -17,7 +17,7 @@ pub struct ScriptedReader<'a> {
 }
 
 impl<'a> ScriptedReader<'a> {
-    /// A reader that takes the steps of the script, and the last of them without end.
+    /// Creates a reader that takes the steps of the script, and the last of them without end.
     pub fn new(script: &'a str) -> Self {
         match script.as_bytes().split_last() {
             Some((then, script)) => ScriptedReader {
@@ -66,7 +66,7 @@ pub struct Told {
 }
 
 impl Told {
-    // The counts after one more read, where there is room for them.
+    // Returns the counts after one more read, where there is room for them.
     fn next(self, failures: u64, ends: u64) -> Option<Told>
         ensures asked { IfSome result (λ told. told.asked ≡ self.asked + 1) }
         ensures failed { IfSome result (λ told. told.failed ≡ self.failed + failures) }
@@ -159,7 +159,7 @@ pub struct NarrowWriter {
 }
 
 impl NarrowWriter {
-    /// A writer that takes so many bytes.
+    /// Creates a writer that takes so many bytes.
     pub fn new(alloc: Global, room: usize, when_full: WhenFull) -> Self {
         NarrowWriter {
             taken: Vec::new(alloc),

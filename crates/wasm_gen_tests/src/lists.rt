@@ -17,7 +17,7 @@ fn reference(heap: AbstractHeapType) -> ValType {
     })
 }
 
-// The value type at a place, and its byte. There are eight.
+// Returns the value type at a place, and its byte. There are eight.
 fn value_type(place: u8) -> (ValType, u8) {
     match place {
         0 => (ValType::I32, 0x7f),
@@ -54,7 +54,7 @@ pub fn put<T: Drop>(items: &mut Vec<T>, item: T) {
 }
 
 impl Drawing {
-    /// The start of the lists of this number.
+    /// Creates the start of the lists of this number.
     pub fn new(alloc: Global, number: u32, turn: u8) -> Drawing {
         let mut module = Vec::new(alloc);
         let _is_there = module.extend_from_slice(HEADER).is_ok();
@@ -68,7 +68,7 @@ impl Drawing {
         }
     }
 
-    // The next number below the bound, or 0 where that is 0.
+    // Returns the next number below the bound, or 0 where that is 0.
     fn below(&mut self, bound: u8) -> u8 {
         self.state = self
             .state
@@ -77,7 +77,7 @@ impl Drawing {
         u8::try_from((self.state >> 16) % u32::from(bound.max(1))).unwrap_or(0)
     }
 
-    // A draw from the seed, which gives the remainder.
+    // Spells a draw from the seed, which gives the remainder.
     fn spell(&mut self, remainder: u8, modulus: u8) {
         let byte = modulus.wrapping_mul(self.turn).wrapping_add(remainder);
         put(&mut self.seed, byte);
@@ -108,7 +108,7 @@ impl Drawing {
         types
     }
 
-    // A function type, which is a group by itself.
+    // Returns a function type, which is a group by itself.
     fn group(&mut self, alloc: Global) -> Vec<SubType> {
         self.spell(1, 2);
         put(&mut self.entries, 0x60);
@@ -131,7 +131,7 @@ impl Drawing {
         }
     }
 
-    /// The types, each of which is a group.
+    /// Returns the types, each of which is a group.
     pub fn groups(&mut self, alloc: Global) -> Vec<Vec<SubType>> {
         let count = self.below(6);
         let mut groups = Vec::new(alloc);
@@ -143,7 +143,7 @@ impl Drawing {
         groups
     }
 
-    // The index of a function's type. That of the only type takes no byte of the seed.
+    // Returns the index of a function's type. That of the only type takes no byte of the seed.
     fn function(&mut self, types: u8) -> u32 {
         let index = self.below(types);
         self.spell(1, 2);
@@ -154,7 +154,7 @@ impl Drawing {
         u32::from(index)
     }
 
-    /// The functions of so many types: the index of the type of each.
+    /// Returns the functions of so many types: the index of the type of each.
     pub fn functions(&mut self, alloc: Global, types: usize) -> Vec<u32> {
         let types = u8::try_from(types).unwrap_or(0);
         let count = if types > 0 { self.below(8) } else { 0 };
@@ -178,7 +178,7 @@ impl Drawing {
     }
 }
 
-/// A final function type without a supertype.
+/// Returns a final function type without a supertype.
 pub fn function_type(params: Vec<ValType>, results: Vec<ValType>) -> SubType {
     SubType {
         is_final: true,

@@ -105,7 +105,7 @@ fn asks(alloc: Global, fails_with: Option<usize>, kind: ErrorKind, told: Told) -
     answer.is_ok() == fails_with.is_none() && reader.told == Some(told)
 }
 
-// The counts of so many reads, of which so many failed and so many gave no byte.
+// Returns the counts of so many reads, of which so many failed and so many gave no byte.
 fn counts(asked: u64, failed: u64, ended: u64) -> Told {
     Told {
         asked,

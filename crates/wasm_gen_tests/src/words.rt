@@ -34,7 +34,7 @@ const ROWS: &str = "
     wrong    | generate a b   | error: unexpected argument 'b' found
 ";
 
-// The words of a command line.
+// Returns the words of a command line.
 fn words_of(alloc: Global, field: &str) -> Result<Vec<String>, AllocError> {
     let mut all = Vec::new(alloc);
     all.push(String::from_str(alloc, "wasm_gen")?)?;

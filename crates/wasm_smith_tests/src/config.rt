@@ -64,7 +64,7 @@ fn has_the_features_of_the_default(rt: HostRuntime) {
     assert!(rt; Config::default().features() == features);
 }
 
-// A configuration of which no feature is on.
+// Returns a configuration of which no feature is on.
 fn bare() -> Option<Config> {
     let settings = "bulk_memory_enabled=no exceptions_enabled=no extended_const_enabled=no \
             gc_enabled=no memory64_enabled=no multi_value_enabled=no \

@@ -2,8 +2,8 @@
 
 use std::alloc::{AllocError, Global};
 use std::test::Fail;
-use wasm_smith::error::Error;
-use wasm_smith_unstructured::error::{EmptyChoose, NotEnoughData};
+use wasm_smith::error::{EmptyChoose, Error, NotEnoughData};
+use wasm_smith::unstructured::Unstructured;
 use wasm_test_rows::fields::two_fields;
 use wasm_test_rows::rows::check_rows;
 use wasm_test_rows::shown::displays;
@@ -54,4 +54,19 @@ fn errors_print_their_causes(rt: HostRuntime) -> Result<(), Fail> {
 #[test]
 fn is_memory_where_none_is_left(rt: HostRuntime) {
     assert!(rt; Error::from(AllocError) == Error::Memory);
+}
+
+// Draws one of these values and then a byte.
+fn draw(bytes: &[u8], values: &[u8]) -> Result<u8, Error> {
+    let mut source = Unstructured::new(bytes);
+    let value = *source.choose(values)?;
+    source.bytes(1)?;
+    Ok(value)
+}
+
+#[test]
+fn draws_are_refused_with_the_generators_errors(rt: HostRuntime) {
+    assert!(rt; draw(&[], &[]) == Err(Error::EmptyChoose));
+    assert!(rt; draw(&[], &[7]) == Err(Error::NotEnoughData));
+    assert!(rt; draw(&[0], &[7]) == Ok(7));
 }

@@ -14,6 +14,8 @@ mod module;
 #[cfg(test)]
 mod names;
 #[cfg(test)]
+mod refusals;
+#[cfg(test)]
 mod unstructured;
 #[cfg(test)]
 mod witness;

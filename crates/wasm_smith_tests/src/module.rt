@@ -12,9 +12,9 @@ use wasm_test_rows::shown::{debugs, debugs_same, displays};
 use wasm_test_rows::values::bytes_of;
 use wasm_test_types::types::sub_types_of;
 
-// A configuration, the bytes, the types that are made, and the functions with their locals. Where no module is made, the
-// third field is `refused`, and then there is the cause.
-const MADE: &str = "
+/// A configuration, the bytes, the types that are made, and the functions with their locals. Where no module is made, the
+/// third field is `refused`, and then there is the cause.
+pub const MADE: &str = "
     | | | ([], [])
     | 01 00 00 00 01 | func -> | ([0], [[]])
     | 01 01 00 00 00 00 01 | func i32 -> | ([0], [[]])
@@ -40,8 +40,8 @@ fn has_types(alloc: Global, module: &Module, types: &str) -> bool {
     holds
 }
 
-// Checks that a module has this configuration, these types, and these functions and locals.
-fn has_parts(alloc: Global, module: &Module, config: Config, types: &str, rest: &str) -> bool {
+/// Checks that a module has this configuration, these types, and these functions and locals.
+pub fn has_parts(alloc: Global, module: &Module, config: Config, types: &str, rest: &str) -> bool {
     let parts = (module.funcs(), module.locals());
     module.config() == &config && has_types(alloc, module, types) && debugs(alloc, &parts, rest)
 }
@@ -64,8 +64,8 @@ fn holds(alloc: Global, row: &str) -> Option<bool> {
     Some(makes(alloc, config, &bytes, types, rest))
 }
 
-// The bytes of a module with most kinds of items.
-const BYTES: &[u8] = &[
+/// The bytes of a module with most kinds of items.
+pub const BYTES: &[u8] = &[
     1, 0, 0, 0, 0, 0, 0, 0, 1, 0, 1, 0, 1, 0, 0, 0, 0, 0, 0, 1, 0, 0, 0, 1, 0, 1, 0, 7, 0, 0, 0, 0,
     0, 1, 1, 0, 1, 1,
 ];

@@ -9,8 +9,8 @@ use wasm_smith_unstructured::unstructured::Unstructured;
 use wasm_test_rows::fields::two_fields;
 use wasm_test_rows::rows::check_rows;
 
-// Texts that are drawn one after the other, and the names that they get.
-const NAMED: &str = "
+/// Texts that are drawn one after the other, and the names that they get.
+pub const NAMED: &str = "
     a a a | a a1 a2
     é é | é é1
     // Names that end in numbers are passed over.

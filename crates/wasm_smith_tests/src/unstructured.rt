@@ -45,7 +45,7 @@ const DRAWN: &str = "
     61 62 63 | peek 4 = none, take 4 = none, peek 2 = ab, take 2 = ab, take 2 = none, peek 1 = c, take 1 = c, take 0 =
 ";
 
-// A number that is drawn. A bool is 1 or 0.
+// Returns a number that is drawn. A bool is 1 or 0.
 fn number(unstructured: &mut Unstructured<'_>, call: &str) -> Option<u64> {
     match call {
         "u8" => Some(u64::from(unstructured.u8())),
@@ -62,7 +62,7 @@ fn number(unstructured: &mut Unstructured<'_>, call: &str) -> Option<u64> {
     }
 }
 
-// A number of a range, whose first number and length are given.
+// Returns a number of a range, whose first number and length are given.
 fn number_in_range(unstructured: &mut Unstructured<'_>, range: &str) -> Option<u64> {
     let (first, more) = range.split_once(' ')?;
     let first: u32 = first.parse().ok()?;

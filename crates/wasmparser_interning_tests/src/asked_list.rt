@@ -31,7 +31,7 @@ impl<'a> AskedList<'a> {
     ghost use Rattle.wasmparser_type_relations.specs.Chains.{IsDepth};
     ghost use Rattle.wasmparser_type_list.specs.TypeTables.{TablesAgree, sub_types};
 
-    /// The list, if its types are so.
+    /// Creates the list, if its types are so.
     pub fn new(list: &'a TypeList) -> Option<AskedList<'a>>
         requires { TablesAgree list.now }
         ensures { IfSome result (λ asked. asked ≡ list.now) }
@@ -43,27 +43,27 @@ impl<'a> AskedList<'a> {
         }
     }
 
-    /// `TypeList::matches`.
+    /// Calls `TypeList::matches`.
     pub fn matches(&self, a: CoreTypeId, b: CoreTypeId) -> bool {
         self.list.matches(a, b)
     }
 
-    /// `TypeList::id_is_subtype`.
+    /// Calls `TypeList::id_is_subtype`.
     pub fn id_is_subtype(&self, a: CoreTypeId, b: CoreTypeId) -> bool {
         self.list.id_is_subtype(a, b)
     }
 
-    /// `TypeList::reftype_is_subtype`.
+    /// Calls `TypeList::reftype_is_subtype`.
     pub fn reftype_is_subtype(&self, a: RefType, b: RefType) -> bool {
         self.list.reftype_is_subtype(a, b)
     }
 
-    /// `TypeList::valtype_is_subtype`.
+    /// Calls `TypeList::valtype_is_subtype`.
     pub fn valtype_is_subtype(&self, a: ValType, b: ValType) -> bool {
         self.list.valtype_is_subtype(a, b)
     }
 
-    /// `TypeList::get_subtyping_depth` for a known type that `TypeList::is_within_depth`.
+    /// Calls `TypeList::get_subtyping_depth` for a known type that `TypeList::is_within_depth`.
     pub fn depth(&self, id: CoreTypeId) -> Option<u8>
         ensures { IfSome result (IsDepth (slice_get (sub_types self.now)) id) }
     {

@@ -17,7 +17,7 @@ use wasmparser_types::sub_type::SubType;
 // The most types that may be above one.
 const MAX_DEPTH: u32 = 63;
 
-// An open structure without fields, below the type with this id.
+// Returns an open structure without fields, below the type with this id.
 fn structure(alloc: Global, above: Option<u32>) -> Option<SubType> {
     let mut supertype_idxs = Vec::new(alloc);
     if let Some(above) = above {

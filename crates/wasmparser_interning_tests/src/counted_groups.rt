@@ -7,12 +7,12 @@ use wasmparser_types::index::PackedIndex;
 use wasmparser_types::sub_type::{RecGroup, SubType};
 use wasmparser_types::val_type::{FieldType, StorageType, ValType};
 
-// The index of the last type of so many, if there is one.
+// Returns the index of the last type of so many, if there is one.
 fn last_of(count: usize) -> Option<PackedIndex> {
     PackedIndex::from_module_index(u32::try_from(count.checked_sub(1)?).ok()?)
 }
 
-// An open structure without fields below the last type of so many.
+// Returns an open structure without fields below the last type of so many.
 fn below(alloc: Global, count: usize) -> Option<RecGroup> {
     let mut supertype_idxs = Vec::new(alloc);
     if let Some(index) = last_of(count) {
@@ -51,7 +51,7 @@ fn structure(alloc: Global, count: usize) -> Option<RecGroup> {
     }))
 }
 
-/// A group of one type that is counted, in a section of so many types: `below` is an open structure without fields below the last one, `func` a function type of so
+/// Returns a group of one type that is counted, in a section of so many types: `below` is an open structure without fields below the last one, `func` a function type of so
 /// many parameters and results, and `struct` a structure of so many fields.
 pub fn counted_group(alloc: Global, count: usize, words: &str) -> Option<RecGroup> {
     let (kind, counts) = word_and_rest(words);

@@ -35,7 +35,7 @@ fn values_have_one_owner_until_they_are_shared(rt: HostRuntime) -> Result<(), Fa
     Ok(())
 }
 
-// A structure without fields.
+// Returns a structure without fields.
 fn structure(alloc: Global) -> SubType {
     SubType {
         is_final: false,

@@ -37,7 +37,7 @@ fn structure(alloc: Global, fields: Vec<FieldType>) -> SubType {
     }
 }
 
-// A structure of one field, which is null or refers to this type.
+// Returns a structure of one field, which is null or refers to this type.
 fn reference(alloc: Global, index: PackedIndex) -> Option<SubType> {
     let field = FieldType {
         element_type: StorageType::Val(ValType::Ref(RefType::concrete(true, index))),

@@ -98,7 +98,7 @@ const SECTIONS: &str = "
     | 1 func 1000 1000 = yes; 1 struct 10000 = yes; 1 func 1001 0 = Params; 1 func 0 1001 = Results; 1 struct 10001 = Fields
 ";
 
-// The default features, with this one or without it.
+// Returns the default features, with this one or without it.
 fn changed(features: WasmFeatures, word: &str) -> Option<WasmFeatures> {
     let flag = match word.trim_start_matches('-') {
         "gc" => WasmFeatures::GC,

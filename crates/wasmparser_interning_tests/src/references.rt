@@ -23,12 +23,12 @@ const ABSTRACT: &[(&str, AbstractHeapType)] = &[
     ("nocont", AbstractHeapType::NoCont),
 ];
 
-// The abstract heap type of this name.
+// Returns the abstract heap type of this name.
 fn abstract_heap_type_of(word: &str) -> Option<AbstractHeapType> {
     named(ABSTRACT, word)
 }
 
-/// A reference to an abstract heap type by its name, or to a defined type by its id (`#1`) or its place in a group (`own.1`).
+/// Returns a reference to an abstract heap type by its name, or to a defined type by its id (`#1`) or its place in a group (`own.1`).
 pub fn ref_type_of(is_nullable: bool, word: &str) -> Option<RefType> {
     match abstract_heap_type_of(word) {
         Some(it) => RefType::new(is_nullable, HeapType::Abstract(it)),

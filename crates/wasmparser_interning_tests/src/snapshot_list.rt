@@ -107,7 +107,7 @@ fn copies_are_kept(rt: HostRuntime) -> Result<(), Fail> {
     Ok(())
 }
 
-// The same of so many numbers, without a copy being kept.
+// Does the same for so many numbers, without a copy being kept.
 fn takes_copies(list: &mut SnapshotList<usize>, len: usize) -> Result<bool, AllocError> {
     for number in 0..len {
         list.push(number)?;

@@ -83,7 +83,7 @@ fn is_id(asked: &AskedList, a: CoreTypeId, b: CoreTypeId, is_below: bool) -> boo
     asked.id_is_subtype(a, b) == is_below && is_counted
 }
 
-// The same, where both words are ids.
+// Does the same, where both words are ids.
 fn are_ids(asked: &AskedList, a: &str, b: &str, is_below: bool) -> bool {
     match (id_of(a), id_of(b)) {
         (Some(a), Some(b)) => is_id(asked, a, b, is_below),

@@ -85,7 +85,7 @@ const GROUPS: &str = "
 
 const COUNT_OF_GROUPS: usize = 59;
 
-// A group in words.
+// Returns a group in words.
 fn group_of(alloc: Global, words: &str) -> Option<RecGroup> {
     let (kind, types) = word_and_rest(words);
     match kind {

@@ -91,7 +91,7 @@ const MODULES: &str = "
 
 const COUNT_OF_MODULES: usize = 68;
 
-// The bytes after the header and those of the header.
+// Returns the bytes after the header and those of the header.
 fn module_of(alloc: Global, field: &str) -> Option<Vec<u8>> {
     let mut module = bytes_of(alloc, HEADER)?;
     module.extend_from_slice(&bytes_of(alloc, field)?).ok()?;

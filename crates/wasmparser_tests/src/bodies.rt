@@ -103,7 +103,7 @@ fn is_answer(alloc: Global, answer: Result<(), Error>, expected: &str) -> bool {
     }
 }
 
-// A number in five bytes.
+// Appends a number in five bytes.
 fn put_number(bytes: &mut Vec<u8>, number: u64) -> Result<(), AllocError> {
     for shift in 0..4u32 {
         bytes.push(((number >> (7 * shift)) & 0x7f) as u8 | 0x80)?;
@@ -121,7 +121,7 @@ fn put_numbers(bytes: &mut Vec<u8>, count: u16) -> Result<(), AllocError> {
     Ok(())
 }
 
-// A module with one type, so many parameters and results, and one function of it with this body.
+// Returns a module with one type, so many parameters and results, and one function of it with this body.
 fn module_of(alloc: Global, params: u16, results: u16, body: &[u8]) -> Result<Vec<u8>, AllocError> {
     let mut bytes = Vec::new(alloc);
     bytes.extend_from_slice(b"\0asm\x01\0\0\0\x01")?;

@@ -17,9 +17,9 @@ use wasmparser::section_limited::SectionLimited;
 use wasmparser::validator::Validator;
 use wasmparser::validator_id::ValidatorId;
 
-// Calls one after the other, each with its answer. The sections have one item each: a type of functions that take and give nothing, a function of it, a
-// memory, a data segment.
-const CALLS: &str = "
+/// Calls one after the other, each with its answer. The sections have one item each, among them a type of functions that take and give nothing, and a function
+/// of it.
+pub const CALLS: &str = "
     reset=ok types=none version=ok types=some reset=notended types=some end=ok types=none reset=ok version=ok
     type=order types=none version=failed reset=notended types=none
     version2=malformed version=failed
@@ -51,16 +51,17 @@ const CALLS: &str = "
     version=ok all=order all=failed
     allbad=malformed all=failed reset=notended
     allbody=body reset=ok all=ok all=order
+    version=ok type=ok import=ok function=ok table=ok memory=ok tag=ok global=ok export=ok start=ok element=ok count1=ok code=ok body=ok data=ok end=ok
 ";
 
 fn section<'a, T>(bytes: &'a [u8]) -> Result<SectionLimited<'a, T>, Error> {
     Ok(SectionLimited::new(BinaryReader::new(bytes, 8))?)
 }
 
-fn is_answer<T>(given: &Result<T, Error>, expected: &str) -> bool {
+fn name_of<T>(given: &Result<T, Error>) -> &'static str {
     match given {
-        Ok(_) => expected == "ok",
-        Err(e) => e.kind.name() == expected,
+        Ok(_) => "ok",
+        Err(e) => e.kind.name(),
     }
 }
 
@@ -68,36 +69,72 @@ fn type_section(validator: &mut Validator) -> Result<(), Error> {
     validator.type_section(&section(&[1, 0x60, 0, 0])?)
 }
 
+fn import_section(validator: &mut Validator) -> Result<(), Error> {
+    validator.import_section(&section(&[1, 1, 0x6d, 1, 0x67, 3, 0x7f, 0])?)
+}
+
 fn function_section(validator: &mut Validator) -> Result<(), Error> {
     validator.function_section(&section(&[1, 0])?)
+}
+
+fn table_section(validator: &mut Validator) -> Result<(), Error> {
+    validator.table_section(&section(&[1, 0x70, 0, 1])?)
 }
 
 fn memory_section(validator: &mut Validator) -> Result<(), Error> {
     validator.memory_section(&section(&[1, 0, 1])?)
 }
 
+fn tag_section(validator: &mut Validator) -> Result<(), Error> {
+    validator.tag_section(&section(&[1, 0, 0])?)
+}
+
+fn global_section(validator: &mut Validator) -> Result<(), Error> {
+    validator.global_section(&section(&[1, 0x7f, 0, 0x23, 0, 0x0b])?)
+}
+
+fn export_section(validator: &mut Validator) -> Result<(), Error> {
+    validator.export_section(&section(&[1, 1, 0x66, 0, 0])?)
+}
+
+fn element_section(validator: &mut Validator) -> Result<(), Error> {
+    validator.element_section(&section(&[1, 0, 0x41, 0, 0x0b, 1, 0])?)
+}
+
 fn data_section(validator: &mut Validator) -> Result<(), Error> {
     validator.data_section(&section(&[1, 0, 0x41, 0, 0x0b, 0])?)
 }
 
-// Calls for sections.
-fn section_is(validator: &mut Validator, call: &str, expected: &str) -> Option<bool> {
+// Makes a call for a section of items.
+fn answer_to_items(validator: &mut Validator, call: &str) -> Option<Result<(), Error>> {
+    match call {
+        "type" => Some(type_section(validator)),
+        "import" => Some(import_section(validator)),
+        "function" => Some(function_section(validator)),
+        "table" => Some(table_section(validator)),
+        "memory" => Some(memory_section(validator)),
+        "tag" => Some(tag_section(validator)),
+        "global" => Some(global_section(validator)),
+        "export" => Some(export_section(validator)),
+        "element" => Some(element_section(validator)),
+        "data" => Some(data_section(validator)),
+        _ => None,
+    }
+}
+
+// Makes a call for another payload.
+fn answer_to_other(validator: &mut Validator, call: &str) -> Option<Result<(), Error>> {
     let range = 8..16;
-    let given = match call {
-        "type" => type_section(validator),
-        "function" => function_section(validator),
-        "memory" => memory_section(validator),
-        "data" => data_section(validator),
-        "start" => validator.start_section(0, &range),
-        "count0" => validator.data_count_section(0, &range),
-        "count1" => validator.data_count_section(1, &range),
-        "unknown" => validator.unknown_section(14, &range),
-        "version" => validator.version(1, &range),
-        "version2" => validator.version(2, &range),
-        "code" => validator.code_section_start(&range),
-        _ => return None,
-    };
-    Some(is_answer(&given, expected))
+    match call {
+        "start" => Some(validator.start_section(0, &range)),
+        "count0" => Some(validator.data_count_section(0, &range)),
+        "count1" => Some(validator.data_count_section(1, &range)),
+        "unknown" => Some(validator.unknown_section(14, &range)),
+        "version" => Some(validator.version(1, &range)),
+        "version2" => Some(validator.version(2, &range)),
+        "code" => Some(validator.code_section_start(&range)),
+        _ => None,
+    }
 }
 
 const MODULE: &[u8] = &[0, 0x61, 0x73, 0x6d, 1, 0, 0, 0];
@@ -107,33 +144,55 @@ const BROKEN_BODY: &[u8] = &[
     0, 0x61, 0x73, 0x6d, 1, 0, 0, 0, 1, 4, 1, 0x60, 0, 0, 3, 2, 1, 0, 10, 3, 1, 1, 0,
 ];
 
-fn body_is(validator: &mut Validator, expected: &str) -> bool {
+fn answer_to_body(validator: &mut Validator) -> &'static str {
     let body = FunctionBody::new(BinaryReader::new(&[0, 0x0b], 20));
-    is_answer(&validator.code_section_entry(&body), expected)
+    name_of(&validator.code_section_entry(&body))
 }
 
-// Checks the answer to another call.
-fn other_is(validator: &mut Validator, call: &str, expected: &str) -> bool {
+fn shows_types(validator: &Validator) -> &'static str {
+    if validator.types(0).is_some() {
+        "some"
+    } else {
+        "none"
+    }
+}
+
+fn answer_to_reset(validator: &mut Validator) -> &'static str {
+    match validator.reset() {
+        Ok(()) => "ok",
+        Err(_) => "notended",
+    }
+}
+
+// Makes a call that answers something else.
+fn other_answer(validator: &mut Validator, call: &str) -> &'static str {
     match call {
-        "body" => body_is(validator, expected),
-        "end" => is_answer(&answer_to_end(validator, 30), expected),
-        "all" => is_answer(&answer_to_all(validator, MODULE), expected),
-        "allbad" => is_answer(&answer_to_all(validator, &[0]), expected),
-        "allbody" => is_answer(&answer_to_all(validator, BROKEN_BODY), expected),
-        "types" => validator.types(0).is_some() == (expected == "some"),
-        "reset" => validator.reset().is_ok() == (expected == "ok"),
-        _ => false,
+        "body" => answer_to_body(validator),
+        "end" => name_of(&answer_to_end(validator, 30)),
+        "all" => name_of(&answer_to_all(validator, MODULE)),
+        "allbad" => name_of(&answer_to_all(validator, &[0])),
+        "allbody" => name_of(&answer_to_all(validator, BROKEN_BODY)),
+        "types" => shows_types(validator),
+        "reset" => answer_to_reset(validator),
+        _ => "no call",
+    }
+}
+
+/// Returns what a call answers: `ok`, or why it is refused.
+pub fn answer_to_call(validator: &mut Validator, call: &str) -> &'static str {
+    if let Some(given) = answer_to_items(validator, call) {
+        return name_of(&given);
+    }
+    match answer_to_other(validator, call) {
+        Some(given) => name_of(&given),
+        None => other_answer(validator, call),
     }
 }
 
 fn answers(_alloc: Global, validator: &mut Validator, row: &str) -> Option<bool> {
     for step in row.split_whitespace() {
         let (call, expected) = step.split_once('=')?;
-        let holds = match section_is(validator, call, expected) {
-            Some(holds) => holds,
-            None => other_is(validator, call, expected),
-        };
-        if !holds {
+        if answer_to_call(validator, call) != expected {
             return Some(false);
         }
     }
@@ -146,10 +205,10 @@ fn answers_in_turn(alloc: Global, row: &str) -> Option<bool> {
 
 #[test]
 fn calls_are_answered_in_turn(rt: HostRuntime) -> Result<(), Fail> {
-    Ok(check_rows(rt.alloc(), CALLS, 31, answers_in_turn)?)
+    Ok(check_rows(rt.alloc(), CALLS, 32, answers_in_turn)?)
 }
 
-// A module of empty sections, each by its own call.
+// Hands in a module of empty sections, each by its own call.
 fn judge_each(validator: &mut Validator) -> Result<(), Error> {
     validator.version(1, &(0..8))?;
     validator.type_section(&section(&[0])?)?;
@@ -177,8 +236,8 @@ fn each_section_has_a_call(rt: HostRuntime) {
     assert!(rt; holds == Some(true));
 }
 
-// Modules, and what is answered to their payloads: how many functions and types there are, or what is refused.
-const MODULES: &str = "
+/// Modules, and what is answered to their payloads: how many functions and types there are, or what is refused.
+pub const MODULES: &str = "
     0061736d01000000 | 0 0
     0061736d01000000 01 04 01 60 00 00 03 02 01 00 0a 04 01 02 00 0b | 1 1
     0061736d01000000 01 04 01 60 00 00 03 03 02 00 00 0a 07 02 02 00 0b 02 00 0b | 2 1
@@ -204,22 +263,48 @@ const MODULES: &str = "
     0061736d01000000 010401600000 03020100        0a05010300 00 0b 0b03010100 | 1 1
 ";
 
+/// Returns the answer to the payloads of a module, one after the other.
+pub fn answer_to_payloads(
+    alloc: Global,
+    validator: &mut Validator,
+    bytes: &[u8],
+) -> Result<Option<Sizes>, Error> {
+    let mut sizes = None;
+    for payload in Parser::new(0).parse_all(bytes) {
+        let payload = payload?;
+        sizes = answer_to_payload(alloc, validator, &payload)?;
+    }
+    Ok(sizes)
+}
+
+/// Checks that an answer is what a row says.
+pub fn is_answer(
+    alloc: Global,
+    answer: Result<Option<Sizes>, Error>,
+    expected: &str,
+) -> Option<bool> {
+    match answer {
+        Ok(sizes) => {
+            let Sizes { functions, types } = sizes?;
+            Some(format!(in alloc; "{functions} {types}").ok()?.as_str() == expected)
+        }
+        Err(e) => Some(e.kind.name() == expected),
+    }
+}
+
+// Modules of 10,000 bodies, of one less, and of a last one that is refused.
+const MANY_BODIES: &str = "
+    0061736d01000000 010401600000 03924e 904e 00*10000 0ab2ea01 904e 02000b*10000 | 10000 1
+    0061736d01000000 010401600000 03924e 904e 00*10000 0aafea01 8f4e 02000b*9999 | malformed
+    0061736d01000000 010401600000 03924e 904e 00*10000 0ab2ea01 904e 02000b*9999 020006 | operator
+    0061736d01000000 010401600000 03924e 904e 00*10000 0ab3ea01 904e 02000b*9999 03001a0b | body
+";
+
 fn is_answered(alloc: Global, validator: &mut Validator, row: &str) -> Option<bool> {
     let (bytes, expected) = two_fields(row)?;
     let bytes = bytes_of(alloc, bytes)?;
-    let mut sizes = None;
-    for payload in Parser::new(0).parse_all(&bytes) {
-        let payload = match payload {
-            Ok(payload) => payload,
-            Err(e) => return Some(e.kind.name() == expected),
-        };
-        match answer_to_payload(alloc, validator, &payload) {
-            Ok(given) => sizes = given,
-            Err(e) => return Some(e.kind.name() == expected),
-        }
-    }
-    let Sizes { functions, types } = sizes?;
-    Some(format!(in alloc; "{functions} {types}").ok()?.as_str() == expected)
+    let answer = answer_to_payloads(alloc, validator, &bytes);
+    is_answer(alloc, answer, expected)
 }
 
 fn payloads_are_answered(alloc: Global, row: &str) -> Option<bool> {
@@ -229,4 +314,9 @@ fn payloads_are_answered(alloc: Global, row: &str) -> Option<bool> {
 #[test]
 fn payloads_are_judged_in_turn(rt: HostRuntime) -> Result<(), Fail> {
     Ok(check_rows(rt.alloc(), MODULES, 21, payloads_are_answered)?)
+}
+
+#[test]
+fn many_bodies_are_judged_in_turn(rt: HostRuntime) -> Result<(), Fail> {
+    Ok(check_rows(rt.alloc(), MANY_BODIES, 4, payloads_are_answered)?)
 }

@@ -71,7 +71,7 @@ fn features_of(field: &str) -> Option<WasmFeatures> {
     }
 }
 
-// A module with one function, which takes and gives nothing.
+// Returns a module with one function, which takes and gives nothing.
 fn module_of(alloc: Global, body: &[u8]) -> Option<Vec<u8>> {
     let length = u32::try_from(body.len()).ok()?;
     let mut entry = Vec::new(alloc);

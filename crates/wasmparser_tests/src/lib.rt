@@ -19,4 +19,6 @@ mod operators;
 #[cfg(test)]
 mod print_sections;
 #[cfg(test)]
+mod refusals;
+#[cfg(test)]
 mod spaces;

@@ -21,7 +21,7 @@ pub fn on_new_validator<F: Fn(Global, &mut Validator, &str) -> Option<bool>>(
     found
 }
 
-/// The same of one with these features.
+/// Does the same for one with these features.
 pub fn on_new_validator_with<F: Fn(Global, &mut Validator, &str) -> Option<bool>>(
     alloc: Global,
     features: WasmFeatures,

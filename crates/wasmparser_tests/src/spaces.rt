@@ -98,7 +98,7 @@ fn entity_text(alloc: Global, view: TypesRef<'_>, entity: EntityType) -> Option<
     text.ok()
 }
 
-// The item of a kind with an index, by the call for its kind.
+// Returns the item of a kind with an index, by the call for its kind.
 fn entity_at(view: TypesRef<'_>, kind: ExternalKind, index: u32) -> Option<EntityType> {
     match kind {
         ExternalKind::Func if index < view.function_count() => {

@@ -17,7 +17,7 @@ use wasmparser_validation_rows::validators::{define_locals, validator_in};
 /// The outcome of an operator that is refused.
 pub const REFUSED: &str = "refused";
 
-/// The validator of a body that takes an `i32` and an `i64` and gives an `i32`.
+/// Returns the validator of a body that takes an `i32` and an `i64` and gives an `i32`.
 pub fn validator_of(
     alloc: Global,
     resources: &ListedResources,

@@ -158,7 +158,7 @@ const CODES: &str = "
     i | fb1c | * | gc
 ";
 
-/// The feature of a word.
+/// Returns the feature of a word.
 pub fn feature_of(word: &str) -> Option<WasmFeatures> {
     match word {
         "floats" => Some(WasmFeatures::FLOATS),
@@ -186,7 +186,7 @@ fn push_operands(letters: &mut String, takes: &str, first: usize, wrong: usize) 
     Some(())
 }
 
-// The operands from one of them on, with another one in place of one.
+// Returns the operands from one of them on, with another one in place of one.
 fn operands_but(alloc: Global, takes: &str, first: usize, wrong: usize) -> Option<Vec<u8>> {
     let mut letters = String::new(alloc);
     match push_operands(&mut letters, takes, first, wrong) {

@@ -50,7 +50,7 @@ const OTHERS: &str = "? | | 00
     x | | 2103
     X | | 2203";
 
-// The bytes of a letter, if it is one of the table.
+// Returns the bytes of a letter, if it is one of the table.
 fn bytes_in(alloc: Global, table: &str, letter: char) -> Option<Vec<u8>> {
     for row in table.lines() {
         let (name, _, bytes) = three_fields(row)?;
@@ -80,14 +80,14 @@ fn push_letters(alloc: Global, bytes: &mut Vec<u8>, letters: &str) -> Option<()>
     Some(())
 }
 
-/// The operators of some letters, as bytes.
+/// Returns the operators of some letters, as bytes.
 pub fn bytes_of_letters(alloc: Global, letters: &str) -> Option<Vec<u8>> {
     let mut bytes = Vec::new(alloc);
     push_letters(alloc, &mut bytes, letters)?;
     Some(bytes)
 }
 
-/// The letter of a type, `*` where no operand of the table has it.
+/// Returns the letter of a type, `*` where no operand of the table has it.
 pub fn letter_of(ty: &ValType) -> Option<char> {
     for row in OPERANDS.lines() {
         let (letter, word, _) = three_fields(row)?;

@@ -107,7 +107,7 @@ const QUESTIONS: &str = "
     below | #77 anyref | yes
 ";
 
-// An item's type, and what `mut:` says of it.
+// Returns an item's type, and what `mut:` says of it.
 fn item_at<R: WasmModuleResources>(resources: &R, kind: &str, at: u32) -> Option<(ValType, bool)> {
     match kind {
         "table" => match resources.table_at(at) {
@@ -210,7 +210,7 @@ fn below_holds<R: WasmModuleResources>(resources: &R, row: &str) -> Option<bool>
     Some(Some(is_below) == bool_of(expected))
 }
 
-// The parameters of tags, and what is counted.
+// Checks the parameters of tags, and what is counted.
 fn counts_hold<R: WasmModuleResources>(resources: &R) -> bool {
     let are_tags = match (
         resources.tag_at(0),

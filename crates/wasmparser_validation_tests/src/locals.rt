@@ -17,7 +17,7 @@ fn type_of(letter: char) -> ValType {
     }
 }
 
-// The letter of a local's type, a capital where it has no value at the start, and `-` where there is no local.
+// Returns the letter of a local's type, a capital where it has no value at the start, and `-` where there is no local.
 fn letter_of(local: Option<&Local>) -> char {
     let Some(local) = local else {
         return '-';

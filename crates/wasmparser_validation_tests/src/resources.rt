@@ -117,7 +117,7 @@ fn told<R: WasmModuleResources>(known: &R, question: &str) -> Option<u64> {
     }
 }
 
-// A question, and what it is answered.
+// Returns a question, and what it is answered.
 fn is_told(known: &ModuleState, row: &str) -> Option<bool> {
     let (_, question, answer) = three_fields(row)?;
     Some(told(known, question) == number_of(answer))

@@ -81,7 +81,7 @@ pub fn call_all(stacks: &mut Stacks, letters: &str) -> Result<(), AllocError> {
     Ok(())
 }
 
-/// The letter of an operand, `-` where there is none.
+/// Returns the letter of an operand, `-` where there is none.
 pub fn letter_of(operand: Option<Operand>) -> char {
     match operand {
         Some(Operand::Known(ValType::I32)) => 'i',
@@ -93,7 +93,7 @@ pub fn letter_of(operand: Option<Operand>) -> char {
     }
 }
 
-// The known operands, the last one first.
+// Appends the known operands, the last one first.
 fn push_operands(text: &mut String, stacks: &Stacks) -> Result<(), AllocError> {
     for depth in 0..stacks.operand_count() {
         text.push(letter_of(stacks.operand_at(depth)))?;
@@ -101,7 +101,7 @@ fn push_operands(text: &mut String, stacks: &Stacks) -> Result<(), AllocError> {
     Ok(())
 }
 
-/// The letter of a block's kind.
+/// Returns the letter of a block's kind.
 pub fn kind_of(frame: &Frame) -> char {
     match frame.kind {
         FrameKind::Block => 'b',
@@ -125,7 +125,7 @@ fn push_frame(text: &mut String, frame: &Frame) -> Result<(), AllocError> {
     Ok(())
 }
 
-// The open blocks, the innermost one first: kind, height, and whether the rest isn't reached.
+// Appends the open blocks, the innermost one first: kind, height, and whether the rest isn't reached.
 fn push_blocks(text: &mut String, stacks: &Stacks) -> Result<(), AllocError> {
     for depth in 0..stacks.frame_count() {
         if let Some(frame) = stacks.frame_at(depth) {

@@ -21,7 +21,7 @@ fn nest(stacks: &mut Stacks, count: usize) -> Result<bool, AllocError> {
     Ok(are_there && stacks.is_closed() && stacks.operand_count() == 0)
 }
 
-// The same in the room that is there.
+// Does the same in the room that is there.
 fn nest_within_capacity(stacks: &mut Stacks, count: usize) -> bool {
     let mut is_room = true;
     for _ in 0..count {
@@ -36,7 +36,7 @@ fn nest_within_capacity(stacks: &mut Stacks, count: usize) -> bool {
     is_room && are_there && stacks.is_closed() && stacks.operand_count() == 0
 }
 
-// A call of a thousand parameters and results, again and again.
+// Returns a call of a thousand parameters and results, again and again.
 fn call(stacks: &mut Stacks, types: &[ValType], count: usize) -> Result<bool, AllocError> {
     stacks.replace(0, types)?;
     let mut are_known = true;

@@ -8,7 +8,7 @@ use wasmparser_bodies::module_resources::WasmModuleResources;
 use wasmparser_func_validator::func_validator::FuncValidator;
 use wasmparser_operators::immediates::BlockType;
 
-// The known operands, the last one last.
+// Appends the known operands, the last one last.
 fn push_operands<R: WasmModuleResources>(
     text: &mut String,
     validator: &FuncValidator<R>,
@@ -29,7 +29,7 @@ fn push_number(alloc: Global, text: &mut String, number: usize) -> Option<()> {
     text.push_str(&digits).ok()
 }
 
-// An open block: its kind, its type, its height, and whether the rest isn't reached.
+// Appends an open block: its kind, its type, its height, and whether the rest isn't reached.
 fn push_frame(alloc: Global, text: &mut String, frame: &Frame) -> Option<()> {
     text.push(kind_of(frame)).ok()?;
     match &frame.block_type {
@@ -45,7 +45,7 @@ fn push_frame(alloc: Global, text: &mut String, frame: &Frame) -> Option<()> {
     Some(())
 }
 
-// The open blocks, the innermost one first.
+// Appends the open blocks, the innermost one first.
 fn push_blocks<R: WasmModuleResources>(
     alloc: Global,
     text: &mut String,
@@ -60,7 +60,7 @@ fn push_blocks<R: WasmModuleResources>(
     Some(())
 }
 
-// The types of the locals.
+// Appends the types of the locals.
 fn push_locals<R: WasmModuleResources>(
     text: &mut String,
     validator: &FuncValidator<R>,

@@ -12,8 +12,8 @@ use wasm_test_rows::rows::check_rows;
 use wasm_test_rows::values::{bytes_of, numbers_of};
 use wasm_test_types::types::groups_of;
 
-// Seeds, and the modules that are made of them by default.
-const MADE: &str = "
+/// Seeds, and the modules that are made of them by default.
+pub const MADE: &str = "
     | 0061736d01000000
     // An import, element segments of constants, an export, operations, clones, data without a memory, names with a number, and an active segment.
     00 01 | 0061736d01000000 02 06 01 00 00 03 7f 00
@@ -65,8 +65,8 @@ fn with_groups() -> Config {
     config
 }
 
-// Returns the bytes of a field. Where the allocation that is refused is one for them, there is none the next time.
-fn field_bytes(alloc: Global, field: &str) -> Option<Vec<u8>> {
+/// Returns the bytes of a field. Where the allocation that is refused is one for them, there is none the next time.
+pub fn field_bytes(alloc: Global, field: &str) -> Option<Vec<u8>> {
     match bytes_of(alloc, field) {
         Some(bytes) => Some(bytes),
         None => bytes_of(alloc, field),

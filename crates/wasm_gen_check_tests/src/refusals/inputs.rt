@@ -86,8 +86,8 @@ fn validates(alloc: Global, written: &mut Vec<u8>) -> bool {
     }
 }
 
-// Allocates capacity for all lines, so that no write fails.
-fn room(alloc: Global) -> Option<Vec<u8>> {
+/// Allocates capacity for all that is written, so that no write fails.
+pub fn room(alloc: Global) -> Option<Vec<u8>> {
     match Vec::with_capacity(alloc, 1024) {
         Ok(room) => Some(room),
         Err(_) => Vec::with_capacity(alloc, 1024).ok(),

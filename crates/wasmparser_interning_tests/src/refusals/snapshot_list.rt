@@ -1,6 +1,6 @@
 //! Lists of which copies are kept.
 
-use std::alloc::Global;
+use std::alloc::{AllocError, Global};
 use wasmparser_type_relations::snapshot_list::SnapshotList;
 
 // Checks that a list has the numbers from 0 on, as many as it says.
@@ -56,4 +56,46 @@ fn takes_all(alloc: Global, len: usize) -> bool {
 #[test]
 fn refusals_change_nothing(rt: HostRuntime) {
     assert!(rt; takes_all(rt.alloc(), 20));
+}
+
+// Reserves room for more numbers, and adds them from this one on.
+fn add_reserved(
+    alloc: Global,
+    list: &mut SnapshotList<usize>,
+    from: usize,
+) -> Result<(), AllocError> {
+    let mut more = Vec::new(alloc);
+    for number in 0..4_usize {
+        more.push(from.saturating_add(number))?;
+    }
+    list.reserve(more.len())?;
+    if list.len().checked_add(more.len()).is_none() {
+        return Err(AllocError);
+    }
+    list.append_reserved(more);
+    Ok(())
+}
+
+// Checks that they are added, at the second time where memory runs out at the first and the list is as it was, and copied.
+fn takes_reserved(alloc: Global, list: &mut SnapshotList<usize>, from: usize) -> bool {
+    let is_added = add_reserved(alloc, list, from).is_ok();
+    if !is_added && !(counts_to(list, from) && add_reserved(alloc, list, from).is_ok()) {
+        return false;
+    }
+    copies(list, from.saturating_add(4))
+}
+
+fn takes_all_reserved(alloc: Global) -> bool {
+    let mut list = SnapshotList::new(alloc);
+    for turn in 0..4_usize {
+        if !takes_reserved(alloc, &mut list, turn.saturating_mul(4)) {
+            return false;
+        }
+    }
+    counts_to(&list, 16)
+}
+
+#[test]
+fn reserved_numbers_are_added(rt: HostRuntime) {
+    assert!(rt; takes_all_reserved(rt.alloc()));
 }

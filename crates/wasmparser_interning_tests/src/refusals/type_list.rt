@@ -64,7 +64,7 @@ fn is_copied(alloc: Global, list: &mut CheckedList, questions: &str) -> Option<b
     }
 }
 
-// The same, at the second call where the first is refused. The list's own answers stay as they were.
+// Does the same, at the second call where the first is refused. The list's own answers stay as they were.
 fn copies(alloc: Global, list: &mut CheckedList, questions: &str) -> bool {
     let is_right = match is_copied(alloc, list, questions) {
         Some(is_so) => is_so,

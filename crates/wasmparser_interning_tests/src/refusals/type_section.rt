@@ -16,7 +16,7 @@ const SECTIONS: &str = "
     open : struct, 0 : struct i8; open : struct, 2 : struct i8; array mut:1 | #0 #1 #0 #1 #2
 ";
 
-// A group in words. Where memory runs out on them, it doesn't a second time.
+// Returns a group in words. Where memory runs out on them, it doesn't a second time.
 fn group_of(alloc: Global, types: &str) -> Option<RecGroup> {
     if let Some(types) = sub_types_of(alloc, types) {
         return Some(RecGroup::explicit(types));

@@ -21,7 +21,7 @@ const BODY: &str =
     "4100*20 0240*9 d200 2103 2003 1a 4100 047f 4200 a7 05 4100 0b 1a 4100 4200 0201 1a 0b 1a d200 2203 1a 0b*9
     1a*20 1002 1a*2 4100 d009 1004 d5 00 1a 1a 00 4200 4200 4100 1b 1a 2000 0b";
 
-// The bytes of a field, at the second time where memory ran out at the first.
+// Returns the bytes of a field, at the second time where memory ran out at the first.
 pub(crate) fn bytes(alloc: Global, field: &str) -> Option<Vec<u8>> {
     match bytes_of(alloc, field) {
         Some(bytes) => Some(bytes),
@@ -36,7 +36,7 @@ pub(crate) fn example(alloc: Global) -> Option<ListedResources> {
     }
 }
 
-// A validator in some room, or in new room where memory ran out.
+// Returns a validator in some room, or in new room where memory ran out.
 pub(crate) fn validator_of(
     alloc: Global,
     resources: &ListedResources,

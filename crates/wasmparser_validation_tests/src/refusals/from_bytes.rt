@@ -1,5 +1,6 @@
 //! Bodies that are validated from their bytes, by a validator that is refused an allocation.
 
+use crate::from_bytes::validate_by_steps;
 use crate::refusals::bodies::{bytes, example, is_memory, validator_of};
 use std::alloc::Global;
 use std::test::Fail;
@@ -25,10 +26,17 @@ const BODIES: &str = "
     4d 017c 016470 017e017f*37 ffff03 7f | limit
 ";
 
-// Validates a body at once.
-fn validate(validator: &mut FuncValidator<&ListedResources>, bytes: &[u8]) -> Result<(), Error> {
+// Validates a body at once, or its locals and then its operators one by one.
+fn validate(
+    validator: &mut FuncValidator<&ListedResources>,
+    bytes: &[u8],
+    is_at_once: bool,
+) -> Option<Result<(), Error>> {
+    if !is_at_once {
+        return validate_by_steps(validator, bytes);
+    }
     let body = FunctionBody::new(BinaryReader::new(bytes, 0));
-    validator.validate(&body)
+    Some(validator.validate(&body))
 }
 
 fn is_answer(answer: &Result<(), Error>, expected: &str) -> bool {
@@ -42,9 +50,10 @@ fn is_answer(answer: &Result<(), Error>, expected: &str) -> bool {
 fn ran_out(
     validator: &mut FuncValidator<&ListedResources>,
     bytes: &[u8],
+    is_at_once: bool,
     expected: &str,
 ) -> Option<bool> {
-    let answer = validate(validator, bytes);
+    let answer = validate(validator, bytes, is_at_once)?;
     let is_memory = is_memory(&answer);
     let holds = if is_memory {
         has_failed(validator)
@@ -59,12 +68,13 @@ fn is_answered(
     alloc: Global,
     resources: &ListedResources,
     bytes: &[u8],
+    is_at_once: bool,
     expected: &str,
 ) -> Option<bool> {
     let mut first = validator_of(alloc, resources, FuncValidatorAllocations::new(alloc))?;
-    let at_first = ran_out(&mut first, bytes, expected);
+    let at_first = ran_out(&mut first, bytes, is_at_once, expected);
     let mut second = validator_of(alloc, resources, first.into_allocations())?;
-    let again = ran_out(&mut second, bytes, expected);
+    let again = ran_out(&mut second, bytes, is_at_once, expected);
     drop(second);
     Some(at_first.is_some() && again == Some(false))
 }
@@ -73,9 +83,10 @@ fn holds(alloc: Global, row: &str) -> Option<bool> {
     let (field, expected) = two_fields(row)?;
     let bytes = bytes(alloc, field)?;
     let resources = example(alloc)?;
-    let holds = is_answered(alloc, &resources, &bytes, expected);
+    let at_once = is_answered(alloc, &resources, &bytes, true, expected);
+    let by_steps = is_answered(alloc, &resources, &bytes, false, expected);
     drop(resources);
-    holds
+    Some(at_once? && by_steps?)
 }
 
 #[test]

@@ -9,7 +9,7 @@ use wasmparser_types::val_type::ValType;
 
 const TYPES: [ValType; 3] = [ValType::I32, ValType::I64, ValType::F32];
 
-// The calls that ask for memory, by numbers.
+// Makes a call that asks for memory, by its number.
 fn call(stacks: &mut Stacks, number: u32) -> Result<(), AllocError> {
     match number % 8 {
         0 => stacks.push(Operand::Unknown),

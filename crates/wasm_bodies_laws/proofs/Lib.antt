@@ -1,5 +1,5 @@
 mod Closing
-mod Endings
+pub mod Endings
 mod Finishing
 pub mod HeldOptions
 pub mod MappedBlocks

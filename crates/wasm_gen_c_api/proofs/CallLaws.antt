@@ -1,4 +1,4 @@
--- What is written of a seed, and what is told of it.
+-- The bytes written for a seed, and the result returned for it.
 use Rattle.std.proofs.Common.{◌≡◌, ◌⊎◌, ℕ, Bool, true, false, List, [], ◌++◌, length, take, drop, nat_le, Result, Ok, Err, refl, sym, subst, ap, ◌∙◌, inl, inr, arith, rules, if◌then◌else◌}
 use Rattle.std.proofs.Math.Seq.{take-append_seam}
 use Rattle.wasm_spec.specs.Features.{Features}

@@ -1,4 +1,4 @@
--- What a call tells of what the generator answers.
+-- Ties a call's result to the generator's.
 use Rattle.std.proofs.Common.{◌≡◌, ℕ, Bool, List, length, nat_le, Ok, Err, ap, refl, sym, ◌∙◌, if◌then◌else◌}
 use Rattle.wasm_gen_sessions.specs.Asked.{MakesLists, RefusesRightly}
 use Rattle.wasm_gen_sessions.specs.Generate.{IsGeneratedFrom, IsCause}

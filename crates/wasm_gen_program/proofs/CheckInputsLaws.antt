@@ -1,4 +1,4 @@
--- What the inputs that were met have come to: nothing at first, and one outcome more after each step.
+-- The outcomes of the inputs that were met: none at first, and one more after each step.
 use Rattle.std.proofs.Common.{◌≡◌, ◌≢◌, ◌<◌, ◌≤◌, ◌+◌, ℕ, List, [], ◌∷◌, ◌++◌, length, take, take_all, get_or, map, option_map, arith, Bool, true, false, Option, Some, None, Result, Ok, Err, refl, sym, ap, ◌∙◌, subst, append_assoc}
 use Rattle.std.specs.Prelude.{slice_get}
 use Rattle.std.proofs.lemmas.List.{length-append, length-map, take_more}

@@ -1,4 +1,4 @@
--- What some words ask for.
+-- The commands that some words ask for.
 use Rattle.std.proofs.Common.{◌≡◌, List, [], ◌∷◌, Some, None, codes, refl}
 use Rattle.clap.proofs.OnLiterals.{clap_on_literals}
 use Rattle.clap.specs.Words.{Text, fault_of, subcommand_of}

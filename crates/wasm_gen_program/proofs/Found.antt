@@ -1,4 +1,4 @@
--- What is found for a command that words name.
+-- Finds the command that words name.
 use Rattle.std.proofs.Common.{◌≡◌, ◌∙◌, List, Option, Some, None, refl, ap, ap₂, option_map}
 use Rattle.std.specs.Cmp.Lexicographic.{nat_list_eq_equiv}
 use Rattle.std.specs.Prelude.{unwrap_or}

@@ -1,4 +1,4 @@
--- What reads in a row tell together.
+-- Combines consecutive reads.
 use Rattle.std.proofs.Common.{ℕ, ◌+◌, ◌<◌, ◌≤◌, Option, Some, None, inl, inr, refl, arith}
 use Rattle.wasm_gen_program.specs.Device.{ReadCounts, Tells, EndsRead, FailsOrTires, FailsRead, ReadsOn, ReadsToEnd, ReadsWithin}
 

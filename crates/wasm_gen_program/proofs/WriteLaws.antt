@@ -1,4 +1,4 @@
--- What writes in a row tell together.
+-- Combines consecutive writes.
 use Rattle.std.proofs.Common.{ℕ, ◌+◌, Option, Some, None, refl, ◌∙◌, ap}
 use Rattle.wasm_gen_program.specs.Device.{WritesOn, FailsWrite}
 

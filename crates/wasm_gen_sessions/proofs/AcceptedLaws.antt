@@ -1,4 +1,4 @@
--- What is generated is accepted.
+-- Generated modules are accepted.
 use Rattle.std.proofs.Common.{◌≡◌, ◌⊎◌, ℕ, false, List, [], Err, inl, inr, refl}
 use Rattle.wasm_spec.specs.Features.{Features}
 use Rattle.wasmparser_validator.specs.Validation.{IsAccepted, IsValidated}

@@ -1,4 +1,4 @@
--- What is generated, and why nothing is.
+-- Generating, and why nothing is generated.
 use Rattle.std.proofs.Common.{ℕ, Bool, List, [], IfSome, refl, subst, inl, inr}
 use Rattle.wasm_core.specs.LimitCases as limits
 use Rattle.wasm_core.specs.Limits.{limit}

@@ -1,4 +1,4 @@
--- What is written of a made module is what was asked for.
+-- The bytes of a made module are a module as asked for.
 use Rattle.std.proofs.Common.{◌≡◌, ℕ, ◌≤◌, Bool, true, List, [], length, ◌∙◌}
 use Rattle.std.specs.List.{AllByRecursion}
 use Rattle.wasm_smith_config.specs.Config.{AreFeaturesOf}

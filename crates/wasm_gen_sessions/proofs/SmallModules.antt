@@ -1,4 +1,4 @@
--- What is known of the numbers of a made module that is valid by index, within bounds, and passes no limit.
+-- Bounds on the numbers of a made module that is valid by index, within bounds, and passes no limit.
 use Rattle.std.specs.Prelude.{⊤}
 use Rattle.std.proofs.Common.{◌≡◌, ℕ, ◌<◌, ◌≤◌, Bool, true, false, not, List, [], ◌∷◌, length, map, refl, sym, ◌∙◌, arith}
 use Rattle.std.specs.List.{AllByRecursion, flat_map}

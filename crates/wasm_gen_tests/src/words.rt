@@ -10,7 +10,7 @@ use wasm_test_rows::rows::check_rows;
 
 // A question about words, the words after the program's name, and the answer.
 const ROWS: &str = "
-    // What clap refuses them for, and the status that they end with.
+    // clap's reason for refusing them, and the exit status.
     refusal  | check a        | none
     refusal  | check a b      | none
     refusal  | --help         | DisplayHelp 0

@@ -1,5 +1,5 @@
--- What an outcome of bytes means, and an answer that is this outcome.
-use Rattle.std.proofs.Common.{◌≡◌, ◌≢◌, ◌⊎◌, inl, inr, ℕ, List, [], ◌++◌, map, Some, Result, Ok, Err, refl, sym, ap, subst, ◌∙◌}
+-- The meaning of an outcome of bytes, and of an answer that is this outcome.
+use Rattle.std.proofs.Common.{◌≡◌, ◌≢◌, ◌⊎◌, inl, inr, ℕ, ◌-◌, List, [], ◌++◌, map, Some, Result, Ok, Err, refl, sym, ap, subst, ◌∙◌}
 use Rattle.std.specs.Option.{unwrap_or}
 use Rattle.wasm_bodies.specs.Bodies.{Run, IsFunctionBody, HasManyLocals, HasOtherOperator, in_function, parameter, AreLocals}
 use Rattle.wasm_bodies.specs.BodyContext.{ModuleItems, Local, func_at}
@@ -15,10 +15,13 @@ use Rattle.wasm_spec.specs.Types.{FuncType}
 use Rattle.wasmparser_error.specs.declared.error.Error.{Error}
 use Rattle.wasmparser_error.specs.declared.error.ErrorKind.{ErrorKind}
 use Rattle.wasmparser_error.specs.declared.error.ErrorKind.TheVariants as kinds
-use Rattle.wasmparser_bodies.specs.BodyAnswers.{context_of, with_code, typed_outcome, body_outcome, NamesFault, AnswersOutcome, IsBodyValidated}
+use Rattle.wasmparser_bodies.specs.BodyAnswers.{context_of, with_code, typed_outcome, body_outcome, NamesFault, AnswersOutcome, IsBodyValidated, HasManyTypes, HasRightFront, IsRightUpTo, StandsAtItem, left_at}
 use Rattle.wasmparser_bodies.specs.CodeReading.{BodyOutcome, Fine, ManyLocals, OtherOperator, Broken, code_outcome, IsCode, HasOther}
+use Rattle.wasmparser_bodies.specs.Fronts.{StopsIn, StopsInBody}
 use Rattle.wasmparser_bodies.specs.LocalsReading.{LocalsOutcome, Locals, TooMany, NoLocals, locals_outcome, Declares}
 use Rattle.wasmparser_bodies.proofs.CodeMeaning.{is_code, fine_code, has_other, other_code, code_few}
+use Rattle.wasmparser_bodies.proofs.AnswerLaws.{left_within}
+use Rattle.wasmparser_bodies.proofs.FrontLaws.{at_any_item, right_in_code, right_in_locals}
 use Rattle.wasmparser_bodies.proofs.LocalsMeaning.{locals_found, locals_again, past_found, past_again}
 
 module _ {R : Type 0} (features : Features) (items : ModuleItems R) (index : ℕ) (type : FuncType R) (named : func_at items index ≡ Some type) where
@@ -150,37 +153,57 @@ module _ {R : Type 0} (features : Features) (items : ModuleItems R) (index : ℕ
   abbrev IsBodyKind : ErrorKind → Type 0
   IsBodyKind kind = (kind ≡ kinds.Operator) ⊎ (kind ≡ kinds.Limit core.Locals) ⊎ (kind ≡ kinds.Body) ⊎ (kind ≡ kinds.Memory)
 
-  limit_kind : (limit : Limit) (outcome : BodyOutcome) → NamesFault ⊥ (kinds.Limit limit) outcome → IsBodyKind (kinds.Limit limit)
-  limit_kind core.Locals outcome n = inr (inl refl)
-  limit_kind _ outcome n = absurd n
+  module _ (so_far : Type 0) (outcome : BodyOutcome) where
+    limit_kind : (limit : Limit) → NamesFault ⊥ so_far (kinds.Limit limit) outcome → IsBodyKind (kinds.Limit limit)
+    limit_kind core.Locals n = inr (inl refl)
+    limit_kind _ n = absurd n
 
-  body_kind : (kind : ErrorKind) (outcome : BodyOutcome) → NamesFault ⊥ kind outcome → IsBodyKind kind
-  body_kind (kinds.Limit l) outcome n = limit_kind l outcome n
-  body_kind kinds.Operator outcome n = inl refl
-  body_kind kinds.Body outcome n = inr (inr (inl refl))
-  body_kind kinds.Memory outcome n = inr (inr (inr refl))
-  body_kind _ outcome n = absurd n
+    body_kind : (kind : ErrorKind) → NamesFault ⊥ so_far kind outcome → IsBodyKind kind
+    body_kind (kinds.Limit l) n = limit_kind l n
+    body_kind kinds.Operator n = inl refl
+    body_kind kinds.Body n = inr (inr (inl refl))
+    body_kind kinds.Memory n = inr (inr (inr refl))
+    body_kind _ n = absurd n
 
-  -- a body is refused only where memory runs out
-  fine_limit : (limit : Limit) (outcome : BodyOutcome) → outcome ≡ Fine → NamesFault ⊥ (kinds.Limit limit) outcome → ⊥
-  fine_limit core.Locals outcome e n = let f = sym n ∙ e in absurd cc
-  fine_limit _ outcome e n = absurd n
+    -- a body is refused only where memory runs out
+    fine_limit : (limit : Limit) → outcome ≡ Fine → NamesFault ⊥ so_far (kinds.Limit limit) outcome → ⊥
+    fine_limit core.Locals e n = let f = sym n ∙ e in absurd cc
+    fine_limit _ e n = absurd n
 
-  fine_fault : (kind : ErrorKind) (outcome : BodyOutcome) → outcome ≡ Fine → NamesFault ⊥ kind outcome → kind ≡ kinds.Memory
-  fine_fault (kinds.Limit l) outcome e n = absurd (fine_limit l outcome e n)
-  fine_fault kinds.Operator outcome e n = let f = sym n ∙ e in absurd cc
-  fine_fault kinds.Body outcome e (inl n) = let f = sym n ∙ e in absurd cc
-  fine_fault kinds.Body outcome e (inr n) = absurd n
-  fine_fault kinds.Memory outcome e n = refl
-  fine_fault _ outcome e n = absurd n
+    fine_fault : (kind : ErrorKind) → outcome ≡ Fine → NamesFault ⊥ so_far kind outcome → kind ≡ kinds.Memory
+    fine_fault (kinds.Limit l) e n = absurd (fine_limit l e n)
+    fine_fault kinds.Operator e n = let f = sym n ∙ e in absurd cc
+    fine_fault kinds.Body e (inl n) = let f = sym n ∙ e in absurd cc
+    fine_fault kinds.Body e (inr n) = absurd n
+    fine_fault kinds.Memory e n = refl
+    fine_fault _ e n = absurd n
 
-  broken_alone : (outcome : BodyOutcome) → NamesFault ⊥ kinds.Body outcome → outcome ≡ Broken
-  broken_alone outcome (inl n) = n
-  broken_alone outcome (inr n) = absurd n
+    broken_alone : NamesFault ⊥ so_far kinds.Body outcome → outcome ≡ Broken
+    broken_alone (inl n) = n
+    broken_alone (inr n) = absurd n
 
-  pub validated : (body : Input) (answer : Result (Unit {0}) Error) → AreBytes body.rest → AnswersOutcome ⊥ body answer (body_outcome features items index body.rest)
+  -- where memory ran out, the bytes are right so far
+  right_up_to : (body : Input) (place : ℕ) → AreBytes body.rest → IsWithin body place → StopsInBody features items index body.rest (left_at body place)
+      → IsRightUpTo features items type (StandsAtItem features) body.rest (place - body.position)
+  right_up_to body place are w h =
+      let at = left_within body place w in
+      let s = subst (λ o. StopsIn features items (unwrap_or o (from_to [] [])) (map parameter (unwrap_or o (from_to [] [])).params) (at_start index) body.rest (left_at body place)) named h in
+      elim s [
+        | inl locals ↦ at_any_item features items type body.rest (place - body.position) (right_in_locals features items type body.rest (left_at body place) (place - body.position) are at locals)
+        | inr code ↦ right_in_code features items type index named body.rest (left_at body place) (place - body.position) are at code
+      ]
+
+  pub right_so_far : (body : Input) (answer : Result (Unit {0}) Error) → AreBytes body.rest
+      → AnswersOutcome (HasManyTypes items) (StopsInBody features items index body.rest) body answer (body_outcome features items index body.rest)
+      → HasRightFront features items type (StandsAtItem features) body.rest body.position answer
+  right_so_far body (Ok x) are h = tt
+  right_so_far body (Err e) are h = λ k.
+      right_up_to body e.offset are h.1
+      (subst (λ k. NamesFault (HasManyTypes items) (StopsInBody features items index body.rest (left_at body e.offset)) k (body_outcome features items index body.rest)) k h.0)
+
+  pub validated : (so_far : ℕ → Type 0) (body : Input) (answer : Result (Unit {0}) Error) → AreBytes body.rest → AnswersOutcome ⊥ so_far body answer (body_outcome features items index body.rest)
       → IsBodyValidated features items type body.rest body.position answer
-  validated body (Ok x) are h = record {
+  validated so_far body (Ok x) are h = record {
     right = body_found body.rest are h;
     complete = tt;
     operator = tt;
@@ -190,16 +213,17 @@ module _ {R : Type 0} (features : Features) (items : ModuleItems R) (index : ℕ
     from = tt;
     to = tt;
   }
-  validated body (Err e) are h =
+  validated so_far body (Err e) are h =
       let outcome = body_outcome features items index body.rest in
-      let at : (kind : ErrorKind) → e.kind ≡ kind → NamesFault ⊥ kind outcome = λ kind k. subst (λ k. NamesFault ⊥ k outcome) k h.0 in
+      let here = so_far (left_at body e.offset) in
+      let at : (kind : ErrorKind) → e.kind ≡ kind → NamesFault ⊥ here kind outcome = λ kind k. subst (λ k. NamesFault ⊥ here k outcome) k h.0 in
       record {
         right = tt;
-        complete = λ b. fine_fault e.kind outcome (body_again body.rest b) h.0;
+        complete = λ b. fine_fault here outcome e.kind (body_again body.rest b) h.0;
         operator = λ k. operator_found body.rest are (at kinds.Operator k);
         limit = λ k. many_found body.rest are (at (kinds.Limit core.Locals) k);
-        broken = λ k. broken_is body.rest (broken_alone outcome (at kinds.Body k));
-        others = body_kind e.kind outcome h.0;
+        broken = λ k. broken_is body.rest (broken_alone here outcome (at kinds.Body k));
+        others = body_kind here outcome e.kind h.0;
         from = h.1.from;
         to = h.1.to;
       }

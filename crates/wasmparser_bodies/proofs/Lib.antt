@@ -3,6 +3,7 @@ pub mod BodyLaws
 pub mod BodySteps
 pub mod CodeLaws
 pub mod CodeMeaning
+pub mod FrontLaws
 mod LargeIndexes
 mod LocalLaws
 pub mod LocalsLaws

@@ -1,4 +1,4 @@
--- What an outcome of locals means: which runs read, and what they declare.
+-- The meaning of an outcome of locals: which runs read, and what they declare.
 use Rattle.std.proofs.Common.{◌≡◌, ◌≢◌, ◌⊎◌, inl, inr, ℕ, zero, suc, ◌+◌, ◌<◌, ◌≤◌, true, List, [], ◌∷◌, ◌++◌, length, map, replicate, Option, Some, None, is_some, refl, sym, ap, subst, ◌∙◌, append_assoc, arith}
 use Rattle.std.specs.List.{AllByRecursion}
 use Rattle.std.specs.Prelude.{sum_by}
@@ -34,7 +34,7 @@ total_cons : (run : Run) (runs : List Run) → total (run ∷ runs) ≡ run.coun
 unfolding total
 total_cons run runs = sum_by-cons (λ (r : Run). r.count) run runs
 
-some_of : {A : Type 0} (o : Option A) → is_some o ≡ true → (a : A) × (o ≡ Some a)
+pub some_of : {A : Type 0} (o : Option A) → is_some o ≡ true → (a : A) × (o ≡ Some a)
 some_of None e = absurd cc
 some_of (Some a) e = (a, refl)
 

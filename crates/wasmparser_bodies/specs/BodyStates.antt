@@ -10,11 +10,12 @@ use Rattle.wasmparser_error.specs.declared.error.Error.{Error}
 use Rattle.wasmparser_error.specs.declared.error.ErrorKind.{ErrorKind}
 use Rattle.wasmparser_error.specs.declared.error.ErrorKind.TheVariants as kinds
 use Rattle.wasmparser_types.specs.Index.{Index}
-use Rattle.wasmparser_bodies.specs.BodyAnswers.{HasManyTypes, NamesFault, context_of, with_code}
+use Rattle.wasmparser_bodies.specs.BodyAnswers.{HasManyTypes, NamesFault, context_of, left_at, with_code}
 use Rattle.wasmparser_bodies.specs.CodeReading.{BodyOutcome, code_outcome}
+use Rattle.wasmparser_bodies.specs.Fronts.{Passes, StopsInOperators, StopsIn}
 use Rattle.wasmparser_bodies.specs.LocalsReading.{locals_outcome}
 
--- What it is validated in, the type index of its function, the locals that were added, what the operators led to, and whether others may come: after a
+-- Its context, the type index of its function, the locals that were added, the machine that the operators led to, and whether others may come: after a
 -- refusal none may.
 pub record BodyState : Type 0 where
   pub features : Features
@@ -45,6 +46,10 @@ unfoldable pub rest_outcome : BodyState → List ℕ → BodyOutcome
 rest_outcome state bytes =
     with_code (locals_outcome state.features state.items state.locals bytes) (λ locals rest. code_outcome (context_in (with_locals_in locals state)) state.machine rest)
 
+-- memory may run out in these where so many bytes are left
+abbrev pub StopsInRest : BodyState → List ℕ → ℕ → Type 0
+StopsInRest state bytes left = StopsIn state.features state.items (frame_type state.items (Indexed state.index)) state.locals state.machine bytes left
+
 -- all blocks have ended, and only locals were added
 abbrev pub HasEnded : BodyState → BodyState → Type 0
 HasEnded old new = (new.machine.frames ≡ []) × (new ≡ with_machine_in new.machine (with_locals_in new.locals old))
@@ -62,8 +67,10 @@ abbrev pub ValidatesOperator : ℕ → Operator ℕ → BodyState → BodyState 
 ValidatesOperator offset operator old new (Ok x) = (stepped (context_in old) old.machine operator ≡ Some new.machine) × (new ≡ with_machine_in new.machine old)
 ValidatesOperator offset operator old new (Err e) = IsRefusedStep e.kind e.offset offset (stepped (context_in old) old.machine operator)
 
--- What a call returned that reads an operator: the outcome of the rest is the outcome with it, or it is refused.
+-- The result of a call that reads operators: they lead on, or one is refused.
 abbrev pub ReadsStep : BodyState → BodyState → Input → Input → Result (Unit {0}) Error → Type 0
 ReadsStep old new from to (Ok x) =
-    (code_outcome (context_in old) old.machine from.rest ≡ code_outcome (context_in old) new.machine to.rest) × (new ≡ with_machine_in new.machine old) × GoesOn from to
-ReadsStep old new from to (Err e) = NamesFault (HasManyTypes old.items) e.kind (code_outcome (context_in old) old.machine from.rest) × IsWithin from e.offset
+    Passes (context_in old) old.machine new.machine from.rest to.rest × (new ≡ with_machine_in new.machine old) × GoesOn from to
+ReadsStep old new from to (Err e) =
+    NamesFault (HasManyTypes old.items) (StopsInOperators (context_in old) old.machine from.rest (left_at from e.offset)) e.kind (code_outcome (context_in old) old.machine from.rest)
+    × IsWithin from e.offset

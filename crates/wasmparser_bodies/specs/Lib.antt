@@ -1,6 +1,7 @@
 pub mod BodyAnswers
 pub mod BodyStates
 pub mod CodeReading
+pub mod Fronts
 pub mod KeptLocals
 pub mod LocalRuns
 pub mod LocalsAnswers

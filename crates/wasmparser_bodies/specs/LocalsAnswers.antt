@@ -1,6 +1,6 @@
--- What is answered where the locals of a body are read.
-use Rattle.std.specs.Prelude.{◌≡◌, ◌⊎◌, ◌++◌, ◌+◌, ⊤, ℕ, true, List, length, replicate, Option, Some, None, is_some, Result, Ok, Err}
-use Rattle.wasm_bodies.specs.Bodies.{declared_local}
+-- The results of reading the locals of a body.
+use Rattle.std.specs.Prelude.{◌≡◌, ◌⊎◌, ◌++◌, ◌+◌, ℕ, true, List, length, replicate, Option, Some, None, is_some, Result, Ok, Err}
+use Rattle.wasm_bodies.specs.Bodies.{Run, declared_local}
 use Rattle.wasm_bodies.specs.BodyContext.{Local}
 use Rattle.wasm_core_types.specs.declared.limits.Limit.TheVariants as core
 use Rattle.wasm_core_read.specs.Input.{Input, GoesOn, IsWithin}
@@ -15,8 +15,9 @@ use Rattle.wasmparser_types.specs.Index.{Index}
 use Rattle.wasmparser_types.specs.declared.val_type.ValType as code
 use Rattle.wasmparser_readers.specs.Answers.{HasLargeIndex}
 use Rattle.wasmparser_operators.specs.OperatorValues.{IsOfModule, module_type}
-use Rattle.wasmparser_bodies.specs.BodyAnswers.{HasManyTypes}
+use Rattle.wasmparser_bodies.specs.BodyAnswers.{HasManyTypes, left_at}
 use Rattle.wasmparser_bodies.specs.BodyStates.{BodyState, with_locals_in}
+use Rattle.wasmparser_bodies.specs.Fronts.{Fits, StopsAmong, StopsInRuns}
 use Rattle.wasmparser_bodies.specs.LocalsReading.{LocalsOutcome, Locals, TooMany, NoLocals, run_at, with_run, locals_outcome}
 
 -- ---- one run
@@ -41,12 +42,12 @@ ReadsLocalType old new None = (val_type_at old.rest ≡ None) ⊎ HasLargeIndex 
 
 -- ---- what is validated
 
--- what a refusal names; locals that are right may be refused as broken where a type that they name can't be packed
-abbrev pub NamesLocalsFault : Type 0 → ErrorKind → LocalsOutcome Index → Type 0
-NamesLocalsFault unpacked kinds.Body outcome = (outcome ≡ NoLocals) ⊎ unpacked
-NamesLocalsFault unpacked (kinds.Limit core.Locals) outcome = outcome ≡ TooMany
-NamesLocalsFault unpacked kinds.Memory outcome = ⊤
-NamesLocalsFault unpacked _ outcome = ⊥
+-- The fault that a refusal names. `Body` may also come for right locals that name a type which can't be packed; `Memory` comes with so_far.
+abbrev pub NamesLocalsFault : Type 0 → Type 0 → ErrorKind → LocalsOutcome Index → Type 0
+NamesLocalsFault unpacked so_far kinds.Body outcome = (outcome ≡ NoLocals) ⊎ unpacked
+NamesLocalsFault unpacked so_far (kinds.Limit core.Locals) outcome = outcome ≡ TooMany
+NamesLocalsFault unpacked so_far kinds.Memory outcome = so_far
+NamesLocalsFault unpacked so_far _ outcome = ⊥
 
 abbrev pub Others : Type 0
 Others = List (Local Index) → List ℕ → LocalsOutcome Index
@@ -54,12 +55,16 @@ Others = List (Local Index) → List ℕ → LocalsOutcome Index
 abbrev pub run_outcome : BodyState → List ℕ → Others → LocalsOutcome Index
 run_outcome state bytes others = with_run state.features state.items state.locals (run_at bytes) others
 
--- What a call returned that reads a run: whatever the outcome of the rest is, it is the same with the run as without it, or the run is refused.
+-- The result of a call that reads a run: it fits, or it is refused, whatever comes after it.
 abbrev pub ReadsRun : BodyState → BodyState → Input → Input → Result (Unit {0}) Error → Type 0
-ReadsRun old new from to (Ok x) = ((others : Others) → run_outcome old from.rest others ≡ others new.locals to.rest) × (new ≡ with_locals_in new.locals old) × GoesOn from to
-ReadsRun old new from to (Err e) = ((others : Others) → NamesLocalsFault (HasManyTypes old.items) e.kind (run_outcome old from.rest others)) × IsWithin from e.offset
+ReadsRun old new from to (Ok x) = ((run : Run) × Fits old.features old.items old.locals from.rest run new.locals to.rest) × (new ≡ with_locals_in new.locals old) × GoesOn from to
+ReadsRun old new from to (Err e) =
+    ((others : Others) → NamesLocalsFault (HasManyTypes old.items) (StopsAmong old.features old.items 1 old.locals from.rest (left_at from e.offset)) e.kind (run_outcome old from.rest others))
+    × IsWithin from e.offset
 
--- What a call returned that reads all runs.
+-- The result of a call that reads all runs.
 abbrev pub ReadsLocals : BodyState → BodyState → Input → Input → Result (Unit {0}) Error → Type 0
 ReadsLocals old new from to (Ok x) = (locals_outcome old.features old.items old.locals from.rest ≡ Locals new.locals to.rest) × (new ≡ with_locals_in new.locals old) × GoesOn from to
-ReadsLocals old new from to (Err e) = NamesLocalsFault (HasManyTypes old.items) e.kind (locals_outcome old.features old.items old.locals from.rest) × IsWithin from e.offset
+ReadsLocals old new from to (Err e) =
+    NamesLocalsFault (HasManyTypes old.items) (StopsInRuns old.features old.items old.locals from.rest (left_at from e.offset)) e.kind (locals_outcome old.features old.items old.locals from.rest)
+    × IsWithin from e.offset

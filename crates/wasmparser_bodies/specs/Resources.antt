@@ -1,4 +1,4 @@
--- What a body may ask of the module that it stands in, and what checks of types answer.
+-- The questions that a body may ask of its module, and the results of checks of types.
 use Rattle.std.specs.Prelude.{◌≡◌, ℕ, Bool, ◌&&◌, length, nat_le, nat_lt, Option, Some, None, option_map, slice_get, Result, Ok, Err}
 use Rattle.std.specs.Option.{option_and_then}
 use Rattle.wasm_bodies.specs.BodyContext.{ModuleItems, func_at}
@@ -7,7 +7,7 @@ use Rattle.wasmparser_error.specs.declared.error.Error.{Error}
 use Rattle.wasmparser_error.specs.declared.error.ErrorKind.TheVariants.{Invalid}
 use Rattle.wasmparser_types.specs.Index.{Index}
 
--- What bodies may name, and what beside this can be asked. Types are referred to by their ids.
+-- The items that bodies may name, and what beside these can be asked. Types are referred to by their ids.
 pub record Resources : Type 0 where
   pub items : ModuleItems Index
   -- the sub type that an id stands for, if it stands for one

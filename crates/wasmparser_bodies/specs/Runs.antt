@@ -3,13 +3,13 @@ use Rattle.std.specs.Prelude.{◌≡◌, ◌≢◌, ◌≤◌, ℕ, List, [], le
 use Rattle.wasm_bodies.specs.BodyContext.{BodyContext}
 use Rattle.wasm_bodies_laws.specs.Machine.{Machine}
 use Rattle.wasmparser_bodies.specs.BodyStates.{BodyState, context_in, with_machine_in}
-use Rattle.wasmparser_bodies.specs.CodeReading.{code_outcome}
+use Rattle.wasmparser_bodies.specs.Fronts.{Passes}
 
--- Operators lead from one machine to another, in which a block is open, and these bytes are left: their outcome is that of all.
+-- Operators lead from one machine to another, in which a block is open, and these bytes are left.
 pub record LeadsOn {R : Type 0} (cx : BodyContext R) (old new : Machine R) (bytes rest : List ℕ) : Type 0 where
-  pub validated : code_outcome cx old bytes ≡ code_outcome cx new rest
+  pub passes : Passes cx old new bytes rest
   pub inside : new.frames ≢ []
-  pub no_longer : length rest ≤ length bytes
+  pub not_longer : length rest ≤ length bytes
 
 -- the same of a body that is being validated
 pub record RunsOn (old new : BodyState) (bytes rest : List ℕ) : Type 0 where

@@ -1,4 +1,4 @@
--- What calls on the stacks of a body lead to. Each takes or gives operands at once, as operators do after they were tested.
+-- The effects of calls on the stacks of a body. Each takes or gives operands at once, as operators do after they were tested.
 use Rattle.std.specs.Prelude.{◌≡◌, ℕ, Bool, true, List, [], ◌∷◌, ◌++◌, drop, length, if◌then◌else◌}
 use Rattle.wasm_bodies.specs.BodyContext.{ModuleItems, is_among}
 use Rattle.wasm_bodies.specs.Operands.{Operand, State, fresh, given}

@@ -1,7 +1,7 @@
 //! The outcome of validating bytes is what the rules on bodies say of them. The functions do nothing: their contracts are theorems. R is the kind of
 //! references to defined types. The function's type is named by its index.
 
-ghost use Rattle.std.specs.Prelude.{◌≡◌, ◌↔◌, ◌++◌, ℕ, List, Result, Some, map};
+ghost use Rattle.std.specs.Prelude.{◌≡◌, ◌↔◌, ◌++◌, ⊤, ℕ, List, Result, Some, map};
 ghost use Rattle.wasm_bodies.specs.Bodies.{AreLocals, HasManyLocals, HasOtherOperator, IsFunctionBody, Run, in_function, parameter};
 ghost use Rattle.wasm_bodies.specs.BodyContext.{BodyContext, Local, ModuleItems, func_at};
 ghost use Rattle.wasm_bodies_laws.specs.Machine.{Machine, at_start};
@@ -9,9 +9,10 @@ ghost use Rattle.wasm_core_read.specs.Input.{Input};
 ghost use Rattle.wasm_spec.specs.Bytes.{AreBytes};
 ghost use Rattle.wasm_spec.specs.Features.{Features};
 ghost use Rattle.wasm_spec.specs.Types.{FuncType};
-ghost use Rattle.wasmparser_bodies.specs.BodyAnswers.{AnswersOutcome, IsBodyValidated, body_outcome};
+ghost use Rattle.wasmparser_bodies.specs.BodyAnswers.{AnswersOutcome, HasManyTypes, HasRightFront, IsBodyValidated, StandsAtItem, body_outcome};
 ghost use Rattle.wasmparser_bodies.specs.BodyStates.{BodyState, IsAtStart, rest_outcome};
 ghost use Rattle.wasmparser_bodies.specs.CodeReading.{Broken, Fine, HasOther, IsCode, ManyLocals, OtherOperator, code_outcome};
+ghost use Rattle.wasmparser_bodies.specs.Fronts.{StopsInBody};
 ghost use Rattle.wasmparser_bodies.specs.LocalsReading.{Declares, Locals, TooMany, locals_outcome};
 ghost use Rattle.wasmparser_error.specs.declared.error.Error.{Error};
 
@@ -47,10 +48,14 @@ pub fn bodies<R>()
         ↔ ((¬ (IsFunctionBody features items type bytes)) × (¬ (HasManyLocals features items type bytes)) × (¬ (HasOtherOperator features items type bytes))) }
 {}
 
-/// An answer that is the outcome of the bytes, none of whose types is too many to be named, is the right one.
+/// Where all types can be named, a result that is the outcome of the bytes is right. Where memory runs out, some body begins with the bytes up to the end of the item
+/// there, however many types there are.
 pub fn answers<R>()
-    ensures { (features : Features) (items : ModuleItems R) (index : ℕ) (type : FuncType R) (body : Input) (answer : Result (Unit {0}) Error) → func_at items index ≡ Some type → AreBytes body.rest
-        → AnswersOutcome ⊥ body answer (body_outcome features items index body.rest) → IsBodyValidated features items type body.rest body.position answer }
+    ensures validated { (features : Features) (items : ModuleItems R) (index : ℕ) (type : FuncType R) (body : Input) (answer : Result (Unit {0}) Error) → func_at items index ≡ Some type → AreBytes body.rest
+        → AnswersOutcome ⊥ (λ (left : ℕ). ⊤) body answer (body_outcome features items index body.rest) → IsBodyValidated features items type body.rest body.position answer }
+    ensures so_far { (features : Features) (items : ModuleItems R) (index : ℕ) (type : FuncType R) (body : Input) (answer : Result (Unit {0}) Error) → func_at items index ≡ Some type → AreBytes body.rest
+        → AnswersOutcome (HasManyTypes items) (StopsInBody features items index body.rest) body answer (body_outcome features items index body.rest)
+        → HasRightFront features items type (StandsAtItem features) body.rest body.position answer }
 {}
 
 /// Where nothing was validated, the rest is a whole body.

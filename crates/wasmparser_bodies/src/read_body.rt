@@ -4,8 +4,9 @@ ghost use Rattle.std.specs.Prelude.{◌≡◌, ◌≢◌, ◌<◌, ◌≤◌, []
 ghost use Rattle.wasm_core_read.specs.Input.{GoesOn};
 ghost use Rattle.wasm_spec.specs.Limits as limits;
 ghost use Rattle.wasmparser_bodies.specs.BodyAnswers.{AnswersOutcome, HasManyTypes};
-ghost use Rattle.wasmparser_bodies.specs.BodyStates.{HasEnded, ReadsStep, context_in, rest_outcome, with_machine_in};
+ghost use Rattle.wasmparser_bodies.specs.BodyStates.{HasEnded, ReadsStep, StopsInRest, context_in, rest_outcome, with_machine_in};
 ghost use Rattle.wasmparser_bodies.specs.CodeReading.{code_outcome};
+ghost use Rattle.wasmparser_bodies.specs.Fronts.{StopsInOperators};
 
 use crate::body_validator::{BodyValidator, broken};
 use crate::read_locals::read_locals;
@@ -61,7 +62,7 @@ fn read_on<B: BodyValidator>(reader: &mut OperatorsReader<'_>, body: &mut B) -> 
 fn read_code<B: BodyValidator>(reader: &mut OperatorsReader<'_>, body: &mut B) -> Result<(), Error>
     requires ready { (B.state body.old).is_ready ≡ true }
     requires same_features { reader.old.input.features ≡ (B.state body.old).features }
-    ensures answers { AnswersOutcome (HasManyTypes (B.state body.old).items) reader.old.input result (code_outcome (context_in (B.state body.old)) (B.state body.old).machine reader.old.input.rest) }
+    ensures answers { AnswersOutcome (HasManyTypes (B.state body.old).items) (StopsInOperators (context_in (B.state body.old)) (B.state body.old).machine reader.old.input.rest) reader.old.input result (code_outcome (context_in (B.state body.old)) (B.state body.old).machine reader.old.input.rest) }
     ensures kept { B.kept body.new ≡ B.kept body.old }
     ensures ended { IfOk result (λ _. ((B.state body.new).machine.frames ≡ []) × (B.state body.new ≡ with_machine_in (B.state body.new).machine (B.state body.old))) }
 {
@@ -79,13 +80,13 @@ fn read_code<B: BodyValidator>(reader: &mut OperatorsReader<'_>, body: &mut B) -
 ///
 /// # Errors
 /// `Limit` where there are too many locals, `Operator` where a code stands that no operator has, after locals and operators that a body may
-/// begin with, `Body` where the body is broken otherwise or names a type whose index can't be packed, `Memory` where memory runs out: each at a place of the body
-/// or its end.
+/// begin with, `Body` where the body is broken otherwise or names a type whose index can't be packed, `Memory` where memory runs out, at a run of locals or an
+/// operator that may come: each at a place of the body or its end.
 pub fn read_body<B: BodyValidator>(reader: &mut BinaryReader<'_>, body: &mut B) -> Result<(), Error>
     requires ready { (B.state body.old).is_ready ≡ true }
     requires same_features { reader.old.features ≡ (B.state body.old).features }
     requires within { length (B.state body.old).locals ≤ limits.most limits.Locals }
-    ensures answers { AnswersOutcome (HasManyTypes (B.state body.old).items) reader.old result (rest_outcome (B.state body.old) reader.old.rest) }
+    ensures answers { AnswersOutcome (HasManyTypes (B.state body.old).items) (StopsInRest (B.state body.old) reader.old.rest) reader.old result (rest_outcome (B.state body.old) reader.old.rest) }
     ensures kept { B.kept body.new ≡ B.kept body.old }
     ensures ended { IfOk result (λ _. HasEnded (B.state body.old) (B.state body.new)) }
 {

@@ -42,8 +42,8 @@ fn read_run<B: BodyValidator>(reader: &mut BinaryReader<'_>, body: &mut B) -> Re
 /// Reads the locals that a body declares, and adds them to its parameters. The reader stands at the body's first byte.
 ///
 /// # Errors
-/// `Body` where a run doesn't read, its type is not allowed, there is none, or its index can't be packed, `Limit` where there are too many locals, `Memory` where memory
-/// runs out: each at a place of the reader's bytes or their end.
+/// `Body` where the number of runs or a run doesn't read, or a run's type is not allowed, is not there, or has an index that can't be packed, `Limit` where there are too
+/// many locals, `Memory` where memory runs out, at a run that may come: each at a place of the reader's bytes or their end.
 pub fn read_locals<B: BodyValidator>(
     reader: &mut BinaryReader<'_>,
     body: &mut B,

@@ -1,4 +1,4 @@
--- What is looked up.
+-- Looking up what operators name.
 use Rattle.std.proofs.Common.{◌≡◌, refl}
 use Rattle.wasm_bodies.specs.BodyContext.{func_in, fields_in, element_in}
 use Rattle.wasm_spec.specs.Types.{CompositeType, FuncComposite, StructComposite, ArrayComposite, ContComposite}

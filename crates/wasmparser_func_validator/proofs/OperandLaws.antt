@@ -1,4 +1,4 @@
--- What single operators do.
+-- The effects of single operators.
 use Rattle.std.proofs.Common.{◌≡◌, ℕ, refl, sym, ap, Option, Some, None, replicate}
 use Rattle.std.specs.Option.{option_and_then, option_map}
 use Rattle.std.proofs.lemmas.Option.{none-some}

@@ -1,4 +1,4 @@
--- What stands after the codes of plain operators.
+-- The codes of plain operators, and the forms of their immediates.
 use Rattle.std.proofs.Common.{refl}
 use Rattle.wasm_bodies.specs.Operators.{Unreachable, Block, Loop, If, End, Drop, Br, BrIf, Call, LocalGet, LocalSet, LocalTee, GlobalGet, GlobalSet, F32Const, F64Const}
 use Rattle.wasmparser_operators.specs.OperatorReading.{Bare, Float, Number, OfBlock, shape_of}

@@ -259,6 +259,3 @@ steps_further cx old mid new bytes rest after l s = leads_further cx old mid new
 
 pub gets_shorter : (cx : BodyContext Index) (old new : Machine Index) (bytes rest : List ℕ) → IsStep cx old new bytes rest → length rest < length bytes
 gets_shorter cx old new bytes rest s = leaves_less cx s.0 bytes rest s.1
-
-pub leads_both : (cx : BodyContext Index) (old mid new : Machine Index) (bytes rest after : List ℕ) → LeadsOn cx old mid bytes rest → LeadsOn cx mid new rest after → LeadsOn cx old new bytes after
-leads_both cx old mid new bytes rest after l m = record { validated = l.validated ∙ m.validated; inside = m.inside; no_longer = omega (arith, l.no_longer, m.no_longer) }

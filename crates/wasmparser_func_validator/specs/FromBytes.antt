@@ -1,4 +1,4 @@
--- What a validator of a body answers to the body's bytes.
+-- The results of validating a body from its bytes.
 use Rattle.std.specs.Prelude.{⊤, ℕ, Bool, not, List, Result, Ok, Err}
 use Rattle.wasm_bodies.specs.Bodies.{HasManyLocals}
 use Rattle.wasm_bodies.specs.BodyContext.{Local, ModuleItems}
@@ -42,7 +42,7 @@ IsLocalsRefusal features items type bytes (kinds.Limit core.Locals) = HasManyLoc
 IsLocalsRefusal features items type bytes kinds.Memory = ⊤
 IsLocalsRefusal features items type bytes _ = ⊥
 
--- What a call returned that reads the locals of a body, of a function of this type.
+-- The result of a call that reads the locals of a body, of a function of this type.
 abbrev pub ReadsDeclared : Features → ModuleItems Index → FuncType Index → Input → Input → List (Local Index) → Result (Unit {0}) Error → Type 0
 ReadsDeclared features items type from to locals (Ok x) = Declares features items type from.rest locals to.rest
 ReadsDeclared features items type from to locals (Err e) = IsLocalsRefusal features items type from.rest e.kind

@@ -1,4 +1,4 @@
--- What operators on numbers take and give, as the code has it.
+-- The operands and results of operators on numbers, as the code has them.
 use Rattle.std.specs.Prelude.{List, [], ◌∷◌}
 use Rattle.wasm_bodies.specs.OperatorRows as rows
 use Rattle.wasmparser_func_validator.specs.declared.number_type.NumberType.{NumberType}

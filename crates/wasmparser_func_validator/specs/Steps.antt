@@ -1,4 +1,4 @@
--- What operators do to the stacks of a body, and when they are refused.
+-- The effects of operators on the stacks of a body, and when they are refused.
 use Rattle.std.specs.Prelude.{◌≡◌, ℕ, List, Option, Some, None, IsSome, option_map, Result, Ok, Err}
 use Rattle.std.specs.Option.{option_and_then}
 use Rattle.wasm_bodies.specs.BodyContext.{BodyContext, Local, ModuleItems}

@@ -1,4 +1,4 @@
--- What calls of a validator of a body answer.
+-- The results of a body validator's calls.
 use Rattle.std.specs.Prelude.{◌≡◌, ◌++◌, ◌+◌, ℕ, Bool, true, false, List, length, replicate, Option, Some, None, IsSome, is_some, option_map, Result, Ok, Err, if◌then◌else◌}
 use Rattle.wasm_bodies.specs.Bodies.{declared_local}
 use Rattle.wasm_bodies.specs.BodyContext.{Local}

@@ -1,4 +1,4 @@
--- What a list of types holds has no type twice, where types are canonicalized.
+-- A list of types holds no type twice, where types are canonicalized.
 use Rattle.std.proofs.Common.{◌≡◌, ℕ, zero, suc, ◌+◌, ◌≤◌, true, List, [], ◌∷◌, ◌++◌, length, Option, Some, None, inl, inr, refl, sym, ap, subst, ◌∙◌, arith}
 use Rattle.std.specs.Prelude.{IsSomeAnd}
 use Rattle.std.proofs.lemmas.List.{append-nil, append_assoc, length-append}

@@ -1,4 +1,4 @@
--- What a state tells to bodies, by what its parts tell.
+-- The resources of a state are those of its parts.
 use Rattle.std.proofs.Common.{◌≡◌, ℕ, ◌<◌, List, length, map, Option, Some, None, refl, sym, ap, ◌∙◌, subst, arith, slice_get}
 use Rattle.std.specs.Prelude.{get_or}
 use Rattle.std.specs.Option.{option_and_then, option_map}

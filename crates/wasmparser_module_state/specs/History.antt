@@ -1,4 +1,4 @@
--- What a module's list of types holds as entries are judged one after the other.
+-- The contents of a module's list of types as entries are validated one after the other.
 use Rattle.std.specs.Prelude.{◌≡◌, ◌⊎◌, ℕ, Bool, List, [], ◌∷◌, Option, Some, None, IsSomeAnd}
 use Rattle.wasm_spec.specs.Features.{Features}
 use Rattle.wasm_spec.specs.Trees.{DefType, types_of_group}

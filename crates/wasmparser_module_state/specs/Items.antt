@@ -27,14 +27,14 @@ pub record AcceptsItem (features : Features) (old : Context) (type : ExternalTyp
   pub limits : are_within (item_measures old type) ≡ true
   pub known : new ≡ after_item old type
 
--- What a call returned that judges an imported item and adds it. After a refusal nothing more is known than before.
+-- The result of a call that validates an imported item and adds it. After a refusal nothing more is known than before.
 abbrev pub AddsItem : Features → Context → ExternalType ℕ → ℕ → Result (Unit {0}) Error → Context → Type 0
 AddsItem features old type place (Ok x) new = AcceptsItem features old type new
 AddsItem features old type place (Err e) new = NamesItem features old type e.kind × IsAt place e.kind e.offset × (new ≡ old)
 
 -- ---- several items
 
--- What a refusal of imported items, each judged after those before it, names: a rule, or a limit on these numbers, which are measured of them and of
+-- The fault named by a refusal of imported items, each validated after those before it: a rule, or a limit on these numbers, which are measured of them and of
 -- their names.
 abbrev pub NamesItems : Features → Context → List (ExternalType ℕ) → List (Limit × ℕ) → ErrorKind → Type 0
 NamesItems features cx types measured kinds.Invalid = keep_items features cx types ≡ false
@@ -48,7 +48,7 @@ pub record AcceptsItems (features : Features) (old : Context) (types : List (Ext
   pub limits : are_within measured ≡ true
   pub known : new ≡ after_items old types
 
--- What a call returned that judges imported items and adds them; what holds after a refusal is given.
+-- The result of a call that validates imported items and adds them; what holds after a refusal is given.
 abbrev pub AddsItems : Features → Context → List (ExternalType ℕ) → List (Limit × ℕ) → ℕ → Type 0 → Result (Unit {0}) Error → Context → Type 0
 AddsItems features old types measured place Left (Ok x) new = AcceptsItems features old types measured new
 AddsItems features old types measured place Left (Err e) new = NamesItems features old types measured e.kind × IsAt place e.kind e.offset × Left
@@ -70,7 +70,7 @@ abbrev pub AddsImports : Features → Context → ImportEntry → ℕ → Result
 AddsImports features old entry place result new =
     AddsItems features old (imported_by entry) (named_measures old (import_names entry) (imported_by entry)) place (IsLeft old (OfImport entry) new) result new
 
--- What is kept of the names of an entry's imports. After a refusal of an import the names are as before; of a group it is open which are kept.
+-- The names of an entry's imports that are kept. After a refusal of an import the names are as before; of a group it is open which are kept.
 abbrev pub NamesImports : Context → ImportEntry → List Imported → Result (Unit {0}) Error → List Imported → Type 0
 NamesImports cx entry old (Ok x) new = new ≡ with_imports old (imports_of cx entry)
 NamesImports cx (Import origin name type) old (Err e) new = new ≡ old

@@ -92,7 +92,7 @@ IsLeft old (OfImport (CompactNames origin type names)) new = HasItemsMore old ne
 IsLeft old (OfElement segment) new = (new ≡ record old { declared = new.declared }) × MayDeclare (named_in_element segment) old.declared new.declared
 IsLeft old _ new = new ≡ old
 
--- What a call returned that judges an entry and adds it. held: what the list of types held before.
+-- The result of a call that validates an entry and adds it. held: what the list of types held before.
 abbrev pub Adds : Features → Context → List DefType → Entry → ℕ → Result (Unit {0}) Error → Context → Type 0
 Adds features old held entry place (Ok x) new = Accepts features old entry new
 Adds features old held entry place (Err e) new = NamesEntry features old held entry e.kind × IsAt place e.kind e.offset × IsLeft old entry new
@@ -116,7 +116,7 @@ pub record IsMadeOf {X A : Type 0} (form : X → A) (indexes : A → List ℕ) (
   pub reads : (features : Features) (bytes : List ℕ) → entry_at features bytes ≡ seen_at made (form_at features) bytes
   pub breaks : (features : Features) (cx : Context) (a : A) → length cx.types ≤ most Types → HasLarge (indexes a) → ¬ (Keeps features cx (made a))
 
--- What is left of a section reads as entries that keep the rules and limits. new, new_held: what is known, and what the list of types holds, after them.
+-- The rest of a section reads as entries that keep the rules and limits. new, new_held: what is known, and what the list of types holds, after them.
 pub record Fills (features : Features) (entry_at : EntryReading) (old : Context) (old_held : List DefType) (left : Left) (new : Context) (new_held : List DefType) : Type 0 where
   pub entries : List Entry
   pub reads : left_items entry_at left ≡ Some entries

@@ -1,10 +1,8 @@
--- What the state of the code knows.
-use Rattle.std.specs.Prelude.{◌≡◌, ◌≤◌, ◌<◌, ◌+◌, ℕ, Bool, false, List, [], Option, get_or, length, option_map, map, slice_get, ⊤, vec_capacity, vec_len}
+-- The context that a module's state stands for.
+use Rattle.std.specs.Prelude.{◌≤◌, ◌<◌, ◌+◌, ℕ, Bool, false, List, [], get_or, length, map, ⊤, vec_capacity, vec_len}
 use Rattle.std.specs.List.{AllByRecursion}
-use Rattle.std.specs.Option.{option_and_then}
 use Rattle.wasm_spec.specs.Features.{Features}
-use Rattle.wasm_spec.specs.Trees.{DefType}
-use Rattle.wasm_spec.specs.TypeReferences.{func_map, ref_map, table_map, global_map, external_map}
+use Rattle.wasm_spec.specs.TypeReferences.{ref_map, table_map, global_map, external_map}
 use Rattle.wasm_spec.specs.Types as spec
 use Rattle.wasmparser_readers.specs.ItemTypes.{memory_type, table_type, global_type, type_ref}
 use Rattle.wasmparser_readers.specs.declared.global_type.GlobalType.{GlobalType}
@@ -12,9 +10,7 @@ use Rattle.wasmparser_readers.specs.declared.table_type.TableType.{TableType}
 use Rattle.wasmparser_readers.specs.declared.type_ref.TypeRef.{TypeRef}
 use Rattle.wasmparser_types.specs.Index.{Index, number_of}
 use Rattle.wasm_validity.specs.Context.{Context, functions_in}
-use Rattle.wasm_validity.specs.DefinedTypes.{func_type_at}
 use Rattle.wasm_validity.specs.Entries.{Entry, OfFunction, OfMemory, OfTag}
-use Rattle.wasmparser_module_types.specs.ModuleTypes.{stands_for}
 use Rattle.wasmparser_module_state.specs.declared.function_set.FunctionSet.{FunctionSet}
 use Rattle.wasmparser_module_state.specs.declared.module_state.ModuleState.{ModuleState}
 
@@ -81,11 +77,3 @@ IsFull s _ = ⊤
 -- there is each of these functions
 abbrev pub AreThere : Context → List ℕ → Type 0
 AreThere cx functions = AllByRecursion (λ function. function < length (functions_in cx)) functions
-
--- the function type of a function of the module's own, by its place among these
-abbrev pub own_func_type : Context → ℕ → Option (spec.FuncType DefType)
-own_func_type cx place = option_and_then (func_type_at cx.types) (slice_get cx.own_functions place)
-
--- A function type as the state's list of types keeps it, by ids, where there is one: with its ids replaced by what they stand for it is this one.
-abbrev pub IsKept : ModuleState → Option (spec.FuncType DefType) → Option (spec.FuncType Index) → Type 0
-IsKept s type kept = type ≡ option_map (func_map (stands_for s.types)) kept

@@ -1,4 +1,4 @@
--- What bodies may ask of a module's state. Types are referred to by their ids in the state's list.
+-- The resources of a module's state, as bodies see them. Types are referred to by their ids in the state's list.
 use Rattle.std.specs.Prelude.{ℕ, true, List, [], get_or, length, map, slice_get}
 use Rattle.wasm_bodies.specs.BodyContext.{ModuleItems, NamedType}
 use Rattle.wasm_spec.specs.Subtyping.{SubTypes}

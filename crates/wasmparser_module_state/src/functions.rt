@@ -1,20 +1,15 @@
 //! Functions of a module's own (Core Specification 3.0, Validation, "Functions").
 
-ghost use Rattle.std.specs.Prelude.{◌≡◌, ◌+◌, refl, IfSome, is_some, length, nat_le, option_map, slice_get, false};
-ghost use Rattle.std.specs.Option.{option_copied};
-ghost use Rattle.wasm_spec.specs.TypeReferences.{func_refs};
+ghost use Rattle.std.specs.Prelude.{◌≡◌, ◌+◌, refl, is_some, length, nat_le, slice_get, false};
 ghost use Rattle.wasm_validity.specs.DefinedTypes.{func_type_at};
 ghost use Rattle.wasm_validity.specs.Entries.{OfFunction};
 ghost use Rattle.wasmparser_payloads.specs.EntryReading.{function_entry_at};
-ghost use Rattle.wasmparser_module_state.specs.State.{IsKept, context, own_func_type};
-ghost use Rattle.wasmparser_module_types.specs.ModuleTypes.{AreIds};
-ghost use Rattle.wasmparser_types.specs.CompositeTypes.{func_type};
+ghost use Rattle.wasmparser_module_state.specs.State.{context};
 
 use crate::entry::Entry;
 use crate::module_state::{ModuleState, refusal};
 use wasm_core_types::limits::{Limit, MAX_WASM_FUNCTIONS};
 use wasmparser_error::error::{Error, ErrorKind};
-use wasmparser_types::composite_type::FuncType;
 
 impl ModuleState {
     /// Returns the number of functions of the module's own.
@@ -29,17 +24,6 @@ impl ModuleState {
         ensures { result ≡ slice_get (context self.now).own_functions place }
     {
         self.own_functions.get(place).copied()
-    }
-
-    /// Returns the type of a function of the module's own, by its place among these, as the module's list of types keeps it: by ids. There is none
-    /// where there is no such function, or the index that it has as its type names another kind of type or none.
-    #[tactic(auto, using(crate::proofs::FuncTypes::own_steps))]
-    pub fn own_func_type(&self, place: usize) -> Option<&FuncType>
-        ensures kept { IsKept self.now (own_func_type (context self.now) place) (option_map func_type (option_copied result)) }
-        ensures ids { IfSome result (λ ty. AreIds self.now.types (func_refs (func_type ty.now))) }
-    {
-        let index = *self.own_functions.get(place)?;
-        self.types.func_type(index)
     }
 
     /// Checks that a type index names a function type.

@@ -1,4 +1,4 @@
--- What type indexes name, and how many there are.
+-- The types that indexes name, and how many there are.
 use Rattle.std.proofs.lemmas.List.{length-map}
 use Rattle.std.proofs.lemmas.Option.{slice_get-map}
 

@@ -1,4 +1,4 @@
--- What modules that are lists tell of themselves.
+-- The resources of modules that are kept as lists.
 use Rattle.std.specs.Prelude.{ℕ, Bool, true, false, ◌&&◌, ◌||◌, not, map, nat_eq, Option, Some, None, slice_get}
 use Rattle.std.specs.Option.{unwrap_or}
 use Rattle.wasm_bodies.specs.BodyContext.{ModuleItems, NamedType}

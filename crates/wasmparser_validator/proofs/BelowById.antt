@@ -1,4 +1,4 @@
--- What is below what by ids is what is below what of the defined types that these stand for.
+-- Subtyping by ids is subtyping of the defined types that these stand for.
 use Rattle.std.proofs.Common.{◌≡◌, ℕ, zero, suc, Bool, true, false, ◌&&◌, not, ◌||◌, List, length, Option, slice_get, refl, sym, ap, ◌∙◌, subst, arith}
 use Rattle.std.proofs.lemmas.Option.{slice_get_within}
 use Rattle.std.specs.Bool.{Decides}

@@ -1,5 +1,6 @@
--- What is said of a body over ids is what the rules say of it over type indexes.
+-- A body keeps the rules over ids exactly where it keeps them over type indexes.
 use Rattle.std.proofs.Common.{◌≡◌, ◌↔◌, ℕ, Bool, false, List, length, Some, option_map, Result, Ok, Err, IfErr, OnOk, sym, ap, ◌∙◌, subst, slice_get}
+use Rattle.std.specs.Prelude.{⊤}
 use Rattle.wasm_bodies.specs.Bodies.{IsFunctionBody, HasManyLocals, HasOtherOperator}
 use Rattle.wasm_bodies.specs.BodyContext.{ModuleItems, func_at}
 use Rattle.wasm_bodies_laws.proofs.MappedFunctions.{function_body_along, function_body_back, many_locals_along, many_locals_back, other_operator_along, other_operator_back}
@@ -168,8 +169,8 @@ answered_by_ids features sections ids interned sub_types index type test bytes p
 pub answer_by_ids : (features : Features) (sections : List Section) (ids : List ℕ) (interned : List DefType) (sub_types : List (SubType Index)) (index : ℕ) (type : FuncType ℕ) (body : Input)
     (answer : Result (Unit {0}) Error) → KeepRules features at_first (entries_of sections) → AreKnown features (context_of sections).types ids interned sub_types
     → func_type_in (types_of sections) index ≡ Some type → AreBytes body.rest
-    → AnswersOutcome ⊥ body answer (body_outcome features (items_by_ids ids sub_types (context_of sections)) index body.rest) → IsBodyJudged features sections type body.rest body.position answer
+    → AnswersOutcome ⊥ (λ (left : ℕ). ⊤) body answer (body_outcome features (items_by_ids ids sub_types (context_of sections)) index body.rest) → IsBodyJudged features sections type body.rest body.position answer
 answer_by_ids features sections ids interned sub_types index type body answer keep known named are outcome =
     let function = same_function features sections keep ids interned sub_types known index ∙ ap (option_map (func_map (index_at ids))) named in
     judged_by_ids features sections ids interned sub_types index type body.rest body.position answer keep known named
-    (validated features (items_by_ids ids sub_types (context_of sections)) index (func_map (index_at ids) type) function body answer are outcome)
+    (validated features (items_by_ids ids sub_types (context_of sections)) index (func_map (index_at ids) type) function (λ left. ⊤) body answer are outcome)

@@ -1,4 +1,4 @@
--- What type indexes are by their ids: what stands for the same type, and has the same sub type.
+-- Type indexes by their ids: which stand for the same type, and have the same sub type.
 use Rattle.std.proofs.Common.{◌≡◌, ◌<◌, ℕ, Bool, true, false, List, [], ◌∷◌, length, map, Some, slice_get, option_map, unwrap_or, refl, sym, ap, ◌∙◌, subst, arith}
 use Rattle.std.proofs.lemmas.List.{length-map}
 use Rattle.std.proofs.lemmas.Option.{slice_get-map, same_Some}

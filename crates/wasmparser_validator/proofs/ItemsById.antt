@@ -1,4 +1,4 @@
--- What bodies may name over ids is what they may name over type indexes.
+-- Bodies may name over ids what they may name over type indexes.
 use Rattle.std.proofs.Common.{◌≡◌, get_or, ◌+◌, ℕ, suc, List, [], ◌∷◌, length, map, Some, slice_get, refl, sym, ap, ◌∙◌, arith}
 use Rattle.std.proofs.lemmas.Option.{get_or_from_slice_get}
 use Rattle.wasm_bodies_laws.specs.References.{items_map, named_map}

@@ -1,4 +1,4 @@
--- What comes after bodies changes nothing of what they are judged in: a data segment that keeps its rule names no function.
+-- Entries after bodies change nothing of what these are validated in: a data segment that keeps its rule names no function.
 use Rattle.std.proofs.Common.{◌≡◌, ℕ, Bool, true, false, List, [], ◌∷◌, Option, Some, None, slice_get, unwrap_or, refl, sym, ap, ◌∙◌}
 use Rattle.std.specs.List.{AllByRecursion}
 use Rattle.wasm_spec.specs.Constants.{ConstantExpression}

@@ -1,4 +1,4 @@
--- What is known after entries that keep all rules and limits, and after others.
+-- The state after entries that keep all rules and limits, and after others.
 use Rattle.std.proofs.Common.{◌≡◌, ℕ, true, false, List, [], ◌++◌, Some, is_some, slice_get, refl, sym, ap, subst, ◌∙◌}
 use Rattle.std.specs.List.{AllByRecursion}
 use Rattle.wasm_spec.specs.Features.{Features}

@@ -1,4 +1,4 @@
--- What the sections of a module say of its own functions, of bodies, of data counts and of data.
+-- The own functions, bodies, data count and data of a module, by its sections.
 use Rattle.std.proofs.Common.{◌≡◌, ℕ, suc, ◌+◌, List, [], ◌∷◌, ◌++◌, length, map, flat_map, refl, sym, ap, ap₂, ◌∙◌, append_assoc, append-nil, length-append, arith}
 use Rattle.std.proofs.lemmas.Grind.{flat_map-append}
 use Rattle.wasm_spec.specs.Syntax.{Section, Custom, TypeSection, ImportSection, FunctionSection, TableSection, MemorySection, TagSection, GlobalSection, ExportSection, StartSection, ElementSection, DataCountSection, CodeSection, DataSection, DataSegment, imported_by, functions_in, functions_of, bodies_in, bodies_of, data_in, data_of, data_counts_in, data_counts_of}

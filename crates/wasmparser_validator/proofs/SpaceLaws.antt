@@ -1,4 +1,4 @@
--- What stands in the index spaces is found, and so are the types that it names.
+-- Items of the index spaces are found, and so are the types that they name.
 use Rattle.std.proofs.Common.{inl, inr, ◌≡◌, ◌≤◌, ℕ, ◌<◌, Bool, true, List, [], ◌∷◌, ◌++◌, map, length, Option, Some, None, IfSome, IsSome, is_some, option_map, if◌then◌else◌, nat_lt, slice_get, refl, sym, ap, subst, ◌∙◌, arith}
 use Rattle.std.proofs.lemmas.Option.{slice_get-map, slice_get_within}
 use Rattle.std.specs.List.{AllByRecursion}
@@ -62,7 +62,7 @@ pub ruleset found_steps = (is_there, has_it, it_is, id_there, id_is, id_named, i
 
 -- ---- types of items
 
--- What is meant of an item that is found, where what it names is there; how such an item is shown as another.
+-- The meaning of an item that is found, where what it names is there; how such an item is shown as another.
 module _ {A B C D : Type 0} (f : A → B) (means : B → D) (shows : C → D) (names : B → Bool) (items : List B) (place : ℕ) (at : Option A) (x : A) (found : Option C)
     (each : Each (λ item. names item ≡ true) items) (is : option_map f at ≡ slice_get items place) (some : at ≡ Some x)
     (meant : option_map shows found ≡ (if names (f x) then Some (means (f x)) else None)) where

@@ -1,6 +1,6 @@
 //! Laws of bodies over ids. The functions do nothing: their contracts are theorems. Types are written with type indexes, and a validator knows them by ids.
 
-ghost use Rattle.std.specs.Prelude.{◌≡◌, ℕ, List, Result, Some, is_some, length, option_map, slice_get, true};
+ghost use Rattle.std.specs.Prelude.{◌≡◌, ⊤, ℕ, List, Result, Some, is_some, length, option_map, slice_get, true};
 ghost use Rattle.std.specs.List.{AllByRecursion};
 ghost use Rattle.wasm_bodies.specs.BodyContext.{func_at};
 ghost use Rattle.wasm_bodies_laws.specs.References.{AgreeOn, WantedBy, items_map};
@@ -71,7 +71,7 @@ pub fn answers()
         (body : Input) (answer : Result (Unit {0}) Error)
         → KeepRules features at_first (entries_of sections) → AreKnown features (context_of sections).types ids interned sub_types
         → func_type_in (types_of sections) index ≡ Some type → AreBytes body.rest
-        → AnswersOutcome ⊥ body answer (body_outcome features (items_by_ids ids sub_types (context_of sections)) index body.rest)
+        → AnswersOutcome ⊥ (λ (left : ℕ). ⊤) body answer (body_outcome features (items_by_ids ids sub_types (context_of sections)) index body.rest)
         → IsBodyJudged features sections type body.rest body.position answer }
 {}
 

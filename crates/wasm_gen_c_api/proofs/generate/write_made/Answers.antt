@@ -1,4 +1,4 @@
--- What is told of the generator's answer, by whether there is a module and whether it fits.
+-- The generator's result by cases: there is no module, it fits, or it doesn't.
 use Rattle.std.proofs.Common.{true, false, sym, ◌∙◌}
 use Rattle.wasm_gen_c_api.proofs.WrittenLaws.{made, refused}
 use Rattle.wasm_gen_c_api.proofs.generate.write_made.Goals as goal

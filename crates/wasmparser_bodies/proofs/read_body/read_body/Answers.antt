@@ -5,6 +5,7 @@ use Rattle.wasmparser_operators.specs.OperatorAnswers.{OperatorsLeft}
 use Rattle.wasmparser_bodies.specs.BodyAnswers.{AnswersOutcome, HasManyTypes}
 use Rattle.wasmparser_bodies.specs.BodyStates.{context_in}
 use Rattle.wasmparser_bodies.specs.CodeReading.{code_outcome}
+use Rattle.wasmparser_bodies.specs.Fronts.{StopsInOperators}
 use Rattle.wasmparser_bodies.proofs.BodySteps.{code_answered, locals_answered}
 use Rattle.wasmparser_bodies.proofs.read_body.read_body.Goals as goal
 
@@ -21,4 +22,4 @@ returns-clause-answers g c =
     let read = c.in_ok-read_locals.ensures.read in
     let stands = ap (λ (left : OperatorsLeft). left.input) c.new-operators.ensures ∙ c.fork.ensures.same in
     code_answered old new c.args.reader.now mid c.read_code.result read.0 read.1 read.2
-    (subst (λ (i : Input). AnswersOutcome (HasManyTypes new.items) i c.read_code.result (code_outcome (context_in new) new.machine i.rest)) stands c.read_code.ensures.answers)
+    (subst (λ (i : Input). AnswersOutcome (HasManyTypes new.items) (StopsInOperators (context_in new) new.machine i.rest) i c.read_code.result (code_outcome (context_in new) new.machine i.rest)) stands c.read_code.ensures.answers)

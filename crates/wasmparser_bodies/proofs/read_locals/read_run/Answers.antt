@@ -1,6 +1,7 @@
 use Rattle.std.proofs.Common.{inl}
 use Rattle.wasmparser_operators.specs.OperatorValues.{module_type}
 use Rattle.wasmparser_bodies.specs.BodyAnswers.{HasManyTypes}
+use Rattle.wasmparser_bodies.specs.Fronts.{StopsAmong}
 use Rattle.wasmparser_bodies.specs.LocalsAnswers.{run_outcome}
 use Rattle.wasmparser_bodies.proofs.LocalsSteps.{broken_run, run_answered, run_without_count, run_without_type}
 use Rattle.wasmparser_bodies.proofs.read_locals.read_run.Goals as goal
@@ -8,13 +9,13 @@ use Rattle.wasmparser_bodies.proofs.read_locals.read_run.Goals as goal
 pub returns-in_default-clause-read : goal.returns-in_default-clause-read
 returns-in_default-clause-read g c =
     let old = g.B.BodyValidator.state c.args.body.now in
-    broken_run (HasManyTypes old.items) c.args.reader.now _ _ (run_outcome old c.args.reader.now.rest) c.broken.ensures c.original_position-offset.ensures.place
+    broken_run (HasManyTypes old.items) (StopsAmong old.features old.items 1 old.locals c.args.reader.now.rest) c.args.reader.now _ _ (run_outcome old c.args.reader.now.rest) c.broken.ensures c.original_position-offset.ensures.place
     (λ others. inl (run_without_count old _ c.in_default.ensures.exact.0 others))
 
 pub returns-in_default-read_local_type-clause-read : goal.returns-in_default-read_local_type-clause-read
 returns-in_default-read_local_type-clause-read g c =
     let old = g.B.BodyValidator.state c.args.body.now in
-    broken_run (HasManyTypes old.items) c.args.reader.now _ _ (run_outcome old c.args.reader.now.rest) c.broken-in_default-read_local_type.ensures c.original_position-offset.ensures.place
+    broken_run (HasManyTypes old.items) (StopsAmong old.features old.items 1 old.locals c.args.reader.now.rest) c.args.reader.now _ _ (run_outcome old c.args.reader.now.rest) c.broken-in_default-read_local_type.ensures c.original_position-offset.ensures.place
     (run_without_type old _ _ _ c.in-Ok.ensures.exact.0 c.in_default-read_local_type.ensures)
 
 pub returns-clause-read : goal.returns-clause-read

@@ -58,7 +58,7 @@ pub const ROWS: &str = "
     default                | 05 03 01 00 01 07 21 03 01 7a 02 00 0b 2d 57 70 57 49 31 37 47 6d 71 37 02 00 0b 68 72 45 58 35 5a 32 6f 4b 54 37 02 00 | yes         | after another
     default                | 05 03 01 00 01 07 2b 03 0b 68 72 45 58 35 5a 32 6f 4b 54 37 02 00 0b 2d 57 70 57 49 31 37 47 6d 71 37 02 00 0b 2d 57 70 57 49 31 37 47 6d 71 37 02 00 | Invalid     | the last twice
     default                | 05 03 01 00 01 07 2b 03 0b 68 72 45 58 35 5a 32 6f 4b 54 37 02 00 0b 2d 57 70 57 49 31 37 47 6d 71 37 02 00 0b 68 72 45 58 35 5a 32 6f 4b 54 37 02 00 | Invalid     | the first again
-    // What stands around them.
+    // Sections around them.
     default                | 05 03 01 00 01 07 05 01 01 61 02 00 04 04 01 70 00 00                | Malformed   | a table after
     default                | 05 03 01 00 01 07 05 02 01 61 02 00                                  | Malformed   | fewer than stated
     default                | 05 03 01 00 01 07 06 01 01 61 02 00 00                               | Malformed   | a byte after

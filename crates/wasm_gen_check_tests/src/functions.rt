@@ -62,7 +62,7 @@ pub const ROWS: &str = "
     // A body that passes its section.
     default | types functions 0a 04 01 03 00 0b        | Malformed
 
-    // What is no type: a final type of a final type.
+    // No type: a final type of a final type.
     default | 01 08 01 4f 00 4f 00 60 00 00            | Malformed
 
     // Final function types without supertypes, whose number may be padded.
@@ -72,7 +72,7 @@ pub const ROWS: &str = "
     all | 01 06 01 60 01 63 70 00                      | yes
     all | 01 06 01 60 00 01 63 6f                      | yes
     all | 01 09 01 4f 00 60 01 63 69 01 7f             | yes
-    // What is written out asks for the same flags.
+    // Long forms ask for the same flags as short ones.
     all but REFERENCE_TYPES | 01 06 01 60 01 63 70 00  | Invalid
     all but GC              | 01 06 01 4f 00 60 00 00  | yes
     // Several results ask for a flag; one result and several parameters don't.

@@ -26,7 +26,7 @@ pub const ROWS: &str = "
     default                 | 06 08 01 7f 00 41 00 41 00 0b                                  | Invalid   | two values
     default                 | 06 05 01 7f 00 41 00                                           | Malformed | no end
     default                 | 06 05 01 7f 00 01 0b                                           | Malformed | an operator that is not constant
-    // What they read of others.
+    // Reads of other globals.
     default                 | 06 06 01 7f 00 23 00 0b                                        | Invalid   | itself
     default                 | 06 0b 02 7f 00 41 00 0b 7f 00 23 00 0b                         | yes       | the one before
     all but GC              | 06 0b 02 7f 00 41 00 0b 7f 00 23 00 0b                         | Invalid   | that is a feature

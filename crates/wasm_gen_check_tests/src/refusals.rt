@@ -3,5 +3,6 @@
 
 mod generated;
 mod inputs;
+mod rows;
 mod runs;
 mod sessions;

@@ -102,8 +102,8 @@ fn has_ids(alloc: Global, bytes: &mut [u8], field: &str) -> Option<bool> {
     Some(holds)
 }
 
-// Returns the answer of a field, which may be followed by what the row shows.
-fn answer_in(field: &str) -> &str {
+/// Returns the answer of a field, which may be followed by what the row shows.
+pub fn answer_in(field: &str) -> &str {
     match field.split_once('|') {
         Some((answer, _shown)) => answer.trim(),
         None => field,

@@ -3,11 +3,12 @@
 use std::alloc::Global;
 use std::test::Fail;
 use wasm_core::features::{Flags, WasmFeatures};
-use wasm_gen::judge::ValidatorId;
+use wasm_gen::judge::{ErrorKind, ValidatorId};
 use wasm_gen::session::Session;
 use wasm_gen_rows::answers::refusal_of;
 use wasm_gen_rows::new_session::on_new_session;
-use wasm_test_rows::fields::two_fields;
+use wasm_test_rows::fields::{has_word, two_fields};
+use wasm_test_rows::limits::limit_of;
 use wasm_test_rows::rows::check_rows;
 use wasm_test_rows::values::bytes_of;
 
@@ -27,27 +28,50 @@ const MODULES: &str = "
     body | 0061736d01000000 01 04 01 60 00 00 03 02 01 00 0a 03 01 01 00
 ";
 
-// Returns the answer of a session on a module.
-fn answer(session: &mut Session, bytes: &[u8]) -> &'static str {
-    match refusal_of(session, bytes) {
-        None => "yes",
-        Some(error) => error.kind.name(),
+// Returns the kind of refusal that a word names, as `Debug` or a line writes it.
+fn kind_of(word: &str) -> Option<ErrorKind> {
+    match word {
+        "Malformed" | "malformed" => Some(ErrorKind::Malformed),
+        "Invalid" | "invalid" => Some(ErrorKind::Invalid),
+        "Body" | "body" => Some(ErrorKind::Body),
+        _ => {
+            let limit = word.strip_prefix("Limit(")?.strip_suffix(')')?;
+            Some(ErrorKind::Limit(limit_of(limit)?))
+        }
     }
 }
 
-// Checks that a session answers so, after a restart where memory ran out and the session failed, and at the second time where it didn't fail.
-fn answers(session: &mut Session, bytes: &[u8], expected: &str) -> bool {
+// Returns the kind of a session's refusal, or `None` where the module is valid.
+fn answer(session: &mut Session, bytes: &[u8]) -> Option<ErrorKind> {
+    match refusal_of(session, bytes) {
+        None => None,
+        Some(error) => Some(error.kind),
+    }
+}
+
+// Checks that a result is one of a field's: `yes`, or kinds of refusals.
+fn is_among(field: &str, answer: Option<ErrorKind>) -> bool {
+    match answer {
+        None => has_word(field, "yes"),
+        Some(kind) => field
+            .split_whitespace()
+            .any(|word| kind_of(word) == Some(kind)),
+    }
+}
+
+/// Checks that a session answers so, after a restart where memory ran out and the session failed, and at the second time where it didn't fail.
+pub fn answers(session: &mut Session, bytes: &[u8], expected: &str) -> bool {
     let first = answer(session, bytes);
-    if first != "memory" {
-        return first == expected;
+    if first != Some(ErrorKind::Memory) {
+        return is_among(expected, first);
     }
     if session.has_failed() {
-        if answer(session, bytes) != "failed" {
+        if answer(session, bytes) != Some(ErrorKind::Failed) {
             return false;
         }
         session.restart(ValidatorId::new(1));
     }
-    answer(session, bytes) == expected
+    is_among(expected, answer(session, bytes))
 }
 
 fn is_answered(alloc: Global, session: &mut Session, row: &str) -> Option<bool> {

@@ -1,4 +1,4 @@
--- What it takes that the operators that are still to come close each open block, seen from the tree.
+-- Conditions under which the operators still to come close each open block, seen from the tree.
 use Rattle.std.proofs.Common.{◌≡◌, ◌⊎◌, inl, inr, true, ℕ, List, [], ◌∷◌, Some, refl, ap, ◌∙◌}
 use Rattle.std.specs.Option.{option_and_then}
 use Rattle.wasm_bodies.specs.BodyContext.{BodyContext}

@@ -1,4 +1,4 @@
--- What holds of all that an option or a list may have.
+-- Facts that hold of all that an option or a list may have.
 use Rattle.std.proofs.Common.{ℕ, zero, suc, Bool, true, false, ◌≡◌, List, [], ◌∷◌, ◌++◌, reverse, replicate, Option, Some, None, refl, subst}
 use Rattle.std.proofs.lemmas.List.{reverse-append}
 use Rattle.std.specs.List.{AllByRecursion, slice_get}

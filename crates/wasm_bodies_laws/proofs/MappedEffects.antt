@@ -1,4 +1,4 @@
--- What operators do to the operands and the locals, over mapped references.
+-- The effects of operators on the operands and the locals, over mapped references.
 use Rattle.std.proofs.Common.{ℕ, Bool, true, false, ◌≡◌, ◌||◌, List, [], ◌∷◌, map, reverse, length, Option, Some, None, refl, ap, ◌∙◌}
 use Rattle.std.proofs.lemmas.List.{length-map}
 use Rattle.std.proofs.lemmas.Option.{slice_get-map}

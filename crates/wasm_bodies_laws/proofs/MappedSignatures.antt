@@ -1,4 +1,4 @@
--- What indexes name and which signatures operators have, over mapped references.
+-- The items that indexes name and the signatures of operators, over mapped references.
 use Rattle.std.proofs.Common.{ℕ, Bool, true, false, ◌≡◌, ◌&&◌, List, [], ◌∷◌, map, replicate, Option, Some, refl, sym, ap, ◌∙◌}
 use Rattle.std.proofs.lemmas.List.{map-append}
 use Rattle.std.proofs.lemmas.Option.{slice_get-map}

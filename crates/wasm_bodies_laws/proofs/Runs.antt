@@ -1,4 +1,4 @@
--- What the machine does with code that is judged.
+-- Running the machine over code that is well typed.
 use Rattle.std.proofs.Common.{◌≡◌, ℕ, List, ◌∷◌, Some, refl, sym, ap, ◌∙◌}
 use Rattle.std.specs.Option.{option_and_then}
 use Rattle.wasm_bodies.specs.BodyContext.{BodyContext}

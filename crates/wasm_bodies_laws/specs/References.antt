@@ -1,4 +1,4 @@
--- What a body is judged in, over another kind of references to defined types: all references are replaced by a map, as where a validator's ids, or
+-- The context of a body, over another kind of references to defined types: all references are replaced by a map, as where a validator's ids, or
 -- a module's type indexes, are replaced by the defined types that they stand for. The typing of bodies asks of references only whether one type is
 -- below another, so this is given for the new kind.
 use Rattle.std.specs.Prelude.{◌≡◌, ⊤, ℕ, Bool, true, false, ◌||◌, List, [], map, Some, slice_get}
@@ -128,7 +128,7 @@ pub record AreWanted {R : Type 0} (Wanted : ValType R → Type 0) (features : Fe
   -- `array.new` and `array.new_fixed`
   pub elements : has features Gc ≡ true → (index : ℕ) (field : FieldType R) → element_at items index ≡ Some field → Wanted (unpacked field)
 
--- What one body wants beside this: its locals' types where they are assigned, and its results at its end and where it returns.
+-- The types that one body wants beside this: its locals' types where they are assigned, and its results at its end and where it returns.
 pub record AreWantedIn {R : Type 0} (Wanted : ValType R → Type 0) (cx : BodyContext R) : Type 0 where
   pub items : AreWanted Wanted cx.features cx.items
   pub locals : AllByRecursion (λ local. Wanted local.type) cx.locals

@@ -21,7 +21,7 @@ pub fn mapped_items<R>()
     ensures { (items : ModuleItems R) → items_map (λ (r : R). r) items items.is_below ≡ items }
 {}
 
-/// What an operator leads to is mapped along, and what a block enters: over the mapped references an operator is refused exactly where it was before.
+/// The effect of an operator is mapped along, and so is the list that a block enters: over the mapped references an operator is refused exactly where it was before.
 pub fn mapped_steps<R, S>()
     ensures operators { (is_wanted : ValType R → Bool) (f : R → S) (cx : BodyContext R) (below : Below S)
         → AgreeOn (WantedBy is_wanted) f cx.items below → AreWantedIn (WantedBy is_wanted) cx → (labels : Labels R) → AreLabelsWanted (WantedBy is_wanted) labels → (s : State R) (operator : Operator ℕ)

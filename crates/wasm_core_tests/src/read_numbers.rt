@@ -12,7 +12,7 @@ use wasm_test_rows::values::bytes_of;
 // The place of the first byte.
 const PLACE: u64 = 7;
 
-// What is read one after the other, the bytes, and how many of these are left. A number has its width in front, and one of floating point is given by
+// Numbers that are read one after the other, the bytes, and how many of these are left. A number has its width in front, and one of floating point is given by
 // its bits.
 const READ: &str = "
     u32 0 | 00 | 0

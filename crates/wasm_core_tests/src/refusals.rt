@@ -1,4 +1,4 @@
-//! What is written where memory runs out: tests that `.ci/refusals` runs with each allocation refused in turn. What refuses is as it was, and takes the same
+//! Writers where memory runs out: tests that `.ci/refusals` runs with each allocation refused in turn. What refuses is as it was, and takes the same
 //! call again.
 
 mod module;

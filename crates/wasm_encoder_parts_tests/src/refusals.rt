@@ -1,4 +1,4 @@
-//! What the encoder does where memory runs out: tests that `.ci/refusals` runs with each allocation refused in turn. What refuses is as it was, and takes
+//! The encoder where memory runs out: tests that `.ci/refusals` runs with each allocation refused in turn. What refuses is as it was, and takes
 //! the same call again.
 
 mod calls;

@@ -1,4 +1,4 @@
-//! What sections and other values write, into just the room that they ask for.
+//! The bytes that sections and other values write, into just the room that they ask for.
 
 use std::alloc::Global;
 use wasm_core_write::encode::{Encode, Section};

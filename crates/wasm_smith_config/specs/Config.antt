@@ -1,11 +1,11 @@
--- What a configuration says: how it is put in order, what it allows, and which features its modules may use.
+-- Configurations: how they are put in order, which of them are allowed, and which features their modules may use.
 use Rattle.std.specs.Prelude.{◌≡◌, ℕ, Bool, true, ◌&&◌, ◌^◌, List, [], ◌∷◌, ◌++◌, All, Any, IsTrue, IsFalse, min, nat_lt, if◌then◌else◌, codes}
 use Rattle.wasm_spec.specs.Features.{Features, Flag, MutableGlobal, SaturatingFloatToInt, SignExtension, ReferenceTypes, MultiValue, BulkMemory, Simd, RelaxedSimd, Threads, TailCall, Floats, MultiMemory, Exceptions, Memory64, ExtendedConst, FunctionReferences, Gc, GcTypes, CustomPageSizes, CompactImports, WideArithmetic, StackSwitching, has}
 use Rattle.wasm_smith_config.specs.declared.config.Config.{Config}
 use Rattle.wasm_smith_config.specs.declared.error.Error.{Error}
 use Rattle.wasm_smith_config.specs.declared.error.Error.TheVariants.{IncorrectFormat, EmptyChoose, NotEnoughData, BadConfig, BadShape, TypeSize, Memory, TooLong}
 
--- What can't be had without something that is off is off too: relaxed vectors without vectors, garbage collection and a second table without
+-- A field that needs one that is off is off too: relaxed vectors without vectors, garbage collection and a second table without
 -- reference types.
 abbrev pub sanitized : Config → Config
 sanitized c = record c {

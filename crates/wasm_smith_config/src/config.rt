@@ -1,4 +1,4 @@
-//! What is asked of a module that is made.
+//! The configuration of a module that is made.
 
 ghost use Rattle.std.specs.Prelude.{◌≡◌, ◌≤◌, ◌^◌, ◌<◌, IsTrue};
 ghost use Rattle.std.specs.List.{AllZip};
@@ -13,65 +13,65 @@ pub const DEFAULT_MEMORY32_BYTES: u64 = 0x1_0000_0000;
 /// The most bytes that a memory of 64-bit addresses has where nothing else is said.
 pub const DEFAULT_MEMORY64_BYTES: u128 = 0x1_0000_0000_0000_0000;
 
-/// What is asked of a module that is made.
+/// The configuration of a module that is made.
 ///
 /// A minimum and a maximum bound how many items of a kind the module has, imported ones counted. Where the minimum can't be
-/// met, no module is made. What ends in `_enabled` says whether the module may need a feature.
+/// met, no module is made. A field whose name ends in `_enabled` says whether the module may need a feature.
 #[derive(Clone, Copy, Debug, PartialEq, Eq)]
 pub struct Config {
-    /// Whether the types of floats, and constants of them, may be used.
+    /// Allows the types of floats, and constants of them.
     pub allow_floats: bool,
-    /// Whether function bodies may be arbitrary bytes, which are not valid as a rule.
+    /// Allows function bodies of arbitrary bytes, which are not valid as a rule.
     pub allow_invalid_funcs: bool,
-    /// Whether the module may have a start function.
+    /// Allows a start function.
     pub allow_start_export: bool,
-    /// Whether segments may be passive or declared, and data segments counted.
+    /// Allows passive and declared segments, and counting data segments.
     pub bulk_memory_enabled: bool,
-    /// Whether bodies turn each NaN that they compute into one form. It is kept for those who make bodies, and steers nothing
+    /// Makes bodies turn each NaN that they compute into one form. It is kept for those who make bodies, and steers nothing
     /// here.
     pub canonicalize_nans: bool,
-    /// Whether imports that share a module name or a type may be written as a group.
+    /// Allows groups of imports that share a module name or a type.
     pub compact_imports_enabled: bool,
-    /// Whether the pages of a memory may have another size than 65,536 bytes.
+    /// Allows pages of another size than 65,536 bytes.
     pub custom_page_sizes_enabled: bool,
-    /// Whether nothing traps when the module is instantiated: active segments lie within the minimum size of their table or
+    /// Keeps the module from trapping when it is instantiated: active segments lie within the minimum size of their table or
     /// memory.
     pub disallow_traps: bool,
-    /// Whether there may be tags, and references to exceptions.
+    /// Allows tags, and references to exceptions.
     pub exceptions_enabled: bool,
-    /// Whether everything that can be exported is exported.
+    /// Exports everything that can be exported.
     pub export_everything: bool,
-    /// Whether constant expressions may add, subtract and multiply.
+    /// Allows constant expressions to add, subtract and multiply.
     pub extended_const_enabled: bool,
-    /// Whether there may be structures, arrays, recursive groups and subtypes, and references to defined types.
+    /// Allows structures, arrays, recursive groups and subtypes, and references to defined types.
     pub gc_enabled: bool,
-    /// Whether there are custom sections between the others.
+    /// Puts custom sections between the others.
     pub generate_custom_sections: bool,
-    /// Whether memories and tables may have 64-bit addresses.
+    /// Allows memories and tables with 64-bit addresses.
     pub memory64_enabled: bool,
-    /// Whether each memory states a maximum size.
+    /// Gives each memory a maximum size.
     pub memory_max_size_required: bool,
-    /// Whether functions may have several results.
+    /// Allows functions with several results.
     pub multi_value_enabled: bool,
-    /// Whether references are values, and whether there may be several tables.
+    /// Makes references values, and allows several tables.
     pub reference_types_enabled: bool,
-    /// Whether vector operators may be used whose results are left open.
+    /// Allows vector operators whose results are left open.
     pub relaxed_simd_enabled: bool,
-    /// Whether conversions of floats to integers that saturate may be used.
+    /// Allows conversions of floats to integers that saturate.
     pub saturating_float_to_int_enabled: bool,
-    /// Whether operators that extend the sign of an integer may be used.
+    /// Allows operators that extend the sign of an integer.
     pub sign_extension_ops_enabled: bool,
-    /// Whether there may be vectors of 128 bits.
+    /// Allows vectors of 128 bits.
     pub simd_enabled: bool,
-    /// Whether there may be continuations.
+    /// Allows continuations.
     pub stack_switching_enabled: bool,
-    /// Whether each table states a maximum size.
+    /// Gives each table a maximum size.
     pub table_max_size_required: bool,
-    /// Whether calls may take the place of a return.
+    /// Allows calls that take the place of a return.
     pub tail_call_enabled: bool,
-    /// Whether memories may be shared among threads.
+    /// Allows memories that threads share.
     pub threads_enabled: bool,
-    /// Whether operators on integers of 128 bits may be used.
+    /// Allows operators on integers of 128 bits.
     pub wide_arithmetic_enabled: bool,
 
     /// The fewest types that the module defines.

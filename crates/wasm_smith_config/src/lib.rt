@@ -1,4 +1,4 @@
-//! What a generator is asked for: its configuration, and why it makes no module.
+//! The configuration of a generator, and the reasons why it makes no module.
 #![tactic(auto)]
 
 mod arbitrary;

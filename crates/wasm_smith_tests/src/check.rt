@@ -41,7 +41,7 @@ const CHECKED: &str = "
     max_type_size=2147483649 | max_type_size
     max_memory32_bytes=4294967297 | max_memory32_bytes
     max_memory64_bytes=18446744073709551617 | max_memory64_bytes
-    // What can't be made.
+    // Configurations of which no module can be made.
     export_everything=yes | export_everything
     allow_invalid_funcs=yes | allow_invalid_funcs
     generate_custom_sections=yes | generate_custom_sections

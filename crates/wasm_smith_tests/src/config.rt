@@ -73,7 +73,7 @@ fn bare() -> Option<Config> {
     config_of(Config::default(), settings)
 }
 
-// What is turned on, and the features that it adds to those of a bare configuration.
+// Fields that are turned on, and the features that it adds to those of a bare configuration.
 const SWITCHES: &str = "
     |
     saturating_float_to_int_enabled=yes | SATURATING_FLOAT_TO_INT
@@ -308,7 +308,7 @@ fn weights_have_texts(rt: HostRuntime) -> Result<(), Fail> {
     Ok(check_rows(rt.alloc(), WEIGHT_TEXTS, 28, reads_weights)?)
 }
 
-// What is drawn of no bytes.
+// Drawn of no bytes.
 const NOTHING: &str =
     "allow_floats=no allow_start_export=no bulk_memory_enabled=no exceptions_enabled=no \
     extended_const_enabled=no gc_enabled=no memory64_enabled=no multi_value_enabled=no \
@@ -320,7 +320,7 @@ const NOTHING: &str =
     max_tags=0 max_funcs=0 max_globals=0 max_exports=0 max_element_segments=0 max_elements=0 \
     max_data_segments=0 max_tables=0 max_memories=0";
 
-// What is drawn of bytes that are all 255.
+// Drawn of bytes that are all 255.
 const EVERYTHING: &str =
     "allow_floats=yes allow_start_export=yes bulk_memory_enabled=yes exceptions_enabled=yes \
     extended_const_enabled=yes gc_enabled=yes memory64_enabled=yes multi_value_enabled=yes \
@@ -332,7 +332,7 @@ const EVERYTHING: &str =
     max_tags=53 max_funcs=53 max_globals=53 max_exports=53 max_element_segments=53 \
     max_elements=53 max_data_segments=53 max_tables=53 max_memories=53";
 
-// What is drawn of 0, 1, 2 and so on, put in order.
+// Drawn of 0, 1, 2 and so on, put in order.
 const COUNTED: &str =
     "allow_floats=no allow_start_export=yes bulk_memory_enabled=no exceptions_enabled=yes \
     extended_const_enabled=no gc_enabled=no memory64_enabled=no multi_value_enabled=yes \

@@ -1,4 +1,4 @@
-//! What errors print.
+//! The texts of errors.
 
 use std::alloc::{AllocError, Global};
 use std::test::Fail;

@@ -1,4 +1,4 @@
-//! What the generator does where memory runs out: tests that `.ci/refusals` runs with each allocation refused in turn. A module, seed or name that wasn't made
+//! The generator where memory runs out: tests that `.ci/refusals` runs with each allocation refused in turn. A module, seed or name that wasn't made
 //! is made the next time.
 
 mod module;

@@ -1,4 +1,4 @@
-//! What is drawn of bytes.
+//! Values that are drawn of bytes.
 
 use std::alloc::Global;
 use std::test::Fail;

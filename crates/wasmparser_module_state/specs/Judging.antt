@@ -26,9 +26,10 @@ use Rattle.wasmparser_module_state.specs.History.{EnterAll, OneFindsNoRoom, Find
 use Rattle.wasmparser_readers.specs.Sections.{Left, left_items}
 use Rattle.wasmparser_types.specs.Index.{packable}
 
--- An entry for which memory ran out keeps this. Functions, memories and tags keep all rules and limits; tables and globals the limits, and the rule on their type, and
--- what they begin as is right up to an operator of it; data segments the limits, and what they begin with is right likewise; element segments the limits; exports the limits, and may name their item; imports are few enough; groups of types keep
--- the limits but that on depth, are allowed, and refer to types that are there. Other entries take no memory.
+-- An entry for which memory ran out keeps this. Functions, memories and tags keep all rules and limits. Tables and globals keep the limits and the rule on their
+-- type, and their initialiser is right up to an operator of it. Data segments keep the limits, and are right up to an operator of their address. Element segments
+-- keep the limits; exports do too, and may name their item. Imports are few enough. Groups of types keep the limits but that on depth, are allowed, and refer to
+-- types that are there. Other entries take no memory.
 abbrev pub IsRightSoFar : Features → Context → Entry → Type 0
 IsRightSoFar features cx (OfType group) = IsGroupRightSoFar features cx.types cx.groups group
 IsRightSoFar features cx (OfImport entry) = suc cx.imports ≤ most Imports

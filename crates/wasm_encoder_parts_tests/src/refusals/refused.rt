@@ -1,4 +1,4 @@
-//! What a refused call leaves.
+//! The state that a refused call leaves.
 
 use std::alloc::Global;
 use wasm_core_write::encode::Encode;

@@ -1,5 +1,5 @@
 -- The bytes written for a seed, and the result returned for it.
-use Rattle.std.proofs.Common.{◌≡◌, ◌⊎◌, ℕ, Bool, true, false, List, [], ◌++◌, length, take, drop, nat_le, Result, Ok, Err, refl, sym, subst, ap, ◌∙◌, inl, inr, arith, rules, if◌then◌else◌}
+use Rattle.std.proofs.Common.{◌≡◌, ◌⊎◌, ℕ, Bool, true, false, get_or, List, [], ◌++◌, length, take, drop, nat_le, Result, Ok, Err, refl, sym, subst, ap, ◌∙◌, inl, inr, arith, rules, if◌then◌else◌}
 use Rattle.std.proofs.Math.Seq.{take-append_seam}
 use Rattle.wasm_spec.specs.Features.{Features}
 use Rattle.wasmparser_validator.specs.Validation.{IsAccepted, IsValidated}
@@ -17,19 +17,19 @@ use Rattle.wasm_gen_c_api.specs.Verdicts.{IsChecked, IsJudged, verdict_of}
 use Rattle.wasm_gen_c_api.specs.declared.verdict.Verdict.{Verdict}
 
 -- what is generated is a module that is valid under the features of the configuration
-accepted : (c : Config) (seed bytes : List ℕ) (features : Features) (g : IsGeneratedFrom c seed bytes) → AreFeaturesOf c features
+accepted : (c : Config) (seed bytes : List ℕ) (features : Features) (g : IsGeneratedFrom c seed bytes) → AreFeaturesOf c features → c.allow_invalid_funcs ≡ false
     → IsAccepted features bytes (sections_with c.bulk_memory_enabled g.generated.bodies g.made)
-accepted c seed bytes features g are = record {
+accepted c seed bytes features g are off = record {
   reads = g.generated.reads features are;
-  valid = g.generated.valid features are;
+  valid = g.generated.all_valid off features are;
 }
 
 -- a judge that holds no types refuses such bytes only when out of memory
 judged_so : (c : Config) (seed bytes : List ℕ) (features : Features) (answer : Result KnownModule Error) → IsGeneratedFrom c seed bytes → AreFeaturesOf c features
-    → IsValidated features [] bytes answer → ((verdict_of answer).kind ≡ yes) ⊎ ((verdict_of answer).kind ≡ memory)
-judged_so c seed bytes features (Ok known) g are validated = inl refl
-judged_so c seed bytes features (Err e) g are validated =
-    elim (validated.complete (sections_with c.bulk_memory_enabled g.generated.bodies g.made) (accepted c seed bytes features g are)) [
+    → c.allow_invalid_funcs ≡ false → IsValidated features [] bytes answer → ((verdict_of answer).kind ≡ yes) ⊎ ((verdict_of answer).kind ≡ memory)
+judged_so c seed bytes features (Ok known) g are off validated = inl refl
+judged_so c seed bytes features (Err e) g are off validated =
+    elim (validated.complete (sections_with c.bulk_memory_enabled g.generated.bodies g.made) (accepted c seed bytes features g are off)) [
       | inl is ↦ inr (ap kind_code is)
       | inr total ↦ absurd (validated.first refl total)
     ]
@@ -56,7 +56,7 @@ answer_accepted seed old new len told (Ok bytes) answered is len_is new_is judge
     let front : take len new ≡ bytes = rw (len_is, new_is) (front_is (nat_le (length bytes) (length old)) bytes (drop (length bytes) old) old is) in
     let validated : IsValidated generated_features [] bytes judged.answer = subst (λ front. IsValidated generated_features [] front judged.answer) front judged.validated in
     subst (λ (told : Verdict). (told.kind ≡ yes) ⊎ (told.kind ≡ memory)) (sym judged.same)
-    (judged_so (sanitized answered.config) seed bytes generated_features judged.answer answered.generated answered.features validated)
+    (judged_so (sanitized answered.config) seed bytes generated_features judged.answer answered.generated answered.features (ap (λ (switches : List Bool). get_or switches 0 true) answered.is_default.off) validated)
 
 pub is_accepted : (seed old new : List ℕ) (len : ℕ) (told : Verdict) → IsWritten seed old new len yes
     → IsChecked generated_features (take len new) told → (told.kind ≡ yes) ⊎ (told.kind ≡ memory)

@@ -23,9 +23,10 @@ use Rattle.wasm_smith.specs.Spelling.{Spells}
 use Rattle.wasm_smith.specs.Parts.{Config, Error}
 use Rattle.wasm_smith.proofs.SeedLaws.{features_for, flat_entries}
 use Rattle.wasm_smith_module.specs.Bounds.{IsWithinBounds}
-use Rattle.wasm_smith_module.specs.Generating.{HasFront, OwesNothingElse, bare_module, front_at, left_for_functions, with_functions}
+use Rattle.wasm_smith_module.specs.Generating.{HasFront, OwesNothingElse, bare_body, bare_module, front_at, left_for_functions, with_functions}
 use Rattle.wasm_smith_module.specs.Promise.{IsReason}
-use Rattle.wasm_smith_sections.specs.ModuleEncoding.{PassesLength}
+use Rattle.wasm_smith_sections.specs.ModuleEncoding.{PassesLength, SomeByRecursion}
+use Rattle.wasm_smith_module.specs.Measured.{IsLongBody}
 use Rattle.wasm_smith_types.specs.Bounds.{AreSmall}
 use Rattle.wasm_smith_validity.specs.Made.{Made}
 use Rattle.wasm_smith_validity.specs.Sections.{sections_with}
@@ -96,7 +97,7 @@ all_refusals law c seed (BadConfig field) h asked = let e = law c (smith.BadConf
 all_refusals law c seed (Shape part) h asked = absurd h
 all_refusals law c seed Minimum h asked = let e = law c smith.IncorrectFormat asked h in absurd cc
 all_refusals law c seed EmptyChoice h asked = absurd h
-all_refusals law c seed TypeSize h asked = absurd h
+all_refusals law c seed TypeSize h asked = let e = law c smith.TypeSize asked h in absurd cc
 all_refusals law c seed (Limit passed) h asked = inr (passed, refl, h)
 all_refusals law c seed Memory h asked = inl refl
 
@@ -119,6 +120,12 @@ groups_drawn c s front e = go (drawn_groups_at c s) refl e
 few_entries : (c : Config) (groups : List (List (SubType ℕ))) (funcs : List ℕ) → IsReachable c groups funcs → length (flat.types_of (map entry groups)) ≤ most Types
 few_entries c groups funcs asked = omega (arith, asked.few_types, ap length (flat_entries groups))
 
+-- no body of its module is raw
+none_long : (funcs : List ℕ) → SomeByRecursion IsLongBody (map (λ _. bare_body) funcs) → ⊥
+none_long [] some = some
+none_long (function ∷ funcs) (inl long) = absurd (let raw = long.0 in cc)
+none_long (function ∷ funcs) (inr some) = none_long funcs some
+
 -- a list that passes no limit isn't made as a module that does
 none_made : Reach → Bare → (c : Config) (seed : List ℕ) (groups : List (List (SubType ℕ))) (funcs : List ℕ) (passed : NumberedLimit) → IsReachable c groups funcs
     → Spells c groups funcs seed → MakesPast c seed passed → ⊥
@@ -130,7 +137,8 @@ none_made reach bare c seed groups funcs passed asked spelled past =
     let few = few_entries c groups funcs asked in
     elim (subst (λ (m : Made). IsPast c passed m) same past.past) [
       | inl p ↦ bare.limits features (map entry groups) funcs c.bulk_memory_enabled passed valid bounds.small_types bounds.some_types few asked.few_funcs p
-      | inr long ↦ bare.lengths features (map entry groups) funcs c.bulk_memory_enabled valid bounds.small_types bounds.some_types few asked.few_funcs long.1
+      | inr (inl long) ↦ none_long funcs long.1
+      | inr (inr long) ↦ bare.lengths features (map entry groups) funcs c.bulk_memory_enabled valid bounds.small_types bounds.some_types few asked.few_funcs long.1
     ]
 
 -- nor are more types asked for

@@ -4,12 +4,12 @@ use Rattle.std.specs.List.{AllByRecursion}
 use Rattle.std.proofs.lemmas.Bool.{and_parts, le-ltb}
 use Rattle.std.proofs.lemmas.List.{append-nil, length-map}
 use Rattle.wasm_smith_module.specs.Measures.{numbers_of}
-use Rattle.wasm_smith_module.specs.Generating.{bare_module}
+use Rattle.wasm_smith_module.specs.Generating.{bare_body, bare_module}
 use Rattle.wasm_smith_sections.specs.ModuleEncoding.{HasLongFront, HasManyItems, IsLongSection, PassesLength, SomeByRecursion, SomeHaveLongFront}
 use Rattle.wasm_smith_types.specs.Bounds.{AreSmall}
 use Rattle.wasm_smith_types.specs.DrawnGroups.{AreSome}
 use Rattle.wasm_smith_types.specs.ValidGroups.{types_of}
-use Rattle.wasm_smith_validity.specs.Made.{Made}
+use Rattle.wasm_smith_validity.specs.Made.{Made, MadeBody}
 use Rattle.wasm_smith_validity.specs.Sections.{sections_with, unless_empty}
 use Rattle.wasm_smith_validity.specs.Rules.{KeepAll}
 use Rattle.wasm_smith_validity.specs.Spaces as validity
@@ -17,7 +17,7 @@ use Rattle.wasm_smith_validity.specs.Spaces.{func_type_at, spaces_after, spaces_
 use Rattle.wasm_smith_validity.specs.Validity.{IsValidByIndex}
 use Rattle.wasm_smith_validity.proofs.MadeSections.{rules_of}
 use Rattle.wasm_spec.specs.Features.{Features}
-use Rattle.wasm_spec.specs.Limits.{Limit, Types, Functions, most}
+use Rattle.wasm_spec.specs.Limits.{Limit, Name, Types, Functions, most}
 use Rattle.wasm_spec.specs.Shortest.{unsigned_encoding, list_encoding, framed_encoding}
 use Rattle.wasm_spec.specs.SmallIndexes.{IsSmallIndex}
 use Rattle.wasm_spec.specs.Syntax.{Section, TypeSection, FunctionSection, CodeSection}
@@ -28,7 +28,7 @@ use Rattle.wasm_validity.specs.Context.{Context, after, after_all, at_first, fun
 use Rattle.wasm_validity.specs.Entries.{Entry, OfFunction, OfType, OfBody, entries_of}
 use Rattle.wasm_validity.specs.IndexSpaces.{Spaces, spaces_in, spaces_of}
 use Rattle.wasm_validity.specs.Rules.{KeepLimits, PassLimit, Passes, are_within, is_past, measures}
-use Rattle.wasm_gen_sessions.proofs.BodyEncodings.{AreFewSmall, IsShortBody, as_many_bodies, bodies_short, entry_length}
+use Rattle.wasm_gen_sessions.proofs.BodyEncodings.{AreFewSmall, IsFewSmall, IsShortBody, as_many_bodies, bodies_short, entry_length}
 use Rattle.wasm_gen_sessions.proofs.Forms.{list_length}
 use Rattle.wasm_gen_sessions.proofs.RunEncodings.{few_fit}
 use Rattle.wasm_gen_sessions.proofs.TypeLengths.{few_groups, groups_length, groups_short}
@@ -89,14 +89,15 @@ none_passed limit cx (entry ∷ entries) h (inr (inr p)) = none_passed limit (af
 -- the law of limits
 abbrev LimitLaw : Type 0
 LimitLaw = (features : Features) (m : Made) (counted : Bool) (bodies : List (List ℕ)) → IsValidByIndex features m → AreSmall (types_of m.groups)
-    → are_within (numbers_of bodies m) ≡ true → KeepLimits at_first (entries_of (sections_with counted bodies m))
+    → AllByRecursion (λ custom. length custom.name ≤ most Name) m.customs → are_within (numbers_of bodies m) ≡ true
+    → KeepLimits at_first (entries_of (sections_with counted bodies m))
 
 pub no_limit : LimitLaw → (features : Features) (groups : List (RecGroup ℕ)) (funcs : List ℕ) (counted : Bool) (limit : Limit) → IsValidByIndex features (bare_module groups funcs)
     → AreSmall (types_of groups) → AreSome groups → length (types_of groups) ≤ most Types → length funcs ≤ most Functions
     → PassLimit limit at_first (entries_of (sections_with counted [] (bare_module groups funcs))) → ⊥
 no_limit law features groups funcs counted limit v small some few_types few_funcs p =
     none_passed limit at_first (entries_of (sections_with counted [] (bare_module groups funcs)))
-    (law features (bare_module groups funcs) counted [] v small (numbers_within groups funcs some few_types few_funcs)) p
+    (law features (bare_module groups funcs) counted [] v small tt (numbers_within groups funcs some few_types few_funcs)) p
 
 -- ---- lengths
 
@@ -127,17 +128,17 @@ some_section P groups funcs bodies h = elim (some_append P (of_types groups) (of
 no_long_front : (locals : List (ValType ℕ)) → AreFewSmall locals → HasLongFront locals → ⊥
 no_long_front locals h long = few_fit long.0 (omega (arith, h.0, ap length long.2, length-append long.0 long.1)) long.3
 
-none_long : (locals : List (List (ValType ℕ))) → AllByRecursion AreFewSmall locals → SomeHaveLongFront locals → ⊥
+none_long : (made : List MadeBody) → AllByRecursion IsFewSmall made → SomeHaveLongFront made → ⊥
 none_long [] h some = some
-none_long (first ∷ others) h (inl long) = no_long_front first h.0 long
+none_long (first ∷ others) h (inl long) = no_long_front first.locals h.0.0 long
 none_long (first ∷ others) h (inr some) = none_long others h.1 some
 
-abbrev no_locals : List ℕ → List (List (ValType ℕ))
-no_locals funcs = map (λ _. []) funcs
+abbrev bare_bodies : List ℕ → List MadeBody
+bare_bodies funcs = map (λ _. bare_body) funcs
 
-without_locals : (funcs : List ℕ) → AllByRecursion AreFewSmall (no_locals funcs)
+without_locals : (funcs : List ℕ) → AllByRecursion IsFewSmall (bare_bodies funcs)
 without_locals [] = tt
-without_locals (function ∷ funcs) = ((omega arith, tt), without_locals funcs)
+without_locals (function ∷ funcs) = (((omega arith, tt), refl), without_locals funcs)
 
 -- an index that names a function type is below the number of types
 below_types : (types : List (SubType ℕ)) (index : ℕ) → is_some (func_type_at types index) ≡ true → index < length types
@@ -169,11 +170,11 @@ no_length features groups funcs counted v small some few_types few_funcs (inl ma
       ]
     ]
 no_length features groups funcs counted v small some few_types few_funcs (inr (inl many)) =
-    omega (arith, many, few_funcs, length-map {B = List (ValType ℕ)} funcs (λ _. []))
-no_length features groups funcs counted v small some few_types few_funcs (inr (inr (inl front))) = none_long (no_locals funcs) (without_locals funcs) front
+    omega (arith, many, few_funcs, length-map {B = MadeBody} funcs (λ _. bare_body))
+no_length features groups funcs counted v small some few_types few_funcs (inr (inr (inl front))) = none_long (bare_bodies funcs) (without_locals funcs) front
 no_length features groups funcs counted v small some few_types few_funcs (inr (inr (inr long))) =
-    let short = bodies_short (no_locals funcs) long.0 (without_locals funcs) long.1 in
-    let few : length long.0 ≤ most Functions = omega (arith, few_funcs, as_many_bodies (no_locals funcs) long.0 long.1, length-map {B = List (ValType ℕ)} funcs (λ _. [])) in
+    let short = bodies_short (bare_bodies funcs) long.0 (without_locals funcs) long.1 in
+    let few : length long.0 ≤ most Functions = omega (arith, few_funcs, as_many_bodies (bare_bodies funcs) long.0 long.1, length-map {B = MadeBody} funcs (λ _. bare_body)) in
     elim (some_section IsLongSection groups funcs long.0 (subst (SomeByRecursion IsLongSection) (sections_are counted groups funcs long.0) long.2)) [
       | inl types ↦ omega (arith, types, groups_length groups (groups_short features groups (rules_of features (bare_module groups funcs) v).valid small some few_types))
       | inr others ↦ elim others [

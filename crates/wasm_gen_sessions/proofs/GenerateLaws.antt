@@ -1,5 +1,6 @@
 -- Generating, and why nothing is generated.
-use Rattle.std.proofs.Common.{ℕ, Bool, List, [], IfSome, refl, subst, inl, inr}
+use Rattle.std.proofs.Common.{◌≡◌, ℕ, Bool, true, List, [], IfSome, refl, subst, inl, inr}
+use Rattle.std.specs.List.{AllByRecursion}
 use Rattle.wasm_core.specs.LimitCases as limits
 use Rattle.wasm_core.specs.Limits.{limit}
 use Rattle.wasm_core.specs.Parts as core
@@ -7,11 +8,12 @@ use Rattle.wasm_spec.specs.Features.{Features}
 use Rattle.wasm_spec.specs.Limits.{Limit, Types, most}
 use Rattle.wasm_validity.specs.Context.{at_first}
 use Rattle.wasm_validity.specs.Entries.{entries_of}
-use Rattle.wasm_validity.specs.Rules.{PassLimit, Passes}
+use Rattle.wasm_validity.specs.Rules.{PassLimit, Passes, are_within}
 use Rattle.wasm_smith.specs.Config.{AreFeaturesOf}
 use Rattle.wasm_smith.specs.ErrorCases as smith
 use Rattle.wasm_smith.specs.Parts.{Config, Error}
 use Rattle.wasm_smith.proofs.SeedLaws.{features_for}
+use Rattle.wasm_smith_module.specs.Measured.{AreShort, HasShortNames, IsPassed, IsShortRaw}
 use Rattle.wasm_smith_module.specs.Measures.{numbers_of}
 use Rattle.wasm_smith_module.specs.Bounds.{IsWithinBounds}
 use Rattle.wasm_smith_module.specs.Generating.{HasFront, front_at}
@@ -33,10 +35,13 @@ abbrev pub PassedLaw : Type 0
 PassedLaw = (features : Features) (m : Made) (counted : Bool) (bodies : List (List ℕ)) (limit : Limit) → IsValidByIndex features m
     → Passes limit (numbers_of bodies m) → PassLimit limit at_first (entries_of (sections_with counted bodies m))
 
-pub past_limit : PassedLaw → (c : Config) (m : ModuleValue) (passed : core.Limit) → IsMadeFor c m → ((bodies : List (List ℕ)) → Passes (limit passed) (numbers_of bodies m.made))
-    → IsPast c (limit passed) m.made
-past_limit law c m passed made passes =
+pub past_limit : PassedLaw → (c : Config) (m : ModuleValue) (passed : core.Limit) → IsMadeFor c m → IsPassed m.made passed → IsPast c (limit passed) m.made
+past_limit law c m passed made (inl passes) =
     let (features, are) = features_for c in inl (law features m.made c.bulk_memory_enabled [] (limit passed) (made.valid features are) (passes []))
+past_limit law c m passed made (inr long) = inr (inl long)
+
+pub no_limit : (m : Made) → ((bodies : List (List ℕ)) → HasShortNames m → AreShort bodies → are_within (numbers_of bodies m) ≡ true) → AllByRecursion IsShortRaw m.bodies → PassesNoLimit m
+no_limit m numbers raw = record { numbers = numbers; raw = raw }
 
 -- a made module that passes no limit is generated as its encoding
 abbrev pub GeneratedLaw : Type 0
@@ -56,7 +61,7 @@ of_writing c m (smith.BadConfig field) h = h
 of_writing c m (smith.BadShape field) h = h
 of_writing c m smith.TypeSize h = h
 of_writing c m smith.Memory h = tt
-of_writing c m smith.TooLong h = inr (refl, h)
+of_writing c m smith.TooLong h = inr (inr (refl, h))
 
 pub unwritten : (c : Config) (m : ModuleValue) (e : Error) → IsMadeFor c m → IsUnwritten m.config.bulk_memory_enabled m.made e → IsUnwritable c m.made (told e)
 unwritten c m e made h = of_writing c m.made e (subst (λ (c : Config). IsUnwritten c.bulk_memory_enabled m.made e) made.config h)
@@ -71,18 +76,18 @@ pub generated_from : (c : Config) (seed left : List ℕ) (m : ModuleValue) (byte
     → IsGeneratedFrom c seed bytes
 generated_from c seed left m bytes made drawn contents generated = record { good = made.good; made = m.made; left = left; drawn = drawn; contents = contents; generated = generated }
 
-pub refused_from : (c : Config) (seed left : List ℕ) (m : ModuleValue) (e : GenerateError) → IsMadeFor c m → IsDrawn c seed m.made left → IsUnwritable c m.made e
-    → IsCause c seed e
-refused_from c seed left m (BadConfig field) made drawn h = absurd h
-refused_from c seed left m (Shape part) made drawn h = absurd h
-refused_from c seed left m Minimum made drawn h = absurd h
-refused_from c seed left m EmptyChoice made drawn h = absurd h
-refused_from c seed left m TypeSize made drawn h = absurd h
-refused_from c seed left m (PastLimit passed) made drawn h = record {
+pub refused_from : (c : Config) (seed left : List ℕ) (m : ModuleValue) (e : GenerateError) → IsMadeFor c m → IsDrawn c seed m.made left → HasDrawnData seed left m.made
+    → IsUnwritable c m.made e → IsCause c seed e
+refused_from c seed left m (BadConfig field) made drawn contents h = absurd h
+refused_from c seed left m (Shape part) made drawn contents h = absurd h
+refused_from c seed left m Minimum made drawn contents h = absurd h
+refused_from c seed left m EmptyChoice made drawn contents h = absurd h
+refused_from c seed left m TypeSize made drawn contents h = absurd h
+refused_from c seed left m (PastLimit passed) made drawn contents h = record {
   good = made.good;
-  past = inl (record { made = m.made; left = left; valid = made.valid; bounds = made.bounds; past = h; drawn = drawn });
+  past = inl (record { made = m.made; left = left; valid = made.valid; bounds = made.bounds; contents = contents; past = h; drawn = drawn });
 }
-refused_from c seed left m Memory made drawn h = tt
+refused_from c seed left m Memory made drawn contents h = tt
 
 -- More types are asked for than there may be.
 pub passes_types : (c : Config) (seed : List ℕ) → PassesTypes c seed (most Types) → PassesLimit c seed limits.Types

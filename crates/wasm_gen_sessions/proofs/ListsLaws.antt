@@ -1,5 +1,5 @@
 -- Modules of lists are accepted one after the other, and shown as their lists.
-use Rattle.std.proofs.Common.{◌≡◌, ◌⊎◌, ℕ, Bool, true, false, not, List, [], ◌∷◌, map, Result, Ok, Err, refl, sym, subst, ap, ◌∙◌}
+use Rattle.std.proofs.Common.{◌≡◌, ◌⊎◌, ℕ, Bool, true, false, not, List, [], ◌∷◌, map, None, Result, Ok, Err, refl, sym, subst, ap, ◌∙◌}
 use Rattle.std.specs.List.{AllByRecursion}
 use Rattle.wasm_spec.specs.Features.{CompactImports, has}
 use Rattle.wasm_spec.specs.Syntax.{Section}
@@ -12,8 +12,9 @@ use Rattle.wasmparser_error.specs.declared.error.ErrorKind.TheVariants.{Memory, 
 use Rattle.wasmparser_validator.specs.KnownSpaces.{KnownModule, spaces_known}
 use Rattle.wasmparser_validator.specs.Validation.{IsAccepted, IsValidated}
 use Rattle.wasm_smith.specs.Grouped.{entry}
-use Rattle.wasm_smith_module.specs.Generating.{bare_module}
+use Rattle.wasm_smith_module.specs.Generating.{bare_body, bare_module}
 use Rattle.wasm_smith_validity.specs.Sections.{sections_with}
+use Rattle.wasm_smith_validity.proofs.ValidModules.{valid_without_raw}
 use Rattle.wasm_gen_sessions.specs.History.{History}
 use Rattle.wasm_gen_sessions.specs.Lists.{AreShown, ChecksAll, IsMadeUnder, MadeList, spaces_of_list}
 use Rattle.wasm_gen_sessions.specs.Session.{Checks}
@@ -22,10 +23,15 @@ use Rattle.wasm_gen_sessions.specs.Session.{Checks}
 abbrev sections_of : (session : History) (made : MadeList) → IsMadeUnder session.features made → List Section
 sections_of session made h = sections_with h.config.bulk_memory_enabled h.generated.bodies (bare_module (map entry made.groups) made.funcs)
 
+-- no body of the list's module is raw
+none_raw : (funcs : List ℕ) → AllByRecursion (λ body. body.raw ≡ None) (map (λ _. bare_body) funcs)
+none_raw [] = tt
+none_raw (function ∷ funcs) = (refl, none_raw funcs)
+
 accepted : (session : History) (made : MadeList) (h : IsMadeUnder session.features made) → IsAccepted session.features made.bytes (sections_of session made h)
 accepted session made h = record {
   reads = h.generated.reads session.features h.features_are;
-  valid = h.generated.valid session.features h.features_are;
+  valid = valid_without_raw session.features (map (λ _. bare_body) made.funcs) (sections_of session made h) (h.generated.valid session.features h.features_are) (none_raw made.funcs);
 }
 
 -- what a module of types and functions, and of nothing else, shows

@@ -12,7 +12,7 @@ use Rattle.wasm_spec.specs.SmallIndexes.{IsSmallValue}
 use Rattle.wasm_spec.specs.TypeEncodings.{val_encoding}
 use Rattle.wasm_spec.proofs.UnsignedEncodings.{at_most_five}
 use Rattle.wasm_smith_sections.specs.ModuleEncoding.{as_run}
-use Rattle.wasm_smith_validity.specs.UnreachableBodies.{AreMerged}
+use Rattle.wasm_smith_validity.specs.MadeBodies.{AreMerged}
 use Rattle.wasm_gen_sessions.proofs.Forms.{all_append, both, list_is, list_bytes, list_length}
 use Rattle.wasm_gen_sessions.proofs.Numbers.{number_is, number_bytes}
 use Rattle.wasm_gen_sessions.proofs.Values.{value_is, value_bytes, encoding_length}

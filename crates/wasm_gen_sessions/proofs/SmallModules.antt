@@ -8,19 +8,19 @@ use Rattle.wasm_smith_config.specs.declared.config.Config.{Config}
 use Rattle.wasm_smith_externs.specs.Exports.{HasShortName}
 use Rattle.wasm_smith_externs.specs.Imports.{IsMadeEntry}
 use Rattle.wasm_smith_externs.specs.Named.{IsShortlyNamed, all_named, named, named_by}
-use Rattle.wasm_smith_module.specs.Measured.{AreNames, AreShort, HasShortNames}
+use Rattle.wasm_smith_module.specs.Measured.{AreNames, HasShortNames}
+use Rattle.wasm_smith_module.specs.Customs.{IsBoundedCustom}
 use Rattle.wasm_smith_module.specs.Bounds.{IsWithinBounds}
-use Rattle.wasm_smith_sections.specs.SmallModules.{IsReadable}
-use Rattle.wasm_smith_validity.specs.Made.{Made}
-use Rattle.wasm_spec.specs.Limits.{Limit, BodySize, Name, most}
-use Rattle.wasm_spec.specs.SmallIndexes.{IsSmallValue}
+use Rattle.wasm_smith_sections.specs.SmallModules.{IsReadable, IsSmallBody}
+use Rattle.wasm_smith_validity.specs.Made.{Made, MadeBody}
+use Rattle.wasm_spec.specs.Limits.{Limit, Name, most}
 use Rattle.wasm_spec.specs.Syntax.{Export, ImportEntry, ImportItem, Import, CompactItems, CompactNames}
-use Rattle.wasm_spec.specs.Types.{ExternalType, ValType}
+use Rattle.wasm_spec.specs.Types.{ExternalType}
 use Rattle.wasm_spec.proofs.MappedBack.{all_left, all_right}
 use Rattle.wasm_validity.specs.Context.{names_of}
 use Rattle.wasm_validity.specs.Rules.{are_within, import_names, is_past}
 use Rattle.wasm_gen_sessions.specs.Written.{CanBeStated}
-use Rattle.wasm_gen_sessions.proofs.BodyEncodings.{AreFewSmall, IsShortBody}
+use Rattle.wasm_gen_sessions.proofs.BodyEncodings.{AreFewSmall}
 use Rattle.wasm_gen_sessions.proofs.Forms.{all_append, all_are, both}
 
 -- ---- limits
@@ -37,9 +37,6 @@ IsFirstWithin (m ∷ ms) = m.1 ≤ most m.0
 pub first_within : (ms : List (Limit × ℕ)) → are_within ms ≡ true → IsFirstWithin ms
 first_within [] e = tt
 first_within (m ∷ ms) e = ltb-false (most m.0) m.1 (not_past (is_past m.0 m.1) (and_parts (not (is_past m.0 m.1)) (are_within ms) e).0)
-
-pub bodies_within : (bodies : List (List ℕ)) → AllByRecursion IsShortBody bodies → AreShort bodies
-bodies_within bodies h = all_are IsShortBody (λ body. length body ≤ most BodySize) (λ body short. omega (arith, short.1)) bodies h
 
 -- ---- names
 
@@ -103,9 +100,15 @@ pub readable : (c : Config) (compact : Bool) → compact ≡ c.compact_imports_e
     → AllByRecursion (IsReadable compact) entries
 readable c compact is entries made = all_are (IsMadeEntry c) (IsReadable compact) (one_readable c compact is) entries made
 
+-- ---- custom sections
+
+pub legal_names : (c : Config) (m : Made) → IsWithinBounds c m → AllByRecursion (λ custom. length custom.name ≤ most Name) m.customs
+legal_names c m bounds = all_are IsBoundedCustom (λ custom. length custom.name ≤ most Name) (λ custom h. omega (arith, h.name)) m.customs bounds.customs
+
 -- ---- locals
 
-pub few_small : (c : Config) (m : Made) → IsWithinBounds c m → CanBeStated m → AllByRecursion AreFewSmall m.locals
+pub few_small : (c : Config) (m : Made) → IsWithinBounds c m → CanBeStated m → AllByRecursion (λ body. AreFewSmall body.locals) m.bodies
 few_small c m bounds small =
     let stated = small c.compact_imports_enabled (readable c c.compact_imports_enabled refl m.imports bounds.made_imports) in
-    both (λ (ls : List (ValType ℕ)). length ls ≤ 100) (AllByRecursion IsSmallValue) m.locals bounds.few_locals stated.locals
+    all_are (λ (body : MadeBody). (length body.locals ≤ 100) × IsSmallBody body) (λ body. AreFewSmall body.locals) (λ body h. (h.0, h.1.0)) m.bodies
+    (both (λ (body : MadeBody). length body.locals ≤ 100) IsSmallBody m.bodies bounds.few_locals stated.bodies)

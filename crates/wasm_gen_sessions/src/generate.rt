@@ -48,7 +48,7 @@ fn drawn_bytes(alloc: Global, config: &Config, seed: &[u8]) -> Result<Vec<u8>, G
     written_bytes(alloc, &made)
 }
 
-/// Returns a valid module for the configuration put in order, drawn from the bytes of the seed. A list for which
+/// Returns a module that is valid but for its raw bodies, for the configuration put in order, drawn from the bytes of the seed. A list for which
 /// [`seed_for`](crate::seed::seed_for) gives a seed is made exactly, without locals and with nothing else, from every seed that spells
 /// it. With a configuration with which lists can be asked for, it is refused only when out of memory, or when a limit is passed.
 ///
@@ -57,7 +57,8 @@ fn drawn_bytes(alloc: Global, config: &Config, seed: &[u8]) -> Result<Vec<u8>, G
 ///
 /// # Errors
 /// `Config` by the configuration, `Minimum` where imports, tags, functions, exports or segments are asked for that can't be made,
-/// `Limit` where the module would pass one, `Memory` where memory runs out.
+/// `TypeSize` where everything is exported and the types are too large, `Limit` where the module would pass one, `Memory` where memory
+/// runs out.
 pub fn generate(alloc: Global, config: &Config, seed: &[u8]) -> Result<Vec<u8>, GenerateError>
     ensures generated { IfOk result (λ bytes. IsGeneratedFrom (sanitized config.now) seed.now bytes.items) }
     ensures refused { IfErr result (IsCause (sanitized config.now) seed.now) }

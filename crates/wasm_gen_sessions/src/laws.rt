@@ -1,8 +1,8 @@
 //! Laws that tie generating to validating.
 
-ghost use Rattle.std.specs.Prelude.{◌≡◌, ◌⊎◌, ℕ, List, [], false, map, Result, Err};
+ghost use Rattle.std.specs.Prelude.{◌≡◌, ◌⊎◌, ℕ, List, [], false, map, Result, Ok, Err};
 ghost use Rattle.std.specs.List.{AllByRecursion};
-ghost use Rattle.wasm_gen_sessions.specs.Generate.{IsGeneratedFrom};
+ghost use Rattle.wasm_gen_sessions.specs.Generate.{HasTypedRaw, IsGeneratedFrom};
 ghost use Rattle.wasm_gen_sessions.specs.History.{History};
 ghost use Rattle.wasm_gen_sessions.specs.Lists.{AreShown, ChecksAll, IsMadeUnder, MadeList};
 ghost use Rattle.wasm_gen_sessions.specs.Session.{Checks};
@@ -15,15 +15,20 @@ ghost use Rattle.wasmparser_validator.specs.KnownSpaces.{KnownModule};
 
 use crate::made_laws::bare_modules;
 
-/// A session with the features of the configuration, which hasn't failed, refuses a generated module only when it is out of memory or its list of types is full,
-/// and a new session only when it is out of memory. `c` is a configuration after `sanitize`.
+/// A session with the features of the configuration, which hasn't failed, accepts a generated module exactly where its raw bodies are well
+/// typed, so always where the configuration doesn't allow them, unless memory runs out or, in a session that isn't new, the list of types is
+/// full. `c` is a configuration after `sanitize`.
 pub fn generated_is_accepted()
-    ensures any { (c : Config) (seed bytes : List ℕ) (old new : History) (e : Error)
-        → IsGeneratedFrom c seed bytes → AreFeaturesOf c old.features → old.has_failed ≡ false
+    ensures any { (c : Config) (seed bytes : List ℕ) (old new : History) (e : Error) (made : IsGeneratedFrom c seed bytes)
+        → AreFeaturesOf c old.features → old.has_failed ≡ false → HasTypedRaw old.features c seed bytes made
         → Checks old bytes (Err e) new → (e.kind ≡ Memory) ⊎ (e.kind ≡ Total) }
-    ensures first { (c : Config) (seed bytes : List ℕ) (features : Features) (id : ℕ) (new : History) (e : Error)
-        → IsGeneratedFrom c seed bytes → AreFeaturesOf c features
+    ensures first { (c : Config) (seed bytes : List ℕ) (features : Features) (id : ℕ) (new : History) (e : Error) (made : IsGeneratedFrom c seed bytes)
+        → AreFeaturesOf c features → HasTypedRaw features c seed bytes made
         → Checks (record { features = features; id = id; has_failed = false; held = [] }) bytes (Err e) new → e.kind ≡ Memory }
+    ensures only { (c : Config) (seed bytes : List ℕ) (old new : History) (known : KnownModule) (made : IsGeneratedFrom c seed bytes)
+        → AreFeaturesOf c old.features → old.has_failed ≡ false → Checks old bytes (Ok known) new → HasTypedRaw old.features c seed bytes made }
+    ensures no_raw { (c : Config) (seed bytes : List ℕ) (features : Features) (made : IsGeneratedFrom c seed bytes)
+        → AreFeaturesOf c features → c.allow_invalid_funcs ≡ false → HasTypedRaw features c seed bytes made }
 {}
 
 /// Modules of lists, made from configurations with the features of a session that hasn't failed, are accepted by it one after the

@@ -22,13 +22,14 @@ ghost use Rattle.wasm_validity.specs.Entries.{entries_of};
 ghost use Rattle.wasm_validity.specs.IndexSpaces.{spaces_of};
 ghost use Rattle.wasm_validity.specs.Rules.{PassLimit};
 
+use wasm_smith_module::laws::one_body_encoding;
 use wasm_smith_module::limit_laws::within;
 use wasm_smith_sections::laws::modules_read;
 use wasm_smith_validity::laws::valid_by_index;
 use wasm_smith_validity::module_laws::valid_modules;
 
 /// A made module that is valid by index under the configuration's features, is within the configuration's bounds and passes no limit, is
-/// generated as its encoding: this reads as its sections, and they are valid.
+/// generated as its encoding: this reads as its sections, and they are valid but for raw bodies.
 pub fn made_is_generated()
     ensures { (c : Config) (m : Made) (bytes : List ℕ) → ((features : Features) → AreFeaturesOf c features → IsValidByIndex features m) → IsWithinBounds c m
         → CanBeStated m → PassesNoLimit m → IsModuleEncoding c.bulk_memory_enabled m bytes → IsGenerated c m bytes }
@@ -37,6 +38,7 @@ pub fn made_is_generated()
     modules_read();
     valid_by_index();
     valid_modules();
+    one_body_encoding();
 }
 
 /// A module of few types, and of few functions without locals, passes no limit and can be written. It shows its types and functions, and

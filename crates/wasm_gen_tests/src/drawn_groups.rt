@@ -204,8 +204,8 @@ fn are_sizes(sizes: &[u32], groups: &[Vec<SubType>]) -> bool {
 
 // Checks that a module has just these groups and functions, without locals.
 fn has_lists(module: &Module, groups: &[Vec<SubType>], funcs: &[u32]) -> bool {
-    for locals in module.locals() {
-        if !locals.is_empty() {
+    for body in module.bodies() {
+        if !body.locals.is_empty() {
             return false;
         }
     }

@@ -1,11 +1,14 @@
 //! Modules of configurations and seeds that are drawn.
 
-use crate::generated::{is_accepted, is_valid};
+use crate::generated::features_of;
 use crate::lists::put;
 use crate::numbers::Numbers;
 use crate::parts::{PartCount, are_all_there, count_parts, no_parts};
 use std::alloc::Global;
+use wasm_gen::error::GenerateError;
+use wasm_gen::generate::generate;
 use wasm_gen::smith::{Config, Error, Unstructured};
+use wasm_gen_rows::answers::answers_under;
 use wasm_smith::module::Module;
 
 // Returns so many bytes, which are odd in so many more of eight draws.
@@ -17,15 +20,10 @@ fn drawn_bytes(alloc: Global, numbers: &mut Numbers, len: u32, made_odd: u32) ->
     bytes
 }
 
-// Returns a configuration with whatever can be made.
+// Returns a configuration.
 fn drawn_config(alloc: Global, numbers: &mut Numbers) -> Config {
     let bytes = drawn_bytes(alloc, numbers, 64, 2);
-    let mut config = Config::arbitrary(&mut Unstructured::new(&bytes));
-    config.allow_invalid_funcs = false;
-    config.disallow_traps = false;
-    config.export_everything = false;
-    config.generate_custom_sections = false;
-    config
+    Config::arbitrary(&mut Unstructured::new(&bytes))
 }
 
 // Returns 10 to 4,000 bytes. Those of two thirds of the seeds are odd more often, so that growing goes on.
@@ -35,56 +33,64 @@ fn drawn_seed(alloc: Global, numbers: &mut Numbers) -> Vec<u8> {
     drawn_bytes(alloc, numbers, len, made_odd)
 }
 
-// Counts what the module that is made of the seed has. Returns false where none is made.
-fn count_made(alloc: Global, counts: &mut [PartCount], config: Config, seed: &[u8]) -> bool {
+// Returns what a session may answer for a module of the configuration. Bodies of raw bytes needn't be valid.
+fn answer_for(config: &Config) -> &'static str {
+    if config.allow_invalid_funcs {
+        "yes Operator Body"
+    } else {
+        "yes"
+    }
+}
+
+// Checks that a module is made of the seed, and answered so. Where everything is exported, it may be too much.
+fn is_made(alloc: Global, config: &Config, seed: &[u8]) -> bool {
+    match generate(alloc, config, seed) {
+        Ok(made) => answers_under(alloc, features_of(*config), &made, answer_for(config)),
+        Err(e) => config.export_everything && e == GenerateError::TypeSize,
+    }
+}
+
+// Counts what the module that is made of the seed has.
+fn count_made(alloc: Global, counts: &mut [PartCount], config: Config, seed: &[u8]) {
     let made = Module::new(alloc, config, &mut Unstructured::new(seed));
-    let is_made = match &made {
-        Ok(module) => {
-            count_parts(counts, module);
-            true
-        }
-        Err(_) => false,
-    };
+    if let Ok(module) = &made {
+        count_parts(counts, module);
+    }
     // (dropped by a call, which is cheaper to prove)
     drop(made);
-    is_made
 }
 
-// Checks that the module of the next configuration and seed is accepted, and counts it.
-fn is_next_accepted(alloc: Global, counts: &mut [PartCount], numbers: &mut Numbers) -> bool {
-    let config = drawn_config(alloc, numbers);
-    let seed = drawn_seed(alloc, numbers);
-    is_accepted(alloc, &config, &seed) && count_made(alloc, counts, config, &seed)
-}
-
-// Checks that so many modules are accepted, and that each part is in one of them.
-fn are_accepted(alloc: Global, counts: &mut [PartCount], modules: u32) -> bool {
+// Checks that so many modules are made, and that each part is in one of them.
+fn are_made(alloc: Global, counts: &mut [PartCount], modules: u32) -> bool {
     let mut numbers = Numbers::new(21);
     for _ in 0..modules {
-        if !is_next_accepted(alloc, counts, &mut numbers) {
+        let config = drawn_config(alloc, &mut numbers);
+        let seed = drawn_seed(alloc, &mut numbers);
+        if !is_made(alloc, &config, &seed) {
             return false;
         }
+        count_made(alloc, counts, config, &seed);
     }
     are_all_there(counts)
 }
 
 #[test]
-fn modules_of_drawn_configurations_are_accepted(rt: HostRuntime) {
+fn modules_of_drawn_configurations_are_made(rt: HostRuntime) {
     let mut counts = no_parts(rt.alloc());
-    let holds = are_accepted(rt.alloc(), &mut counts, 20_000);
+    let holds = are_made(rt.alloc(), &mut counts, 20_000);
     assert!(rt; holds, "{counts:?}");
 }
 
-// Checks that each part is in one of so many modules of the default configuration with compact imports.
+// Checks that each part is in one of so many modules of the default configuration with all that it leaves out.
 fn are_reached(alloc: Global, counts: &mut [PartCount], modules: u32) -> bool {
     let mut config = Config::default();
     config.compact_imports_enabled = true;
+    config.allow_invalid_funcs = true;
+    config.generate_custom_sections = true;
     let mut numbers = Numbers::new(22);
     for _ in 0..modules {
         let seed = drawn_seed(alloc, &mut numbers);
-        if !count_made(alloc, counts, config, &seed) {
-            return false;
-        }
+        count_made(alloc, counts, config, &seed);
     }
     are_all_there(counts)
 }
@@ -96,43 +102,39 @@ fn each_part_is_reached(rt: HostRuntime) {
     assert!(rt; holds, "{counts:?}");
 }
 
-// Checks that the bytes of a module are accepted under the features of its configuration.
+// Checks that the bytes of a module are answered under the features of its configuration.
 fn is_written_so(alloc: Global, module: &Module) -> bool {
+    let config = module.config();
     match module.to_bytes(alloc) {
-        Ok(bytes) => is_valid(alloc, module.config(), &bytes),
+        Ok(bytes) => answers_under(alloc, features_of(*config), &bytes, answer_for(config)),
         Err(_) => false,
     }
 }
 
-// Checks that the module of a source, and of a configuration that is drawn from it first, is accepted. Returns none where the configuration is bad.
-fn is_arbitrary_accepted(alloc: Global, source: &[u8]) -> Option<bool> {
+// Checks that a module is made of a source, and of a configuration that is drawn from it first.
+fn is_arbitrary_made(alloc: Global, source: &[u8]) -> bool {
     let made = Module::arbitrary(alloc, &mut Unstructured::new(source));
-    let answer = match &made {
-        Ok(module) => Some(is_written_so(alloc, module)),
-        Err(Error::BadConfig(_)) => None,
-        Err(_) => Some(false),
+    let holds = match &made {
+        Ok(module) => is_written_so(alloc, module),
+        Err(e) => *e == Error::TypeSize,
     };
     // (dropped by a call, which is cheaper to prove)
     drop(made);
-    answer
+    holds
 }
 
-// Checks that at least so many modules are made of these sources, and that each is accepted.
-fn are_arbitrary_accepted(alloc: Global, sources: u32, least: u32) -> bool {
+fn are_arbitrary_made(alloc: Global, sources: u32) -> bool {
     let mut numbers = Numbers::new(23);
-    let mut modules = 0u32;
     for _ in 0..sources {
         let source = drawn_seed(alloc, &mut numbers);
-        match is_arbitrary_accepted(alloc, &source) {
-            Some(true) => modules = modules.wrapping_add(1),
-            Some(false) => return false,
-            None => {}
+        if !is_arbitrary_made(alloc, &source) {
+            return false;
         }
     }
-    modules >= least
+    true
 }
 
 #[test]
-fn arbitrary_modules_are_accepted(rt: HostRuntime) {
-    assert!(rt; are_arbitrary_accepted(rt.alloc(), 10_000, 200));
+fn arbitrary_modules_are_made(rt: HostRuntime) {
+    assert!(rt; are_arbitrary_made(rt.alloc(), 2_000));
 }

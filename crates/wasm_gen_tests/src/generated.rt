@@ -62,8 +62,8 @@ const ROWS: &str = "
     default max_memories=101                  | |
 ";
 
-// Returns the features of what is made for the configuration.
-fn features_of(mut config: Config) -> WasmFeatures {
+/// Returns the features of what is made for the configuration.
+pub fn features_of(mut config: Config) -> WasmFeatures {
     config.sanitize();
     config.features()
 }
@@ -73,16 +73,16 @@ pub fn is_valid(alloc: Global, config: &Config, module: &[u8]) -> bool {
     answers_under(alloc, features_of(*config), module, "yes")
 }
 
-// Checks that these are the bytes of the header and the sections of a field.
-fn is_module_of(alloc: Global, bytes: &[u8], field: &str) -> bool {
+/// Checks that these are the bytes of the header and the sections of a field.
+pub fn is_module_of(alloc: Global, bytes: &[u8], field: &str) -> bool {
     match module_of(alloc, field) {
         Some(module) => module.as_slice() == bytes,
         None => false,
     }
 }
 
-// Checks that a field says that nothing is made, and why.
-fn is_refusal(alloc: Global, error: GenerateError, field: &str) -> bool {
+/// Checks that a field says that nothing is made, and why.
+pub fn is_refusal(alloc: Global, error: GenerateError, field: &str) -> bool {
     match (field.strip_prefix("refused: "), error.to_string(alloc)) {
         (Some(expected), Ok(found)) => found.as_str() == expected,
         _ => false,

@@ -37,6 +37,8 @@ mod same_types;
 #[cfg(test)]
 mod seeds;
 #[cfg(test)]
+mod special;
+#[cfg(test)]
 mod status;
 #[cfg(test)]
 mod transfer;

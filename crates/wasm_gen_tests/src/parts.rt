@@ -76,6 +76,10 @@ pub enum Part {
     /// Data segments, by their mode.
     ActiveData,
     PassiveData,
+    /// A body of raw bytes.
+    RawBody,
+    /// A custom section.
+    CustomSection,
 }
 
 const PARTS: &[Part] = &[
@@ -118,6 +122,8 @@ const PARTS: &[Part] = &[
     Part::DeclaredConstants,
     Part::ActiveData,
     Part::PassiveData,
+    Part::RawBody,
+    Part::CustomSection,
 ];
 
 /// The number of modules that have a part.
@@ -175,12 +181,23 @@ fn has(module: &Module, part: Part) -> bool {
         Part::Export => !module.exports().is_empty(),
         Part::Start => module.start().is_some(),
         Part::DataCount => module.config().bulk_memory_enabled && !module.data().is_empty(),
+        Part::RawBody => has_raw_body(module),
+        Part::CustomSection => !module.custom_sections().is_empty(),
         _ => {
             has_import(module.imports(), part)
                 || has_segment(module, part)
                 || has_constant(module, part)
         }
     }
+}
+
+fn has_raw_body(module: &Module) -> bool {
+    for function in 0..module.bodies().len() {
+        if module.is_raw_body(function) {
+            return true;
+        }
+    }
+    false
 }
 
 // Checks that one of the entries is of this form, or has an import of this kind.

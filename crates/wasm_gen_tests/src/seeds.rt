@@ -89,7 +89,8 @@ const ROWS: &str = "
     | 1 1 0 | 01 | none
     // A group of two types.
     | 1 2 0 | 00 | none
-    // Configurations out of reach.
+    // What is asked for by a boolean is left out, and configurations out of reach.
+    allow_invalid_funcs=yes disallow_traps=yes generate_custom_sections=yes | 1 1 0 | 00 | types functions code
     min_types=1           | 1 1 0 | 00 | none
     export_everything=yes | 1 1 0 | 00 | none
     // The limit of functions is the last that is made.
@@ -173,7 +174,7 @@ fn holds(alloc: Global, row: &str) -> Option<bool> {
 
 #[test]
 fn seeds_are_found_within_the_bounds(rt: HostRuntime) -> Result<(), Fail> {
-    Ok(check_rows(rt.alloc(), ROWS, 17, holds)?)
+    Ok(check_rows(rt.alloc(), ROWS, 18, holds)?)
 }
 
 // A configuration, groups of types in words, the index of each function's type, and the sections that are made of the seed for them, or `none`.

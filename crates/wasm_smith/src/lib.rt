@@ -6,7 +6,7 @@
 pub mod reach;
 
 pub use wasm_smith_config::{config, error, instruction_kinds, memory_offset_choices};
-pub use wasm_smith_definitions::{constant, imports, items, segments};
+pub use wasm_smith_definitions::{code, constant, custom_section, imports, items, segments};
 pub use wasm_smith_externs::names;
 pub use wasm_smith_module::module;
 pub use wasm_smith_types::subtyping;

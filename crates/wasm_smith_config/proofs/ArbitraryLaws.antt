@@ -2,9 +2,9 @@
 use Rattle.std.proofs.Common.{◌≡◌, ℕ, ◌^◌, ◌≤◌, Bool, true, false, List, ◌∷◌, IsFalse, get_or, min, replicate, if◌then◌else◌, nat_lt, refl, sym, ap, ◌∙◌, arith}
 use Rattle.std.specs.List.{AllByRecursion}
 use Rattle.std.proofs.lemmas.Bool.{le-ltb}
-use Rattle.std.proofs.lemmas.List.Elements.{All-from_recursion}
+use Rattle.std.proofs.lemmas.List.Elements.{All-append, All-from_recursion}
 use Rattle.wasm_smith_config.specs.Arbitrary.{IsArbitrary, on_at, off_at, maximums_at, maximums_of, arbitrary_at}
-use Rattle.wasm_smith_config.specs.Config.{AreGood, minimums, maximums, sanitized}
+use Rattle.wasm_smith_config.specs.Config.{AreGood, IsGood, minimums, maximums, sanitized}
 use Rattle.wasm_smith_config.specs.Defaults.{IsDefault, least_counts}
 use Rattle.wasm_smith_config.specs.declared.config.Config.{Config}
 
@@ -67,7 +67,7 @@ fewer : (all : Bool) (n : ℕ) → n ≤ 100 → (if all then n else min n 1) �
 fewer true n small = small
 fewer false n small = omega arith
 
-pub good_minimums : (c : Config) → IsKept c → AreGood (minimums (sanitized c))
+good_minimums : (c : Config) → IsKept c → AreGood (minimums (sanitized c))
 good_minimums c kept =
     let none : (i : ℕ) → get_or (kept_of c) i 0 ≡ get_or (100 ∷ 1000 ∷ 2 ^ 32 ∷ 2 ^ 64 ∷ replicate 11 0) i 0 = λ i. ap (λ numbers. get_or numbers i 0) kept in
     All-from_recursion (λ field. IsFalse field.is_bad) (minimums (sanitized c)) (
@@ -102,7 +102,7 @@ good_minimums c kept =
       ),
     )
 
-pub good_maximums : (c : Config) → IsKept c → AllByRecursion (λ most. most ≤ 100) (maximums_of c) → AreGood (maximums (sanitized c))
+good_maximums : (c : Config) → IsKept c → AllByRecursion (λ most. most ≤ 100) (maximums_of c) → AreGood (maximums (sanitized c))
 good_maximums c kept (types, (imports, (tags, (funcs, (globals, (exports, (segments, (elements, (data_segments, (tables, (memories, _))))))))))) =
     let same : (i : ℕ) → get_or (kept_of c) i 0 ≡ get_or (100 ∷ 1000 ∷ 2 ^ 32 ∷ 2 ^ 64 ∷ replicate 11 0) i 0 = λ i. ap (λ numbers. get_or numbers i 0) kept in
     let instructions : c.max_instructions ≡ 100 = same 0 in
@@ -150,3 +150,6 @@ good_maximums c kept (types, (imports, (tags, (funcs, (globals, (exports, (segme
         ),
       ),
     )
+
+pub good_fields : (c : Config) → IsKept c → AllByRecursion (λ most. most ≤ 100) (maximums_of c) → IsGood (sanitized c)
+good_fields c kept small = All-append (λ field. IsFalse field.is_bad) (minimums (sanitized c)) (maximums (sanitized c)) (good_minimums c kept) (good_maximums c kept small)

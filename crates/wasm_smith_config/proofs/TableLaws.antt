@@ -57,11 +57,11 @@ pub some_bad : (xs : List code.Field) (f : code.Field) → find (λ f. f.is_bad)
 some_bad [] f e = absurd cc
 some_bad (x ∷ xs) f e = some_step x f xs x.is_bad refl e (some_bad xs f)
 
--- a result of three tables in turn
-pub good_in_turn : (xs ys zs : List table.Field) (r : Result (Unit {0}) Error) → AreGood xs → AreGood ys → OnOk r (AreGood zs) → OnOk r (AreGood (xs ++ ys ++ zs))
-good_in_turn xs ys zs (Ok _) a b c = All-append (λ field. IsFalse field.is_bad) (xs ++ ys) zs (All-append (λ field. IsFalse field.is_bad) xs ys a b) c
-good_in_turn xs ys zs (Err e) a b c = c
+-- a result of two tables in turn
+pub good_in_turn : (xs ys : List table.Field) (r : Result (Unit {0}) Error) → AreGood xs → OnOk r (AreGood ys) → OnOk r (AreGood (xs ++ ys))
+good_in_turn xs ys (Ok _) a b = All-append (λ field. IsFalse field.is_bad) xs ys a b
+good_in_turn xs ys (Err e) a b = b
 
-pub names_last : (xs ys zs : List table.Field) (r : Result (Unit {0}) Error) → IfErr r (NamesBad zs) → IfErr r (NamesBad (xs ++ ys ++ zs))
-names_last xs ys zs (Ok _) bad = bad
-names_last xs ys zs (Err e) bad = names_right (xs ++ ys) zs e bad
+pub names_last : (xs ys : List table.Field) (r : Result (Unit {0}) Error) → IfErr r (NamesBad ys) → IfErr r (NamesBad (xs ++ ys))
+names_last xs ys (Ok _) bad = bad
+names_last xs ys (Err e) bad = names_right xs ys e bad

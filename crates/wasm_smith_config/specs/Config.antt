@@ -72,10 +72,6 @@ at_least name minimum maximum = record { name = name; is_bad = nat_lt maximum mi
 abbrev pub at_most : List ℕ → ℕ → ℕ → Field
 at_most name most n = record { name = name; is_bad = nat_lt most n }
 
--- something that isn't supported is not asked for
-abbrev pub is_off : List ℕ → Bool → Field
-is_off name value = record { name = name; is_bad = value }
-
 -- each minimum, beside its maximum
 abbrev pub minimums : Config → List Field
 minimums c =
@@ -110,17 +106,9 @@ maximums c =
     at_most (codes "max_memory32_bytes") (2 ^ 32) c.max_memory32_bytes ∷
     at_most (codes "max_memory64_bytes") (2 ^ 64) c.max_memory64_bytes ∷ []
 
--- what isn't supported: these are off
-abbrev pub not_made_yet : Config → List Field
-not_made_yet c =
-    is_off (codes "export_everything") c.export_everything ∷
-    is_off (codes "allow_invalid_funcs") c.allow_invalid_funcs ∷
-    is_off (codes "generate_custom_sections") c.generate_custom_sections ∷
-    is_off (codes "disallow_traps") c.disallow_traps ∷ []
-
 -- the fields of which something is asked, once for each thing that is asked
 abbrev pub fields : Config → List Field
-fields c = minimums c ++ maximums c ++ not_made_yet c
+fields c = minimums c ++ maximums c
 
 -- no field of a table is bad
 abbrev pub AreGood : List Field → Type 0

@@ -15,8 +15,7 @@ impl Config {
         ensures exact { IsArbitrary unstructured.old result unstructured.new }
         ensures taken { length unstructured.new ≤ length unstructured.old }
         ensures in_order { table.sanitized result ≡ result }
-        ensures minimums { table.AreGood (table.minimums result) }
-        ensures maximums { table.AreGood (table.maximums result) }
+        ensures good { table.IsGood result }
     {
         let mut config = Config::default();
         config.draw_on(unstructured);

@@ -27,8 +27,7 @@ impl Config {
         ensures bad { IfErr result (table.NamesBadField self.now) }
     {
         none_is_bad(&self.minimums())?;
-        none_is_bad(&self.maximums())?;
-        none_is_bad(&self.not_made_yet())
+        none_is_bad(&self.maximums())
     }
 
     // Returns each minimum.
@@ -90,18 +89,6 @@ impl Config {
             },
         ]
     }
-
-    // Returns what asks for something that isn't supported.
-    fn not_made_yet(&self) -> [Field; 4]
-        ensures { map field_of result ≡ table.not_made_yet self.now }
-    {
-        [
-            is_off("export_everything", self.export_everything),
-            is_off("allow_invalid_funcs", self.allow_invalid_funcs),
-            is_off("generate_custom_sections", self.generate_custom_sections),
-            is_off("disallow_traps", self.disallow_traps),
-        ]
-    }
 }
 
 fn at_least(name: &'static str, minimum: u32, maximum: u32) -> Field
@@ -119,15 +106,6 @@ fn at_most(name: &'static str, most: u32, value: u32) -> Field
     Field {
         name,
         is_bad: value > most,
-    }
-}
-
-fn is_off(name: &'static str, value: bool) -> Field
-    ensures { field_of result ≡ table.is_off name.now value }
-{
-    Field {
-        name,
-        is_bad: value,
     }
 }
 

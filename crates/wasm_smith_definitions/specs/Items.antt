@@ -1,16 +1,20 @@
 -- The items of a made module as those of the specification.
-use Rattle.std.specs.Prelude.{ℕ, zero, suc, [], ◌∷◌, map, Option, Some, None, option_map, if◌then◌else◌}
+use Rattle.std.specs.Prelude.{ℕ, zero, suc, List, [], ◌∷◌, map, Option, Some, None, option_map, if◌then◌else◌}
 use Rattle.std.specs.String.{string_bytes}
-use Rattle.wasm_core_types.specs.CoreTypes.{heap_type}
+use Rattle.wasm_core_types.specs.CoreTypes.{heap_type, val_type}
 use Rattle.wasm_encoder_instructions.specs.Instructions.{vector_bytes}
 use Rattle.wasm_encoder_sections.specs.CoreItems.{entity_type, export_kind, global_type, ref_type, table_type}
 use Rattle.wasm_spec.specs.Constants.{ConstantOperator, I32Const, I64Const, F32Const, F64Const, V128Const, RefNull, RefFunc, GlobalGet, I32Add, I32Sub, I32Mul, I64Add, I64Sub, I64Mul, ConstantExpression}
 use Rattle.wasm_spec.specs.Syntax as spec
 use Rattle.wasm_validity.specs.TypeRules.{is_funcref}
+use Rattle.wasm_smith_definitions.specs.declared.code.Code.{Code}
+use Rattle.wasm_smith_definitions.specs.declared.code.Instructions.{Instructions}
+use Rattle.wasm_smith_definitions.specs.declared.code.Instructions.TheVariants.{Unreachable, Raw}
 use Rattle.wasm_smith_definitions.specs.declared.constant.Constant.{Constant}
 use Rattle.wasm_smith_definitions.specs.declared.constant.Constant.TheVariants as constants
 use Rattle.wasm_smith_definitions.specs.declared.constant.Operation.{Operation}
 use Rattle.wasm_smith_definitions.specs.declared.constant.Operation.TheVariants.{Add, Sub, Mul}
+use Rattle.wasm_smith_definitions.specs.declared.custom_section.CustomSection.{CustomSection}
 use Rattle.wasm_smith_definitions.specs.declared.imports.ImportEntry.{ImportEntry}
 use Rattle.wasm_smith_definitions.specs.declared.imports.ImportEntry.TheVariants as entries
 use Rattle.wasm_smith_definitions.specs.declared.imports.ImportItem.{ImportItem}
@@ -25,6 +29,7 @@ use Rattle.wasm_smith_definitions.specs.declared.segments.ElementItems.TheVarian
 use Rattle.wasm_smith_definitions.specs.declared.segments.ElementMode.{ElementMode}
 use Rattle.wasm_smith_definitions.specs.declared.segments.ElementMode.TheVariants as element_modes
 use Rattle.wasm_smith_definitions.specs.declared.segments.ElementSegment.{ElementSegment}
+use Rattle.wasm_smith_validity.specs.Made.{MadeBody, PlacedCustom}
 
 -- ---- constants
 
@@ -102,3 +107,15 @@ data_mode data_modes.Passive = spec.PassiveData
 
 abbrev pub data_segment : DataSegment → spec.DataSegment
 data_segment segment = record { mode = data_mode segment.mode; contents = segment.data.items }
+
+-- ---- bodies and custom sections
+
+abbrev pub raw_bytes : Instructions → Option (List ℕ)
+raw_bytes Unreachable = None
+raw_bytes (Raw bytes) = Some bytes.items
+
+abbrev pub made_body : Code → MadeBody
+made_body code = record { locals = map val_type code.locals.items; raw = raw_bytes code.instructions }
+
+abbrev pub placed_custom : CustomSection → PlacedCustom
+placed_custom section = record { place = section.place; name = string_bytes section.name; contents = section.data.items }

@@ -3,8 +3,10 @@
 
 pub mod bounds;
 pub mod candidates;
+pub mod code;
 pub mod constant;
 pub mod constants;
+pub mod custom_section;
 pub mod draws;
 pub mod function_types;
 pub mod globals;

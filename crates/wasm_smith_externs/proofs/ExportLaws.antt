@@ -18,11 +18,10 @@ use Rattle.wasm_smith_config.specs.declared.config.Config.{Config}
 use Rattle.wasm_smith_definitions.specs.Kinds.{count_of, of_export}
 use Rattle.wasm_smith_definitions.specs.Steps.{Allows}
 use Rattle.wasm_smith_definitions.proofs.SpaceLaws.{got_mapped}
-use Rattle.wasm_smith_unstructured.specs.Names.{is_name}
 use Rattle.wasm_smith_validity.specs.Rules.{item_at}
 use Rattle.wasm_smith_validity.specs.Spaces.{Spaces, functions_of, globals_of}
 use Rattle.wasm_smith_types.proofs.GroupDraws.{any_more}
-use Rattle.wasm_smith_externs.specs.Exports.{IsAddedName}
+use Rattle.wasm_smith_externs.specs.Exports.{AreNames, IsAddedName}
 use Rattle.wasm_smith_externs.specs.Sizes.{item_size, exports_size}
 
 implies_from : (a b : Bool) → b ≡ true → implies a b ≡ true
@@ -44,9 +43,6 @@ pub export_allowed : (c : Config) (k : Spaces) (export : Export) → export.inde
 export_allowed c k export lt new features f = and_from _ _ (may_be_exported c features k export.kind export.index f lt) (ap not new)
 
 -- ---- the names of exports are among those that differ
-
-abbrev pub AreNames : List (List ℕ) → List Export → Type 0
-AreNames names exports = (text : List ℕ) → is_name names text ≡ list_any (bytes_eq text) (names_of exports)
 
 bytes_alike : (xs ys : List ℕ) → bytes_eq xs ys ≡ bytes_eq ys xs
 bytes_alike xs ys = go (bytes_eq xs ys) (bytes_eq ys xs) refl refl

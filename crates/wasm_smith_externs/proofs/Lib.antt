@@ -1,4 +1,5 @@
 pub mod AddedLaws
+pub mod AllExportLaws
 pub mod CandidateLaws
 pub mod ExportLaws
 pub mod FittingLaws

@@ -1,7 +1,9 @@
 -- Which items may be exported: those whose types fit into what is left.
 use Rattle.std.specs.Prelude.{◌≡◌, ℕ, ◌-◌, ◌<◌, ◌≤◌, Bool, bytes_eq, false, ◌&&◌, ◌||◌, List, [], ◌∷◌, length, nat_lt, nat_le}
 use Rattle.std.specs.List.{filter, list_any}
+use Rattle.wasm_spec.specs.Syntax.{Export}
 use Rattle.wasm_spec.specs.Types.{SubType, ExternalKind, FuncKind, TableKind, MemoryKind, GlobalKind, TagKind}
+use Rattle.wasm_validity.specs.Context.{names_of}
 use Rattle.wasm_smith_config.specs.declared.config.Config.{Config}
 use Rattle.wasm_smith_definitions.specs.FunctionTypes.{func_size}
 use Rattle.wasm_smith_definitions.specs.Kinds.{count_of}
@@ -67,3 +69,7 @@ pub record IsAddedName (old new : List (List ℕ)) (name : List ℕ) : Type 0 wh
   pub is_new : is_name old name ≡ false
   pub added : (text : List ℕ) → is_name new text ≡ (bytes_eq name text || is_name old text)
   pub short : HasShortName name
+
+-- the names are those of the exports
+abbrev pub AreNames : List (List ℕ) → List Export → Type 0
+AreNames names exports = (text : List ℕ) → is_name names text ≡ list_any (bytes_eq text) (names_of exports)

@@ -1,4 +1,5 @@
 pub mod Added
+pub mod AllExports
 pub mod Candidates
 pub mod Exports
 pub mod Fitting

@@ -6,10 +6,12 @@ ghost use Rattle.wasm_smith_definitions.specs.Items.{export};
 ghost use Rattle.wasm_smith_definitions.specs.Kinds.{of_export};
 ghost use Rattle.wasm_smith_definitions.specs.Steps.{IsGrown};
 ghost use Rattle.wasm_smith_validity.specs.Spaces.{functions_of};
+ghost use Rattle.wasm_smith_externs.specs.AllExports.{AreExports, AreTooLarge, LackExports};
 ghost use Rattle.wasm_smith_externs.specs.Exports.{AreCandidates, HasShortName, IsAddedName, IsTaken, any_fits, wanted_exports};
 ghost use Rattle.wasm_smith_externs.specs.Sizes.{exports_size};
 ghost use Rattle.wasm_smith_externs.specs.Wanted.{AreTooFew};
 
+use crate::all_exports::{MAX_NAME, all_exports};
 use crate::candidates::Candidates;
 use std::alloc::{AllocError, Global};
 use wasm_smith_config::config::Config;
@@ -20,9 +22,6 @@ use wasm_smith_definitions::items::Export;
 use wasm_smith_unstructured::names::UniqueNames;
 use wasm_smith_unstructured::text::unique_string;
 use wasm_smith_unstructured::unstructured::Unstructured;
-
-// The most bytes of a drawn name, a number at its end aside.
-const MAX_NAME: usize = 1000;
 
 // Draws an export of one of the candidates, with a name that is new.
 fn draw_export(
@@ -43,12 +42,9 @@ fn draw_export(
     Ok(Export { name, kind, index })
 }
 
-/// Draws exports of items whose types fit into what is left: `max_type_size` bounds the sizes of the types of all imports and exports together, and
-/// `imports_size` is that of the imports.
-///
-/// # Errors
-/// `IncorrectFormat` where there are fewer exports than the minimum and no item fits any more, and `Memory`. Some of the source's bytes may be taken by then.
-pub fn exports(
+// Draws exports of items whose types fit into what is left beside imports of this size. `IncorrectFormat` where there are fewer than the minimum and no
+// item fits any more.
+fn draw_exports(
     alloc: Global,
     unstructured: &mut Unstructured<'_>,
     config: &Config,
@@ -80,4 +76,31 @@ pub fn exports(
         return Err(Error::IncorrectFormat);
     }
     Ok(())
+}
+
+/// Draws exports of items whose types fit into what is left: `max_type_size` bounds the sizes of the types of all imports and exports together, and
+/// `imports_size` is that of the imports. Under `export_everything` exports everything instead, as [`all_exports`] does.
+///
+/// # Errors
+/// `IncorrectFormat` where there are fewer exports than the minimum and no item fits any more, `TypeSize` where everything is to be exported and is too
+/// large, and `Memory`. Some of the source's bytes may be taken by then, but none where the error is `TypeSize`.
+pub fn exports(
+    alloc: Global,
+    unstructured: &mut Unstructured<'_>,
+    config: &Config,
+    imports_size: usize,
+    spaces: &mut IndexSpaces<'_>,
+) -> Result<(), Error>
+    requires first { spaces.old.exports ≡ [] }
+    requires few_functions { length (functions_of spaces.old) < 2 ^ 32 }
+    requires few_tags { length spaces.old.tags < 2 ^ 32 }
+    ensures made { IfOk result (λ _. AreExports config.now imports_size spaces.old unstructured.old spaces.new unstructured.new) }
+    ensures taken { length unstructured.new ≤ length unstructured.old }
+    ensures unread { IfErr result (λ e. e ≡ Error.TypeSize → unstructured.new ≡ unstructured.old) }
+    ensures refused { IfErr result (λ e. (e ≡ Error.Memory) ⊎ (((e ≡ Error.IncorrectFormat) × LackExports config.now imports_size spaces.new) ⊎ ((e ≡ Error.TypeSize) × AreTooLarge config.now imports_size spaces.old))) }
+{
+    if config.export_everything {
+        return all_exports(alloc, unstructured, config, imports_size, spaces);
+    }
+    draw_exports(alloc, unstructured, config, imports_size, spaces)
 }

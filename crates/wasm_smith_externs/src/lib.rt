@@ -1,6 +1,7 @@
 //! The steps of the generator that draw imports, tags, functions, exports and the start function.
 #![tactic(auto)]
 
+mod all_exports;
 mod candidates;
 pub mod entries;
 pub mod exports;

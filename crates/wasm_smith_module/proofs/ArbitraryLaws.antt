@@ -7,6 +7,7 @@ use Rattle.wasm_smith_config.specs.Config.{sanitized}
 use Rattle.wasm_smith_config.specs.declared.config.Config.{Config}
 use Rattle.wasm_smith_config.specs.declared.error.Error.{Error}
 use Rattle.wasm_smith_config.specs.declared.error.Error.TheVariants.{IncorrectFormat}
+use Rattle.wasm_smith_module.proofs.OwedLaws.{fewer_exports}
 use Rattle.wasm_smith_module.specs.ArbitraryModules.{IsArbitraryModule, IsArbitraryReason}
 use Rattle.wasm_smith_module.specs.Generating.{HasFront, front_at}
 use Rattle.wasm_smith_module.specs.ModuleValue.{ModuleValue}
@@ -41,7 +42,7 @@ none_owed c kept some =
     let exports : c.min_exports ≡ 0 = ap (λ numbers. get_or numbers 9 0) kept in
     let element_segments : c.min_element_segments ≡ 0 = ap (λ numbers. get_or numbers 10 0) kept in
     let data_segments : c.min_data_segments ≡ 0 = ap (λ numbers. get_or numbers 12 0) kept in
-    omega (arith, some, imports, tags, funcs, exports, element_segments, data_segments)
+    omega (arith, some, imports, tags, funcs, exports, fewer_exports c, element_segments, data_segments)
 
 pub nothing_owed : (s after : List ℕ) (c : Config) (r : Result ModuleValue Error) → IsArbitrary s c after → sanitized c ≡ c → IfErr r (IsReason (sanitized c)) → IfErr r (λ e. e ≢ IncorrectFormat)
 nothing_owed s after c (Ok m) drawn same reason = tt

@@ -1,10 +1,11 @@
 -- A finished module is within the bounds of its configuration.
-use Rattle.std.proofs.Common.{◌≡◌, ℕ, ◌+◌, ◌≤◌, List, max, length, refl, sym, ap, ◌∙◌, subst, arith}
+use Rattle.std.proofs.Common.{◌≡◌, ℕ, ◌+◌, ◌≤◌, true, false, List, None, max, length, refl, sym, ap, ◌∙◌, subst, arith}
 use Rattle.std.specs.List.{AllByRecursion}
 use Rattle.wasm_spec.specs.Syntax.{Export}
-use Rattle.wasm_spec.specs.Types.{ValType, TableKind, MemoryKind, GlobalKind}
+use Rattle.wasm_spec.specs.Types.{TableKind, MemoryKind, GlobalKind}
 use Rattle.wasm_smith_config.specs.Config.{IsGood}
 use Rattle.wasm_smith_config.specs.declared.config.Config.{Config}
+use Rattle.wasm_smith_externs.specs.AllExports.{everything, exported_by}
 use Rattle.wasm_smith_externs.specs.Exports.{HasShortName}
 use Rattle.wasm_smith_externs.specs.Sizes.{exports_size}
 use Rattle.wasm_smith_externs.specs.Candidates.{type_sizes}
@@ -12,20 +13,24 @@ use Rattle.wasm_smith_externs.specs.Named.{all_named}
 use Rattle.wasm_smith_externs.specs.Named as named
 use Rattle.wasm_smith_externs.specs.declared.names.DuplicateImportsBehavior.{DuplicateImportsBehavior}
 use Rattle.wasm_smith_definitions.proofs.FrameLaws.{kept_by}
-use Rattle.wasm_smith_definitions.specs.Kinds.{of_element, of_memory, of_table}
-use Rattle.wasm_smith_module.specs.Elements.{IsBoundedElement}
+use Rattle.wasm_smith_definitions.specs.Kinds.{of_data, of_element, of_memory, of_table}
+use Rattle.wasm_smith_module.specs.Elements.{IsBoundedElement, IsDrawnElement}
+use Rattle.wasm_smith_module.specs.Traps.{IsSafeData, LiesInMemory, LiesInTable}
 use Rattle.wasm_smith_types.specs.Offering.{offers}
 use Rattle.wasm_smith_types.specs.ValidGroups.{types_of}
-use Rattle.wasm_smith_validity.specs.Made.{Made}
+use Rattle.wasm_smith_validity.specs.Made.{Made, MadeBody, PlacedCustom}
 use Rattle.wasm_smith_validity.specs.Spaces.{Spaces, functions_of, globals_of}
 use Rattle.wasm_smith_validity.proofs.MadeSections.{made_spaces}
-use Rattle.wasm_smith_module.proofs.CodeLaws.{code_few}
+use Rattle.wasm_smith_module.proofs.CodeLaws.{code_few, code_not_raw}
+use Rattle.wasm_smith_module.proofs.CustomLaws.{customs_bounded, customs_few, none_asked}
 use Rattle.wasm_smith_module.proofs.FrontLaws.{defined_data, defined_elements, defined_exports, defined_funcs, defined_own_memories, defined_own_tables, defined_tags, front_few_funcs, front_few_tags, front_tags, imported_alone, without_front}
 use Rattle.wasm_smith_module.proofs.GoodLaws.{types_fine}
+use Rattle.wasm_smith_module.proofs.TrapLaws.{all_then}
 use Rattle.wasm_smith_module.proofs.StepLaws.{count_data, count_elements, exported_alone, leads_all, used_alone, used_exports, without_exports, without_segments}
 use Rattle.wasm_smith_module.specs.Bounds.{IsWithinBounds, spaces_of}
 use Rattle.wasm_smith_module.specs.Building.{AreItems, IsBuilt}
 use Rattle.wasm_smith_module.specs.Code.{code_at}
+use Rattle.wasm_smith_module.specs.Customs.{IsBoundedCustom, customs_at}
 use Rattle.wasm_smith_module.specs.Items.{items_of}
 use Rattle.wasm_smith_module.specs.ModuleValue.{ModuleValue}
 
@@ -117,13 +122,17 @@ module _ (c : Config) (duplicates : DuplicateImportsBehavior) (m : Made) (s left
   exports_are : m.exports ≡ h.uses.exported.exports
   exports_are = h.exports ∙ used_exports c h.imports_size h.defined h.after_definitions h.used left m.start m.elems m.data_segments h.uses
 
-  pub exports_between : IsBetween c.min_exports c.max_exports (length m.exports)
-  exports_between =
-      let enough : c.min_exports ≤ length h.uses.exported.exports = h.uses.grown_exports.enough in
-      let few : length h.uses.exported.exports ≤ max c.max_exports (length h.defined.exports) = h.uses.grown_exports.few in
+  pub exports_between : c.export_everything ≡ false → IsBetween c.min_exports c.max_exports (length m.exports)
+  exports_between drawn =
+      let grown = h.uses.grown_exports.drawn drawn in
+      let enough : c.min_exports ≤ length h.uses.exported.exports = grown.enough in
+      let few : length h.uses.exported.exports ≤ max c.max_exports (length h.defined.exports) = grown.few in
       let none = ap length (defined_exports c duplicates (types_of m.groups) s h.declared h.after_front m.imports m.tags m.funcs h.front h.defined h.after_definitions m.tables m.memories m.globals h.definitions) in
       let same = ap length exports_are in
       (omega (arith, enough, same), omega (arith, few, none, same))
+
+  pub everything_exported : c.export_everything ≡ true → exported_by m.exports ≡ everything h.used
+  everything_exported all = ap exported_by exports_are ∙ (h.uses.grown_exports.all all).are ∙ sym (ap everything exported ∙ ap everything unexported)
 
   pub elems_between : IsBetween c.min_element_segments c.max_element_segments (length m.elems)
   elems_between =
@@ -149,14 +158,19 @@ module _ (c : Config) (duplicates : DuplicateImportsBehavior) (m : Made) (s left
   pub sizes_within : type_sizes (types_of m.groups) (named.types_of (all_named m.imports)) + exports_size h.used ≤ c.max_type_size
   sizes_within =
       let same : exports_size h.used ≡ exports_size h.uses.exported = ap exports_size exported in
-      omega (arith, same, h.uses.size, h.size, h.front.grown_imports.bounded.size)
+      omega (arith, same, h.uses.grown_exports.size, h.size, h.front.grown_imports.bounded.size)
 
   pub exports_short : AllByRecursion (λ export. HasShortName export.name) m.exports
   exports_short = subst (AllByRecursion (λ (export : Export). HasShortName export.name)) (sym exports_are) h.uses.grown_exports.bounded
 
-  pub elems_bounded : AllByRecursion (IsBoundedElement c (length (functions_of h.used))) m.elems
-  elems_bounded =
-      subst (λ funcs. AllByRecursion (IsBoundedElement c (length funcs)) m.elems) (sym (ap functions_of exported)) h.uses.grown_elems.bounded
+  -- segments are drawn where there are the items that there are in the end
+  pub elems_drawn : AllByRecursion (IsDrawnElement c h.used) m.elems
+  elems_drawn = subst (λ k. AllByRecursion (IsDrawnElement c k) m.elems) (sym exported) h.uses.grown_elems.bounded
+
+  pub data_safe : AllByRecursion (IsSafeData c h.used) m.data_segments
+  data_safe =
+      let same = kept_by without_segments c of_data h.uses.with_elems h.used m.data_segments (λ k x. refl) h.uses.grown_data_segments.step in
+      subst (λ k. AllByRecursion (IsSafeData c k) m.data_segments) (sym same) h.uses.grown_data_segments.bounded
 
   pub used_are : h.used ≡ spaces_of m
   used_are = (leads_all c duplicates m s left h).known ∙ sym (made_spaces m)
@@ -178,9 +192,15 @@ bounds_for c duplicates old new m good built =
     let exports = exports_between c duplicates made s left h in
     let elems = elems_between c duplicates made s left h in
     let data_segments = data_between c duplicates made s left h in
+    let drawn_elems = subst (λ (k : Spaces). AllByRecursion (IsDrawnElement c k) made.elems) spaces (elems_drawn c duplicates made s left h) in
+    let safe_data = subst (λ (k : Spaces). AllByRecursion (IsSafeData c k) made.data_segments) spaces (data_safe c duplicates made s left h) in
     let imports = h.front.grown_imports.bounded in
-    let code = code_at (offers c) (length (types_of made.groups)) (length made.funcs) left in
-    let locals : code.0 ≡ made.locals = ap (λ (d : List (List (ValType ℕ)) × List ℕ). d.0) built.finished.locals in
+    let allowed = c.allow_invalid_funcs in
+    let bound = length (types_of made.groups) in
+    let count = length made.funcs in
+    let code = code_at allowed (offers c) bound count left in
+    let bodies : code.0 ≡ made.bodies = ap (λ (d : List MadeBody × List ℕ). d.0) built.finished.code in
+    let customs : (customs_at c.generate_custom_sections built.finished.after_code).0 ≡ made.customs = ap (λ (d : List PlacedCustom × List ℕ). d.0) built.finished.customs in
     record {
       enough_types = built.groups.enough (types_fine c good);
       few_types = built.groups.few;
@@ -196,8 +216,9 @@ bounds_for c duplicates old new m good built =
       few_tags = tags.1;
       enough_globals = globals.0;
       few_globals = globals.1;
-      enough_exports = exports.0;
-      few_exports = exports.1;
+      enough_exports = λ drawn. (exports drawn).0;
+      few_exports = λ drawn. (exports drawn).1;
+      all_exports = λ all. subst (λ (k : Spaces). exported_by made.exports ≡ everything k) spaces (everything_exported c duplicates made s left h all);
       enough_elems = elems.0;
       few_elems = elems.1;
       enough_data_segments = data_segments.0;
@@ -213,8 +234,12 @@ bounds_for c duplicates old new m good built =
       tables = h.definitions.grown_tables.bounded;
       memories = h.definitions.grown_memories.bounded;
       short_exports = exports_short c duplicates made s left h;
-      elems = subst (λ (k : Spaces). AllByRecursion (IsBoundedElement c (length (functions_of k))) made.elems) spaces (elems_bounded c duplicates made s left h);
-      few_locals =
-          subst (AllByRecursion (λ (ls : List (ValType ℕ)). length ls ≤ 100)) locals
-          (code_few (offers c) (length (types_of made.groups)) (length made.funcs) left);
+      elems = all_then (IsDrawnElement c (spaces_of made)) (IsBoundedElement c (spaces_of made)) (λ segment drawn. drawn.0) made.elems drawn_elems;
+      elems_within = λ on. all_then (IsDrawnElement c (spaces_of made)) (LiesInTable (spaces_of made)) (λ segment drawn. drawn.1 on) made.elems drawn_elems;
+      data_within = λ on. all_then (IsSafeData c (spaces_of made)) (LiesInMemory (spaces_of made)) (λ segment safe. safe on) made.data_segments safe_data;
+      few_locals = subst (AllByRecursion (λ (body : MadeBody). length body.locals ≤ 100)) bodies (code_few allowed (offers c) bound count left);
+      no_raw = λ off. subst (AllByRecursion (λ (body : MadeBody). body.raw ≡ None)) bodies (code_not_raw allowed (offers c) bound count left off);
+      no_customs = λ off. sym customs ∙ none_asked c.generate_custom_sections built.finished.after_code off;
+      few_customs = subst (λ (l : List PlacedCustom). length l ≤ 10) customs (customs_few c.generate_custom_sections built.finished.after_code);
+      customs = subst (AllByRecursion IsBoundedCustom) customs (customs_bounded c.generate_custom_sections built.finished.after_code);
     }

@@ -1,5 +1,6 @@
 -- Data segments keep their rule under the features of a configuration, and are no longer than the bytes that they are made of.
-use Rattle.std.proofs.Common.{◌≡◌, ℕ, zero, suc, ◌+◌, ◌<◌, true, List, [], ◌∷◌, ◌++◌, length, refl, ◌∙◌, inl, inr, ◌⊎◌, arith, Some, None, slice_get}
+use Rattle.std.proofs.Common.{◌≡◌, ℕ, zero, suc, ◌+◌, ◌<◌, Bool, true, false, List, [], ◌∷◌, ◌++◌, length, refl, ◌∙◌, arith, Some, None, slice_get}
+use Rattle.std.specs.Int.{from_bool}
 use Rattle.std.specs.Option.{unwrap_or}
 use Rattle.wasm_spec.specs.Constants.{ConstantExpression}
 use Rattle.wasm_spec.specs.Features.{BulkMemory}
@@ -13,7 +14,7 @@ use Rattle.wasm_smith_module.specs.Data.{KeepsMode, total_size}
 use Rattle.wasm_smith_validity.specs.Rules.{index_type}
 use Rattle.wasm_smith_validity.specs.Spaces.{Spaces}
 
-written_back : (memory : ℕ) → unwrap_or (written_memory memory) 0 ≡ memory
+pub written_back : (memory : ℕ) → unwrap_or (written_memory memory) 0 ≡ memory
 written_back zero = refl
 written_back (suc memory) = refl
 
@@ -24,9 +25,15 @@ pub active_data : (c : Config) (k : Spaces) (memory : ℕ) (type : MemoryType) (
     → KeepsMode c k (ActiveData (written_memory memory) offset)
 active_data c k memory type offset at gives features f = rw (written_back memory, at) (gives features f)
 
-pub passive_data : (c : Config) (k : Spaces) (memory : ℕ) → (memory < length k.memories) ⊎ (c.bulk_memory_enabled ≡ true) → None ≡ slice_get k.memories memory → KeepsMode c k PassiveData
-passive_data c k memory (inr bulk) none features f = f BulkMemory ∙ bulk
-passive_data c k memory (inl lt) none features f = let at = get_some k.memories memory lt in absurd (none_is_some at.0 (none ∙ at.1))
+pub passive_data : (c : Config) (k : Spaces) → c.bulk_memory_enabled ≡ true → KeepsMode c k PassiveData
+passive_data c k bulk features f = f BulkMemory ∙ bulk
+
+-- where a drawn index is that of no memory there is bulk memory
+pub bulk_on : (bulk : Bool) (memories : List MemoryType) (index others : ℕ) → others ≡ from_bool bulk → index < length memories + others → None ≡ slice_get memories index → bulk ≡ true
+bulk_on true memories index others offered lt none = refl
+bulk_on false memories index others offered lt none =
+    let within : index < length memories = omega arith in
+    let at = get_some memories index within in absurd (none_is_some at.0 (none ∙ at.1))
 
 pub total_more : (segments : List DataSegment) (segment : DataSegment) → total_size (segments ++ segment ∷ []) ≡ total_size segments + length segment.contents
 total_more [] segment = omega arith

@@ -3,7 +3,7 @@ use Rattle.std.proofs.Common.{◌≡◌, ℕ, ◌+◌, ◌-◌, Bool, true, fals
 use Rattle.std.specs.Option.{option_and_then}
 use Rattle.std.specs.Prelude.{IfSome, nat_lt, option_map, ◌==◌}
 use Rattle.wasm_spec.specs.Syntax.{ImportEntry}
-use Rattle.wasm_spec.specs.Types.{SubType, RecGroup, ValType}
+use Rattle.wasm_spec.specs.Types.{SubType, RecGroup}
 use Rattle.wasm_smith_config.specs.declared.config.Config.{Config}
 use Rattle.wasm_smith_externs.specs.Exports.{wanted_exports}
 use Rattle.wasm_smith_definitions.specs.FunctionTypes.{function_indexes}
@@ -19,13 +19,15 @@ use Rattle.wasm_smith_types.specs.Growing.{grows_at, grows_from}
 use Rattle.wasm_smith_types.specs.Offering.{offers}
 use Rattle.wasm_smith_types.specs.ValidGroups.{types_of}
 use Rattle.wasm_smith_unstructured.specs.Draws.{bool_at}
-use Rattle.wasm_smith_validity.specs.Made.{Made}
+use Rattle.wasm_smith_validity.specs.Made.{Made, MadeBody, PlacedCustom}
 use Rattle.wasm_smith_validity.specs.Spaces.{Spaces, functions_of, spaces_after_all, spaces_of_types}
 use Rattle.wasm_smith_module.proofs.CodeLaws.{no_code}
+use Rattle.wasm_smith_module.proofs.CustomLaws.{no_customs}
 use Rattle.wasm_smith_module.proofs.StepLaws.{used_exports}
 use Rattle.wasm_smith_module.specs.Building.{AreItems, IsBuilt, IsFront}
 use Rattle.wasm_smith_module.specs.Code.{code_at}
-use Rattle.wasm_smith_module.specs.Generating.{HasFront, OwesNothingElse, bare_module, front_at, left_for_functions, left_unless_made, with_functions}
+use Rattle.wasm_smith_module.specs.Customs.{customs_at}
+use Rattle.wasm_smith_module.specs.Generating.{HasFront, OwesNothingElse, bare_body, bare_module, front_at, left_for_functions, left_unless_made, with_functions}
 use Rattle.wasm_smith_module.specs.Items.{items_of}
 use Rattle.wasm_smith_module.specs.ModuleValue.{ModuleValue}
 
@@ -121,13 +123,13 @@ record IsBare (m : Made) (left : List ℕ) : Type 0 where
 none_else : (c : Config) (duplicates : DuplicateImportsBehavior) (types : List (SubType ℕ)) (s left : List ℕ) (m : Made) → (h : AreItems c duplicates types s left (items_of m))
     → h.after_front ≡ [] → OwesNothingElse c → IsBare m left
 none_else c duplicates types s left m h empty owes =
-    let zeros = all_zero c.min_tables c.min_memories c.min_globals c.min_exports c.min_element_segments c.min_data_segments owes in
+    let zeros = all_zero c.min_tables c.min_memories c.min_globals c.min_exports c.min_element_segments c.min_data_segments owes.minimums in
     let d = h.definitions in
     let u = h.uses in
     let tables = none_grown c (wanted_tables c) _ _ h.declared d.with_tables h.after_front d.after_tables m.tables empty zeros.a_is d.grown_tables in
     let memories = none_grown c (wanted_memories c) _ _ d.with_tables d.with_memories d.after_tables d.after_memories m.memories tables.1 zeros.b_is d.grown_memories in
     let globals = none_grown c (wanted_globals c) _ _ d.with_memories h.defined d.after_memories h.after_definitions m.globals memories.1 zeros.d_is d.grown_globals in
-    let exports = none_grown c (wanted_exports c h.imports_size) _ _ h.defined u.exported h.after_definitions u.after_exports u.exported.exports globals.1 zeros.e_is u.grown_exports in
+    let exports = none_grown c (wanted_exports c h.imports_size) _ _ h.defined u.exported h.after_definitions u.after_exports u.exported.exports globals.1 zeros.e_is (u.grown_exports.drawn owes.no_exports) in
     let started : ◌≡◌ {A = Option ℕ × List ℕ} (m.start, u.after_start) (None, []) = sym u.start_drawn ∙ ap (start_at c.allow_start_export _) exports.1 ∙ start_none c.allow_start_export _ in
     let after_start : u.after_start ≡ [] = ap (λ (x : Option ℕ × List ℕ). x.1) started in
     let elems = none_grown c (wanted_elements c) _ _ u.exported u.with_elems u.after_start u.after_elems m.elems after_start zeros.f_is u.grown_elems in
@@ -143,20 +145,19 @@ none_else c duplicates types s left m h empty owes =
       at = segments.1;
     }
 
-bare_is : (m : Made) (left : List ℕ) → m.imports ≡ [] → m.tags ≡ [] → m.locals ≡ map (λ func. []) m.funcs → IsBare m left → m ≡ bare_module m.groups m.funcs
-bare_is m left imports tags locals h =
-    rw (sym locals) (rw (sym imports, sym h.tables, sym h.memories, sym tags, sym h.globals, sym h.exports, sym h.start, sym h.elems, sym h.data_segments) refl)
+bare_is : (m : Made) (left : List ℕ) → m.imports ≡ [] → m.tags ≡ [] → m.bodies ≡ map (λ func. bare_body) m.funcs → m.customs ≡ [] → IsBare m left → m ≡ bare_module m.groups m.funcs
+bare_is m left imports tags bodies customs h =
+    rw (sym bodies) (rw (sym customs, sym imports, sym h.tables, sym h.memories, sym tags, sym h.globals, sym h.exports, sym h.start, sym h.elems, sym h.data_segments) refl)
 
 -- ---- a module
 
-front_for : (c : Config) (duplicates : DuplicateImportsBehavior) (old new after : List ℕ) (m : ModuleValue) → (built : IsBuilt c duplicates old new m) → left_for_functions c m.made.groups built.after ≡ Some after
-    → HasFront c (with_functions c m.made.groups after) m.made new
-front_for c duplicates old new after m built e =
+front_for : (c : Config) (duplicates : DuplicateImportsBehavior) (old new at : List ℕ) (m : ModuleValue) → (built : IsBuilt c duplicates old new m) → left_for_functions c m.made.groups built.after ≡ Some at
+    → HasFront c (with_functions c m.made.groups at) m.made new
+front_for c duplicates old new at m built e =
     let made = m.made in
     let h = built.finished.items in
     let s = built.after in
-    let front = unasked c (types_of made.groups) duplicates s h.declared h.after_front made.imports made.tags made.funcs after h.front e in
-    let code = built.finished.locals in
+    let front = unasked c (types_of made.groups) duplicates s h.declared h.after_front made.imports made.tags made.funcs at h.front e in
     record {
       groups = refl;
       funcs = ap (λ (d : List ℕ × List ℕ). d.0) front.2;
@@ -165,12 +166,16 @@ front_for c duplicates old new after m built e =
       alone = λ empty owes.
           let none_left : h.after_front ≡ [] = ap (λ (d : List ℕ × List ℕ). d.1) front.2 ∙ empty in
           let bare = none_else c duplicates (types_of made.groups) s built.finished.after_items made h none_left owes in
-          let coded : ◌≡◌ {A = List (List (ValType ℕ)) × List ℕ} (made.locals, new) (map (λ func. []) made.funcs, []) =
-          sym code ∙ ap (code_at (offers c) (length (types_of made.groups)) (length made.funcs)) bare.at ∙ no_code (offers c) (length (types_of made.groups)) made.funcs in
-          let locals = ap (λ (d : List (List (ValType ℕ)) × List ℕ). d.0) coded in
-          let funcs : made.funcs ≡ (functions_at c (function_indexes 0 (types_of made.groups)) 0 after).0 = ap (λ (d : List ℕ × List ℕ). d.0) front.2 in (
-            bare_is made built.finished.after_items front.0 front.1 locals bare ∙ ap (bare_module made.groups) funcs,
-            ap (λ (d : List (List (ValType ℕ)) × List ℕ). d.1) coded,
+          let coded : ◌≡◌ {A = List MadeBody × List ℕ} (made.bodies, built.finished.after_code) (map (λ func. bare_body) made.funcs, []) =
+          sym built.finished.code ∙ ap (code_at c.allow_invalid_funcs (offers c) (length (types_of made.groups)) (length made.funcs)) bare.at
+          ∙ no_code c.allow_invalid_funcs (offers c) (length (types_of made.groups)) made.funcs in
+          let bodies = ap (λ (d : List MadeBody × List ℕ). d.0) coded in
+          let after : built.finished.after_code ≡ [] = ap (λ (d : List MadeBody × List ℕ). d.1) coded in
+          let placed : ◌≡◌ {A = List PlacedCustom × List ℕ} (made.customs, new) ([], []) =
+          sym built.finished.customs ∙ ap (customs_at c.generate_custom_sections) after ∙ no_customs c.generate_custom_sections in
+          let funcs : made.funcs ≡ (functions_at c (function_indexes 0 (types_of made.groups)) 0 at).0 = ap (λ (d : List ℕ × List ℕ). d.0) front.2 in (
+            bare_is made built.finished.after_items front.0 front.1 bodies (ap (λ (d : List PlacedCustom × List ℕ). d.0) placed) bare ∙ ap (bare_module made.groups) funcs,
+            ap (λ (d : List PlacedCustom × List ℕ). d.1) placed,
           );
     }
 

@@ -74,7 +74,7 @@ nullable_table tables index type h at = all_get (λ type. type.element_type.null
 
 -- ---- segments
 
-written_back : (table : ℕ) (items : ElementItems) → unwrap_or (written_table table items) 0 ≡ table
+pub written_back : (table : ℕ) (items : ElementItems) → unwrap_or (written_table table items) 0 ≡ table
 written_back zero (FunctionItems functions) = refl
 written_back zero (ExpressionItems type expressions) = unwritten (is_funcref type)
   where

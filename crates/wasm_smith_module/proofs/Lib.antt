@@ -2,6 +2,7 @@ mod ArbitraryLaws
 mod BoundLaws
 mod CodeLaws
 pub mod CountLaws
+pub mod CustomLaws
 pub mod DataLaws
 pub mod DrawLaws
 mod DrawnLaws
@@ -15,9 +16,11 @@ pub mod ImportedLimits
 pub mod MadeLaws
 pub mod MadeLimits
 pub mod MadeNumbers
-mod OneEncoding
+pub mod OneEncoding
+pub mod OwedLaws
 pub mod PassedLaws
 pub mod SaturatedSums
 mod StepLaws
 mod TagLaws
+pub mod TrapLaws
 mod ValidLaws

@@ -17,7 +17,7 @@ use Rattle.wasm_smith_types.specs.Making.{made}
 use Rattle.wasm_smith_types.specs.Offering.{offers}
 use Rattle.wasm_smith_types.specs.ValidGroups.{types_of}
 use Rattle.wasm_smith_types.specs.declared.types.Types.{Types}
-use Rattle.wasm_spec.specs.Types.{ValType}
+use Rattle.wasm_smith_validity.specs.Made.{MadeBody}
 use Rattle.wasm_smith_module.proofs.BoundLaws.{bounds_for}
 use Rattle.wasm_smith_module.proofs.DrawnLaws.{drawn_for}
 use Rattle.wasm_smith_module.proofs.ValidLaws.{valid_for}
@@ -35,11 +35,11 @@ made_for c duplicates old new m good built = record {
   bounds = bounds_for c duplicates old new m good built;
 }
 
--- the locals, in the words of the step
-pub locals_are : (c : Config) (o : Offers) (types : Types) (bound count : ℕ) (funcs s t : List ℕ) (locals : List (List (ValType ℕ))) → o ≡ offers c → AreWhole types
-    → bound ≡ length (made types) → count ≡ length funcs → code_at o bound count s ≡ (locals, t)
-    → code_at (offers c) (length (types_of (groups types))) (length funcs) s ≡ (locals, t)
-locals_are c o types bound count funcs s t locals offered whole many counted coded =
+-- the bodies, in the words of the step
+pub bodies_are : (c : Config) (o : Offers) (types : Types) (bound count : ℕ) (funcs s t : List ℕ) (bodies : List MadeBody) → o ≡ offers c → AreWhole types
+    → bound ≡ length (made types) → count ≡ length funcs → code_at c.allow_invalid_funcs o bound count s ≡ (bodies, t)
+    → code_at c.allow_invalid_funcs (offers c) (length (types_of (groups types))) (length funcs) s ≡ (bodies, t)
+bodies_are c o types bound count funcs s t bodies offered whole many counted coded =
     let bound_is : bound ≡ length (types_of (groups types)) = many ∙ ap length (sym (types_of_grouped types.sizes.items (made types) whole)) in
     rw (offered, bound_is, counted) at coded
 
@@ -51,7 +51,7 @@ ended_for c EmptyChoose good h = h
 ended_for c NotEnoughData good h = h
 ended_for c (BadConfig field) good h = absurd h
 ended_for c (BadShape field) good h = h
-ended_for c TypeSize good h = h
+ended_for c TypeSize good h = record { good = good; all = h }
 ended_for c Memory good h = tt
 ended_for c TooLong good h = h
 
@@ -61,7 +61,7 @@ bad_for c EmptyChoose h = h
 bad_for c NotEnoughData h = h
 bad_for c (BadConfig field) h = h
 bad_for c (BadShape field) h = h
-bad_for c TypeSize h = h
+bad_for c TypeSize h = absurd h
 bad_for c Memory h = tt
 bad_for c TooLong h = h
 

@@ -1,6 +1,6 @@
 -- The limits that a made module passes, by its numbers.
 use Rattle.std.proofs.Common.{◌≡◌, ℕ, zero, suc, nat_lt, ◌&&◌, not, false, ◌<◌, ◌≤◌, Bool, true, List, [], ◌∷◌, ◌++◌, map, refl, ap, sym, ◌∙◌, subst, arith, inl, inr, Some}
-use Rattle.std.specs.List.{flat_map, slice_get}
+use Rattle.std.specs.List.{AllByRecursion, flat_map, slice_get}
 use Rattle.std.proofs.lemmas.Bool.{ltb-true, and_parts, ltb-false}
 use Rattle.wasm_spec.specs.Features.{Features}
 use Rattle.wasm_spec.specs.Groups.{AllGroups, IsWellFormedGroup, PassesLimit}
@@ -15,7 +15,8 @@ use Rattle.wasm_smith_types.specs.Bounds.{AreSmall}
 use Rattle.wasm_smith_types.specs.ValidGroups.{types_of}
 use Rattle.wasm_smith_types.proofs.GroupLaws.{small_groups}
 use Rattle.wasm_smith_validity.specs.Made.{Made}
-use Rattle.wasm_smith_validity.specs.Sections.{sections_with}
+use Rattle.wasm_smith_validity.specs.Sections.{kinds_with, sections_with}
+use Rattle.wasm_smith_validity.proofs.CustomSections.{HasLegalName, limits_between, passed_between}
 use Rattle.wasm_smith_validity.specs.Validity.{IsValidByIndex}
 use Rattle.wasm_smith_validity.proofs.MadeGroups.{of_groups, typed, groups_stand}
 use Rattle.wasm_smith_validity.proofs.MadeSections.{behind_types_said, rules_of, said_behind, sections_say}
@@ -85,8 +86,8 @@ abbrev all_entries : Bool → List (List ℕ) → Made → List Entry
 all_entries counted bodies m = of_groups m.groups ++ behind_types_said counted bodies m
 
 pub limits_kept : (features : Features) (m : Made) (counted : Bool) (bodies : List (List ℕ)) → IsValidByIndex features m → AreSmall (types_of m.groups)
-    → are_within (numbers_of bodies m) ≡ true → KeepLimits at_first (entries_of (sections_with counted bodies m))
-limits_kept features m counted bodies valid small within =
+    → AllByRecursion HasLegalName m.customs → are_within (numbers_of bodies m) ≡ true → KeepLimits at_first (entries_of (sections_with counted bodies m))
+limits_kept features m counted bodies valid small named within =
     let parts = within_parts (counts_of m) (lengths_of bodies m) within in
     let counts = all_counted counted bodies m (groups_stand features m.groups (rules_of features m valid).valid) in
     let few : AreFew (after_all at_first (all_entries counted bodies m)) = λ limit.
@@ -94,7 +95,8 @@ limits_kept features m counted bodies valid small within =
     let lengths : are_within (flat_map own_numbers (all_entries counted bodies m)) ≡ true = ap are_within (all_own counted bodies m) ∙ parts.1 in
     let none = groups_have_none features at_first m.groups (behind_types_said counted bodies m) (small_groups features m.groups (rules_of features m valid).valid small)
     (have_no_types (typed m.groups) (behind_types_said counted bodies m) (said_behind counted bodies m)) in
-    subst (KeepLimits at_first) (sym (sections_say counted bodies m)) (keep_limits at_first (all_entries counted bodies m) few lengths none)
+    limits_between m.customs (kinds_with counted bodies m) at_first named
+    (subst (KeepLimits at_first) (sym (sections_say counted bodies m)) (keep_limits at_first (all_entries counted bodies m) few lengths none))
 
 pub limit_passed : (features : Features) (m : Made) (counted : Bool) (bodies : List (List ℕ)) (limit : Limit) → IsValidByIndex features m
     → Passes limit (numbers_of bodies m) → PassLimit limit at_first (entries_of (sections_with counted bodies m))
@@ -105,5 +107,5 @@ limit_passed features m counted bodies limit valid passes =
     pass_limit limit at_first entries (few_at_first limit) (subst (λ (c : Counts). most limit < number c limit) (sym counts) (passed_in (number (made_counts m)) bounded limit p)) in
     let by_length : Passes limit (lengths_of bodies m) → PassLimit limit at_first entries = λ p.
     pass_own limit at_first entries (subst (Passes limit) (sym (all_own counted bodies m)) p) in
-    subst (PassLimit limit at_first) (sym (sections_say counted bodies m))
-    (elim (passes_parts limit (counts_of m) (lengths_of bodies m) passes) [ inl p ↦ by_count p | inr p ↦ by_length p ])
+    passed_between limit 0 m.customs (kinds_with counted bodies m) at_first (subst (PassLimit limit at_first) (sym (sections_say counted bodies m))
+    (elim (passes_parts limit (counts_of m) (lengths_of bodies m) passes) [ inl p ↦ by_count p | inr p ↦ by_length p ]))

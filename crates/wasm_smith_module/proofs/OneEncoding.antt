@@ -7,7 +7,8 @@ use Rattle.wasm_spec.specs.Types as spec
 use Rattle.wasm_smith_sections.specs.ModuleEncoding.{as_run, IsBodyEncoding, AreBodyEncodings, IsModuleEncoding, encoding_with}
 use Rattle.wasm_smith_sections.proofs.CodeTypes.{code_type, same_code_type, type_there}
 use Rattle.wasm_smith_sections.proofs.SeenRuns.{seen, are_runs}
-use Rattle.wasm_smith_validity.specs.Made.{Made}
+use Rattle.wasm_smith_validity.specs.Made.{Made, MadeBody}
+use Rattle.wasm_smith_validity.specs.MadeBodies.{code_of}
 
 -- types of the code have one list of runs
 abbrev HaveOneList : Type 0
@@ -23,11 +24,11 @@ same_runs one types runs others h k =
     (are_runs code_type same_code_type types runs h) (are_runs code_type same_code_type types others k) in
     sym (there_again runs) ∙ ap (map (seen val_type)) same ∙ there_again others
 
-same_body : HaveOneList → (locals : List (spec.ValType ℕ)) (encoding other : List ℕ) → IsBodyEncoding locals encoding → IsBodyEncoding locals other → encoding ≡ other
-same_body one locals encoding other h k =
-    h.is ∙ ap (λ runs. locals_encoding (map as_run runs) ++ 0x00 ∷ 0x0b ∷ []) (same_runs one locals h.runs k.runs h.joined k.joined) ∙ sym k.is
+pub same_body : HaveOneList → (made : MadeBody) (encoding other : List ℕ) → IsBodyEncoding made encoding → IsBodyEncoding made other → encoding ≡ other
+same_body one made encoding other h k =
+    h.is ∙ ap (λ runs. locals_encoding (map as_run runs) ++ code_of made.raw) (same_runs one made.locals h.runs k.runs h.joined k.joined) ∙ sym k.is
 
-same_bodies : HaveOneList → (locals : List (List (spec.ValType ℕ))) (bodies others : List (List ℕ)) → AreBodyEncodings locals bodies → AreBodyEncodings locals others → bodies ≡ others
+same_bodies : HaveOneList → (made : List MadeBody) (bodies others : List (List ℕ)) → AreBodyEncodings made bodies → AreBodyEncodings made others → bodies ≡ others
 same_bodies one [] [] [] h k = refl
 same_bodies one [] [] (other ∷ others) h k = absurd k
 same_bodies one [] (body ∷ bodies) others h k = absurd h
@@ -40,4 +41,4 @@ same_bodies one (first ∷ rest) (body ∷ bodies) (other ∷ others) h k =
 
 pub same_encoding : HaveOneList → (counted : Bool) (m : Made) (encoding other : List ℕ) → IsModuleEncoding counted m encoding → IsModuleEncoding counted m other → encoding ≡ other
 same_encoding one counted m encoding other h k =
-    h.is ∙ ap (encoding_with counted m) (same_bodies one m.locals h.bodies k.bodies h.are k.are) ∙ sym k.is
+    h.is ∙ ap (encoding_with counted m) (same_bodies one m.bodies h.bodies k.bodies h.are k.are) ∙ sym k.is

@@ -2,7 +2,6 @@
 use Rattle.std.proofs.Common.{◌≡◌, ℕ, true, List, length, sym, ap, ◌∙◌, subst}
 use Rattle.std.specs.List.{AllByRecursion}
 use Rattle.wasm_spec.specs.Features.{Features}
-use Rattle.wasm_spec.specs.Types.{ValType}
 use Rattle.wasm_smith_config.proofs.UnionLaws.{flags, grown_by}
 use Rattle.wasm_smith_config.specs.Config.{AreFeaturesOf}
 use Rattle.wasm_smith_config.specs.Rows.{switches}
@@ -11,6 +10,7 @@ use Rattle.wasm_smith_externs.specs.declared.names.DuplicateImportsBehavior.{Dup
 use Rattle.wasm_smith_types.proofs.GroupLaws.{all_rules}
 use Rattle.wasm_smith_types.specs.Offering.{offers}
 use Rattle.wasm_smith_types.specs.ValidGroups.{AllKeepTypeRules, types_of}
+use Rattle.wasm_smith_validity.specs.Made.{MadeBody}
 use Rattle.wasm_smith_validity.specs.Spaces.{is_value}
 use Rattle.wasm_smith_validity.specs.Validity.{IsValidByIndex}
 use Rattle.wasm_smith_validity.proofs.MadeSections.{made_rules}
@@ -30,14 +30,14 @@ pub valid_for : (c : Config) (duplicates : DuplicateImportsBehavior) (old new : 
 valid_for c duplicates old new m h features are =
     let types = types_of m.made.groups in
     let finished = h.finished in
-    let code = code_at (offers c) (length types) (length m.made.funcs) finished.after_items in
-    let locals : code.0 ≡ m.made.locals = ap (λ (d : List (List (ValType ℕ)) × List ℕ). d.0) finished.locals in
+    let code = code_at c.allow_invalid_funcs (offers c) (length types) (length m.made.funcs) finished.after_items in
+    let bodies : code.0 ≡ m.made.bodies = ap (λ (d : List MadeBody × List ℕ). d.0) finished.code in
     record {
       rules =
           made_rules features m.made
           (record { valid = h.groups.valid features are; behind_types = (leads_all c duplicates m.made h.after finished.after_items finished.items).keep features are });
-      bodies = ap length (sym locals) ∙ code_many (offers c) (length types) (length m.made.funcs) finished.after_items;
+      bodies = ap length (sym bodies) ∙ code_many c.allow_invalid_funcs (offers c) (length types) (length m.made.funcs) finished.after_items;
       locals =
-          subst (AllByRecursion (AllByRecursion (λ type. is_value features types type ≡ true))) locals
-          (code_valid c features are types (length m.made.funcs) finished.after_items);
+          subst (AllByRecursion (λ (body : MadeBody). AllByRecursion (λ type. is_value features types type ≡ true) body.locals)) bodies
+          (code_valid c features are types c.allow_invalid_funcs (length m.made.funcs) finished.after_items);
     }

@@ -1,5 +1,5 @@
 -- Drawn modules, whatever the configuration is.
-use Rattle.std.specs.Prelude.{◌≡◌, ⊤, ℕ, ◌-◌, ◌<◌, ◌≤◌, List, Option, length, IfSome}
+use Rattle.std.specs.Prelude.{◌≡◌, ⊤, ℕ, ◌<◌, ◌≤◌, true, List, Option, length, IfSome}
 use Rattle.std.specs.Option.{option_to_list}
 use Rattle.wasm_spec.specs.Features.{Features}
 use Rattle.wasm_spec.specs.Syntax.{ImportEntry, Table, Global, ElementSegment, DataSegment}
@@ -10,24 +10,25 @@ use Rattle.wasm_smith_config.specs.declared.error.Error.{Error}
 use Rattle.wasm_smith_config.specs.declared.error.Error.TheVariants.{IncorrectFormat, EmptyChoose, NotEnoughData, BadConfig, BadShape, TypeSize, Memory, TooLong}
 use Rattle.wasm_smith_definitions.specs.Bounds.{IsBoundedTable}
 use Rattle.wasm_smith_definitions.specs.Offered.{IsOfferedMemory}
-use Rattle.wasm_smith_externs.specs.Exports.{HasShortName, wanted_exports}
+use Rattle.wasm_smith_externs.specs.AllExports.{AreExports}
 use Rattle.wasm_smith_definitions.specs.FunctionTypes.{function_indexes}
-use Rattle.wasm_smith_externs.specs.Sizes.{exports_size}
 use Rattle.wasm_smith_externs.specs.Wanted.{functions_at, of_function, of_start, of_tag, start_at, start_functions, wanted_functions, wanted_tags}
 use Rattle.wasm_smith_externs.specs.Candidates.{type_sizes}
 use Rattle.wasm_smith_externs.specs.Imports.{AreGrownImports}
 use Rattle.wasm_smith_externs.specs.Named.{all_named}
 use Rattle.wasm_smith_externs.specs.Named as named
 use Rattle.wasm_smith_externs.specs.declared.names.DuplicateImportsBehavior.{DuplicateImportsBehavior}
-use Rattle.wasm_smith_definitions.specs.Kinds.{AnyBound, of_data, of_element, of_export, of_global, of_memory, of_table, wanted_data, wanted_elements, wanted_globals, wanted_memories, wanted_tables}
+use Rattle.wasm_smith_definitions.specs.Kinds.{AnyBound, of_data, of_element, of_global, of_memory, of_table, wanted_data, wanted_elements, wanted_globals, wanted_memories, wanted_tables}
 use Rattle.wasm_smith_definitions.specs.Steps.{IsGrown, IsStep}
-use Rattle.wasm_smith_module.specs.Elements.{IsBoundedElement}
+use Rattle.wasm_smith_module.specs.Elements.{IsDrawnElement}
+use Rattle.wasm_smith_module.specs.Traps.{IsSafeData}
 use Rattle.wasm_smith_types.specs.Bounds.{AreSmall}
 use Rattle.wasm_smith_types.specs.DrawnGroups.{AreSome, drawn_groups_at}
 use Rattle.wasm_smith_types.specs.Offering.{offers}
 use Rattle.wasm_smith_types.specs.ValidGroups.{AreValidGroups, types_of}
 use Rattle.wasm_smith_validity.specs.Spaces.{Spaces, functions_of, spaces_of_types}
 use Rattle.wasm_smith_module.specs.Code.{code_at}
+use Rattle.wasm_smith_module.specs.Customs.{customs_at}
 use Rattle.wasm_smith_module.specs.Items.{DrawnItems, items_of}
 use Rattle.wasm_smith_module.specs.ModuleValue.{ModuleValue}
 use Rattle.wasm_smith_module.specs.Promise.{owed}
@@ -66,19 +67,18 @@ pub record AreDefinitions (c : Config) (old : Spaces) (s : List ℕ) (new : Spac
   pub grown_memories : IsGrown c (wanted_memories c) of_memory (IsOfferedMemory c) with_tables after_tables with_memories after_memories memories
   pub grown_globals : IsGrown c (wanted_globals c) of_global (AnyBound c) with_memories after_memories new left globals
 
--- Exports are drawn, which the spaces keep, then the start function and segments.
+-- Exports are made, which the spaces keep, then the start function and segments are drawn.
 pub record AreUses (c : Config) (imports_size : ℕ) (old : Spaces) (s : List ℕ) (new : Spaces) (left : List ℕ) (start : Option ℕ) (elems : List ElementSegment) (data_segments : List DataSegment) : Type 0 where
   pub exported : Spaces
   pub after_exports : List ℕ
   pub after_start : List ℕ
   pub with_elems : Spaces
   pub after_elems : List ℕ
-  pub grown_exports : IsGrown c (wanted_exports c imports_size) of_export (λ export. HasShortName export.name) old s exported after_exports exported.exports
-  pub size : exports_size exported ≤ c.max_type_size - imports_size
+  pub grown_exports : AreExports c imports_size old s exported after_exports
   pub starts : IsStep c of_start exported exported (option_to_list start)
   pub start_drawn : start_at c.allow_start_export (start_functions exported) after_exports ≡ (start, after_start)
-  pub grown_elems : IsGrown c (wanted_elements c) of_element (IsBoundedElement c (length (functions_of exported))) exported after_start with_elems after_elems elems
-  pub grown_data_segments : IsGrown c (wanted_data c) of_data (AnyBound c) with_elems after_elems new left data_segments
+  pub grown_elems : IsGrown c (wanted_elements c) of_element (IsDrawnElement c exported) exported after_start with_elems after_elems elems
+  pub grown_data_segments : IsGrown c (wanted_data c) of_data (IsSafeData c with_elems) with_elems after_elems new left data_segments
 
 -- All items after these types are drawn.
 pub record AreItems (c : Config) (duplicates : DuplicateImportsBehavior) (types : List (SubType ℕ)) (s left : List ℕ) (items : DrawnItems) : Type 0 where
@@ -102,7 +102,9 @@ pub record IsFinished (c : Config) (duplicates : DuplicateImportsBehavior) (grou
   pub same_groups : m.made.groups ≡ groups
   pub after_items : List ℕ
   pub items : AreItems c duplicates (types_of groups) old after_items (items_of m.made)
-  pub locals : code_at (offers c) (length (types_of groups)) (length m.made.funcs) after_items ≡ (m.made.locals, new)
+  pub after_code : List ℕ
+  pub code : code_at c.allow_invalid_funcs (offers c) (length (types_of groups)) (length m.made.funcs) after_items ≡ (m.made.bodies, after_code)
+  pub customs : customs_at c.generate_custom_sections after_code ≡ (m.made.customs, new)
 
 -- a module that is finished after groups that are made
 pub record IsBuilt (c : Config) (duplicates : DuplicateImportsBehavior) (old new : List ℕ) (m : ModuleValue) : Type 0 where
@@ -110,13 +112,13 @@ pub record IsBuilt (c : Config) (duplicates : DuplicateImportsBehavior) (old new
   pub groups : AreGroups c old after m.made.groups
   pub finished : IsFinished c duplicates m.made.groups after new m
 
--- why drawing ends without a module: items are owed that can't be made, or memory ran out
+-- why drawing ends without a module: items are owed that can't be made, everything is to be exported and its types may be too large, or memory ran out
 abbrev pub IsEnd : Config → Error → Type 0
 IsEnd c IncorrectFormat = 0 < owed c
 IsEnd c EmptyChoose = ⊥
 IsEnd c NotEnoughData = ⊥
 IsEnd c (BadConfig field) = ⊥
 IsEnd c (BadShape field) = ⊥
-IsEnd c TypeSize = ⊥
+IsEnd c TypeSize = c.export_everything ≡ true
 IsEnd c Memory = ⊤
 IsEnd c TooLong = ⊥

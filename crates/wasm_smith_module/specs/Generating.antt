@@ -1,5 +1,5 @@
 -- The first draws of a module: its types, then, where no import and no tag is made, its functions; and the bytes that are left then.
-use Rattle.std.specs.Prelude.{◌≡◌, ℕ, ◌+◌, Bool, List, [], map, Option, Some, None, option_map, if◌then◌else◌}
+use Rattle.std.specs.Prelude.{◌≡◌, ℕ, ◌+◌, Bool, false, List, [], map, Option, Some, None, option_map, if◌then◌else◌}
 use Rattle.std.specs.Option.{option_and_then}
 use Rattle.wasm_spec.specs.Types.{RecGroup}
 use Rattle.wasm_smith_config.specs.declared.config.Config.{Config}
@@ -9,7 +9,7 @@ use Rattle.wasm_smith_externs.specs.Imports.{asked_imports}
 use Rattle.wasm_smith_definitions.specs.Steps.{asked}
 use Rattle.wasm_smith_types.specs.DrawnGroups.{drawn_groups_at}
 use Rattle.wasm_smith_types.specs.ValidGroups.{types_of}
-use Rattle.wasm_smith_validity.specs.Made.{Made}
+use Rattle.wasm_smith_validity.specs.Made.{Made, MadeBody}
 use Rattle.wasm_smith_validity.specs.Spaces.{spaces_of_types}
 
 -- the bytes that are left where the first draw of a step says that no item is made
@@ -34,7 +34,10 @@ front_at c s = option_and_then (λ drawn. option_map (with_functions c drawn.0) 
 
 -- ---- nothing but types and functions
 
--- a module of these groups and functions, which have no locals
+abbrev pub bare_body : MadeBody
+bare_body = record { locals = []; raw = None }
+
+-- a module of these groups and functions, whose bodies are `unreachable` without locals
 abbrev pub bare_module : List (RecGroup ℕ) → List ℕ → Made
 bare_module groups funcs = record {
   groups = groups;
@@ -48,15 +51,17 @@ bare_module groups funcs = record {
   start = None;
   elems = [];
   data_segments = [];
-  locals = map (λ _. []) funcs;
+  bodies = map (λ _. bare_body) funcs;
+  customs = [];
 }
 
--- no minimum of what is drawn after the functions is above 0
-abbrev pub OwesNothingElse : Config → Type 0
-OwesNothingElse c = c.min_tables + c.min_memories + c.min_globals + c.min_exports + c.min_element_segments + c.min_data_segments ≡ 0
+-- no minimum of what is drawn after the functions is above 0, and not everything is exported
+pub record OwesNothingElse (c : Config) : Type 0 where
+  pub minimums : c.min_tables + c.min_memories + c.min_globals + c.min_exports + c.min_element_segments + c.min_data_segments ≡ 0
+  pub no_exports : c.export_everything ≡ false
 
--- A module that is made has the groups and the functions that are drawn, no imports and no tags. Where no bytes are left after the functions, it has nothing
--- else.
+-- A module that is made has the groups and the functions that are drawn, no imports and no tags. Where no bytes are left after the functions, and nothing
+-- else is owed, it has nothing else.
 pub record HasFront (c : Config) (drawn : (List (RecGroup ℕ) × List ℕ) × List ℕ) (m : Made) (left : List ℕ) : Type 0 where
   pub groups : m.groups ≡ drawn.0.0
   pub funcs : m.funcs ≡ drawn.0.1

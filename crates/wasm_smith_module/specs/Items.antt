@@ -2,9 +2,9 @@
 use Rattle.std.specs.Prelude.{ℕ, List, Option, map}
 use Rattle.wasm_encoder_sections.specs.CoreItems.{memory_type}
 use Rattle.wasm_spec.specs.Syntax.{ImportEntry, Table, Global, Export, ElementSegment, DataSegment}
-use Rattle.wasm_spec.specs.Types.{MemoryType, RecGroup, ValType}
+use Rattle.wasm_spec.specs.Types.{MemoryType, RecGroup}
 use Rattle.wasm_smith_definitions.specs.Items.{import_entry, table, global, export, element_segment, data_segment}
-use Rattle.wasm_smith_validity.specs.Made.{Made}
+use Rattle.wasm_smith_validity.specs.Made.{Made, MadeBody, PlacedCustom}
 use Rattle.wasm_smith_module.specs.declared.items.Items.{Items}
 
 pub record DrawnItems : Type 0 where
@@ -49,9 +49,9 @@ items_of m = record {
   data_segments = m.data_segments;
 }
 
--- the module that has these items
-abbrev pub module_of : List (RecGroup ℕ) → DrawnItems → List (List (ValType ℕ)) → Made
-module_of groups items locals = record {
+-- the module that has these items, bodies and custom sections
+abbrev pub module_of : List (RecGroup ℕ) → DrawnItems → List MadeBody → List PlacedCustom → Made
+module_of groups items bodies customs = record {
   groups = groups;
   imports = items.imports;
   funcs = items.funcs;
@@ -63,5 +63,6 @@ module_of groups items locals = record {
   start = items.start;
   elems = items.elems;
   data_segments = items.data_segments;
-  locals = locals;
+  bodies = bodies;
+  customs = customs;
 }

@@ -2,6 +2,8 @@ pub mod ArbitraryModules
 pub mod Bounds
 pub mod Building
 pub mod Code
+pub mod Contents
+pub mod Customs
 pub mod Data
 pub mod Elements
 pub mod Generating
@@ -10,3 +12,4 @@ pub mod Measured
 pub mod Measures
 pub mod ModuleValue
 pub mod Promise
+pub mod Traps

@@ -1,14 +1,16 @@
 -- The values that the test of limits computes on its way.
-use Rattle.std.specs.Prelude.{◌≡◌, ℕ, ◌-◌, ◌^◌, ◌≤◌, List, [], length, min}
+use Rattle.std.specs.Prelude.{◌≡◌, ◌⊎◌, ℕ, ◌-◌, ◌^◌, ◌≤◌, ◌<◌, true, List, [], length, min, is_some}
 use Rattle.std.specs.List.{AllByRecursion, flat_map}
 use Rattle.wasm_core_types.specs.Limits.{limit}
 use Rattle.wasm_core_types.specs.declared.limits.Limit.{Limit}
 use Rattle.wasm_spec.specs.Limits as spec
 use Rattle.wasm_spec.specs.Limits.{BodySize, Name, most}
 use Rattle.wasm_spec.specs.Types.{ExternalKind, FuncKind, TableKind, MemoryKind, GlobalKind, TagKind}
+use Rattle.wasm_smith_sections.specs.ModuleEncoding.{HasLongFront, IsBodyEncoding, SomeByRecursion}
 use Rattle.wasm_validity.specs.Context.{names_of}
-use Rattle.wasm_validity.specs.Rules.{import_names}
-use Rattle.wasm_smith_validity.specs.Made.{Made}
+use Rattle.wasm_validity.specs.Rules.{Passes, import_names}
+use Rattle.wasm_smith_module.specs.Measures.{numbers_of}
+use Rattle.wasm_smith_validity.specs.Made.{Made, MadeBody}
 use Rattle.wasm_smith_validity.specs.Spaces.{Spaces}
 
 -- a sum that stays at the greatest number of 64 bits
@@ -42,3 +44,18 @@ AreShort bodies = AllByRecursion (λ body. length body ≤ most BodySize) bodies
 pub record HasShortNames (m : Made) : Type 0 where
   pub imports : AreNames (flat_map import_names m.imports)
   pub exports : AreNames (names_of m.exports)
+
+-- A body with raw bytes is too long: its encoding has more bytes than a body may have, or its locals can't be stated, as those of a module within bounds can.
+abbrev pub IsLongBody : MadeBody → Type 0
+IsLongBody body = (is_some body.raw ≡ true) × (HasLongFront body.locals ⊎ ((encoding : List ℕ) × IsBodyEncoding body encoding × (most BodySize < length encoding)))
+
+abbrev pub HasLongBody : Made → Type 0
+HasLongBody m = SomeByRecursion IsLongBody m.bodies
+
+-- a body with raw bytes has an encoding that is short enough
+abbrev pub IsShortRaw : MadeBody → Type 0
+IsShortRaw body = is_some body.raw ≡ true → (encoding : List ℕ) × IsBodyEncoding body encoding × (length encoding ≤ most BodySize)
+
+-- a limit that a module passes: by its numbers, whatever its bodies are, or by a body with raw bytes
+abbrev pub IsPassed : Made → Limit → Type 0
+IsPassed m found = ((bodies : List (List ℕ)) → Passes (limit found) (numbers_of bodies m)) ⊎ ((limit found ≡ BodySize) × HasLongBody m)

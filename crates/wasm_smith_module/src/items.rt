@@ -39,7 +39,8 @@ pub struct Items {
 /// Draws all items of a module that has these types.
 ///
 /// # Errors
-/// [`Error::IncorrectFormat`] where items are owed that can't be made, and [`Error::Memory`]. Some of the source's bytes may be taken by then.
+/// [`Error::IncorrectFormat`] where items are owed that can't be made, [`Error::TypeSize`] where everything is exported and its types are too large, and
+/// [`Error::Memory`]. Some of the source's bytes may be taken by then.
 pub fn draw_items(
     alloc: Global,
     unstructured: &mut Unstructured<'_>,

@@ -3,7 +3,9 @@
 
 pub mod choices;
 mod code;
+mod contents;
 mod counts;
+mod custom_sections;
 pub mod data_segments;
 mod definitions;
 pub mod element_segments;
@@ -13,6 +15,7 @@ mod items;
 pub mod laws;
 pub mod limit_laws;
 pub mod module;
+pub mod offsets;
 pub mod passed_limit;
 mod sizes;
 mod uses;

@@ -1,7 +1,7 @@
 //! Modules as they are made.
 
-ghost use Rattle.std.specs.Prelude.{◌≡◌, ◌≤◌, ◌^◌, IfOk, IfErr, IfSome, MatchOption, length, map};
-ghost use Rattle.wasm_core_types.specs.CoreTypes.{val_type};
+ghost use Rattle.std.specs.Prelude.{◌≡◌, ◌≤◌, ◌^◌, IfOk, IfErr, IfSome, MatchOption, is_some, length, map};
+ghost use Rattle.wasm_smith_definitions.specs.Items.{made_body, placed_custom, raw_bytes};
 ghost use Rattle.wasm_smith_config.specs.Config.{IsGood};
 ghost use Rattle.wasm_smith_definitions.specs.Offered.{HasFewTables};
 ghost use Rattle.wasm_smith_types.specs.DrawnGroups.{AskForMore};
@@ -14,14 +14,17 @@ ghost use Rattle.wasm_smith_module.specs.Items.{drawn_items, module_of};
 ghost use Rattle.wasm_smith_module.specs.Promise.{HasDrawnData};
 
 use crate::code::code;
+use crate::custom_sections::custom_sections;
 use crate::items::{Items, draw_items};
 use std::alloc;
 use std::marker::Model;
-use wasm_core_types::types::{SubType, ValType};
+use wasm_core_types::types::SubType;
 use wasm_core_write::encode_error::EncodeError;
 use wasm_encoder_sections::entity_type::MemoryType;
 use wasm_smith_config::config::Config;
 use wasm_smith_config::error::Error;
+use wasm_smith_definitions::code::{Code, Instructions};
+use wasm_smith_definitions::custom_section::CustomSection;
 use wasm_smith_definitions::imports::ImportEntry;
 use wasm_smith_definitions::items::{Export, Global, Table};
 use wasm_smith_definitions::segments::{DataSegment, ElementSegment};
@@ -33,7 +36,7 @@ use wasm_smith_types::types::{Types, make_types};
 use wasm_smith_types::value_types::Offers;
 use wasm_smith_unstructured::unstructured::Unstructured;
 
-/// A module that is made. Every body is `unreachable`. Contracts see it as its configuration and what it has.
+/// A module that is made. Contracts see it as its configuration and what it has.
 #[derive(Debug, Drop)]
 pub struct Module {
     config: Config,
@@ -48,12 +51,12 @@ pub struct Module {
     start: Option<u32>,
     elems: Vec<ElementSegment>,
     data_segments: Vec<DataSegment>,
-    locals: Vec<Vec<ValType>>,
+    bodies: Vec<Code>,
+    customs: Vec<CustomSection>,
 }
 
 impl Model for Module {
     ghost use Rattle.std.specs.Prelude.{map};
-    ghost use Rattle.wasm_core_types.specs.CoreTypes.{val_type};
     ghost use Rattle.wasm_encoder_sections.specs.CoreItems.{memory_type};
     ghost use Rattle.wasm_smith_definitions.specs.Items as items;
     ghost use Rattle.wasm_smith_types.specs.Grouped.{groups, AreWhole};
@@ -75,7 +78,8 @@ impl Model for Module {
         start = m.start;
         elems = map items.element_segment m.elems.items;
         data_segments = map items.data_segment m.data_segments.items;
-        locals = map (λ ls. map val_type ls.items) m.locals.items;
+        bodies = map items.made_body m.bodies.items;
+        customs = map items.placed_custom m.customs.items;
       };
     } };
 
@@ -107,9 +111,15 @@ fn build_types(
 }
 
 // Returns the module of these parts.
-fn assembled(config: Config, types: Types, items: Items, locals: Vec<Vec<ValType>>) -> Module
+fn assembled(
+    config: Config,
+    types: Types,
+    items: Items,
+    bodies: Vec<Code>,
+    customs: Vec<CustomSection>,
+) -> Module
     requires whole { AreWhole types }
-    ensures { result ≡ record { config = config; made = module_of (groups types) (drawn_items items) (map (λ ls. map val_type ls.items) locals.items) } }
+    ensures { result ≡ record { config = config; made = module_of (groups types) (drawn_items items) (map made_body bodies.items) (map placed_custom customs.items) } }
 {
     let front = items.front;
     let definitions = items.definitions;
@@ -127,7 +137,8 @@ fn assembled(config: Config, types: Types, items: Items, locals: Vec<Vec<ValType
         start: uses.start,
         elems: uses.elems,
         data_segments: uses.data_segments,
-        locals,
+        bodies,
+        customs,
     }
 }
 
@@ -160,8 +171,11 @@ fn finish(
         types.types(),
     )?;
     let bound = types.types().len() as u32;
-    let locals = code(alloc, unstructured, offered, bound, items.front.funcs.len())?;
-    Ok(assembled(config, types, items, locals))
+    let count = items.front.funcs.len();
+    let allow_raw = config.allow_invalid_funcs;
+    let bodies = code(alloc, unstructured, offered, bound, count, allow_raw)?;
+    let customs = custom_sections(alloc, unstructured, config.generate_custom_sections)?;
+    Ok(assembled(config, types, items, bodies, customs))
 }
 
 // Draws a module, unless it has more than `most_types` types.
@@ -189,16 +203,26 @@ fn build(
     Ok(Some(finished))
 }
 
+// Returns true if the operators are raw bytes.
+fn is_raw(instructions: &Instructions) -> bool
+    ensures { result ≡ is_some (raw_bytes instructions.now) }
+{
+    match instructions {
+        Instructions::Raw(_) => true,
+        Instructions::Unreachable => false,
+    }
+}
+
 impl Module {
     ghost use Rattle.std.specs.Prelude.{◌≡◌, ◌≢◌, ◌≤◌, length, map, IfOk, IfErr, IfSome, IfNone};
     ghost use Rattle.std.specs.List.{AllByRecursion, IsDistinct};
-    ghost use Rattle.wasm_core_types.specs.CoreTypes.{val_type};
     ghost use Rattle.wasm_core_types.specs.SubTypes.{sub_type};
     ghost use Rattle.wasm_encoder_sections.specs.CoreItems.{memory_type};
     ghost use Rattle.wasm_spec.specs.Syntax.{members};
     ghost use Rattle.wasm_smith_config.specs.Config.{sanitized};
     ghost use Rattle.wasm_smith_externs.specs.Named.{HasPlainName, all_named, have_same_names};
     ghost use Rattle.wasm_smith_definitions.specs.Items as views;
+    ghost use Rattle.wasm_smith_validity.specs.MadeBodies.{is_raw_at};
     ghost use Rattle.wasm_smith_sections.specs.ModuleEncoding.{IsModuleEncoding, IsUnwritten};
     ghost use Rattle.wasm_smith_sections.specs.ModuleItems.{made_of};
     ghost use Rattle.wasm_smith_types.specs.Drawing.{total};
@@ -213,8 +237,9 @@ impl Module {
     /// # Errors
     ///
     /// [`Error::BadConfig`] names a field whose value [`Config::check`] doesn't allow; no bytes are taken then.
-    /// [`Error::IncorrectFormat`] is for items that are owed though none can be made: imports, tags, functions, exports, or segments. After it,
-    /// and after [`Error::Memory`], some of the source's bytes may be taken.
+    /// [`Error::IncorrectFormat`] is for items that are owed though none can be made: imports, tags, functions, exports, or segments.
+    /// [`Error::TypeSize`] is for exports of everything where the types of all imports and exports are larger together than is allowed. After
+    /// these, and after [`Error::Memory`], some of the source's bytes may be taken.
     pub fn new(
         alloc: alloc::Global,
         config: Config,
@@ -241,8 +266,8 @@ impl Module {
     ///
     /// # Errors
     ///
-    /// [`Error::BadConfig`] where the drawn configuration asks for what isn't supported, and [`Error::Memory`]: a drawn configuration has no minimum
-    /// above 0. Some of the source's bytes are taken then.
+    /// [`Error::TypeSize`] where the drawn configuration asks for exports of everything, whose types are too large, and [`Error::Memory`]: a
+    /// drawn configuration is allowed, and has no minimum above 0. Some of the source's bytes are taken then.
     pub fn arbitrary(
         alloc: alloc::Global,
         unstructured: &mut Unstructured<'_>,
@@ -423,11 +448,28 @@ impl Module {
         &self.data_segments
     }
 
-    /// Returns the locals of each function.
-    pub fn locals(&self) -> &[Vec<ValType>]
-        ensures { map (λ ls. map val_type ls.items) result.now ≡ self.now.made.locals }
+    /// Returns the body of each function that it defines.
+    pub fn bodies(&self) -> &[Code]
+        ensures { map views.made_body result.now ≡ self.now.made.bodies }
     {
-        &self.locals
+        &self.bodies
+    }
+
+    /// Returns true if the body of this function, by its number among those that the module defines, has raw bytes.
+    pub fn is_raw_body(&self, function: usize) -> bool
+        ensures { result ≡ is_raw_at self.now.made.bodies function }
+    {
+        match self.bodies.get(function) {
+            Some(body) => is_raw(&body.instructions),
+            None => false,
+        }
+    }
+
+    /// Returns its custom sections, in the order in which they were drawn.
+    pub fn custom_sections(&self) -> &[CustomSection]
+        ensures { map views.placed_custom result.now ≡ self.now.made.customs }
+    {
+        &self.customs
     }
 
     /// Returns its items, as they are written: with bulk memory, data segments are counted.
@@ -450,7 +492,8 @@ impl Module {
             start: self.start,
             elems: &self.elems,
             data_segments: &self.data_segments,
-            locals: &self.locals,
+            bodies: &self.bodies,
+            customs: &self.customs,
             data_count: self.config.bulk_memory_enabled,
         }
     }

@@ -1,10 +1,13 @@
 //! The test of all limits that a made module can pass.
 
-ghost use Rattle.std.specs.Prelude.{◌≡◌, ℕ, List, IfOk, IfSome, IfNone, MatchOption, length, map, true};
+ghost use Rattle.std.specs.Prelude.{◌≡◌, ℕ, List, IfOk, IfSome, IfNone, MatchOption, Some, length, map, false, true};
+ghost use Rattle.std.specs.List.{AllByRecursion};
+ghost use Rattle.wasm_core_types.specs.CoreTypes.{val_type};
 ghost use Rattle.wasm_core_types.specs.Limits.{limit};
-ghost use Rattle.wasm_smith_definitions.specs.Items.{element_items, element_segment};
-ghost use Rattle.wasm_smith_module.specs.Measured.{AreShort, HasNoOwn, HasShortNames, measured};
+ghost use Rattle.wasm_smith_definitions.specs.Items.{element_items, element_segment, made_body};
+ghost use Rattle.wasm_smith_module.specs.Measured.{AreShort, HasNoOwn, HasShortNames, IsLongBody, IsPassed, IsShortRaw, measured};
 ghost use Rattle.wasm_smith_module.specs.Measures.{counts_of, imported_items, numbers_of, segment_measures};
+ghost use Rattle.wasm_smith_sections.specs.ModuleEncoding.{SomeByRecursion};
 ghost use Rattle.wasm_smith_sections.specs.ModuleItems.{made_of};
 ghost use Rattle.wasm_smith_types.specs.Drawing.{total};
 ghost use Rattle.wasm_smith_types.specs.ValidGroups.{types_of};
@@ -12,13 +15,18 @@ ghost use Rattle.wasm_smith_validity.specs.Spaces.{spaces_of_types, with_items};
 ghost use Rattle.wasm_validity.specs.Rules.{Passes, are_within, count_of};
 
 use crate::counts::{count_of, exports_size};
+use crate::element_segments::count_items;
 use crate::imported::imported_spaces;
 use crate::sizes::imports_size;
 use std::alloc::{AllocError, Global};
 use wasm_core_types::limits::Limit;
+use wasm_core_types::types::ValType;
+use wasm_core_write::encode_error::EncodeError;
 use wasm_encoder_sections::entity_type::ExportKind;
+use wasm_smith_definitions::code::{Code, Instructions};
 use wasm_smith_definitions::index_spaces::IndexSpaces;
-use wasm_smith_definitions::segments::{ElementItems, ElementSegment};
+use wasm_smith_definitions::segments::ElementSegment;
+use wasm_smith_sections::bodies::raw_body_len;
 use wasm_smith_sections::module_items::ModuleItems;
 
 // Returns the first limit that its number passes.
@@ -65,10 +73,7 @@ fn passed_count(spaces: &IndexSpaces<'_>, items: &ModuleItems<'_>) -> Option<Lim
 fn item_count(segment: &ElementSegment) -> usize
     ensures { result ≡ count_of (element_items segment.now.items) }
 {
-    match &segment.items {
-        ElementItems::Functions(functions) => functions.len(),
-        ElementItems::Expressions(_, expressions) => expressions.len(),
-    }
+    count_items(&segment.items)
 }
 
 // Returns a limit that the number of items of a segment passes.
@@ -84,20 +89,60 @@ fn passed_segment(segments: &[ElementSegment]) -> Option<Limit>
     None
 }
 
-/// Returns a limit that a module of these items passes, if it passes one. Names and bodies aren't looked at: those that are drawn
-/// are far shorter than they may be.
+// Returns true if a body of these locals and raw bytes is longer than it may be.
+fn is_long(alloc: Global, locals: &[ValType], raw: &[u8]) -> Result<bool, AllocError>
+    ensures long { IfOk result (λ is. is ≡ true → IsLongBody (record { locals = map val_type locals.now; raw = Some raw.now })) }
+    ensures short { IfOk result (λ is. is ≡ false → IsShortRaw (record { locals = map val_type locals.now; raw = Some raw.now })) }
+{
+    match raw_body_len(alloc, locals, raw) {
+        Ok(len) => Ok(len as u64 > Limit::BodySize.max()),
+        Err(EncodeError::TooLong) => Ok(true),
+        Err(EncodeError::Memory) => Err(AllocError),
+    }
+}
+
+// Returns true if a body has raw bytes and is longer than it may be.
+fn is_long_body(alloc: Global, body: &Code) -> Result<bool, AllocError>
+    ensures long { IfOk result (λ is. is ≡ true → IsLongBody (made_body body.now)) }
+    ensures short { IfOk result (λ is. is ≡ false → IsShortRaw (made_body body.now)) }
+{
+    match &body.instructions {
+        Instructions::Unreachable => Ok(false),
+        Instructions::Raw(raw) => is_long(alloc, &body.locals, raw),
+    }
+}
+
+// Returns true if some body has raw bytes and is longer than it may be.
+fn has_long_body(alloc: Global, bodies: &[Code]) -> Result<bool, AllocError>
+    ensures long { IfOk result (λ is. is ≡ true → SomeByRecursion IsLongBody (map made_body bodies.now)) }
+    ensures short { IfOk result (λ is. is ≡ false → AllByRecursion IsShortRaw (map made_body bodies.now)) }
+{
+    for body in bodies {
+        if is_long_body(alloc, body)? {
+            return Ok(true);
+        }
+    }
+    Ok(false)
+}
+
+/// Returns a limit that a module of these items passes, if it passes one. Neither names nor bodies without raw bytes are looked at:
+/// those that are drawn are far shorter than they may be.
 ///
 /// # Errors
 /// Where memory runs out.
 pub fn passed_limit(alloc: Global, items: &ModuleItems<'_>) -> Result<Option<Limit>, AllocError>
     requires whole { total items.now.sizes.now ≡ length items.now.types.now }
-    ensures passed { IfOk result (λ found. IfSome found (λ l. (bodies : List (List ℕ)) → Passes (limit l) (numbers_of bodies (made_of items.now)))) }
+    ensures passed { IfOk result (λ found. IfSome found (IsPassed (made_of items.now))) }
     ensures within { IfOk result (λ found. IfNone found ((bodies : List (List ℕ)) → HasShortNames (made_of items.now) → AreShort bodies
         → are_within (numbers_of bodies (made_of items.now)) ≡ true)) }
+    ensures short { IfOk result (λ found. IfNone found (AllByRecursion IsShortRaw (made_of items.now).bodies)) }
 {
     let spaces = imported_spaces(alloc, items.types, items.imports)?;
     if let Some(limit) = passed_count(&spaces, items) {
         return Ok(Some(limit));
+    }
+    if has_long_body(alloc, items.bodies)? {
+        return Ok(Some(Limit::BodySize));
     }
     Ok(passed_segment(items.elems))
 }

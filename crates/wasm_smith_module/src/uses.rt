@@ -35,11 +35,11 @@ pub struct Uses {
     pub data_segments: Vec<DataSegment>,
 }
 
-/// Draws exports, then the start function, then element segments and data segments.
+/// Draws exports, or exports everything, then draws the start function, then element segments and data segments.
 ///
 /// # Errors
-/// [`Error::IncorrectFormat`] where exports or segments are owed that can't be made, and [`Error::Memory`]. Some of the source's bytes may be
-/// taken by then.
+/// [`Error::IncorrectFormat`] where exports or segments are owed that can't be made, [`Error::TypeSize`] where everything is exported and its types are
+/// too large, and [`Error::Memory`]. Some of the source's bytes may be taken by then.
 pub fn draw_uses(
     alloc: Global,
     unstructured: &mut Unstructured<'_>,

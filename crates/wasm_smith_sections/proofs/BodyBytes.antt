@@ -1,10 +1,13 @@
 -- The encodings of bodies are bytes.
-use Rattle.std.proofs.Common.{◌≡◌, ℕ, zero, suc, pos, ◌≤◌, ◌<◌, ◌^◌, true, false, List, [], ◌∷◌, length, map, replicate, refl, sym, subst, ap, inl, inr, arith}
+use Rattle.std.proofs.Common.{◌≡◌, ℕ, zero, suc, pos, ◌≤◌, ◌<◌, ◌^◌, true, false, List, [], ◌∷◌, length, map, replicate, Option, Some, None, refl, sym, subst, ap, inl, inr, arith}
 use Rattle.std.specs.List.{AllByRecursion}
 use Rattle.std.proofs.lemmas.List.{length-map}
 use Rattle.wasm_bodies.specs.Bodies.{Run}
 use Rattle.wasm_encoder_bodies.specs.Locals.{expansion, locals_encoding, run_encoding}
 use Rattle.wasm_smith_sections.specs.ModuleEncoding.{as_run, AreBodyEncodings, IsBodyEncoding}
+use Rattle.wasm_smith_sections.specs.SmallModules.{IsSmallBody, IsSmallRaw}
+use Rattle.wasm_smith_validity.specs.Made.{MadeBody}
+use Rattle.wasm_smith_validity.specs.MadeBodies.{code_of}
 use Rattle.wasm_smith_sections.proofs.Forms.{all_append, all_behind, list_bytes, number_bytes}
 use Rattle.wasm_spec.specs.Bytes.{IsByte, AreBytes}
 use Rattle.wasm_spec.specs.Shortest.{unsigned_encoding, signed_encoding}
@@ -48,21 +51,24 @@ small_runs ((suc count, type) ∷ runs) small some short =
 
 -- ---- bodies
 
-body_bytes : (locals : List (ValType ℕ)) (body : List ℕ) → AllByRecursion IsSmallValue locals → IsBodyEncoding locals body → AreBytes body
-body_bytes locals body small is =
+code_bytes : (raw : Option (List ℕ)) → IsSmallRaw raw → AreBytes (code_of raw)
+code_bytes None small = (omega arith, (omega arith, tt))
+code_bytes (Some raw) small = small
+
+body_bytes : (made : MadeBody) (body : List ℕ) → IsSmallBody made → IsBodyEncoding made body → AreBytes body
+body_bytes made body small is =
     let runs = map as_run is.runs in
     let few : length runs < 2 ^ 32 = subst (λ n. n < 2 ^ 32) (sym (length-map is.runs as_run)) is.writable.few in
-    let are = small_runs is.runs (subst (λ l. AllByRecursion IsSmallValue l) (sym is.joined.expand) small) is.joined.some is.writable.short in
-    subst (λ l. AreBytes l) (sym is.is) (all_append IsByte (locals_encoding runs) (0x00 ∷ 0x0b ∷ []) (list_bytes run_encoding IsSmallRun run_bytes runs are few) (omega arith, (omega arith, tt)))
+    let are = small_runs is.runs (subst (λ l. AllByRecursion IsSmallValue l) (sym is.joined.expand) small.0) is.joined.some is.writable.short in
+    subst (λ l. AreBytes l) (sym is.is) (all_append IsByte (locals_encoding runs) (code_of made.raw) (list_bytes run_encoding IsSmallRun run_bytes runs are few) (code_bytes made.raw small.1))
 
-pub bodies_bytes : (locals : List (List (ValType ℕ))) (bodies : List (List ℕ)) → AllByRecursion (AllByRecursion IsSmallValue) locals → AreBodyEncodings locals bodies
-    → AllByRecursion AreBytes bodies
+pub bodies_bytes : (made : List MadeBody) (bodies : List (List ℕ)) → AllByRecursion IsSmallBody made → AreBodyEncodings made bodies → AllByRecursion AreBytes bodies
 bodies_bytes [] [] small are = tt
 bodies_bytes [] (body ∷ bodies) small are = absurd are
 bodies_bytes (first ∷ others) [] small are = absurd are
 bodies_bytes (first ∷ others) (body ∷ bodies) small are = (body_bytes first body small.0 are.0, bodies_bytes others bodies small.1 are.1)
 
-pub as_many_bodies : (locals : List (List (ValType ℕ))) (bodies : List (List ℕ)) → AreBodyEncodings locals bodies → length bodies ≡ length locals
+pub as_many_bodies : (made : List MadeBody) (bodies : List (List ℕ)) → AreBodyEncodings made bodies → length bodies ≡ length made
 as_many_bodies [] [] are = refl
 as_many_bodies [] (body ∷ bodies) are = absurd are
 as_many_bodies (first ∷ others) [] are = absurd are

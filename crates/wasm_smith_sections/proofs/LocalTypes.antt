@@ -1,5 +1,5 @@
 -- The bodies of functions with some locals, from the types of these.
-use Rattle.std.proofs.Common.{◌≡◌, ℕ, zero, suc, ◌<◌, ◌≤◌, ◌^◌, List, [], ◌∷◌, ◌++◌, length, map, drop, get_or, Vec, Option, Some, refl, sym, ap, ◌∙◌, subst, arith, inl, inr, append_assoc}
+use Rattle.std.proofs.Common.{◌≡◌, ℕ, zero, suc, ◌<◌, ◌≤◌, ◌^◌, List, [], ◌∷◌, ◌++◌, length, map, drop, get_or, Option, Some, None, refl, sym, ap, ◌∙◌, subst, arith, inl, inr, append_assoc}
 use Rattle.std.specs.Iterator.{Drains, Yields, YieldsThen}
 use Rattle.std.proofs.lemmas.Iterator.{YieldsList, items_from_drains}
 use Rattle.std.proofs.lemmas.Iterator.Consumers.{YieldsList-so_far}
@@ -11,6 +11,9 @@ use Rattle.wasm_encoder_bodies.specs.Locals.{run_of, locals_encoding, AreRunsOf,
 use Rattle.wasm_encoder_instructions.specs.Instructions.{instruction_encoding}
 use Rattle.wasm_encoder_instructions.specs.OperatorEncodings.{operator_encoding, code_encoding}
 use Rattle.wasm_encoder_instructions.specs.declared.instruction.Instruction.TheVariants as instructions
+use Rattle.wasm_smith_definitions.specs.Items.{made_body}
+use Rattle.wasm_smith_definitions.specs.declared.code.Code.{Code}
+use Rattle.wasm_smith_validity.specs.MadeBodies.{code_of}
 use Rattle.wasm_smith_sections.specs.ModuleEncoding.{IsBodyEncoding, AreBodyEncodings, HasLongFront, SomeHaveLongFront}
 use Rattle.wasm_smith_sections.proofs.CodeTypes.{same_type}
 use Rattle.wasm_smith_sections.proofs.SeenRuns.{seen, runs_seen, are_runs, pass_length, writable}
@@ -33,14 +36,24 @@ begun {steps = steps} {s = s} {all = all} e xs x u y =
 
 -- ---- of locals
 
-pub body_of : (locals types : List ValType) (runs : List (ℕ × ValType)) (bytes : List ℕ) → types ≡ locals → AreRunsOf types runs → AreWritable runs → bytes ≡ locals_encoding (map run_of runs)
-    → IsBodyEncoding (map val_type locals) ((bytes ++ 0x00 ∷ []) ++ 0x0b ∷ [])
-body_of locals types runs bytes all are short is = record {
+-- the body of locals, from the types that an iterator gave
+with_code : (locals types : List ValType) (runs : List (ℕ × ValType)) (bytes : List ℕ) (raw : Option (List ℕ)) → types ≡ locals → AreRunsOf types runs → AreWritable runs
+    → bytes ≡ locals_encoding (map run_of runs) → IsBodyEncoding (record { locals = map val_type locals; raw = raw }) (bytes ++ code_of raw)
+with_code locals types runs bytes raw all are short is = record {
   runs = map (seen val_type) runs;
   joined = subst (λ l. AreRunsOf (map val_type l) (map (seen val_type) runs)) all (are_runs val_type same_type types runs are);
   writable = writable val_type runs short;
-  is = append_assoc bytes (0x00 ∷ []) (0x0b ∷ []) ∙ ap (λ l. l ++ 0x00 ∷ 0x0b ∷ []) (is ∙ ap locals_encoding (runs_seen runs));
+  is = ap (λ l. l ++ code_of raw) (is ∙ ap locals_encoding (runs_seen runs));
 }
+
+pub body_of : (locals types : List ValType) (runs : List (ℕ × ValType)) (bytes : List ℕ) → types ≡ locals → AreRunsOf types runs → AreWritable runs → bytes ≡ locals_encoding (map run_of runs)
+    → IsBodyEncoding (record { locals = map val_type locals; raw = None }) ((bytes ++ 0x00 ∷ []) ++ 0x0b ∷ [])
+body_of locals types runs bytes all are short is =
+    subst (IsBodyEncoding (record { locals = map val_type locals; raw = None })) (sym (append_assoc bytes (0x00 ∷ []) (0x0b ∷ []))) (with_code locals types runs bytes None all are short is)
+
+pub raw_body_of : (locals types : List ValType) (runs : List (ℕ × ValType)) (bytes raw : List ℕ) → types ≡ locals → AreRunsOf types runs → AreWritable runs
+    → bytes ≡ locals_encoding (map run_of runs) → IsBodyEncoding (record { locals = map val_type locals; raw = Some raw }) (bytes ++ raw)
+raw_body_of locals types runs bytes raw all are short is = with_code locals types runs bytes (Some raw) all are short is
 
 pub long_front : (locals front rest : List ValType) → locals ≡ front ++ rest → PassLength front → HasLongFront (map val_type locals)
 long_front locals front rest is pass = (
@@ -51,19 +64,17 @@ long_front locals front rest is pass = (
 )
 
 -- some of these have it where those at a place do
-pub some_at : {Z : Type 0} (locals : List (Vec ValType Z)) (i : ℕ) (own : Vec ValType Z) → i < length locals → own ≡ get_or locals i own → HasLongFront (map val_type own.items)
-    → SomeHaveLongFront (map (λ ls. map val_type ls.items) locals)
+pub some_at : (bodies : List Code) (i : ℕ) (own : Code) → i < length bodies → own ≡ get_or bodies i own → HasLongFront (made_body own).locals → SomeHaveLongFront (map made_body bodies)
 some_at [] i own within is h = absurd (omega (arith, within))
-some_at (first ∷ others) zero own within is h = inl (subst (λ (ls : Vec ValType _). HasLongFront (map val_type ls.items)) is h)
+some_at (first ∷ others) zero own within is h = inl (subst (λ (code : Code). HasLongFront (made_body code).locals) is h)
 some_at (first ∷ others) (suc i) own within is h = inr (some_at others i own (omega (arith, within)) is h)
 
 -- bodies of all, when none are left
-pub all_bodies : {Z : Type 0} (locals : List (Vec ValType Z)) (i : ℕ) (bodies : List (List ℕ)) → length locals ≤ i
-    → ((rest : List (List ℕ)) → AreBodyEncodings (map (λ ls. map val_type ls.items) (drop i locals)) rest → AreBodyEncodings (map (λ ls. map val_type ls.items) locals) (bodies ++ rest))
-    → AreBodyEncodings (map (λ ls. map val_type ls.items) locals) bodies
-all_bodies locals i bodies all kept =
-    let none = subst (λ (l : List (Vec ValType _)). AreBodyEncodings (map (λ ls. map val_type ls.items) l) []) (sym (drop_of_length-le locals all)) tt in
-    subst (λ l. AreBodyEncodings (map (λ ls. map val_type ls.items) locals) l) (append-nil bodies) (kept [] none)
+pub all_bodies : (made : List Code) (i : ℕ) (bodies : List (List ℕ)) → length made ≤ i
+    → ((rest : List (List ℕ)) → AreBodyEncodings (map made_body (drop i made)) rest → AreBodyEncodings (map made_body made) (bodies ++ rest)) → AreBodyEncodings (map made_body made) bodies
+all_bodies made i bodies all kept =
+    let none = subst (λ (l : List Code). AreBodyEncodings (map made_body l) []) (sym (drop_of_length-le made all)) tt in
+    subst (λ l. AreBodyEncodings (map made_body made) l) (append-nil bodies) (kept [] none)
 
 -- ---- the code of a body that never goes on
 

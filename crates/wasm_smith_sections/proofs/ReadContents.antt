@@ -1,7 +1,9 @@
 -- The contents of a section of a made module read as that section.
-use Rattle.std.proofs.Common.{Bool, List, [], ◌∷◌, refl}
+use Rattle.std.proofs.Common.{Bool, List, [], ◌∷◌, refl, arith, length-append}
 use Rattle.std.specs.List.{AllByRecursion, flat_map}
-use Rattle.wasm_encoder_sections.specs.SmallItems.{IsSmallLimits, IsSmallExport, IsSmallImport}
+use Rattle.wasm_encoder_sections.specs.SmallItems.{IsNameText, IsSmallLimits, IsSmallExport, IsSmallImport}
+use Rattle.wasm_encoder_sections.specs.ItemEncodings.{name_encoding}
+use Rattle.wasm_encoder_sections.proofs.ShortestImports as entries
 use Rattle.wasm_encoder_sections.proofs.ShortestSections as shortest
 use Rattle.wasm_smith_sections.specs.Contents.{content, data_bytes, element_bytes, global_bytes, section_bytes, table_bytes}
 use Rattle.wasm_smith_sections.specs.ModuleEncoding.{IsShortSection}
@@ -15,9 +17,9 @@ use Rattle.wasm_spec.specs.SmallIndexes.{IsSmallIndex, IsSmallGroup}
 use Rattle.wasm_spec.specs.Syntax.{Section, Custom, TypeSection, ImportSection, FunctionSection, TableSection, MemorySection, TagSection, GlobalSection, ExportSection, StartSection, ElementSection, DataCountSection, CodeSection, DataSection}
 use Rattle.wasm_spec.proofs.ShortestTypes as types
 
--- the items of a section are ones that bytes can state; a made module has no custom sections
+-- the items of a section are ones that bytes can state
 abbrev pub IsSmallSection : Bool → Section → Type 0
-IsSmallSection compact (Custom name contents) = ⊥
+IsSmallSection compact (Custom name contents) = IsNameText name × AreBytes contents
 IsSmallSection compact (TypeSection groups) = AllByRecursion IsSmallGroup groups
 IsSmallSection compact (ImportSection imports) = AllByRecursion (IsSmallImport compact) imports
 IsSmallSection compact (FunctionSection indexes) = AllByRecursion IsSmallIndex indexes
@@ -33,7 +35,8 @@ IsSmallSection compact (CodeSection bodies) = AllByRecursion AreBytes bodies
 IsSmallSection compact (DataSection segments) = AllByRecursion IsSmallData segments
 
 content_is : Laws → (compact : Bool) (section : Section) → IsSmallSection compact section → IsShortSection section → IsContent compact (content section) section
-content_is laws compact (Custom name contents) small short = absurd small
+content_is laws compact (Custom name contents) small short =
+    (name_encoding name, contents, refl, (entries.name name small.0 (omega (arith, short, length-append (name_encoding name) contents))).encodes, (small.1, refl))
 content_is laws compact (TypeSection groups) small short = (types.section compact groups small short).encodes
 content_is laws compact (ImportSection imports) small short = (shortest.imports compact imports small short).encodes
 content_is laws compact (FunctionSection indexes) small short = (shortest.functions compact indexes small short).encodes

@@ -1,18 +1,16 @@
 -- Frames one after the other, and how long they are.
 use Rattle.std.proofs.Common.{◌≡◌, ℕ, ◌+◌, ◌≤◌, ◌<◌, Bool, List, [], ◌∷◌, ◌++◌, length, map, drop, get_or, Option, Some, None, refl, ap, sym, ◌∙◌, subst, inl, inr, arith, length-append, if◌then◌else◌, Result, Ok, Err, IfOk}
 use Rattle.std.specs.List.{AllByRecursion, flat_map}
-use Rattle.std.specs.Option.{option_to_list}
-use Rattle.std.proofs.lemmas.List.{drop_more, drop_all, length-map}
+use Rattle.std.proofs.lemmas.List.{drop_more, drop_all}
 use Rattle.wasm_smith_sections.specs.Contents.{section_bytes}
-use Rattle.wasm_smith_sections.proofs.FilledParts.{code_of, count_of, data_of, elements_of, exports_of, functions_of, globals_of, imports_of, in_parts, memories_of, start_of, tables_of, tags_of, types_of}
-use Rattle.wasm_smith_sections.specs.FilledSections.{filled_frame, first_sections, frame, frame_bytes, IsLongFrame, IsShortFrame, last_sections, middle_sections}
+use Rattle.wasm_smith_sections.specs.FilledSections.{filled_frame, frame, frame_bytes, IsLongFrame, IsShortFrame}
 use Rattle.wasm_smith_sections.specs.ModuleEncoding.{AreBodyEncodings, IsLongSection, IsModuleEncoding, IsShortSection, PassesLength, SomeByRecursion}
 use Rattle.wasm_smith_sections.specs.declared.filled_section.FilledSection.{FilledSection}
 use Rattle.wasm_smith_validity.specs.Made.{Made}
-use Rattle.wasm_smith_validity.specs.Sections.{sections_with, unless_empty}
+use Rattle.wasm_smith_validity.specs.Sections.{sections_with}
 use Rattle.wasm_spec.specs.Grammar.{header}
 use Rattle.wasm_spec.specs.Shortest.{section_encoding}
-use Rattle.wasm_spec.specs.Syntax.{Section, TypeSection, ImportSection, FunctionSection, TableSection, MemorySection, TagSection, GlobalSection, ExportSection, StartSection, ElementSection, DataCountSection, CodeSection, DataSection}
+use Rattle.wasm_spec.specs.Syntax.{Section}
 
 -- ---- a loop over sections
 
@@ -73,7 +71,7 @@ long_section [] some = some
 long_section (section ∷ sections) (inl long) = inl long
 long_section (section ∷ sections) (inr some) = inr (long_section sections some)
 
-pub module_of : (counted : Bool) (m : Made) (bodies : List (List ℕ)) (frames : List (ℕ × List ℕ)) (bytes : List ℕ) → AreBodyEncodings m.locals bodies
+pub module_of : (counted : Bool) (m : Made) (bodies : List (List ℕ)) (frames : List (ℕ × List ℕ)) (bytes : List ℕ) → AreBodyEncodings m.bodies bodies
     → frames ≡ map frame (sections_with counted bodies m) → bytes ≡ header ++ flat_map frame_bytes frames → AllByRecursion IsShortFrame frames → IsModuleEncoding counted m bytes
 module_of counted m bodies frames bytes are made is short = record {
   bodies = bodies;
@@ -82,43 +80,10 @@ module_of counted m bodies frames bytes are made is short = record {
   is = is ∙ ap (λ l. header ++ l) (ap (flat_map frame_bytes) made ∙ bytes_are (sections_with counted bodies m));
 }
 
-pub too_long_of : (counted : Bool) (m : Made) (bodies : List (List ℕ)) (frames : List (ℕ × List ℕ)) → AreBodyEncodings m.locals bodies
+pub too_long_of : (counted : Bool) (m : Made) (bodies : List (List ℕ)) (frames : List (ℕ × List ℕ)) → AreBodyEncodings m.bodies bodies
     → frames ≡ map frame (sections_with counted bodies m) → SomeByRecursion IsLongFrame frames → PassesLength counted m
 too_long_of counted m bodies frames are made some =
     inr (inr (inr (bodies, are, long_section (sections_with counted bodies m) (subst (SomeByRecursion IsLongFrame) made some))))
-
--- ---- there are few of them
-
-one_at_most : {A : Type 0} (section : List A → Section) (items : List A) → length (unless_empty section items) ≤ 1
-one_at_most section [] = omega arith
-one_at_most section (item ∷ items) = omega arith
-
-start_at_most : (start : Option ℕ) → length (map (λ function. StartSection function) (option_to_list start)) ≤ 1
-start_at_most None = omega arith
-start_at_most (Some function) = omega arith
-
-five_at_most : (a b d e f : List Section) → length a ≤ 1 → length b ≤ 1 → length d ≤ 1 → length e ≤ 1 → length f ≤ 1 → length (a ++ (b ++ (d ++ (e ++ f)))) ≤ 5
-five_at_most a b d e f p q r s t =
-    omega (arith, p, q, r, s, t, length-append a (b ++ (d ++ (e ++ f))), length-append b (d ++ (e ++ f)), length-append d (e ++ f), length-append e f)
-
-pub few_sections : (counted : Bool) (m : Made) (bodies : List (List ℕ)) → length (sections_with counted bodies m) ≤ 13
-few_sections counted m bodies =
-    let count : length (count_of counted m) ≤ 1 = one_at_most (λ segments. DataCountSection (length segments)) (if counted then m.data_segments else []) in
-    let code : length (code_of bodies) ≤ 1 = one_at_most (λ xs. CodeSection xs) bodies in
-    let segments : length (data_of m) ≤ 1 = one_at_most (λ xs. DataSection xs) m.data_segments in
-    let first : length (first_sections m) ≤ 5 = five_at_most (types_of m) (imports_of m) (functions_of m) (tables_of m) (memories_of m) (one_at_most (λ xs. TypeSection xs) m.groups)
-    (one_at_most (λ xs. ImportSection xs) m.imports) (one_at_most (λ xs. FunctionSection xs) m.funcs) (one_at_most (λ xs. TableSection xs) m.tables) (one_at_most (λ xs. MemorySection xs) m.memories) in
-    let middle : length (middle_sections m) ≤ 5 = five_at_most (tags_of m) (globals_of m) (exports_of m) (start_of m) (elements_of m) (one_at_most (λ xs. TagSection xs) m.tags)
-    (one_at_most (λ xs. GlobalSection xs) m.globals) (one_at_most (λ xs. ExportSection xs) m.exports) (start_at_most m.start) (one_at_most (λ xs. ElementSection xs) m.elems) in
-    let last : length (last_sections counted bodies m) ≤ 3 =
-    omega (arith, count, code, segments, length-append (count_of counted m) (code_of bodies ++ data_of m), length-append (code_of bodies) (data_of m)) in
-    subst (λ l. length l ≤ 13) (in_parts counted bodies m)
-    (omega (arith, first, middle, last, length-append (first_sections m) (middle_sections m ++ last_sections counted bodies m), length-append (middle_sections m) (last_sections counted bodies m)))
-
-pub few_filled : (counted : Bool) (m : Made) (bodies : List (List ℕ)) (sections : List FilledSection) → map filled_frame sections ≡ map frame (sections_with counted bodies m)
-    → length sections ≤ 13
-few_filled counted m bodies sections made =
-    omega (arith, sym (length-map sections filled_frame) ∙ ap length made ∙ length-map (sections_with counted bodies m) frame, few_sections counted m bodies)
 
 -- ---- two clauses of one result
 

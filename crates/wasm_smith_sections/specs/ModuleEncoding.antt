@@ -9,7 +9,8 @@ use Rattle.wasm_spec.specs.Syntax.{Section}
 use Rattle.wasm_spec.specs.Types.{ValType}
 use Rattle.wasm_smith_config.specs.declared.error.Error.{Error}
 use Rattle.wasm_smith_config.specs.declared.error.Error.TheVariants.{IncorrectFormat, EmptyChoose, NotEnoughData, BadConfig, BadShape, TypeSize, Memory, TooLong}
-use Rattle.wasm_smith_validity.specs.Made.{Made}
+use Rattle.wasm_smith_validity.specs.Made.{Made, MadeBody}
+use Rattle.wasm_smith_validity.specs.MadeBodies.{code_of}
 use Rattle.wasm_smith_validity.specs.Sections.{sections_with}
 use Rattle.wasm_smith_sections.specs.Contents.{content, section_bytes, stated_count}
 
@@ -19,16 +20,15 @@ use Rattle.wasm_smith_sections.specs.Contents.{content, section_bytes, stated_co
 abbrev pub as_run : ℕ × ValType ℕ → Run
 as_run run = record { count = run.0; type = run.1 }
 
--- The encoding of a body of these locals and the operator `unreachable`.
-pub record IsBodyEncoding (locals : List (ValType ℕ)) (encoding : List ℕ) : Type 0 where
+-- The encoding of a body: runs of its locals, and what follows them.
+pub record IsBodyEncoding (made : MadeBody) (encoding : List ℕ) : Type 0 where
   pub runs : List (ℕ × ValType ℕ)
-  pub joined : AreRunsOf locals runs
+  pub joined : AreRunsOf made.locals runs
   pub writable : AreWritable runs
-  pub is : encoding ≡ locals_encoding (map as_run runs) ++ 0x00 ∷ 0x0b ∷ []
+  pub is : encoding ≡ locals_encoding (map as_run runs) ++ code_of made.raw
 
--- each of the locals has its body
-abbrev pub AreBodyEncodings : List (List (ValType ℕ)) → List (List ℕ) → Type 0
-AreBodyEncodings locals bodies = AllZip IsBodyEncoding locals bodies
+abbrev pub AreBodyEncodings : List MadeBody → List (List ℕ) → Type 0
+AreBodyEncodings made bodies = AllZip IsBodyEncoding made bodies
 
 -- ---- modules
 
@@ -42,7 +42,7 @@ IsShortSection section = length (content section) < 2 ^ 32
 
 pub record IsModuleEncoding (counted : Bool) (m : Made) (encoding : List ℕ) : Type 0 where
   pub bodies : List (List ℕ)
-  pub are : AreBodyEncodings m.locals bodies
+  pub are : AreBodyEncodings m.bodies bodies
   pub short : AllByRecursion IsShortSection (sections_with counted bodies m)
   pub is : encoding ≡ encoding_with counted m bodies
 
@@ -57,9 +57,9 @@ SomeByRecursion P (item ∷ items) = P item ⊎ SomeByRecursion P items
 abbrev pub HasLongFront : List (ValType ℕ) → Type 0
 HasLongFront locals = (front rest : List (ValType ℕ)) × (locals ≡ front ++ rest) × PassLength front
 
-abbrev pub SomeHaveLongFront : List (List (ValType ℕ)) → Type 0
+abbrev pub SomeHaveLongFront : List MadeBody → Type 0
 SomeHaveLongFront [] = ⊥
-SomeHaveLongFront (locals ∷ others) = HasLongFront locals ⊎ SomeHaveLongFront others
+SomeHaveLongFront (body ∷ others) = HasLongFront body.locals ⊎ SomeHaveLongFront others
 
 abbrev pub HasManyItems : Section → Type 0
 HasManyItems section = 2 ^ 32 ≤ stated_count section
@@ -71,9 +71,9 @@ IsLongSection section = 2 ^ 32 ≤ length (content section)
 -- content of a section.
 abbrev pub PassesLength : Bool → Made → Type 0
 PassesLength counted m = SomeByRecursion HasManyItems (sections_with counted [] m)
-    ⊎ (2 ^ 32 ≤ length m.locals)
-    ⊎ SomeHaveLongFront m.locals
-    ⊎ ((bodies : List (List ℕ)) × AreBodyEncodings m.locals bodies × SomeByRecursion IsLongSection (sections_with counted bodies m))
+    ⊎ (2 ^ 32 ≤ length m.bodies)
+    ⊎ SomeHaveLongFront m.bodies
+    ⊎ ((bodies : List (List ℕ)) × AreBodyEncodings m.bodies bodies × SomeByRecursion IsLongSection (sections_with counted bodies m))
 
 -- why a made module isn't written
 abbrev pub IsUnwritten : Bool → Made → Error → Type 0

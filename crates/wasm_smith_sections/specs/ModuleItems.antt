@@ -1,9 +1,8 @@
 -- The items of a module that is to be written, as those of a made module.
 use Rattle.std.specs.Prelude.{map}
-use Rattle.wasm_core_types.specs.CoreTypes.{val_type}
 use Rattle.wasm_core_types.specs.SubTypes.{sub_type}
 use Rattle.wasm_encoder_sections.specs.CoreItems.{memory_type}
-use Rattle.wasm_smith_definitions.specs.Items.{import_entry, table, global, export, element_segment, data_segment}
+use Rattle.wasm_smith_definitions.specs.Items.{import_entry, table, global, export, element_segment, data_segment, made_body, placed_custom}
 use Rattle.wasm_smith_sections.specs.declared.module_items.ModuleItems.{ModuleItems}
 use Rattle.wasm_smith_types.specs.Grouped.{grouped}
 use Rattle.wasm_smith_validity.specs.Made.{Made}
@@ -21,5 +20,6 @@ made_of it = record {
   start = it.start;
   elems = map element_segment it.elems.now;
   data_segments = map data_segment it.data_segments.now;
-  locals = map (λ ls. map val_type ls.items) it.locals.now;
+  bodies = map made_body it.bodies.now;
+  customs = map placed_custom it.customs.now;
 }

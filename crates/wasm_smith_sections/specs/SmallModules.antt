@@ -1,10 +1,10 @@
 -- Made modules that bytes can state: numbers fit their widths, names are UTF-8, and the format has a form for each segment.
-use Rattle.std.specs.Prelude.{◌≡◌, zero, ◌<◌, ◌^◌, ⊤, Bool, true, length, Option, Some, None}
+use Rattle.std.specs.Prelude.{◌≡◌, ℕ, zero, ◌<◌, ◌^◌, ⊤, Bool, List, true, length, Option, Some, None}
 use Rattle.std.specs.List.{AllByRecursion}
 use Rattle.wasm_encoder_expression_sections.specs.ReadItems.{IsSmallOption}
 use Rattle.wasm_encoder_instructions.specs.SmallOperators.{IsSmallSigned}
-use Rattle.wasm_encoder_sections.specs.SmallItems.{IsSmallLimits, IsSmallTable, IsSmallGlobal, IsSmallExport, IsSmallImport}
-use Rattle.wasm_smith_validity.specs.Made.{Made}
+use Rattle.wasm_encoder_sections.specs.SmallItems.{IsNameText, IsSmallLimits, IsSmallTable, IsSmallGlobal, IsSmallExport, IsSmallImport}
+use Rattle.wasm_smith_validity.specs.Made.{Made, MadeBody, PlacedCustom}
 use Rattle.wasm_spec.specs.Bytes.{AreBytes}
 use Rattle.wasm_spec.specs.Constants.{ConstantOperator, I32Const, I64Const, F32Const, F64Const, V128Const, RefNull, RefFunc, GlobalGet, I32Add, I32Sub, I32Mul, I64Add, I64Sub, I64Mul, ConstantExpression}
 use Rattle.wasm_spec.specs.SmallIndexes.{IsSmallIndex, IsSmallHeap, IsSmallValue, IsSmallGroup}
@@ -83,6 +83,18 @@ abbrev pub IsReadable : Bool → ImportEntry → Type 0
 IsReadable compact (Import origin name type) = ⊤
 IsReadable compact _ = compact ≡ true
 
+-- ---- bodies and custom sections
+
+abbrev pub IsSmallRaw : Option (List ℕ) → Type 0
+IsSmallRaw None = ⊤
+IsSmallRaw (Some raw) = AreBytes raw
+
+abbrev pub IsSmallBody : MadeBody → Type 0
+IsSmallBody body = AllByRecursion IsSmallValue body.locals × IsSmallRaw body.raw
+
+abbrev pub IsSmallCustom : PlacedCustom → Type 0
+IsSmallCustom custom = IsNameText custom.name × AreBytes custom.contents
+
 -- ---- modules
 
 -- A made module that bytes can state, where compact imports are on or not.
@@ -98,4 +110,5 @@ pub record IsSmallModule (compact : Bool) (m : Made) : Type 0 where
   pub start : IsSmallOption m.start
   pub elems : AllByRecursion IsSmallElement m.elems
   pub data_segments : AllByRecursion IsSmallData m.data_segments
-  pub locals : AllByRecursion (AllByRecursion IsSmallValue) m.locals
+  pub bodies : AllByRecursion IsSmallBody m.bodies
+  pub customs : AllByRecursion IsSmallCustom m.customs

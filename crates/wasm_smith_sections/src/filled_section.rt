@@ -7,6 +7,7 @@ ghost use Rattle.wasm_spec.specs.Shortest.{framed_encoding};
 use wasm_core_write::encode::{Encode, Section};
 use wasm_core_write::encode_error::EncodeError;
 use wasm_core_write::type_section::TypeSection;
+use wasm_encoder_custom::custom_section::CustomSection;
 use wasm_encoder_expression_sections::code_section::CodeSection;
 use wasm_encoder_expression_sections::data_section::DataSection;
 use wasm_encoder_expression_sections::element_section::ElementSection;
@@ -22,7 +23,7 @@ use wasm_encoder_sections::tag_section::TagSection;
 
 /// A filled section.
 #[derive(Drop)]
-pub enum FilledSection {
+pub enum FilledSection<'a> {
     /// Types.
     Types(TypeSection),
     /// Imports.
@@ -49,9 +50,11 @@ pub enum FilledSection {
     Code(CodeSection),
     /// Data segments.
     Data(DataSection),
+    /// A name, and any bytes.
+    Custom(CustomSection<'a>),
 }
 
-impl Encode for FilledSection {
+impl Encode for FilledSection<'_> {
     ghost encoding = { λ s. framed_encoding (filled_content s) };
 
     ghost longest = { λ s. length (filled_content s) };
@@ -71,6 +74,7 @@ impl Encode for FilledSection {
             FilledSection::DataCount(section) => section.encode(sink),
             FilledSection::Code(section) => section.encode(sink),
             FilledSection::Data(section) => section.encode(sink),
+            FilledSection::Custom(section) => section.encode(sink),
         }
     }
 
@@ -89,11 +93,12 @@ impl Encode for FilledSection {
             FilledSection::DataCount(section) => section.encoded_len(),
             FilledSection::Code(section) => section.encoded_len(),
             FilledSection::Data(section) => section.encoded_len(),
+            FilledSection::Custom(section) => section.encoded_len(),
         }
     }
 }
 
-impl Section for FilledSection {
+impl Section for FilledSection<'_> {
     ghost number = { filled_id };
 
     fn id(&self) -> u8 {
@@ -111,6 +116,7 @@ impl Section for FilledSection {
             FilledSection::DataCount(section) => section.id(),
             FilledSection::Code(section) => section.id(),
             FilledSection::Data(section) => section.id(),
+            FilledSection::Custom(section) => section.id(),
         }
     }
 }

@@ -2,7 +2,6 @@
 
 ghost use Rattle.std.specs.Prelude.{◌≡◌, ◌⊎◌, ◌≤◌, ◌<◌, ◌+◌, ◌++◌, ◌∷◌, [], ◌^◌, ℕ, List, length, map, IfOk, IfErr, if◌then◌else◌};
 ghost use Rattle.std.specs.Option.{option_to_list};
-ghost use Rattle.wasm_core_types.specs.CoreTypes.{val_type};
 ghost use Rattle.wasm_core_types.specs.SubTypes.{sub_type};
 ghost use Rattle.wasm_encoder_sections.specs.CoreItems.{memory_type};
 ghost use Rattle.wasm_smith_definitions.specs.Items as items;
@@ -11,7 +10,7 @@ ghost use Rattle.wasm_smith_sections.specs.ModuleEncoding.{AreBodyEncodings, Pas
 ghost use Rattle.wasm_smith_sections.specs.ModuleItems.{made_of};
 ghost use Rattle.wasm_smith_types.specs.Drawing.{total};
 ghost use Rattle.wasm_smith_types.specs.Grouped.{grouped};
-ghost use Rattle.wasm_smith_validity.specs.Sections.{sections_with, unless_empty};
+ghost use Rattle.wasm_smith_validity.specs.Sections.{customs_before, section_of, sections_with, unless_empty};
 ghost use Rattle.wasm_spec.specs.Syntax as spec;
 
 use crate::bodies::code_section;
@@ -24,11 +23,15 @@ use crate::sections::{
 use crate::segments::{data_section, element_section};
 use crate::types::type_section;
 use std::alloc::Global;
-use wasm_core_types::types::{SubType, ValType};
+use std::borrow::{CowSlice, CowStr};
+use wasm_core_types::types::SubType;
 use wasm_core_write::encode_error::EncodeError;
+use wasm_encoder_custom::custom_section as encoder;
 use wasm_encoder_sections::data_count_section::DataCountSection;
 use wasm_encoder_sections::entity_type::MemoryType;
 use wasm_encoder_sections::start_section::StartSection;
+use wasm_smith_definitions::code::Code;
+use wasm_smith_definitions::custom_section::CustomSection;
 use wasm_smith_definitions::imports::ImportEntry;
 use wasm_smith_definitions::items;
 use wasm_smith_definitions::items::{Export, Table};
@@ -38,12 +41,12 @@ use wasm_smith_definitions::segments::{DataSegment, ElementSegment};
 ///
 /// # Errors
 /// `TooLong` where a count or a run is past 4,294,967,295, and else `Memory`.
-pub fn filled_sections(
+pub fn filled_sections<'a>(
     alloc: Global,
-    made: &ModuleItems<'_>,
-) -> Result<Vec<FilledSection>, EncodeError>
+    made: &ModuleItems<'a>,
+) -> Result<Vec<FilledSection<'a>>, EncodeError>
     requires whole { total made.now.sizes.now ≡ length made.now.types.now }
-    ensures kept { IfOk result (λ sections. (bodies : List (List ℕ)) × AreBodyEncodings (made_of made.now).locals bodies × (map filled_frame sections.items ≡ map frame (sections_with made.now.data_count bodies (made_of made.now)))) }
+    ensures kept { IfOk result (λ sections. (bodies : List (List ℕ)) × AreBodyEncodings (made_of made.now).bodies bodies × (map filled_frame sections.items ≡ map frame (sections_with made.now.data_count bodies (made_of made.now)))) }
     ensures too_long { IfErr result (λ e. e ≡ EncodeError.TooLong → PassesLength made.now.data_count (made_of made.now)) }
 {
     let mut sections = Vec::new(alloc);
@@ -53,60 +56,102 @@ pub fn filled_sections(
     Ok(sections)
 }
 
-// Adds the sections from types to memories.
-fn add_first(
+// Adds the sections from types to memories, and the custom sections before each.
+fn add_first<'a>(
     alloc: Global,
-    made: &ModuleItems<'_>,
-    sections: &mut Vec<FilledSection>,
+    made: &ModuleItems<'a>,
+    sections: &mut Vec<FilledSection<'a>>,
 ) -> Result<(), EncodeError>
     requires whole { total made.now.sizes.now ≡ length made.now.types.now }
     ensures added { IfOk result (λ _. AddSections sections.old.items sections.new.items (first_sections (made_of made.now))) }
     ensures too_long { IfErr result (λ e. e ≡ EncodeError.TooLong → PassesLength made.now.data_count (made_of made.now)) }
 {
+    add_customs(0, made.customs, sections)?;
     add_types(alloc, made.types, made.sizes, sections)?;
+    add_customs(1, made.customs, sections)?;
     add_imports(alloc, made.imports, sections)?;
+    add_customs(2, made.customs, sections)?;
     add_functions(alloc, made.funcs, sections)?;
+    add_customs(3, made.customs, sections)?;
     add_tables(alloc, made.tables, sections)?;
+    add_customs(4, made.customs, sections)?;
     add_memories(alloc, made.memories, sections)
 }
 
-// Adds the sections from tags to element segments.
-fn add_middle(
+// Adds the sections from tags to element segments, and the custom sections before each.
+fn add_middle<'a>(
     alloc: Global,
-    made: &ModuleItems<'_>,
-    sections: &mut Vec<FilledSection>,
+    made: &ModuleItems<'a>,
+    sections: &mut Vec<FilledSection<'a>>,
 ) -> Result<(), EncodeError>
     ensures added { IfOk result (λ _. AddSections sections.old.items sections.new.items (middle_sections (made_of made.now))) }
     ensures too_long { IfErr result (λ e. e ≡ EncodeError.TooLong → PassesLength made.now.data_count (made_of made.now)) }
 {
+    add_customs(5, made.customs, sections)?;
     add_tags(alloc, made.tags, sections)?;
+    add_customs(6, made.customs, sections)?;
     add_globals(alloc, made.globals, sections)?;
+    add_customs(7, made.customs, sections)?;
     add_exports(alloc, made.exports, sections)?;
+    add_customs(8, made.customs, sections)?;
     add_start(made.start, sections)?;
+    add_customs(9, made.customs, sections)?;
     add_elements(alloc, made.elems, sections)
 }
 
-// Adds the sections from the number of data segments to these.
-fn add_last(
+// Adds the sections from the number of data segments to these, and the custom sections before each and behind them.
+fn add_last<'a>(
     alloc: Global,
-    made: &ModuleItems<'_>,
-    sections: &mut Vec<FilledSection>,
+    made: &ModuleItems<'a>,
+    sections: &mut Vec<FilledSection<'a>>,
 ) -> Result<(), EncodeError>
-    ensures added { IfOk result (λ _. (bodies : List (List ℕ)) × AreBodyEncodings (made_of made.now).locals bodies × (AddSections sections.old.items sections.new.items (last_sections made.now.data_count bodies (made_of made.now)))) }
+    ensures added { IfOk result (λ _. (bodies : List (List ℕ)) × AreBodyEncodings (made_of made.now).bodies bodies × (AddSections sections.old.items sections.new.items (last_sections made.now.data_count bodies (made_of made.now)))) }
     ensures too_long { IfErr result (λ e. e ≡ EncodeError.TooLong → PassesLength made.now.data_count (made_of made.now)) }
 {
+    add_customs(10, made.customs, sections)?;
     add_data_count(made.data_count, made.data_segments, sections)?;
-    add_code(alloc, made.locals, sections)?;
-    add_data(alloc, made.data_segments, sections)
+    add_customs(11, made.customs, sections)?;
+    add_code(alloc, made.bodies, sections)?;
+    add_customs(12, made.customs, sections)?;
+    add_data(alloc, made.data_segments, sections)?;
+    add_customs(13, made.customs, sections)
+}
+
+// Adds the custom sections of a place.
+fn add_customs<'a>(
+    place: u32,
+    customs: &'a [CustomSection],
+    sections: &mut Vec<FilledSection<'a>>,
+) -> Result<(), EncodeError>
+    ensures added { IfOk result (λ _. AddSections sections.old.items sections.new.items (customs_before place (map items.placed_custom customs.now))) }
+    ensures memory_alone { IfErr result (λ e. e ≡ EncodeError.Memory) }
+{
+    for custom in customs {
+        if custom.place == place {
+            sections.push(custom_section(custom))?;
+        }
+    }
+    Ok(())
+}
+
+// Returns a custom section as it is written.
+#[tactic(auto, unfolding(wasm_encoder_custom::specs::CustomSections::custom_content))]
+fn custom_section(custom: &CustomSection) -> FilledSection<'_>
+    ensures { filled_frame result ≡ frame (section_of (items.placed_custom custom.now)) }
+{
+    FilledSection::Custom(encoder::CustomSection {
+        name: CowStr::Borrowed(&custom.name),
+        data: CowSlice::Borrowed(&custom.data),
+    })
 }
 
 // Adds a section, unless it is empty.
-fn add(
-    section: FilledSection,
+fn add<'a>(
+    section: FilledSection<'a>,
     is_empty: bool,
-    sections: &mut Vec<FilledSection>,
+    sections: &mut Vec<FilledSection<'a>>,
 ) -> Result<(), EncodeError>
-    ensures added { IfOk result (λ _. map filled_frame sections.new.items ≡ map filled_frame sections.old.items ++ (if is_empty then [] else filled_frame section ∷ [])) }
+    ensures added { IfOk result (λ _. map filled_frame sections.new.items ≡ map filled_frame sections.old.items ++ (if is_empty then [] else filled_frame section.entry ∷ [])) }
     ensures memory_alone { IfErr result (λ e. e ≡ EncodeError.Memory) }
 {
     if is_empty {
@@ -121,7 +166,7 @@ fn add_types(
     alloc: Global,
     types: &[SubType],
     sizes: &[u32],
-    sections: &mut Vec<FilledSection>,
+    sections: &mut Vec<FilledSection<'_>>,
 ) -> Result<(), EncodeError>
     requires whole { total sizes.now ≡ length types.now }
     ensures added { IfOk result (λ _. AddSections sections.old.items sections.new.items (unless_empty (λ xs. spec.TypeSection xs) (grouped sizes.now (map sub_type types.now)))) }
@@ -136,7 +181,7 @@ fn add_types(
 fn add_imports(
     alloc: Global,
     imports: &[ImportEntry],
-    sections: &mut Vec<FilledSection>,
+    sections: &mut Vec<FilledSection<'_>>,
 ) -> Result<(), EncodeError>
     ensures added { IfOk result (λ _. AddSections sections.old.items sections.new.items (unless_empty (λ xs. spec.ImportSection xs) (map items.import_entry imports.now))) }
     ensures too_long { IfErr result (λ e. e ≡ EncodeError.TooLong → 2 ^ 32 ≤ length imports.now) }
@@ -150,7 +195,7 @@ fn add_imports(
 fn add_functions(
     alloc: Global,
     funcs: &[u32],
-    sections: &mut Vec<FilledSection>,
+    sections: &mut Vec<FilledSection<'_>>,
 ) -> Result<(), EncodeError>
     ensures added { IfOk result (λ _. AddSections sections.old.items sections.new.items (unless_empty (λ xs. spec.FunctionSection xs) funcs.now)) }
     ensures too_long { IfErr result (λ e. e ≡ EncodeError.TooLong → 2 ^ 32 ≤ length funcs.now) }
@@ -164,7 +209,7 @@ fn add_functions(
 fn add_tables(
     alloc: Global,
     tables: &[Table],
-    sections: &mut Vec<FilledSection>,
+    sections: &mut Vec<FilledSection<'_>>,
 ) -> Result<(), EncodeError>
     ensures added { IfOk result (λ _. AddSections sections.old.items sections.new.items (unless_empty (λ xs. spec.TableSection xs) (map items.table tables.now))) }
     ensures too_long { IfErr result (λ e. e ≡ EncodeError.TooLong → 2 ^ 32 ≤ length tables.now) }
@@ -178,7 +223,7 @@ fn add_tables(
 fn add_memories(
     alloc: Global,
     memories: &[MemoryType],
-    sections: &mut Vec<FilledSection>,
+    sections: &mut Vec<FilledSection<'_>>,
 ) -> Result<(), EncodeError>
     ensures added { IfOk result (λ _. AddSections sections.old.items sections.new.items (unless_empty (λ xs. spec.MemorySection xs) (map memory_type memories.now))) }
     ensures too_long { IfErr result (λ e. e ≡ EncodeError.TooLong → 2 ^ 32 ≤ length memories.now) }
@@ -192,7 +237,7 @@ fn add_memories(
 fn add_tags(
     alloc: Global,
     tags: &[u32],
-    sections: &mut Vec<FilledSection>,
+    sections: &mut Vec<FilledSection<'_>>,
 ) -> Result<(), EncodeError>
     ensures added { IfOk result (λ _. AddSections sections.old.items sections.new.items (unless_empty (λ xs. spec.TagSection xs) tags.now)) }
     ensures too_long { IfErr result (λ e. e ≡ EncodeError.TooLong → 2 ^ 32 ≤ length tags.now) }
@@ -206,7 +251,7 @@ fn add_tags(
 fn add_globals(
     alloc: Global,
     globals: &[items::Global],
-    sections: &mut Vec<FilledSection>,
+    sections: &mut Vec<FilledSection<'_>>,
 ) -> Result<(), EncodeError>
     ensures added { IfOk result (λ _. AddSections sections.old.items sections.new.items (unless_empty (λ xs. spec.GlobalSection xs) (map items.global globals.now))) }
     ensures too_long { IfErr result (λ e. e ≡ EncodeError.TooLong → 2 ^ 32 ≤ length globals.now) }
@@ -220,7 +265,7 @@ fn add_globals(
 fn add_exports(
     alloc: Global,
     exports: &[Export],
-    sections: &mut Vec<FilledSection>,
+    sections: &mut Vec<FilledSection<'_>>,
 ) -> Result<(), EncodeError>
     ensures added { IfOk result (λ _. AddSections sections.old.items sections.new.items (unless_empty (λ xs. spec.ExportSection xs) (map items.export exports.now))) }
     ensures too_long { IfErr result (λ e. e ≡ EncodeError.TooLong → 2 ^ 32 ≤ length exports.now) }
@@ -231,7 +276,7 @@ fn add_exports(
 }
 
 // Adds the function that the module starts with, if there is one.
-fn add_start(start: Option<u32>, sections: &mut Vec<FilledSection>) -> Result<(), EncodeError>
+fn add_start(start: Option<u32>, sections: &mut Vec<FilledSection<'_>>) -> Result<(), EncodeError>
     ensures added { IfOk result (λ _. AddSections sections.old.items sections.new.items (map (λ f. spec.StartSection f) (option_to_list start))) }
     ensures memory_alone { IfErr result (λ e. e ≡ EncodeError.Memory) }
 {
@@ -246,7 +291,7 @@ fn add_start(start: Option<u32>, sections: &mut Vec<FilledSection>) -> Result<()
 fn add_elements(
     alloc: Global,
     segments: &[ElementSegment],
-    sections: &mut Vec<FilledSection>,
+    sections: &mut Vec<FilledSection<'_>>,
 ) -> Result<(), EncodeError>
     ensures added { IfOk result (λ _. AddSections sections.old.items sections.new.items (unless_empty (λ xs. spec.ElementSection xs) (map items.element_segment segments.now))) }
     ensures too_long { IfErr result (λ e. e ≡ EncodeError.TooLong → 2 ^ 32 ≤ length segments.now) }
@@ -260,7 +305,7 @@ fn add_elements(
 fn add_data_count(
     counted: bool,
     segments: &[DataSegment],
-    sections: &mut Vec<FilledSection>,
+    sections: &mut Vec<FilledSection<'_>>,
 ) -> Result<(), EncodeError>
     ensures added { IfOk result (λ _. AddSections sections.old.items sections.new.items (unless_empty (λ xs. spec.DataCountSection (length xs)) (if counted then map items.data_segment segments.now else []))) }
     ensures too_long { IfErr result (λ e. e ≡ EncodeError.TooLong → 2 ^ 32 ≤ length segments.now) }
@@ -278,13 +323,13 @@ fn add_data_count(
 // Adds the bodies.
 fn add_code(
     alloc: Global,
-    locals: &[Vec<ValType>],
-    sections: &mut Vec<FilledSection>,
+    bodies: &[Code],
+    sections: &mut Vec<FilledSection<'_>>,
 ) -> Result<(), EncodeError>
-    ensures added { IfOk result (λ _. (bodies : List (List ℕ)) × AreBodyEncodings (map (λ ls. map val_type ls.items) locals.now) bodies × (AddSections sections.old.items sections.new.items (unless_empty (λ xs. spec.CodeSection xs) bodies))) }
-    ensures too_long { IfErr result (λ e. e ≡ EncodeError.TooLong → (2 ^ 32 ≤ length locals.now) ⊎ SomeHaveLongFront (map (λ ls. map val_type ls.items) locals.now)) }
+    ensures added { IfOk result (λ _. (encodings : List (List ℕ)) × AreBodyEncodings (map items.made_body bodies.now) encodings × (AddSections sections.old.items sections.new.items (unless_empty (λ xs. spec.CodeSection xs) encodings))) }
+    ensures too_long { IfErr result (λ e. e ≡ EncodeError.TooLong → (2 ^ 32 ≤ length bodies.now) ⊎ SomeHaveLongFront (map items.made_body bodies.now)) }
 {
-    let section = code_section(alloc, locals)?;
+    let section = code_section(alloc, bodies)?;
     let is_empty = section.is_empty();
     add(FilledSection::Code(section), is_empty, sections)
 }
@@ -293,7 +338,7 @@ fn add_code(
 fn add_data(
     alloc: Global,
     segments: &[DataSegment],
-    sections: &mut Vec<FilledSection>,
+    sections: &mut Vec<FilledSection<'_>>,
 ) -> Result<(), EncodeError>
     ensures added { IfOk result (λ _. AddSections sections.old.items sections.new.items (unless_empty (λ xs. spec.DataSection xs) (map items.data_segment segments.now))) }
     ensures too_long { IfErr result (λ e. e ≡ EncodeError.TooLong → 2 ^ 32 ≤ length segments.now) }

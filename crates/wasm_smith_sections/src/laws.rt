@@ -14,7 +14,7 @@ use wasm_encoder_expression_sections::laws::{bodies_read, items_read};
 
 /// The encoding of a made module whose numbers fit their widths and whose names are UTF-8 reads as its sections.
 pub fn modules_read()
-    ensures { (compact counted : Bool) (m : Made) (encoding : List ℕ) (is : IsModuleEncoding counted m encoding) → IsSmallModule compact m → length m.locals ≡ length m.funcs
+    ensures { (compact counted : Bool) (m : Made) (encoding : List ℕ) (is : IsModuleEncoding counted m encoding) → IsSmallModule compact m → length m.bodies ≡ length m.funcs
         → IsModule compact encoding (sections_with counted is.bodies m) }
 {
     bodies_read();

@@ -1,7 +1,9 @@
 //! The items of a module that is to be written.
 
-use wasm_core_types::types::{SubType, ValType};
+use wasm_core_types::types::SubType;
 use wasm_encoder_sections::entity_type::MemoryType;
+use wasm_smith_definitions::code::Code;
+use wasm_smith_definitions::custom_section::CustomSection;
 use wasm_smith_definitions::imports::ImportEntry;
 use wasm_smith_definitions::items::{Export, Global, Table};
 use wasm_smith_definitions::segments::{DataSegment, ElementSegment};
@@ -33,8 +35,10 @@ pub struct ModuleItems<'a> {
     pub elems: &'a [ElementSegment],
     /// The data segments.
     pub data_segments: &'a [DataSegment],
-    /// The locals of each function, whose body is `unreachable`.
-    pub locals: &'a [Vec<ValType>],
+    /// The body of each function.
+    pub bodies: &'a [Code],
+    /// The custom sections.
+    pub customs: &'a [CustomSection],
     /// Whether the number of data segments is stated before the bodies, where there are some.
     pub data_count: bool,
 }

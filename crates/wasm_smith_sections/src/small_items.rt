@@ -2,13 +2,15 @@
 
 ghost use Rattle.std.specs.Prelude.{◌≡◌, map, option_map};
 ghost use Rattle.std.specs.List.{AllByRecursion};
-ghost use Rattle.wasm_smith_definitions.specs.Items.{data_mode, element_items, element_mode, expression};
+ghost use Rattle.wasm_smith_definitions.specs.Items.{data_mode, element_items, element_mode, expression, raw_bytes};
 ghost use Rattle.wasm_smith_definitions.specs.declared.segments.ElementItems.{ElementItems};
-ghost use Rattle.wasm_smith_sections.specs.SmallModules.{AreSmallItems, IsSmallDataMode, IsSmallElementMode, IsSmallExpression, IsSmallInitialiser};
+ghost use Rattle.wasm_smith_sections.specs.SmallModules.{AreSmallItems, IsSmallDataMode, IsSmallElementMode, IsSmallExpression, IsSmallInitialiser, IsSmallRaw};
 
 use crate::small::{Small, are_small, bytes_are_small, indexes_are_small};
-use crate::small_types::heap_is_small;
+use crate::small_types::{heap_is_small, values_are_small};
+use wasm_smith_definitions::code::{Code, Instructions};
 use wasm_smith_definitions::constant::Constant;
+use wasm_smith_definitions::custom_section::CustomSection;
 use wasm_smith_definitions::imports::{ImportEntry, ImportItem};
 use wasm_smith_definitions::items;
 use wasm_smith_definitions::items::{Export, Table};
@@ -209,6 +211,38 @@ impl Small for DataSegment {
 
     fn is_small(&self) {
         data_mode_is_small(&self.mode);
+        bytes_are_small(&self.data);
+    }
+}
+
+fn instructions_are_small(instructions: &Instructions)
+    ensures { IsSmallRaw (raw_bytes instructions.now) }
+{
+    if let Instructions::Raw(bytes) = instructions {
+        bytes_are_small(bytes);
+    }
+}
+
+impl Small for Code {
+    ghost use Rattle.wasm_smith_definitions.specs.Items.{made_body};
+    ghost use Rattle.wasm_smith_sections.specs.SmallModules.{IsSmallBody};
+
+    ghost fits = { λ code. IsSmallBody (made_body code) };
+
+    fn is_small(&self) {
+        values_are_small(&self.locals);
+        instructions_are_small(&self.instructions);
+    }
+}
+
+impl Small for CustomSection {
+    ghost use Rattle.wasm_smith_definitions.specs.Items.{placed_custom};
+    ghost use Rattle.wasm_smith_sections.specs.SmallModules.{IsSmallCustom};
+
+    ghost fits = { λ section. IsSmallCustom (placed_custom section) };
+
+    fn is_small(&self) {
+        self.name.is_small();
         bytes_are_small(&self.data);
     }
 }

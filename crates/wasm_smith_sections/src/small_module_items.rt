@@ -1,16 +1,12 @@
 //! That bytes can state the items of a module, by their types.
 
-ghost use Rattle.std.specs.Prelude.{Bool, map};
+ghost use Rattle.std.specs.Prelude.{Bool};
 ghost use Rattle.std.specs.List.{AllByRecursion};
-ghost use Rattle.wasm_core_types.specs.CoreTypes.{val_type};
 ghost use Rattle.wasm_smith_sections.specs.ModuleItems.{made_of};
 ghost use Rattle.wasm_smith_sections.specs.SmallModules.{IsReadable, IsSmallModule};
-ghost use Rattle.wasm_spec.specs.SmallIndexes.{IsSmallValue};
 
 use crate::module_items::ModuleItems;
 use crate::small::{are_small, indexes_are_small, narrow_is_small};
-use crate::small_types::values_are_small;
-use wasm_core_types::types::ValType;
 
 /// Bytes can state these items, where compact imports are on, or where no import is compact. Nothing is done.
 pub fn items_are_small(made: &ModuleItems<'_>)
@@ -27,13 +23,6 @@ pub fn items_are_small(made: &ModuleItems<'_>)
     narrow_is_small(made.start);
     are_small(made.elems);
     are_small(made.data_segments);
-    locals_are_small(made.locals);
-}
-
-fn locals_are_small(locals: &[Vec<ValType>])
-    ensures { AllByRecursion (AllByRecursion IsSmallValue) (map (λ ls. map val_type ls.items) locals.now) }
-{
-    for own in locals {
-        values_are_small(own);
-    }
+    are_small(made.bodies);
+    are_small(made.customs);
 }

@@ -32,8 +32,7 @@ pub fn write_module(alloc: Global, made: &ModuleItems<'_>) -> Result<Vec<u8>, En
 }
 
 // Returns the header and these sections.
-fn write_sections(alloc: Global, sections: &[FilledSection]) -> Result<Vec<u8>, EncodeError>
-    requires few { length sections.now ≤ 13 }
+fn write_sections(alloc: Global, sections: &[FilledSection<'_>]) -> Result<Vec<u8>, EncodeError>
     ensures written { IfOk result (λ bytes. bytes.items ≡ header ++ flat_map frame_bytes (map filled_frame sections.now)) }
     ensures short { IfOk result (λ _. AllByRecursion IsShortFrame (map filled_frame sections.now)) }
     ensures too_long { IfErr result (λ e. e ≡ EncodeError.TooLong → SomeByRecursion IsLongFrame (map filled_frame sections.now)) }
@@ -46,21 +45,24 @@ fn write_sections(alloc: Global, sections: &[FilledSection]) -> Result<Vec<u8>, 
 }
 
 // Returns how many bytes there are, so that they grow once.
-fn total_len(sections: &[FilledSection]) -> Result<usize, EncodeError>
-    requires few { length sections.now ≤ 13 }
+fn total_len(sections: &[FilledSection<'_>]) -> Result<usize, EncodeError>
     ensures exact { IfOk result (λ len. len ≡ 8 + length (flat_map frame_bytes (map filled_frame sections.now))) }
     ensures short { IfOk result (λ _. AllByRecursion IsShortFrame (map filled_frame sections.now)) }
     ensures too_long { IfErr result (λ e. e ≡ EncodeError.TooLong → SomeByRecursion IsLongFrame (map filled_frame sections.now)) }
 {
-    let mut len = HEADER.len() as u64;
+    let mut len = HEADER.len() as u128;
     for section in sections {
-        len += section_len(section)?;
+        let more = section_len(section)?;
+        len += u128::from(more);
     }
-    Ok(len as usize)
+    let Ok(len) = usize::try_from(len) else {
+        return Err(EncodeError::Memory);
+    };
+    Ok(len)
 }
 
 // Returns the number of bytes of a section with its id.
-fn section_len(section: &FilledSection) -> Result<u64, EncodeError>
+fn section_len(section: &FilledSection<'_>) -> Result<u64, EncodeError>
     ensures exact { IfOk result (λ len. len ≡ length (frame_bytes (filled_frame section.now))) }
     ensures short { IfOk result (λ len. IsShortFrame (filled_frame section.now)) }
     ensures few { IfOk result (λ len. len ≤ 2 ^ 33) }
@@ -70,7 +72,7 @@ fn section_len(section: &FilledSection) -> Result<u64, EncodeError>
 }
 
 // Appends these sections.
-fn append_all(sections: &[FilledSection], bytes: &mut Vec<u8>) -> Result<(), EncodeError>
+fn append_all(sections: &[FilledSection<'_>], bytes: &mut Vec<u8>) -> Result<(), EncodeError>
     ensures appended { IfOk result (λ _. bytes.new.items ≡ bytes.old.items ++ flat_map frame_bytes (map filled_frame sections.now)) }
     ensures too_long { IfErr result (λ e. e ≡ EncodeError.TooLong → SomeByRecursion IsLongFrame (map filled_frame sections.now)) }
 {
@@ -81,7 +83,7 @@ fn append_all(sections: &[FilledSection], bytes: &mut Vec<u8>) -> Result<(), Enc
 }
 
 // Appends a section with its id.
-fn append(section: &FilledSection, bytes: &mut Vec<u8>) -> Result<(), EncodeError>
+fn append(section: &FilledSection<'_>, bytes: &mut Vec<u8>) -> Result<(), EncodeError>
     ensures appended { IfOk result (λ _. bytes.new.items ≡ bytes.old.items ++ frame_bytes (filled_frame section.now)) }
     ensures too_long { IfErr result (λ e. e ≡ EncodeError.TooLong → IsLongFrame (filled_frame section.now)) }
 {

@@ -41,11 +41,8 @@ const CHECKED: &str = "
     max_type_size=2147483649 | max_type_size
     max_memory32_bytes=4294967297 | max_memory32_bytes
     max_memory64_bytes=18446744073709551617 | max_memory64_bytes
-    // Configurations of which no module can be made.
-    export_everything=yes | export_everything
-    allow_invalid_funcs=yes | allow_invalid_funcs
-    generate_custom_sections=yes | generate_custom_sections
-    disallow_traps=yes | disallow_traps
+    // All that can be asked for.
+    export_everything=yes allow_invalid_funcs=yes generate_custom_sections=yes disallow_traps=yes | allowed
 ";
 
 fn holds(_alloc: Global, row: &str) -> Option<bool> {
@@ -56,5 +53,5 @@ fn holds(_alloc: Global, row: &str) -> Option<bool> {
 
 #[test]
 fn bad_fields_are_named(rt: HostRuntime) -> Result<(), Fail> {
-    Ok(check_rows(rt.alloc(), CHECKED, 24, holds)?)
+    Ok(check_rows(rt.alloc(), CHECKED, 21, holds)?)
 }

@@ -12,13 +12,13 @@ use wasm_test_rows::shown::{debugs, debugs_same, displays};
 use wasm_test_rows::values::bytes_of;
 use wasm_test_types::types::sub_types_of;
 
-/// A configuration, the bytes, the types that are made, and the functions with their locals. Where no module is made, the
+/// A configuration, the bytes, the types that are made, and the functions with their bodies. Where no module is made, the
 /// third field is `refused`, and then there is the cause.
 pub const MADE: &str = "
     | | | ([], [])
-    | 01 00 00 00 01 | func -> | ([0], [[]])
-    | 01 01 00 00 00 00 01 | func i32 -> | ([0], [[]])
-    | 01 00 00 00 01 00 01 04 | func -> | ([0], [[V128]])
+    | 01 00 00 00 01 | func -> | ([0], [Code { locals: [], instructions: Unreachable }])
+    | 01 01 00 00 00 00 01 | func i32 -> | ([0], [Code { locals: [], instructions: Unreachable }])
+    | 01 00 00 00 01 00 01 04 | func -> | ([0], [Code { locals: [V128], instructions: Unreachable }])
     | 01 00 01 05 02 | func -> exn? | ([], [])
     min_types=2 | | func ->, func -> | ([], [])
     // With garbage collection: an open structure and its clone, two structures that refer to each other, and an array of itself and its clone.
@@ -26,7 +26,8 @@ pub const MADE: &str = "
     gc_enabled=yes | 01 01 00 01 01 00 05 00 01 01 00 00 00 01 01 00 05 00 01 | struct 1?, struct 0? | ([], [])
     gc_enabled=yes | 01 00 00 02 00 05 00 01 00 01 01 00 | array 0?, array 1? | ([], [])
     // A function is of a function type, and its locals refer to types.
-    gc_enabled=yes | 01 00 00 01 00 01 00 00 00 00 00 00 00 01 00 01 05 01 01 01 | struct, func -> | ([1], [[Ref(RefType { nullable: false, heap_type: Concrete(1) })]])
+    gc_enabled=yes | 01 00 00 01 00 01 00 00 00 00 00 00 00 01 00 01 05 01 01 01 | struct, func -> | ([1], [Code { locals: [Ref(RefType { nullable: false, heap_type: Concrete(1) })], instructions: Unreachable }])
+    allow_invalid_funcs=yes | 01 00 00 00 01 00 00 01 ff 01 | func -> | ([0], [Code { locals: [], instructions: Raw([255]) }])
     gc_enabled=yes min_funcs=1 | 01 00 00 01 00 00 | refused | incorrect format
     max_types=0 min_funcs=1 | | refused | incorrect format
     min_types=1 max_types=0 | | refused | bad configuration: min_types
@@ -40,9 +41,9 @@ fn has_types(alloc: Global, module: &Module, types: &str) -> bool {
     holds
 }
 
-/// Checks that a module has this configuration, these types, and these functions and locals.
+/// Checks that a module has this configuration, these types, and these functions and bodies.
 pub fn has_parts(alloc: Global, module: &Module, config: Config, types: &str, rest: &str) -> bool {
-    let parts = (module.funcs(), module.locals());
+    let parts = (module.funcs(), module.bodies());
     module.config() == &config && has_types(alloc, module, types) && debugs(alloc, &parts, rest)
 }
 
@@ -81,6 +82,8 @@ const SHOWN: &str = "
     start | Some(0)
     elems | [ElementSegment { mode: Active { table: 0, offset: I32(0) }, items: Functions([0]) }]
     data | []
+    custom_sections | []
+    is_raw_body | false
 ";
 
 // Checks what an accessor of a module shows.
@@ -95,6 +98,8 @@ fn shows(alloc: Global, module: &Module, accessor: &str, expected: &str) -> Opti
         "start" => Some(debugs(alloc, &module.start(), expected)),
         "elems" => Some(debugs(alloc, &module.elems(), expected)),
         "data" => Some(debugs(alloc, &module.data(), expected)),
+        "custom_sections" => Some(debugs(alloc, &module.custom_sections(), expected)),
+        "is_raw_body" => Some(debugs(alloc, &module.is_raw_body(0), expected)),
         _ => None,
     }
 }
@@ -112,10 +117,10 @@ fn is_shown(alloc: Global, row: &str) -> Option<bool> {
 
 #[test]
 fn modules_show_their_items(rt: HostRuntime) -> Result<(), Fail> {
-    Ok(check_rows(rt.alloc(), SHOWN, 9, is_shown)?)
+    Ok(check_rows(rt.alloc(), SHOWN, 11, is_shown)?)
 }
 
 #[test]
 fn modules_are_made_of_bytes(rt: HostRuntime) -> Result<(), Fail> {
-    Ok(check_rows(rt.alloc(), MADE, 13, holds)?)
+    Ok(check_rows(rt.alloc(), MADE, 14, holds)?)
 }

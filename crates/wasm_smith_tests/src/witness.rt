@@ -119,13 +119,13 @@ fn are_sizes(sizes: &[u32], groups: &[Vec<SubType>]) -> bool {
 
 // Checks that a module has just these groups and functions, without locals.
 fn has_lists(alloc: Global, module: &Module, groups: &[Vec<SubType>], funcs: &[u32]) -> bool {
-    for locals in module.locals() {
-        if !locals.is_empty() {
+    for body in module.bodies() {
+        if !body.locals.is_empty() {
             return false;
         }
     }
     module.funcs() == funcs
-        && module.locals().len() == funcs.len()
+        && module.bodies().len() == funcs.len()
         && are_sizes(module.group_sizes(), groups)
         && are_types(alloc, module.types(), groups)
 }

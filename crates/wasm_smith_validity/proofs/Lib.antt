@@ -1,3 +1,4 @@
+pub mod CustomSections
 mod FunctionTypes
 pub mod IndexedContext
 mod LocalRuns

@@ -5,7 +5,8 @@ use Rattle.std.proofs.lemmas.List.{length-replicate}
 use Rattle.std.proofs.lemmas.List.Sums.{sum_by-cons}
 use Rattle.wasm_bodies.specs.Bodies.{Run}
 use Rattle.wasm_spec.specs.Types.{ValType}
-use Rattle.wasm_smith_validity.specs.UnreachableBodies.{AreMerged, IsUnreachableBody}
+use Rattle.wasm_smith_validity.specs.MadeBodies.{AreMerged, IsMadeBody}
+use Rattle.wasm_smith_validity.specs.Made.{MadeBody}
 
 -- what runs stand for
 abbrev unrolled : List Run → List (ValType ℕ)
@@ -30,9 +31,9 @@ runs_hold P (run ∷ runs) some h =
     (first_holds P run.count run.type (unrolled runs) some.0 h, runs_hold P runs some.1 (rest_holds P run.count run.type (unrolled runs) h))
 
 -- what holds of each of the locals of a body holds of each run's type
-pub runs_are : (P : ValType ℕ → Type 0) (locals : List (ValType ℕ)) (body : List ℕ) (b : IsUnreachableBody locals body) → AllByRecursion P locals
+pub runs_are : (P : ValType ℕ → Type 0) (made : MadeBody) (body : List ℕ) (b : IsMadeBody made body) → AllByRecursion P made.locals
     → AllByRecursion (λ run. P run.type) b.runs
-runs_are P locals body b h =
+runs_are P made body b h =
     runs_hold P b.runs (none_empty b.runs b.merged) (subst (λ l. AllByRecursion P l) (sym b.locals_are) h)
 
 pub counts_are : (runs : List Run) → sum_by (λ run. run.count) runs ≡ length (unrolled runs)

@@ -13,11 +13,12 @@ use Rattle.wasm_smith_types.specs.ValidGroups.{types_of}
 use Rattle.wasm_smith_types.proofs.ListLaws.{all_append}
 use Rattle.wasm_smith_validity.specs.Made.{Made}
 use Rattle.wasm_smith_validity.specs.Rules.{KeepAll}
-use Rattle.wasm_smith_validity.specs.Sections.{unless_empty, sections_with}
+use Rattle.wasm_smith_validity.specs.Sections.{unless_empty, ordered_sections, sections_with, kinds_with}
 use Rattle.wasm_smith_validity.specs.Spaces.{Spaces, spaces_of_types, spaces_after, spaces_after_all}
 use Rattle.wasm_smith_validity.specs.Validity.{IsValidByIndex, made_entries}
 use Rattle.wasm_smith_validity.proofs.MadeGroups.{KeepRulesBehind, of_groups, typed, groups_keep, groups_stand, rules_behind, rules_together, spaces_known, spaces_together}
 use Rattle.wasm_smith_validity.proofs.IndexedContext.{IsBehind}
+use Rattle.wasm_smith_validity.proofs.CustomSections.{rules_between}
 use Rattle.wasm_smith_validity.proofs.MeantEntries.{rules_as}
 
 -- ---- one after the other
@@ -74,7 +75,7 @@ counts_said : (segments : List DataSegment) (others : List Section) (rest : List
 counts_said [] others rest e = e
 counts_said (segment ∷ segments) others rest e = rw e refl
 
-data_said : (segments : List DataSegment) → entries_of (unless_empty (λ xs. DataSection xs) segments) ≡ map (λ x. OfData x) segments
+data_said : (segments : List DataSegment) → entries_of (unless_empty (λ xs. DataSection xs) segments ++ []) ≡ map (λ x. OfData x) segments
 data_said [] = refl
 data_said (segment ∷ segments) = append-nil (map (λ x. OfData x) (segment ∷ segments))
 
@@ -97,7 +98,7 @@ behind_types_said counted bodies m =
     ++ (of_bodies bodies
     ++ map (λ x. OfData x) m.data_segments))))))))))
 
-pub sections_say : (counted : Bool) (bodies : List (List ℕ)) (m : Made) → entries_of (sections_with counted bodies m) ≡ of_groups m.groups ++ behind_types_said counted bodies m
+pub sections_say : (counted : Bool) (bodies : List (List ℕ)) (m : Made) → entries_of (ordered_sections counted bodies m) ≡ of_groups m.groups ++ behind_types_said counted bodies m
 sections_say counted bodies m =
     said entries_in (λ xs. TypeSection xs) (λ xs. map (λ x. OfType x) xs) (λ xs. refl) refl m.groups _ _
     (said entries_in (λ xs. ImportSection xs) (λ xs. map (λ x. OfImport x) xs) (λ xs. refl) refl m.imports _ _
@@ -181,9 +182,9 @@ behind_types_kept features k a b c d e f g h i counts bodies segments silent_cou
     let with_bodies = insert features k front bodies segments silent_bodies together in
     subst (KeepAll features k) (sym (regroup a b c d e f g h i (counts ++ (bodies ++ segments)))) (insert features k front counts (bodies ++ segments) silent_counts with_bodies)
 
-pub rules_kept : (features : Features) (m : Made) (counted : Bool) (bodies : List (List ℕ)) → IsValidByIndex features m → length (types_of m.groups) ≤ most Types
-    → (counted ≡ true → has features BulkMemory ≡ true) → KeepRules features at_first (entries_of (sections_with counted bodies m))
-rules_kept features m counted bodies valid few on =
+ordered_rules : (features : Features) (m : Made) (counted : Bool) (bodies : List (List ℕ)) → IsValidByIndex features m → length (types_of m.groups) ≤ most Types
+    → (counted ≡ true → has features BulkMemory ≡ true) → KeepRules features at_first (entries_of (ordered_sections counted bodies m))
+ordered_rules features m counted bodies valid few on =
     let types = types_of m.groups in
     let rules = rules_of features m valid in
     let kept = behind_types_kept features (spaces_of_types types)
@@ -195,3 +196,8 @@ rules_kept features m counted bodies valid few on =
     subst (KeepRules features at_first) (sym (sections_say counted bodies m))
     (rules_append features at_first (of_groups m.groups) (behind_types_said counted bodies m) (groups_keep features m.groups rules.valid few)
     (rules_as features types (typed m.groups) (groups_stand features m.groups rules.valid) few (behind_types_said counted bodies m) (said_behind counted bodies m) known))
+
+pub rules_kept : (features : Features) (m : Made) (counted : Bool) (bodies : List (List ℕ)) → IsValidByIndex features m → length (types_of m.groups) ≤ most Types
+    → (counted ≡ true → has features BulkMemory ≡ true) → KeepRules features at_first (entries_of (sections_with counted bodies m))
+rules_kept features m counted bodies valid few on =
+    rules_between features m.customs (kinds_with counted bodies m) at_first (ordered_rules features m counted bodies valid few on)

@@ -6,7 +6,8 @@ use Rattle.std.proofs.lemmas.List.{append-nil}
 use Rattle.wasm_spec.specs.Syntax.{Section, TypeSection, ImportSection, FunctionSection, TableSection, MemorySection, TagSection, GlobalSection, ExportSection, StartSection, ElementSection, DataCountSection, CodeSection, DataSection, DataSegment, members, types_in, types_of as written_types, functions_in, functions_of, bodies_in, bodies_of}
 use Rattle.wasm_smith_types.specs.ValidGroups.{types_of}
 use Rattle.wasm_smith_validity.specs.Made.{Made}
-use Rattle.wasm_smith_validity.specs.Sections.{unless_empty, sections_with}
+use Rattle.wasm_smith_validity.specs.Sections.{kinds_with, unless_empty, sections_with}
+use Rattle.wasm_smith_validity.proofs.CustomSections.{nothing_between}
 use Rattle.wasm_smith_validity.proofs.MadeSections.{said}
 
 -- ---- sections that have none
@@ -21,7 +22,7 @@ silent_start f none None others rest e = e
 silent_start f none (Some function) others rest e = rw (none function) e
 
 silent_data : {B : Type 0} (f : Section → List B) → ((segments : List DataSegment) → f (DataSection segments) ≡ []) → (segments : List DataSegment)
-    → flat_map f (unless_empty (λ xs. DataSection xs) segments) ≡ []
+    → flat_map f (unless_empty (λ xs. DataSection xs) segments ++ []) ≡ []
 silent_data f none [] = refl
 silent_data f none (segment ∷ segments) = rw (none (segment ∷ segments)) refl
 
@@ -29,6 +30,7 @@ silent_data f none (segment ∷ segments) = rw (none (segment ∷ segments)) ref
 
 pub types_are : (counted : Bool) (bodies : List (List ℕ)) (m : Made) → written_types (sections_with counted bodies m) ≡ types_of m.groups
 types_are counted bodies m =
+    nothing_between types_in (λ name contents. refl) 0 m.customs (kinds_with counted bodies m) ∙
     said types_in (λ xs. TypeSection xs) (λ xs. flat_map members xs) (λ xs. refl) refl m.groups _ _
     (silent types_in (λ xs. ImportSection xs) (λ xs. refl) m.imports _ _
     (silent types_in (λ xs. FunctionSection xs) (λ xs. refl) m.funcs _ _
@@ -45,6 +47,7 @@ types_are counted bodies m =
 
 pub functions_are : (counted : Bool) (bodies : List (List ℕ)) (m : Made) → functions_of (sections_with counted bodies m) ≡ m.funcs
 functions_are counted bodies m =
+    nothing_between functions_in (λ name contents. refl) 0 m.customs (kinds_with counted bodies m) ∙
     silent functions_in (λ xs. TypeSection xs) (λ xs. refl) m.groups _ _
     (silent functions_in (λ xs. ImportSection xs) (λ xs. refl) m.imports _ _
     (said functions_in (λ xs. FunctionSection xs) (λ xs. xs) (λ xs. refl) refl m.funcs _ _
@@ -61,6 +64,7 @@ functions_are counted bodies m =
 
 pub bodies_are : (counted : Bool) (bodies : List (List ℕ)) (m : Made) → bodies_of (sections_with counted bodies m) ≡ bodies
 bodies_are counted bodies m =
+    nothing_between bodies_in (λ name contents. refl) 0 m.customs (kinds_with counted bodies m) ∙
     silent bodies_in (λ xs. TypeSection xs) (λ xs. refl) m.groups _ _
     (silent bodies_in (λ xs. ImportSection xs) (λ xs. refl) m.imports _ _
     (silent bodies_in (λ xs. FunctionSection xs) (λ xs. refl) m.funcs _ _

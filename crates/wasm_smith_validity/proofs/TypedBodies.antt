@@ -1,5 +1,5 @@
 -- The bodies of made modules are well typed, whatever their encodings.
-use Rattle.std.proofs.Common.{◌≡◌, ℕ, zero, suc, ◌<◌, ◌≤◌, Bool, true, false, nat_lt, List, [], ◌∷◌, length, reverse, Option, Some, None, option_map, is_some, slice_get, refl, ap, arith}
+use Rattle.std.proofs.Common.{◌≡◌, ℕ, zero, suc, ◌<◌, ◌≤◌, Bool, true, false, nat_lt, List, [], ◌∷◌, ◌++◌, length, reverse, Option, Some, None, option_map, is_some, slice_get, refl, ap, ◌∙◌, arith}
 use Rattle.std.specs.List.{AllByRecursion}
 use Rattle.std.proofs.lemmas.Bool.{and_parts}
 use Rattle.wasm_bodies.specs.Bodies.{Run, IsWritten, IsFunctionBody, IsBodyOf, simple, done}
@@ -13,7 +13,8 @@ use Rattle.wasm_spec.specs.Types.{Abstract, Concrete, ValType, I32, I64, F32, F6
 use Rattle.wasm_validity.specs.ModuleBodies.{named_from}
 use Rattle.wasm_smith_validity.specs.Spaces.{is_named, is_value}
 use Rattle.wasm_smith_validity.proofs.MeantTypes.{is_named_value, named_of}
-use Rattle.wasm_smith_validity.specs.UnreachableBodies.{IsUnreachableBody}
+use Rattle.wasm_smith_validity.specs.MadeBodies.{IsMadeBody, code_of}
+use Rattle.wasm_smith_validity.specs.Made.{MadeBody}
 use Rattle.wasm_smith_validity.proofs.LocalRuns.{counts_are, runs_are}
 
 -- ---- typing
@@ -94,18 +95,18 @@ end : (features : Features) → IsOperator features (0x0b ∷ []) End
 end features = (0x0b ∷ [], [], refl, (refl, omega arith, refl), refl)
 
 -- in any module with so many types
-pub body_is_typed : {R : Type 0} (features : Features) (items : ModuleItems R) (types : List (SubType ℕ)) (type : FuncType R) (locals : List (ValType ℕ)) (body : List ℕ)
-    → HasTypes items (length types) → length type.params ≤ 1000 → length locals ≤ 100 → AllByRecursion (λ local. is_value features types local ≡ true) locals
-    → IsUnreachableBody locals body → IsFunctionBody features items type body
-body_is_typed features items types type locals body has few_params few valid b = record {
+pub body_is_typed : {R : Type 0} (features : Features) (items : ModuleItems R) (types : List (SubType ℕ)) (type : FuncType R) (made : MadeBody) (body : List ℕ)
+    → HasTypes items (length types) → length type.params ≤ 1000 → length made.locals ≤ 100 → AllByRecursion (λ local. is_value features types local ≡ true) made.locals
+    → made.raw ≡ None → IsMadeBody made body → IsFunctionBody features items type body
+body_is_typed features items types type made body has few_params few valid none b = record {
   runs = b.runs;
   operators = Unreachable ∷ End ∷ [];
   locals_encoding = b.encoding;
   code_encoding = 0x00 ∷ 0x0b ∷ [];
-  begins = b.is;
+  begins = b.is ∙ ap (λ raw. b.encoding ++ code_of raw) none;
   locals = record {
     declared = b.declared;
-    written = are_written features items types has b.runs (runs_are (λ local. is_value features types local ≡ true) locals body b valid);
+    written = are_written features items types has b.runs (runs_are (λ local. is_value features types local ≡ true) made body b valid);
     within = λ h. omega (arith, few_params, few, h, counts_are b.runs, ap length b.locals_are);
   };
   spelled = (0x00 ∷ [], 0x0b ∷ [], refl, unreachable features, (0x0b ∷ [], [], refl, end features, refl));

@@ -8,15 +8,15 @@ use Rattle.wasm_validity.specs.Entries.{Entry, entries_of}
 use Rattle.wasm_smith_types.specs.ValidGroups.{types_of}
 use Rattle.wasm_smith_validity.specs.Made.{Made}
 use Rattle.wasm_smith_validity.specs.Rules.{KeepAll}
-use Rattle.wasm_smith_validity.specs.Sections.{sections_with}
+use Rattle.wasm_smith_validity.specs.Sections.{ordered_sections}
 use Rattle.wasm_smith_validity.specs.Spaces.{is_value, spaces_of_types}
 
--- the entries of its sections, but for the count of data segments and the bodies
+-- the entries of its sections, but for custom ones, the count of data segments and the bodies, on which there is no rule here
 abbrev pub made_entries : Made → List Entry
-made_entries m = entries_of (sections_with false [] m)
+made_entries m = entries_of (ordered_sections false [] m)
 
--- Each entry keeps its rule in the index spaces before it, and each function has locals of value types that it may write (Modules, "Locals").
+-- Each entry keeps its rule in the index spaces before it, and each function has a body with locals of value types that it may write (Modules, "Locals").
 pub record IsValidByIndex (features : Features) (m : Made) : Type 0 where
   pub rules : KeepAll features (spaces_of_types []) (made_entries m)
-  pub bodies : length m.locals ≡ length m.funcs
-  pub locals : AllByRecursion (AllByRecursion (λ type. is_value features (types_of m.groups) type ≡ true)) m.locals
+  pub bodies : length m.bodies ≡ length m.funcs
+  pub locals : AllByRecursion (λ body. AllByRecursion (λ type. is_value features (types_of m.groups) type ≡ true) body.locals) m.bodies

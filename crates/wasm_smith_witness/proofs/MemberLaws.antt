@@ -52,12 +52,12 @@ no_min_tags c asked = asked.nothing_owed.1.1.0
 pub no_min_funcs : (c : Config) → IsAskable c → c.min_funcs ≡ 0
 no_min_funcs c asked = asked.nothing_owed.1.1.1.0
 
--- nothing has to be made after the functions
+-- nothing has to be made after the functions, and not everything is exported
 pub nothing_else : (c : Config) → IsAskable c → OwesNothingElse c
 nothing_else c asked =
     let rest = asked.nothing_owed.1.1.1.1 in
     let segments = rest.1.1.1.1 in
-    omega (arith, rest.0, rest.1.0, rest.1.1.0, segments.0, segments.1.0, segments.1.1.0)
+    record { minimums = omega (arith, rest.0, rest.1.0, rest.1.1.0, segments.0, segments.1.0, segments.1.1.0); no_exports = asked.no_exports }
 
 -- ---- groups
 

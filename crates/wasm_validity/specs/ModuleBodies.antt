@@ -64,6 +64,10 @@ pub record BodyAt (Holds : FuncType ℕ → List ℕ → Type 0) (sections : Lis
 abbrev pub EachBody : (FuncType ℕ → List ℕ → Type 0) → List Section → Type 0
 EachBody Holds sections = EachIndex (functions_of sections) (BodyAt Holds sections)
 
+-- it holds of each body among some, a set of bodies being a test of their functions' places among the module's own
+abbrev pub EachBodyAmong : (ℕ → Bool) → (FuncType ℕ → List ℕ → Type 0) → List Section → Type 0
+EachBodyAmong is_among Holds sections = EachIndex (functions_of sections) (λ place. IsTrue (is_among place) → BodyAt Holds sections place)
+
 -- it holds of some body
 abbrev pub SomeBody : (FuncType ℕ → List ℕ → Type 0) → List Section → Type 0
 SomeBody Holds sections = SomeIndex (functions_of sections) (BodyAt Holds sections)

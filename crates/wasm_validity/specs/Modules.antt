@@ -1,5 +1,5 @@
 -- Which modules are valid. Core Specification 3.0, Validation, "Modules". What sections say keeps the rules on it, and bodies are well typed.
-use Rattle.std.specs.Prelude.{ℕ, List}
+use Rattle.std.specs.Prelude.{ℕ, Bool, not, List}
 use Rattle.wasm_bodies.specs.Bodies.{IsFunctionBody, HasManyLocals, HasOtherOperator}
 use Rattle.wasm_spec.specs.Features.{Features, CompactImports, has}
 use Rattle.wasm_spec.specs.Grammar.{IsModule}
@@ -7,7 +7,7 @@ use Rattle.wasm_spec.specs.Syntax.{Section}
 use Rattle.wasm_spec.specs.Types.{FuncType}
 use Rattle.wasm_validity.specs.Entries.{entries_of}
 use Rattle.wasm_validity.specs.Validity.{AreFine}
-use Rattle.wasm_validity.specs.ModuleBodies.{OfItems, EachBody, SomeBody}
+use Rattle.wasm_validity.specs.ModuleBodies.{OfItems, EachBody, EachBodyAmong, SomeBody}
 
 -- ---- bodies: bytes in a module, for a function of a type over its type indexes
 
@@ -34,6 +34,11 @@ IsBrokenBody features sections type body =
 pub record IsValid (features : Features) (sections : List Section) : Type 0 where
   pub fine : AreFine features (entries_of sections)
   pub bodies : EachBody (IsTypedBody features sections) sections
+
+-- They are those of a valid one but for some bodies: they are fine, and each other body is well typed.
+pub record IsValidBut (features : Features) (excepted : ℕ → Bool) (sections : List Section) : Type 0 where
+  pub fine : AreFine features (entries_of sections)
+  pub others : EachBodyAmong (λ place. not (excepted place)) (IsTypedBody features sections) sections
 
 -- the bytes read as a module whose sections are fine, and of some body of it something holds
 pub record HasBody (features : Features) (Holds : List Section → FuncType ℕ → List ℕ → Type 0) (bytes : List ℕ) : Type 0 where

@@ -7,6 +7,7 @@ use wasm_gen::error::GenerateError;
 use wasm_gen::generate::generate;
 use wasm_gen::seed::seed_for;
 use wasm_gen::smith::Config;
+use wasm_smith_config_rows::settings::config_in;
 use wasm_test_rows::fields::{three_fields, two_fields};
 use wasm_test_rows::rows::check_rows;
 use wasm_test_rows::values::{bytes_of, numbers_of};
@@ -50,6 +51,15 @@ pub const MADE: &str = "
 // The same where imports may share the name of their module, or their type too.
 const MADE_WITH_GROUPS: &str = "
     00 01 01 00 00 00 00 01 2c 00 00 | 0061736d01000000 02 11 02 00 00 7f 01 00 03 7f 00 00 00 7e 03 7f 00 01 00
+";
+
+// Configurations that ask for something special, seeds, and the modules that are made of them.
+const MADE_SPECIALLY: &str = "
+    export_everything=yes | 01 00 00 00 01 01 | 0061736d01000000 01 04 01 60 00 00 03 03 02 00 00 07 08 02 00 00 00 01 31 00 01 0a 09 02 03 00 00 0b 03 00 00 0b
+    allow_invalid_funcs=yes | 01 00 00 00 01 00 01 04 00 01 0b 01 | 0061736d01000000 01 04 01 60 00 00 03 02 01 00 0a 06 01 04 01 01 7b 0b
+    generate_custom_sections=yes | 00 01 02 61 62 01 02 63 64 01 01 01 01 | 0061736d01000000 00 03 01 61 62 00 03 01 63 64
+    disallow_traps=yes min_memories=1 max_memories=1 min_data_segments=1 max_data_segments=1 | | 0061736d01000000 05 03 01 00 00 0c 01 01 0b 06 01 00 41 00 0b 00
+    disallow_traps=yes min_tables=1 max_tables=1 min_element_segments=1 max_element_segments=1 min_elements=3 | | 0061736d01000000 04 04 01 70 00 00 09 06 01 04 41 00 0b 00
 ";
 
 // Groups of types in words, the index of each function's type, and the seed that is found for them by default.
@@ -115,6 +125,20 @@ fn holds(alloc: Global, row: &str) -> Option<bool> {
 
 fn holds_with_groups(alloc: Global, row: &str) -> Option<bool> {
     makes_row(alloc, &with_groups(), row)
+}
+
+// Checks that just the module of a row is made for its configuration.
+fn holds_specially(alloc: Global, row: &str) -> Option<bool> {
+    let (settings, seed, expected) = three_fields(row)?;
+    let config = config_in(settings)?;
+    let seed = field_bytes(alloc, seed)?;
+    let expected = field_bytes(alloc, expected)?;
+    Some(makes(alloc, &config, &seed, &expected))
+}
+
+#[test]
+fn special_modules_are_made_after_memory_ran_out(rt: HostRuntime) -> Result<(), Fail> {
+    Ok(check_rows(rt.alloc(), MADE_SPECIALLY, 5, holds_specially)?)
 }
 
 #[test]

@@ -66,7 +66,7 @@ fn holds(alloc: Global, row: &str) -> Option<bool> {
 
 #[test]
 fn modules_are_made(rt: HostRuntime) -> Result<(), Fail> {
-    Ok(check_rows(rt.alloc(), MADE, 13, holds)?)
+    Ok(check_rows(rt.alloc(), MADE, 14, holds)?)
 }
 
 // Checks that a module with items of most kinds is made, and written.

@@ -27,5 +27,6 @@ returns-clause-refused c =
     let m = c.in-Some.made in
     let made = rw c.in-Some.is at c.in_ok-made.ensures.made in
     let drawn = subst (λ (s : List ℕ). IsDrawn config s m.made left) c.new-unstructured.ensures (rw c.in-Some.is at c.in_ok-made.ensures.drawn) in
-    IfErr-weaker c.written_bytes.result (IsUnwritable config m.made) (IsCause config seed) (λ e h. refused_from config seed left m e made drawn h)
+    let contents = subst (λ (s : List ℕ). HasDrawnData s left m.made) c.new-unstructured.ensures (rw c.in-Some.is at c.in_ok-made.ensures.contents) in
+    IfErr-weaker c.written_bytes.result (IsUnwritable config m.made) (IsCause config seed) (λ e h. refused_from config seed left m e made drawn contents h)
     (c.written_bytes.ensures.refused config made)

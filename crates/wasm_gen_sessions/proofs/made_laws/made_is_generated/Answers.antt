@@ -7,6 +7,7 @@ returns c =
       rules = c.valid_by_index.ensures;
       limits = c.within.ensures;
       bodies = c.valid_modules.ensures;
+      one = c.one_body_encoding.ensures;
       reading = c.modules_read.ensures;
     } in
     is_generated laws

@@ -9,9 +9,9 @@ use Rattle.wasm_smith_module.proofs.element_segments.draw_constants.Given as goa
 abbrev pub invariant-grow : goal.invariant-grow
 invariant-grow l = record {
   taken : length l.unstructured ≤ length l.fn.unstructured;
-  few : length l.items.items ≤ l.config.max_elements;
+  few : length l.items.items ≤ l.bounds.most;
   given : AllByRecursion (λ constant. Gives l.config l.spaces (val_type (Ref l.ty)) (expression constant)) l.items.items;
 }
 
 abbrev pub decreases-grow : goal.decreases-grow
-decreases-grow l = l.config.max_elements - vec_len l.items
+decreases-grow l = l.bounds.most - vec_len l.items

@@ -4,6 +4,7 @@ use Rattle.wasm_smith_definitions.specs.Items.{element_segment}
 use Rattle.wasm_smith_definitions.proofs.StepLaws.{grow_goes_on}
 use Rattle.wasm_smith_module.proofs.DrawLaws.{none_made}
 use Rattle.wasm_smith_module.proofs.ElementLaws.{tables_keep_more}
+use Rattle.wasm_smith_module.proofs.TrapLaws.{drawn_in}
 use Rattle.wasm_smith_module.proofs.element_segments.element_segments.Goals as goal
 
 pub draw_segment-requires-clause-tables : goal.draw_segment-requires-clause-tables
@@ -17,10 +18,11 @@ grow-preserved c = record {
   tables = tables_keep_more c.args.config.now c.grow.spaces _ _ c.add_element_segment.ensures c.grow.invariant.tables;
   nullable = rw c.add_element_segment.ensures c.grow.invariant.nullable;
   functions = rw c.add_element_segment.ensures c.grow.invariant.functions;
+  same_tables = rw c.add_element_segment.ensures c.grow.invariant.same_tables;
   taken = omega arith;
   grown =
       grow_goes_on _ _ _ _ _ _ _ _ _ _ (element_segment c.in_ok-segment.segment) _ _ _ c.grow.invariant.grown (rw (c.element_segment_count.ensures, c.grow.invariant.can) at c.grow-test.ensures.exact)
-      (rw c.element_segment_count.ensures at (c.grow-test.ensures.room refl)) c.in_ok-segment.ensures.allowed (rw c.grow.invariant.functions at c.in_ok-segment.ensures.bounded) c.add_element_segment.ensures (omega arith)
+      (rw c.element_segment_count.ensures at (c.grow-test.ensures.room refl)) c.in_ok-segment.ensures.allowed (drawn_in c.args.config.now c.args.spaces.now c.grow.spaces _ c.grow.invariant.same_tables c.grow.invariant.functions c.in_ok-segment.ensures.drawn) c.add_element_segment.ensures (omega arith)
       (ap (map element_segment) c.in_ok-push_owned.ensures ∙ map_push element_segment _ _);
 }
 

@@ -3,7 +3,7 @@ use Rattle.wasm_smith_definitions.specs.Items.{element_segment}
 use Rattle.wasm_smith_definitions.specs.Kinds.{of_element, wanted_elements}
 use Rattle.wasm_smith_definitions.specs.Steps.{TablesKeep}
 use Rattle.wasm_smith_definitions.proofs.StepLaws.{IsGrowing}
-use Rattle.wasm_smith_module.specs.Elements.{AreNullable, IsBoundedElement}
+use Rattle.wasm_smith_module.specs.Elements.{AreNullable, IsDrawnElement}
 use Rattle.wasm_smith_module.proofs.element_segments.element_segments.Given as goal
 use Rattle.wasm_smith_types.specs.ValidGroups.{AllKeepTypeRules}
 use Rattle.wasm_smith_validity.specs.Spaces.{functions_of}
@@ -15,9 +15,10 @@ invariant-grow l = record {
   rules : AllKeepTypeRules l.spaces.types;
   tables : TablesKeep l.config l.spaces;
   nullable : AreNullable l.spaces.tables;
-  functions : length (functions_of l.spaces) ≡ length (functions_of l.fn.spaces);
+  functions : functions_of l.spaces ≡ functions_of l.fn.spaces;
+  same_tables : l.spaces.tables ≡ l.fn.spaces.tables;
   taken : length l.unstructured ≤ length l.fn.unstructured;
-  grown : IsGrowing l.config (wanted_elements l.config) of_element (IsBoundedElement l.config (length (functions_of l.fn.spaces))) l.fn.spaces l.fn.unstructured l.spaces l.unstructured (map element_segment l.segments.items);
+  grown : IsGrowing l.config (wanted_elements l.config) of_element (IsDrawnElement l.config l.fn.spaces) l.fn.spaces l.fn.unstructured l.spaces l.unstructured (map element_segment l.segments.items);
 }
 
 abbrev pub decreases-grow : goal.decreases-grow

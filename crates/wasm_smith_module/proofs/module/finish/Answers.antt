@@ -5,7 +5,7 @@ use Rattle.wasm_smith_types.proofs.GroupedLaws.{types_of_grouped}
 use Rattle.wasm_smith_types.specs.Grouped.{groups}
 use Rattle.wasm_smith_types.specs.Making.{made}
 use Rattle.wasm_smith_types.specs.ValidGroups.{AllKeepTypeRules, types_of}
-use Rattle.wasm_smith_module.proofs.MadeLaws.{locals_are}
+use Rattle.wasm_smith_module.proofs.MadeLaws.{bodies_are}
 use Rattle.wasm_smith_module.specs.Building.{AreItems}
 use Rattle.wasm_smith_module.specs.Items.{drawn_items}
 use Rattle.wasm_smith_module.proofs.module.finish.Goals as goal
@@ -27,7 +27,9 @@ returns-clause-finished c =
       same_groups = refl;
       after_items = c.draw_items.new.unstructured;
       items = subst (λ ts. AreItems c.args.config c.args.duplicates ts c.args.unstructured.now c.draw_items.new.unstructured (drawn_items items)) all c.in_ok-items.ensures.drawn;
-      locals =
-          locals_are c.args.config c.args.offered.now types _ _ items.front.funcs.items c.draw_items.new.unstructured _ _ c.requires.offered c.requires.whole
-          (omega (arith, c.len.ensures, ap length c.types-2.ensures, length-map c.types-2.result.now sub_type)) (omega (arith, count)) c.in_ok-locals.ensures.drawn;
+      after_code = c.code.new.unstructured;
+      code =
+          bodies_are c.args.config c.args.offered.now types _ _ items.front.funcs.items c.draw_items.new.unstructured _ _ c.requires.offered c.requires.whole
+          (omega (arith, ap length c.types-2.ensures, length-map c.types-2.result.now sub_type)) (omega (arith, count, c.len-count.ensures)) c.in_ok-bodies.ensures.drawn;
+      customs = c.in_ok-customs.ensures.drawn;
     })

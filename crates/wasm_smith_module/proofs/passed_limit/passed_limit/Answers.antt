@@ -1,7 +1,7 @@
-use Rattle.std.proofs.Common.{ap, sym, ◌∙◌}
+use Rattle.std.proofs.Common.{ap, sym, ◌∙◌, inl}
 use Rattle.std.proofs.lemmas.Option.{IfSome_then}
 use Rattle.wasm_core_types.specs.Limits.{limit}
-use Rattle.wasm_smith_module.proofs.CountLaws.{all_within, segment_passed, types_are}
+use Rattle.wasm_smith_module.proofs.CountLaws.{all_within, count_passed, segment_passed, types_are}
 use Rattle.wasm_smith_module.proofs.PassedLaws.{none_then}
 use Rattle.wasm_smith_module.proofs.passed_limit.passed_limit.Goals as goal
 use Rattle.wasm_smith_module.specs.Measures.{imported_items}
@@ -13,9 +13,12 @@ passed_count-requires-clause-exact c =
     let items = c.args.items.now in
     c.in_ok-spaces.ensures.exact ∙ ap (λ types. with_items (spaces_of_types types) (imported_items (made_of items))) (sym (types_are items c.requires.whole))
 
+pub returns-in-Some-clause-passed : goal.returns-in-Some-clause-passed
+returns-in-Some-clause-passed c = inl (λ bodies. count_passed (made_of c.args.items.now) bodies (limit c.in-Some.limit) c.in-Some.ensures)
+
 pub returns-clause-passed : goal.returns-clause-passed
 returns-clause-passed c =
-    IfSome_then c.passed_segment.result c.passed_segment.ensures.passed (λ l p bodies. segment_passed (made_of c.args.items.now) bodies (limit l) p)
+    IfSome_then c.passed_segment.result c.passed_segment.ensures.passed (λ l p. inl (λ bodies. segment_passed (made_of c.args.items.now) bodies (limit l) p))
 
 pub returns-clause-within : goal.returns-clause-within
 returns-clause-within c =

@@ -10,13 +10,13 @@ use Rattle.wasm_smith_module.proofs.uses.draw_uses.Goals as goal
 pub start-requires : goal.start-requires
 start-requires c =
     let same : functions_of c.exports.new.spaces ≡ functions_of c.args.spaces.now =
-    kept_by functions_of c.args.config.now of_export c.args.spaces.now c.exports.new.spaces _ (λ k x. refl) c.in_ok-exports.ensures.grown.step in
+    kept_by functions_of c.args.config.now of_export c.args.spaces.now c.exports.new.spaces _ (λ k x. refl) c.in_ok-exports.ensures.made.step in
     record { few = omega (arith, ap length same, c.requires.few_functions) }
 
 pub element_segments-requires-clause-rules : goal.element_segments-requires-clause-rules
 element_segments-requires-clause-rules c =
     let types : c.exports.new.spaces.types ≡ c.args.spaces.now.types =
-    kept_by (λ k. k.types) c.args.config.now of_export c.args.spaces.now c.exports.new.spaces _ (λ k x. refl) c.in_ok-exports.ensures.grown.step in
+    kept_by (λ k. k.types) c.args.config.now of_export c.args.spaces.now c.exports.new.spaces _ (λ k x. refl) c.in_ok-exports.ensures.made.step in
     subst AllKeepTypeRules (sym types) c.requires.rules
 
 pub element_segments-requires-clause-tables : goal.element_segments-requires-clause-tables
@@ -24,13 +24,13 @@ element_segments-requires-clause-tables c =
     let config = c.args.config.now in
     let old = c.args.spaces.now in
     let new = c.exports.new.spaces in
-    tables_still_keep config old new (kept_by (λ k. k.types) config of_export old new _ (λ k x. refl) c.in_ok-exports.ensures.grown.step)
-    (kept_by (λ k. k.tables) config of_export old new _ (λ k x. refl) c.in_ok-exports.ensures.grown.step) c.requires.tables
+    tables_still_keep config old new (kept_by (λ k. k.types) config of_export old new _ (λ k x. refl) c.in_ok-exports.ensures.made.step)
+    (kept_by (λ k. k.tables) config of_export old new _ (λ k x. refl) c.in_ok-exports.ensures.made.step) c.requires.tables
 
 pub element_segments-requires-clause-nullable : goal.element_segments-requires-clause-nullable
 element_segments-requires-clause-nullable c =
     let tables : c.exports.new.spaces.tables ≡ c.args.spaces.now.tables =
-    kept_by (λ k. k.tables) c.args.config.now of_export c.args.spaces.now c.exports.new.spaces _ (λ k x. refl) c.in_ok-exports.ensures.grown.step in
+    kept_by (λ k. k.tables) c.args.config.now of_export c.args.spaces.now c.exports.new.spaces _ (λ k x. refl) c.in_ok-exports.ensures.made.step in
     subst AreNullable (sym tables) c.requires.nullable
 
 pub element_segments-requires-clause-bounds : goal.element_segments-requires-clause-bounds
@@ -44,7 +44,7 @@ data_segments-requires-clause-rules c =
     let config = c.args.config.now in
     let types : c.element_segments.new.spaces.types ≡ c.args.spaces.now.types =
     kept_by (λ k. k.types) config of_element c.exports.new.spaces c.element_segments.new.spaces _ (λ k x. refl) c.in_ok-elems.ensures.grown.step
-    ∙ kept_by (λ k. k.types) config of_export c.args.spaces.now c.exports.new.spaces _ (λ k x. refl) c.in_ok-exports.ensures.grown.step in
+    ∙ kept_by (λ k. k.types) config of_export c.args.spaces.now c.exports.new.spaces _ (λ k x. refl) c.in_ok-exports.ensures.made.step in
     subst AllKeepTypeRules (sym types) c.requires.rules
 
 pub data_segments-requires-clause-counts : goal.data_segments-requires-clause-counts

@@ -2,8 +2,8 @@ use Rattle.std.proofs.Common.{map}
 use Rattle.wasm_core_types.specs.SubTypes.{sub_type}
 use Rattle.wasm_encoder_sections.specs.CoreItems.{memory_type}
 use Rattle.wasm_encoder_sections.specs.SmallItems.{IsSmallExport, IsSmallLimits}
-use Rattle.wasm_smith_definitions.specs.Items.{data_segment, element_segment, export, global, table}
-use Rattle.wasm_smith_sections.specs.SmallModules.{IsSmallData, IsSmallElement, IsSmallOwnGlobal, IsSmallOwnTable}
+use Rattle.wasm_smith_definitions.specs.Items.{data_segment, element_segment, export, global, made_body, placed_custom, table}
+use Rattle.wasm_smith_sections.specs.SmallModules.{IsSmallBody, IsSmallCustom, IsSmallData, IsSmallElement, IsSmallOwnGlobal, IsSmallOwnTable}
 use Rattle.wasm_smith_sections.proofs.SmallItems.{readable_imports, seen, small_groups, small_option}
 use Rattle.wasm_smith_sections.proofs.small_module_items.items_are_small.Goals as goal
 use Rattle.wasm_spec.specs.SmallIndexes.{IsSmallSub}
@@ -23,5 +23,6 @@ returns c = λ compact readable.
       start = small_option made.start c.narrow_is_small.ensures;
       elems = seen IsSmallElement element_segment made.elems.now c.are_small-7.ensures;
       data_segments = seen IsSmallData data_segment made.data_segments.now c.are_small-8.ensures;
-      locals = c.locals_are_small.ensures;
+      bodies = seen IsSmallBody made_body made.bodies.now c.are_small-9.ensures;
+      customs = seen IsSmallCustom placed_custom made.customs.now c.are_small-10.ensures;
     }

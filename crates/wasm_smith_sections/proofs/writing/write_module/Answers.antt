@@ -2,13 +2,8 @@ use Rattle.std.proofs.Common.{ap, map, ◌∙◌}
 use Rattle.std.proofs.lemmas.Result.{IfOk-weaker, IfErr-weaker}
 use Rattle.wasm_smith_sections.specs.FilledSections.{filled_frame}
 use Rattle.wasm_smith_sections.specs.ModuleItems.{made_of}
-use Rattle.wasm_smith_sections.proofs.WrittenFrames.{both_ok, few_filled, module_of, too_long_of}
+use Rattle.wasm_smith_sections.proofs.WrittenFrames.{both_ok, module_of, too_long_of}
 use Rattle.wasm_smith_sections.proofs.writing.write_module.Goals as goal
-
-pub write_sections-requires : goal.write_sections-requires
-write_sections-requires c =
-    let h = c.in_ok-sections.ensures.kept in
-    record { few = few_filled c.args.made.now.data_count (made_of c.args.made.now) h.0 c.deref.result.now (ap (map filled_frame) c.deref.ensures.value ∙ h.2) }
 
 pub returns-clause-written : goal.returns-clause-written
 returns-clause-written c =

@@ -2,10 +2,9 @@ use Rattle.std.proofs.Common.{◌≡◌, ◌-◌, ◌≤◌, length}
 use Rattle.wasm_smith_definitions.proofs.StepLaws.{IsGrowing}
 use Rattle.wasm_smith_definitions.specs.Kinds.{of_export}
 use Rattle.wasm_smith_validity.specs.Spaces.{functions_of}
-use Rattle.wasm_smith_externs.proofs.ExportLaws.{AreNames}
-use Rattle.wasm_smith_externs.specs.Exports.{AreCandidates, HasShortName, left_for, wanted_exports}
+use Rattle.wasm_smith_externs.specs.Exports.{AreCandidates, AreNames, HasShortName, left_for, wanted_exports}
 use Rattle.wasm_smith_externs.specs.Sizes.{exports_size}
-use Rattle.wasm_smith_externs.proofs.exports.exports.Given as goal
+use Rattle.wasm_smith_externs.proofs.exports.draw_exports.Given as goal
 
 abbrev pub invariant-grow : goal.invariant-grow
 invariant-grow l = record {

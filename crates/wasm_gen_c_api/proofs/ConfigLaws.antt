@@ -1,5 +1,5 @@
 -- The default configuration, and what follows of it.
-use Rattle.std.proofs.Common.{◌≡◌, ◌^◌, ℕ, zero, suc, Bool, true, false, not, IsFalse, List, [], ◌∷◌, replicate, refl, sym, ap, subst, ◌∙◌}
+use Rattle.std.proofs.Common.{◌≡◌, ◌^◌, ℕ, zero, suc, Bool, true, false, not, IsFalse, List, [], ◌∷◌, Option, None, replicate, refl, sym, ap, subst, ◌∙◌}
 use Rattle.std.specs.List.{list_all}
 use Rattle.std.proofs.lemmas.List.Sums.{AllPass-from_list_all}
 use Rattle.wasm_spec.specs.Features.{MutableGlobal, SaturatingFloatToInt, SignExtension, ReferenceTypes, MultiValue, BulkMemory, Simd, RelaxedSimd, Threads, TailCall, Floats, MultiMemory, Exceptions, Memory64, ExtendedConst, FunctionReferences, Gc, GcTypes, CustomPageSizes, CompactImports, WideArithmetic, StackSwitching}
@@ -9,6 +9,7 @@ use Rattle.wasm_smith.specs.Family.{IsAskable}
 use Rattle.wasm_smith.specs.Instructions.{all_kinds}
 use Rattle.wasm_smith.specs.Offsets.{default_choices}
 use Rattle.wasm_smith.specs.Parts.{Config, InstructionKinds, MemoryOffsetChoices}
+use Rattle.wasm_smith_shapes.specs.Shapes.{ShapeValue}
 use Rattle.wasm_gen_c_api.specs.Generate.{generated_features}
 
 -- the flag at a place
@@ -24,8 +25,9 @@ number_at (number ∷ numbers) zero = number
 number_at (number ∷ numbers) (suc place) = number_at numbers place
 
 -- the configuration whose fields stand in these lists, in the order in which the default is told
-config_of : (on off : List Bool) (least largest : List ℕ) (tables memories type_size table_elements memory32_bytes memory64_bytes : ℕ) (instructions : InstructionKinds) (offsets : MemoryOffsetChoices) → Config
-config_of on off least largest tables memories type_size table_elements memory32_bytes memory64_bytes instructions offsets = record {
+config_of : (on off : List Bool) (least largest : List ℕ) (tables memories type_size table_elements memory32_bytes memory64_bytes : ℕ) (instructions : InstructionKinds) (offsets : MemoryOffsetChoices)
+    (module_shape available_imports exports : Option ShapeValue) → Config
+config_of on off least largest tables memories type_size table_elements memory32_bytes memory64_bytes instructions offsets module_shape available_imports exports = record {
   allow_floats = flag_at on 0;
   allow_start_export = flag_at on 1;
   bulk_memory_enabled = flag_at on 2;
@@ -81,19 +83,22 @@ config_of on off least largest tables memories type_size table_elements memory32
   max_memory64_bytes = memory64_bytes;
   allowed_instructions = instructions;
   memory_offset_choices = offsets;
+  module_shape = module_shape;
+  available_imports = available_imports;
+  exports = exports;
 }
 
 -- the default one
 default : Config
-default = config_of (replicate 14 true) (replicate 12 false) (replicate 11 0) (replicate 10 100) 1 1 1000 1000000 (2 ^ 32) (2 ^ 64) all_kinds default_choices
+default = config_of (replicate 14 true) (replicate 12 false) (replicate 11 0) (replicate 10 100) 1 1 1000 1000000 (2 ^ 32) (2 ^ 64) all_kinds default_choices None None None
 
-is_told : (d : Config) → d ≡ config_of (on_by_default d) (off_by_default d) (least_counts d) (largest_counts d) d.max_tables d.max_memories d.max_type_size d.max_table_elements d.max_memory32_bytes d.max_memory64_bytes d.allowed_instructions d.memory_offset_choices
+is_told : (d : Config) → d ≡ config_of (on_by_default d) (off_by_default d) (least_counts d) (largest_counts d) d.max_tables d.max_memories d.max_type_size d.max_table_elements d.max_memory32_bytes d.max_memory64_bytes d.allowed_instructions d.memory_offset_choices d.module_shape d.available_imports d.exports
 unfolding config_of flag_at number_at
 is_told d = refl
 
 is_default : (d : Config) → IsDefault d → d ≡ default
 unfolding default
-is_default d is = is_told d ∙ rw (is.on, is.off, is.least, is.largest, is.tables, is.memories, is.type_size, is.table_elements, is.memory32_bytes, is.memory64_bytes, is.instructions, is.offsets) refl
+is_default d is = is_told d ∙ rw (is.on, is.off, is.least, is.largest, is.tables, is.memories, is.type_size, is.table_elements, is.memory32_bytes, is.memory64_bytes, is.instructions, is.offsets, is.no_module_shape, is.no_available_imports, is.no_exports) refl
 
 -- the same put in order
 made : Config

@@ -16,7 +16,7 @@ use Rattle.wasm_validity.specs.Rules.{PassLimit}
 use Rattle.wasm_smith.specs.DrawnGroups.{AreSome, drawn_groups_at}
 use Rattle.wasm_smith.specs.ErrorCases as smith
 use Rattle.wasm_smith.specs.Family.{IsAskable, types_of}
-use Rattle.wasm_smith.specs.Grouped.{entry}
+use Rattle.wasm_smith.specs.ValidGroups.{entry}
 use Rattle.wasm_smith.specs.Groups.{group_of}
 use Rattle.wasm_smith.specs.ValidGroups as flat
 use Rattle.wasm_smith.specs.Spelling.{Spells}

@@ -8,7 +8,7 @@ use Rattle.wasm_smith_module.specs.Generating.{bare_body, bare_module}
 use Rattle.wasm_smith_sections.specs.ModuleEncoding.{HasLongFront, HasManyItems, IsLongSection, PassesLength, SomeByRecursion, SomeHaveLongFront}
 use Rattle.wasm_smith_types.specs.Bounds.{AreSmall}
 use Rattle.wasm_smith_types.specs.DrawnGroups.{AreSome}
-use Rattle.wasm_smith_types.specs.ValidGroups.{types_of}
+use Rattle.wasm_smith_validity.specs.ValidGroups.{types_of}
 use Rattle.wasm_smith_validity.specs.Made.{Made, MadeBody}
 use Rattle.wasm_smith_validity.specs.Sections.{sections_with, unless_empty}
 use Rattle.wasm_smith_validity.specs.Rules.{KeepAll}

@@ -8,7 +8,7 @@ use Rattle.wasm_smith_module.specs.Bounds.{IsWithinBounds}
 use Rattle.wasm_smith_sections.specs.ModuleEncoding.{IsModuleEncoding}
 use Rattle.wasm_smith_sections.specs.SmallModules.{IsSmallModule}
 use Rattle.wasm_smith_types.specs.Bounds.{AreSmall}
-use Rattle.wasm_smith_types.specs.ValidGroups.{types_of}
+use Rattle.wasm_smith_validity.specs.ValidGroups.{types_of}
 use Rattle.wasm_smith_validity.specs.Made.{Made, MadeBody}
 use Rattle.wasm_smith_validity.specs.Sections.{sections_with}
 use Rattle.wasm_smith_validity.specs.Validity.{IsValidByIndex}

@@ -11,7 +11,7 @@ use Rattle.wasmparser_error.specs.declared.error.Error.{Error}
 use Rattle.wasmparser_error.specs.declared.error.ErrorKind.TheVariants.{Memory, Total}
 use Rattle.wasmparser_validator.specs.KnownSpaces.{KnownModule, spaces_known}
 use Rattle.wasmparser_validator.specs.Validation.{IsAccepted, IsValidated}
-use Rattle.wasm_smith.specs.Grouped.{entry}
+use Rattle.wasm_smith.specs.ValidGroups.{entry}
 use Rattle.wasm_smith_module.specs.Generating.{bare_body, bare_module}
 use Rattle.wasm_smith_validity.specs.Sections.{sections_with}
 use Rattle.wasm_smith_validity.proofs.ValidModules.{valid_without_raw}

@@ -8,7 +8,7 @@ use Rattle.wasm_spec.specs.Trees.{AreInRange}
 use Rattle.wasm_spec.specs.TypeReferences.{val_refs, storage_refs, field_refs, composite_refs, sub_refs, group_refs}
 use Rattle.wasm_spec.specs.Types.{StorageType, I8, I16, Val, FieldType, CompositeType, FuncComposite, StructComposite, ArrayComposite, ContComposite, SubType, RecGroup, Single, Group}
 use Rattle.wasm_spec.proofs.MappedBack.{all_left, all_right}
-use Rattle.wasm_smith_types.specs.ValidGroups.{types_of}
+use Rattle.wasm_smith_validity.specs.ValidGroups.{types_of}
 use Rattle.wasm_gen_sessions.proofs.Forms.{all_are}
 use Rattle.wasm_gen_sessions.proofs.Values.{value_small}
 

@@ -14,8 +14,8 @@ use Rattle.wasm_spec.proofs.Places.{all_by_place}
 use Rattle.wasm_spec.proofs.UnsignedEncodings.{at_most_five}
 use Rattle.wasm_smith_types.specs.Bounds.{IsSmallComposite as HasFewItems, IsSmall, AreSmall}
 use Rattle.wasm_smith_types.specs.DrawnGroups.{AreSome}
-use Rattle.wasm_smith_types.specs.ValidGroups.{AreValidGroups, types_of}
-use Rattle.wasm_smith_types.proofs.GroupLaws.{all_rules, valid_in_range}
+use Rattle.wasm_smith_validity.specs.ValidGroups.{AreValidGroups, types_of}
+use Rattle.wasm_smith_validity.proofs.GroupLaws.{all_rules, valid_in_range}
 use Rattle.wasm_gen_sessions.proofs.Forms.{all_append, list_length}
 use Rattle.wasm_gen_sessions.proofs.Numbers.{signed_length}
 use Rattle.wasm_gen_sessions.proofs.SmallTypes.{groups_small}

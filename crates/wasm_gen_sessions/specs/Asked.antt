@@ -4,7 +4,7 @@ use Rattle.wasm_core.specs.Parts as core
 use Rattle.wasm_spec.specs.Limits.{Types, Functions, most}
 use Rattle.wasm_spec.specs.Types.{SubType}
 use Rattle.wasm_smith.specs.Family.{IsAskable, IsInFamily, types_of}
-use Rattle.wasm_smith.specs.Grouped.{entry}
+use Rattle.wasm_smith.specs.ValidGroups.{entry}
 use Rattle.wasm_smith.specs.Spelling.{Spells}
 use Rattle.wasm_smith.specs.Parts.{Config}
 use Rattle.wasm_smith_module.specs.Generating.{bare_module}

@@ -8,7 +8,7 @@ use Rattle.wasmparser_error.specs.declared.error.Error.{Error}
 use Rattle.wasmparser_error.specs.declared.error.ErrorKind.TheVariants.{Memory, Total}
 use Rattle.wasmparser_validator.specs.KnownSpaces.{KnownModule, spaces_known}
 use Rattle.wasm_smith.specs.Config.{AreFeaturesOf}
-use Rattle.wasm_smith.specs.Grouped.{entry}
+use Rattle.wasm_smith.specs.ValidGroups.{entry}
 use Rattle.wasm_smith.specs.Parts.{Config}
 use Rattle.wasm_smith_module.specs.Generating.{bare_module}
 use Rattle.wasm_gen_sessions.specs.History.{History}

@@ -36,16 +36,25 @@ fn written_bytes(alloc: Global, made: &Module) -> Result<Vec<u8>, GenerateError>
 }
 
 // Returns the bytes of the module that is drawn from the seed.
+fn bytes_for(alloc: Global, config: Config, seed: &[u8]) -> Result<Vec<u8>, GenerateError>
+    ensures generated { IfOk result (λ bytes. IsGeneratedFrom (sanitized config) seed.now bytes.items) }
+    ensures refused { IfErr result (IsCause (sanitized config) seed.now) }
+{
+    let mut unstructured = Unstructured::new(seed);
+    let most_types = Limit::Types.max() as u32;
+    let Some(made) = Module::new_within(alloc, config, &mut unstructured, most_types)? else {
+        return Err(GenerateError::Limit(Limit::Types));
+    };
+    written_bytes(alloc, &made)
+}
+
+// Returns the bytes of the module that is drawn from the seed, for a copy of the configuration.
 fn drawn_bytes(alloc: Global, config: &Config, seed: &[u8]) -> Result<Vec<u8>, GenerateError>
     ensures generated { IfOk result (λ bytes. IsGeneratedFrom (sanitized config.now) seed.now bytes.items) }
     ensures refused { IfErr result (IsCause (sanitized config.now) seed.now) }
 {
-    let mut unstructured = Unstructured::new(seed);
-    let most_types = Limit::Types.max() as u32;
-    let Some(made) = Module::new_within(alloc, *config, &mut unstructured, most_types)? else {
-        return Err(GenerateError::Limit(Limit::Types));
-    };
-    written_bytes(alloc, &made)
+    let config = config.try_clone(alloc)?;
+    bytes_for(alloc, config, seed)
 }
 
 /// Returns a module that is valid but for its raw bodies, for the configuration put in order, drawn from the bytes of the seed. A list for which

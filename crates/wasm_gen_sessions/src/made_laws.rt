@@ -9,7 +9,7 @@ ghost use Rattle.wasm_smith_module.specs.Generating.{bare_module};
 ghost use Rattle.wasm_smith_sections.specs.ModuleEncoding.{IsModuleEncoding, PassesLength};
 ghost use Rattle.wasm_smith_types.specs.Bounds.{AreSmall};
 ghost use Rattle.wasm_smith_types.specs.DrawnGroups.{AreSome};
-ghost use Rattle.wasm_smith_types.specs.ValidGroups.{types_of};
+ghost use Rattle.wasm_smith_validity.specs.ValidGroups.{types_of};
 ghost use Rattle.wasm_smith_validity.specs.Made.{Made};
 ghost use Rattle.wasm_smith_validity.specs.Sections.{sections_with};
 ghost use Rattle.wasm_smith_validity.specs.Validity.{IsValidByIndex};

@@ -1,6 +1,6 @@
 //! Seeds for lists of groups and functions that are drawn by numbers.
 
-use crate::generated::is_accepted;
+use crate::generated::{is_accepted, new_module};
 use crate::lists::put;
 use crate::numbers::Numbers;
 use crate::same_types::is_same_type;
@@ -10,7 +10,7 @@ use wasm_core::types::{
     StorageType, StructType, SubType, ValType,
 };
 use wasm_gen::seed::seed_for;
-use wasm_gen::smith::{Config, Unstructured};
+use wasm_gen::smith::Config;
 use wasm_smith::module::Module;
 
 // The abstract heap types, those of continuations last.
@@ -217,11 +217,11 @@ fn has_lists(module: &Module, groups: &[Vec<SubType>], funcs: &[u32]) -> bool {
 // Checks that just these groups and functions are made of the seed.
 fn makes(
     alloc: Global,
-    config: Config,
+    config: &Config,
     (groups, funcs): (&[Vec<SubType>], &[u32]),
     seed: &[u8],
 ) -> bool {
-    let made = Module::new(alloc, config, &mut Unstructured::new(seed));
+    let made = new_module(alloc, config, seed);
     let holds = match &made {
         Ok(module) => has_lists(module, groups, funcs),
         Err(_) => false,
@@ -232,10 +232,10 @@ fn makes(
 }
 
 // Checks that there is a seed that makes just these groups and functions, in a module that is accepted.
-fn have_seed(alloc: Global, config: Config, groups: &[Vec<SubType>], funcs: &[u32]) -> bool {
-    match seed_for(alloc, &config, groups, funcs) {
+fn have_seed(alloc: Global, config: &Config, groups: &[Vec<SubType>], funcs: &[u32]) -> bool {
+    match seed_for(alloc, config, groups, funcs) {
         Ok(Some(seed)) => {
-            makes(alloc, config, (groups, funcs), &seed) && is_accepted(alloc, &config, &seed)
+            makes(alloc, config, (groups, funcs), &seed) && is_accepted(alloc, config, &seed)
         }
         _ => false,
     }
@@ -251,7 +251,7 @@ fn are_made(alloc: Global, number: u32) -> bool {
     };
     let groups = lists.groups(alloc);
     let funcs = lists.funcs(alloc);
-    let holds = have_seed(alloc, lists.config(), &groups, &funcs);
+    let holds = have_seed(alloc, &lists.config(), &groups, &funcs);
     // (dropped by calls, which are cheaper to prove)
     drop(groups);
     drop(lists);

@@ -1,6 +1,6 @@
 //! Modules of configurations and seeds that are drawn.
 
-use crate::generated::features_of;
+use crate::generated::{is_answered, new_module};
 use crate::lists::put;
 use crate::numbers::Numbers;
 use crate::parts::{PartCount, are_all_there, count_parts, no_parts};
@@ -8,7 +8,6 @@ use std::alloc::Global;
 use wasm_gen::error::GenerateError;
 use wasm_gen::generate::generate;
 use wasm_gen::smith::{Config, Error, Unstructured};
-use wasm_gen_rows::answers::answers_under;
 use wasm_smith::module::Module;
 
 // Returns so many bytes, which are odd in so many more of eight draws.
@@ -45,14 +44,14 @@ fn answer_for(config: &Config) -> &'static str {
 // Checks that a module is made of the seed, and answered so. Where everything is exported, it may be too much.
 fn is_made(alloc: Global, config: &Config, seed: &[u8]) -> bool {
     match generate(alloc, config, seed) {
-        Ok(made) => answers_under(alloc, features_of(*config), &made, answer_for(config)),
+        Ok(made) => is_answered(alloc, config, &made, answer_for(config)),
         Err(e) => config.export_everything && e == GenerateError::TypeSize,
     }
 }
 
 // Counts what the module that is made of the seed has.
-fn count_made(alloc: Global, counts: &mut [PartCount], config: Config, seed: &[u8]) {
-    let made = Module::new(alloc, config, &mut Unstructured::new(seed));
+fn count_made(alloc: Global, counts: &mut [PartCount], config: &Config, seed: &[u8]) {
+    let made = new_module(alloc, config, seed);
     if let Ok(module) = &made {
         count_parts(counts, module);
     }
@@ -69,7 +68,7 @@ fn are_made(alloc: Global, counts: &mut [PartCount], modules: u32) -> bool {
         if !is_made(alloc, &config, &seed) {
             return false;
         }
-        count_made(alloc, counts, config, &seed);
+        count_made(alloc, counts, &config, &seed);
     }
     are_all_there(counts)
 }
@@ -90,7 +89,7 @@ fn are_reached(alloc: Global, counts: &mut [PartCount], modules: u32) -> bool {
     let mut numbers = Numbers::new(22);
     for _ in 0..modules {
         let seed = drawn_seed(alloc, &mut numbers);
-        count_made(alloc, counts, config, &seed);
+        count_made(alloc, counts, &config, &seed);
     }
     are_all_there(counts)
 }
@@ -106,7 +105,7 @@ fn each_part_is_reached(rt: HostRuntime) {
 fn is_written_so(alloc: Global, module: &Module) -> bool {
     let config = module.config();
     match module.to_bytes(alloc) {
-        Ok(bytes) => answers_under(alloc, features_of(*config), &bytes, answer_for(config)),
+        Ok(bytes) => is_answered(alloc, config, &bytes, answer_for(config)),
         Err(_) => false,
     }
 }

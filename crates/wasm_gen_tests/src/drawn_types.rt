@@ -1,13 +1,11 @@
 //! Types that are drawn from seeds.
 
-use crate::generated::is_accepted;
+use crate::generated::{is_accepted, new_module};
 use crate::lists::put;
 use crate::marks::{Count, are_all_counted, count_module, no_counts};
 use crate::numbers::Numbers;
 use std::alloc::Global;
 use wasm_gen::smith::Config;
-use wasm_smith::module::Module;
-use wasm_smith::unstructured::Unstructured;
 
 const ONES: &[u8] = &[0xff; 4096];
 
@@ -64,8 +62,8 @@ fn drawn_seed(alloc: Global, numbers: &mut Numbers) -> Vec<u8> {
 }
 
 // Counts what the types of the module that is made of the seed have. Returns false where none is made.
-fn count_made(alloc: Global, counts: &mut [Count], config: Config, seed: &[u8]) -> bool {
-    let made = Module::new(alloc, config, &mut Unstructured::new(seed));
+fn count_made(alloc: Global, counts: &mut [Count], config: &Config, seed: &[u8]) -> bool {
+    let made = new_module(alloc, config, seed);
     let is_made = match &made {
         Ok(module) => {
             count_module(alloc, counts, module.types(), module.group_sizes());
@@ -82,7 +80,7 @@ fn count_made(alloc: Global, counts: &mut [Count], config: Config, seed: &[u8]) 
 fn is_next_accepted(alloc: Global, counts: &mut [Count], numbers: &mut Numbers) -> bool {
     let config = drawn_config(numbers);
     let seed = drawn_seed(alloc, numbers);
-    is_accepted(alloc, &config, &seed) && count_made(alloc, counts, config, &seed)
+    is_accepted(alloc, &config, &seed) && count_made(alloc, counts, &config, &seed)
 }
 
 // Checks that so many modules are accepted, and that each mark is on one of them.

@@ -5,9 +5,10 @@ use std::test::Fail;
 use wasm_core::features::WasmFeatures;
 use wasm_gen::error::GenerateError;
 use wasm_gen::generate::generate;
-use wasm_gen::smith::Config;
+use wasm_gen::smith::{Config, Error, Unstructured};
 use wasm_gen_rows::answers::answers_under;
 use wasm_gen_rows::modules::{module_of, parts_of};
+use wasm_smith::module::Module;
 use wasm_smith_config_rows::settings::{config_in, plain_config};
 use wasm_test_rows::fields::three_fields;
 use wasm_test_rows::rows::check_rows;
@@ -62,15 +63,30 @@ const ROWS: &str = "
     default max_memories=101                  | |
 ";
 
-/// Returns the features of what is made for the configuration.
-pub fn features_of(mut config: Config) -> WasmFeatures {
+/// Makes a module for a copy of the configuration.
+pub fn new_module(alloc: Global, config: &Config, seed: &[u8]) -> Result<Module, Error> {
+    let config = config.try_clone(alloc)?;
+    Module::new(alloc, config, &mut Unstructured::new(seed))
+}
+
+// Returns the features of what is made for the configuration.
+fn features_of(alloc: Global, config: &Config) -> Option<WasmFeatures> {
+    let mut config = config.try_clone(alloc).ok()?;
     config.sanitize();
-    config.features()
+    Some(config.features())
+}
+
+/// Checks that a new session with the features of the configuration answers so of a module.
+pub fn is_answered(alloc: Global, config: &Config, module: &[u8], answer: &str) -> bool {
+    match features_of(alloc, config) {
+        Some(features) => answers_under(alloc, features, module, answer),
+        None => false,
+    }
 }
 
 /// Checks that a new session with the features of the configuration accepts a module.
 pub fn is_valid(alloc: Global, config: &Config, module: &[u8]) -> bool {
-    answers_under(alloc, features_of(*config), module, "yes")
+    is_answered(alloc, config, module, "yes")
 }
 
 /// Checks that these are the bytes of the header and the sections of a field.

@@ -1,11 +1,10 @@
 //! Modules of the configurations that ask for something special: exports of everything, raw bodies, custom sections, and segments that can't trap.
 
-use crate::generated::{features_of, is_module_of, is_refusal};
+use crate::generated::{is_answered, is_module_of, is_refusal};
 use std::alloc::Global;
 use std::test::Fail;
 use wasm_gen::generate::generate;
 use wasm_gen::smith::Config;
-use wasm_gen_rows::answers::answers_under;
 use wasm_gen_rows::modules::parts_of;
 use wasm_smith_config_rows::settings::config_in;
 use wasm_test_rows::fields::four_fields;
@@ -79,8 +78,7 @@ const ROWS: &str = "
 fn is_made(alloc: Global, config: &Config, seed: &[u8], expected: &str, answer: &str) -> bool {
     match generate(alloc, config, seed) {
         Ok(made) => {
-            is_module_of(alloc, &made, expected)
-                && answers_under(alloc, features_of(*config), &made, answer)
+            is_module_of(alloc, &made, expected) && is_answered(alloc, config, &made, answer)
         }
         Err(e) => is_refusal(alloc, e, expected),
     }

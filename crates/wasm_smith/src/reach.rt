@@ -3,7 +3,7 @@
 ghost use Rattle.std.specs.Prelude.{◌≡◌, [], ℕ, List, Some, map};
 ghost use Rattle.wasm_spec.specs.Types.{SubType};
 ghost use Rattle.wasm_smith_config.specs.declared.config.Config.{Config};
-ghost use Rattle.wasm_smith_types.specs.Grouped.{entry};
+ghost use Rattle.wasm_smith_validity.specs.ValidGroups.{entry};
 ghost use Rattle.wasm_smith_validity.specs.Made.{Made};
 ghost use Rattle.wasm_smith_module.specs.Generating.{HasFront, bare_module, front_at};
 ghost use Rattle.wasm_smith_witness.specs.Family.{IsAskable, IsMember};

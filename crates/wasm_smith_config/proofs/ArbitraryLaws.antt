@@ -1,16 +1,18 @@
 -- Drawn configurations keep their minimums and maximums.
-use Rattle.std.proofs.Common.{◌≡◌, ℕ, ◌^◌, ◌≤◌, Bool, true, false, List, ◌∷◌, IsFalse, get_or, min, replicate, if◌then◌else◌, nat_lt, refl, sym, ap, ◌∙◌, arith}
+use Rattle.std.proofs.Common.{◌≡◌, ℕ, ◌^◌, ◌≤◌, Bool, true, false, List, [], ◌∷◌, ◌++◌, Option, None, is_some, IsFalse, get_or, min, replicate, if◌then◌else◌, nat_lt, refl, sym, ap, ◌∙◌, arith}
 use Rattle.std.specs.List.{AllByRecursion}
 use Rattle.std.proofs.lemmas.Bool.{le-ltb}
 use Rattle.std.proofs.lemmas.List.Elements.{All-append, All-from_recursion}
 use Rattle.wasm_smith_config.specs.Arbitrary.{IsArbitrary, on_at, off_at, maximums_at, maximums_of, arbitrary_at}
-use Rattle.wasm_smith_config.specs.Config.{AreGood, IsGood, minimums, maximums, sanitized}
+use Rattle.wasm_smith_config.specs.Config.{AreGood, IsGood, minimums, maximums, sanitized, shapes}
 use Rattle.wasm_smith_config.specs.Defaults.{IsDefault, least_counts}
 use Rattle.wasm_smith_config.specs.declared.config.Config.{Config}
+use Rattle.wasm_smith_shapes.specs.Shapes.{ShapeValue}
 
 -- what isn't drawn
-abbrev pub kept_of : Config → List ℕ
-kept_of c = c.max_instructions ∷ c.max_type_size ∷ c.max_memory32_bytes ∷ c.max_memory64_bytes ∷ least_counts c
+abbrev pub kept_of : Config → List ℕ × List (Option ShapeValue)
+kept_of c =
+    (c.max_instructions ∷ c.max_type_size ∷ c.max_memory32_bytes ∷ c.max_memory64_bytes ∷ least_counts c, c.module_shape ∷ c.available_imports ∷ c.exports ∷ [])
 
 on_keeps : (c : Config) (s : List ℕ) → kept_of (on_at c s).0 ≡ kept_of c
 unfolding on_at
@@ -26,10 +28,11 @@ maximums_keep c s = refl
 
 -- what isn't drawn by default
 abbrev pub IsKept : Config → Type 0
-IsKept c = kept_of c ≡ 100 ∷ 1000 ∷ 2 ^ 32 ∷ 2 ^ 64 ∷ replicate 11 0
+IsKept c = kept_of c ≡ (100 ∷ 1000 ∷ 2 ^ 32 ∷ 2 ^ 64 ∷ replicate 11 0, None ∷ None ∷ None ∷ [])
 
 default_kept : (c : Config) → IsDefault c → IsKept c
-default_kept c is = rw (is.least, is.type_size, is.memory32_bytes, is.memory64_bytes) (ap (λ n. n ∷ 1000 ∷ 2 ^ 32 ∷ 2 ^ 64 ∷ replicate 11 0) (ap (λ counts. get_or counts 9 0) is.largest))
+default_kept c is = rw (is.least, is.type_size, is.memory32_bytes, is.memory64_bytes, is.no_module_shape, is.no_available_imports, is.no_exports)
+    (ap (λ n. (n ∷ 1000 ∷ 2 ^ 32 ∷ 2 ^ 64 ∷ replicate 11 0, None ∷ None ∷ None ∷ [])) (ap (λ counts. get_or counts 9 0) is.largest))
 
 pub all_kept : (default on off drawn : Config) (s after_on after_off left : List ℕ) → IsDefault default → on_at default s ≡ (on, after_on) → off_at on after_on ≡ (off, after_off) → maximums_at off after_off ≡ (drawn, left) → IsKept drawn
 all_kept default on off drawn s after_on after_off left is first second third =
@@ -69,7 +72,7 @@ fewer false n small = omega arith
 
 good_minimums : (c : Config) → IsKept c → AreGood (minimums (sanitized c))
 good_minimums c kept =
-    let none : (i : ℕ) → get_or (kept_of c) i 0 ≡ get_or (100 ∷ 1000 ∷ 2 ^ 32 ∷ 2 ^ 64 ∷ replicate 11 0) i 0 = λ i. ap (λ numbers. get_or numbers i 0) kept in
+    let none : (i : ℕ) → get_or (kept_of c).0 i 0 ≡ get_or (100 ∷ 1000 ∷ 2 ^ 32 ∷ 2 ^ 64 ∷ replicate 11 0) i 0 = λ i. ap (λ (rest : List ℕ × List (Option ShapeValue)). get_or rest.0 i 0) kept in
     All-from_recursion (λ field. IsFalse field.is_bad) (minimums (sanitized c)) (
       none_least c.min_types _ (none 4),
       (
@@ -104,7 +107,7 @@ good_minimums c kept =
 
 good_maximums : (c : Config) → IsKept c → AllByRecursion (λ most. most ≤ 100) (maximums_of c) → AreGood (maximums (sanitized c))
 good_maximums c kept (types, (imports, (tags, (funcs, (globals, (exports, (segments, (elements, (data_segments, (tables, (memories, _))))))))))) =
-    let same : (i : ℕ) → get_or (kept_of c) i 0 ≡ get_or (100 ∷ 1000 ∷ 2 ^ 32 ∷ 2 ^ 64 ∷ replicate 11 0) i 0 = λ i. ap (λ numbers. get_or numbers i 0) kept in
+    let same : (i : ℕ) → get_or (kept_of c).0 i 0 ≡ get_or (100 ∷ 1000 ∷ 2 ^ 32 ∷ 2 ^ 64 ∷ replicate 11 0) i 0 = λ i. ap (λ (rest : List ℕ × List (Option ShapeValue)). get_or rest.0 i 0) kept in
     let instructions : c.max_instructions ≡ 100 = same 0 in
     let type_size : c.max_type_size ≡ 1000 = same 1 in
     All-from_recursion (λ field. IsFalse field.is_bad) (maximums (sanitized c)) (
@@ -151,5 +154,12 @@ good_maximums c kept (types, (imports, (tags, (funcs, (globals, (exports, (segme
       ),
     )
 
+good_shapes : (c : Config) → IsKept c → AreGood (shapes (sanitized c))
+good_shapes c kept =
+    let none : (i : ℕ) → get_or (kept_of c).1 i None ≡ get_or (None ∷ None ∷ None ∷ []) i None = λ i. ap (λ (rest : List ℕ × List (Option ShapeValue)). get_or rest.1 i None) kept in
+    All-from_recursion (λ field. IsFalse field.is_bad) (shapes (sanitized c)) (ap is_some (none 0), (ap is_some (none 1), (ap is_some (none 2), tt)))
+
 pub good_fields : (c : Config) → IsKept c → AllByRecursion (λ most. most ≤ 100) (maximums_of c) → IsGood (sanitized c)
-good_fields c kept small = All-append (λ field. IsFalse field.is_bad) (minimums (sanitized c)) (maximums (sanitized c)) (good_minimums c kept) (good_maximums c kept small)
+good_fields c kept small =
+    All-append (λ field. IsFalse field.is_bad) (minimums (sanitized c)) (maximums (sanitized c) ++ shapes (sanitized c)) (good_minimums c kept)
+    (All-append (λ field. IsFalse field.is_bad) (maximums (sanitized c)) (shapes (sanitized c)) (good_maximums c kept small) (good_shapes c kept))

@@ -6,8 +6,8 @@ use Rattle.wasm_smith_config.specs.Config.{AreGood, HasBad, NamesBad}
 use Rattle.wasm_smith_config.specs.Fields.{field_of}
 use Rattle.wasm_smith_config.specs.Config as table
 use Rattle.wasm_smith_config.specs.declared.check.Field as code
-use Rattle.wasm_smith_config.specs.declared.error.Error.{Error}
-use Rattle.wasm_smith_config.specs.declared.error.Error.TheVariants.{IncorrectFormat, EmptyChoose, NotEnoughData, BadConfig, BadShape, TypeSize, Memory, TooLong}
+use Rattle.wasm_smith_unstructured.specs.declared.error.Error.{Error}
+use Rattle.wasm_smith_unstructured.specs.declared.error.Error.TheVariants.{IncorrectFormat, EmptyChoose, NotEnoughData, BadConfig, BadShape, TypeSize, Memory, TooLong}
 
 -- what is bad in a table is bad in a longer one
 pub bad_left : (xs ys : List table.Field) (name : List ℕ) → HasBad xs name → HasBad (xs ++ ys) name

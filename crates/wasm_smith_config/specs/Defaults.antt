@@ -1,5 +1,5 @@
 -- The configuration where nothing else is said.
-use Rattle.std.specs.Prelude.{◌≡◌, ℕ, ◌^◌, Bool, true, false, List, [], ◌∷◌, replicate}
+use Rattle.std.specs.Prelude.{◌≡◌, ℕ, ◌^◌, Bool, true, false, List, [], ◌∷◌, None, replicate}
 use Rattle.wasm_smith_config.specs.Instructions.{all_kinds}
 use Rattle.wasm_smith_config.specs.Offsets.{default_choices}
 use Rattle.wasm_smith_config.specs.declared.config.Config.{Config}
@@ -44,3 +44,6 @@ pub record IsDefault (c : Config) : Type 0 where
   pub memory64_bytes : c.max_memory64_bytes ≡ 2 ^ 64
   pub instructions : c.allowed_instructions ≡ all_kinds
   pub offsets : c.memory_offset_choices ≡ default_choices
+  pub no_module_shape : c.module_shape ≡ None
+  pub no_available_imports : c.available_imports ≡ None
+  pub no_exports : c.exports ≡ None

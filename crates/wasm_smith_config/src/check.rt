@@ -1,11 +1,12 @@
 //! Which configurations modules are made from.
 
-ghost use Rattle.std.specs.Prelude.{◌≡◌, map, OnOk, IfErr};
+ghost use Rattle.std.specs.Prelude.{◌≡◌, ◌++◌, map, OnOk, IfErr};
 ghost use Rattle.wasm_smith_config.specs.Config as table;
 ghost use Rattle.wasm_smith_config.specs.Fields.{field_of};
 
 use crate::config::{Config, DEFAULT_MEMORY32_BYTES, DEFAULT_MEMORY64_BYTES};
 use crate::error::Error;
+use wasm_smith_shapes::shape::Shape;
 
 // The largest maximum of a count.
 const LARGEST_COUNT: u32 = 0x8000_0000;
@@ -27,7 +28,16 @@ impl Config {
         ensures bad { IfErr result (table.NamesBadField self.now) }
     {
         none_is_bad(&self.minimums())?;
-        none_is_bad(&self.maximums())
+        self.check_others()
+    }
+
+    // Checks all but the minimums.
+    fn check_others(&self) -> Result<(), Error>
+        ensures good { OnOk result (table.AreGood (table.maximums self.now ++ table.shapes self.now)) }
+        ensures bad { IfErr result (table.NamesBad (table.maximums self.now ++ table.shapes self.now)) }
+    {
+        none_is_bad(&self.maximums())?;
+        none_is_bad(&self.shapes())
     }
 
     // Returns each minimum.
@@ -88,6 +98,26 @@ impl Config {
                 is_bad: self.max_memory64_bytes > DEFAULT_MEMORY64_BYTES,
             },
         ]
+    }
+
+    // Returns each shape.
+    fn shapes(&self) -> [Field; 3]
+        ensures { map field_of result ≡ table.shapes self.now }
+    {
+        [
+            no_shape("module_shape", &self.module_shape),
+            no_shape("available_imports", &self.available_imports),
+            no_shape("exports", &self.exports),
+        ]
+    }
+}
+
+fn no_shape(name: &'static str, shape: &Option<Shape>) -> Field
+    ensures { field_of result ≡ table.no_shape name.now shape.now }
+{
+    Field {
+        name,
+        is_bad: shape.is_some(),
     }
 }
 

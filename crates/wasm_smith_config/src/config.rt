@@ -6,6 +6,7 @@ ghost use Rattle.std.specs.List.{AllZip};
 use crate::instruction_kinds::InstructionKinds;
 use crate::memory_offset_choices::MemoryOffsetChoices;
 use wasm_core_types::features::{Flags, WasmFeatures};
+use wasm_smith_shapes::shape::Shape;
 
 /// The most bytes that a memory of 32-bit addresses has where nothing else is said.
 pub const DEFAULT_MEMORY32_BYTES: u64 = 0x1_0000_0000;
@@ -17,7 +18,7 @@ pub const DEFAULT_MEMORY64_BYTES: u128 = 0x1_0000_0000_0000_0000;
 ///
 /// A minimum and a maximum bound how many items of a kind the module has, imported ones counted. Where the minimum can't be
 /// met, no module is made. A field whose name ends in `_enabled` says whether the module may need a feature.
-#[derive(Clone, Copy, Debug, PartialEq, Eq)]
+#[derive(Debug, Drop)]
 pub struct Config {
     /// Allows the types of floats, and constants of them.
     pub allow_floats: bool,
@@ -135,6 +136,13 @@ pub struct Config {
     pub allowed_instructions: InstructionKinds,
     /// Weights of the offsets of memory accesses in function bodies. They are kept for those who make bodies, and steer nothing here.
     pub memory_offset_choices: MemoryOffsetChoices,
+
+    /// The types, imports and exports that the module is asked to have. No module is made for shapes yet: [`Config::check`] doesn't allow this field.
+    pub module_shape: Option<Shape>,
+    /// The imports that the module may have. [`Config::check`] doesn't allow it yet.
+    pub available_imports: Option<Shape>,
+    /// The exports that the module is asked to have. [`Config::check`] doesn't allow it yet.
+    pub exports: Option<Shape>,
 }
 
 /// All that the standard has may be used, and each count is at most 100, of tables and memories at most 1.
@@ -200,6 +208,9 @@ impl Default for Config {
             max_memory64_bytes: DEFAULT_MEMORY64_BYTES,
             allowed_instructions: InstructionKinds::all(),
             memory_offset_choices: MemoryOffsetChoices::default(),
+            module_shape: None,
+            available_imports: None,
+            exports: None,
         }
     }
 }

@@ -3,6 +3,7 @@
 
 mod arbitrary;
 mod check;
+mod clones;
 pub mod config;
 pub mod error;
 pub mod instruction_kinds;

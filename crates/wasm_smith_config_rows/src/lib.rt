@@ -1,4 +1,5 @@
-//! Rows of tests about configurations, which are settings in words.
+//! Rows of tests about configurations, which are settings in words, and about shapes.
 #![tactic(auto)]
 
 pub mod settings;
+pub mod shapes;

@@ -11,7 +11,7 @@ use Rattle.wasm_smith_config.specs.declared.config.Config.{Config}
 use Rattle.wasm_smith_definitions.specs.Items.{on_i32, on_i64}
 use Rattle.wasm_smith_definitions.specs.declared.constant.Operation.{Operation}
 use Rattle.wasm_smith_definitions.specs.declared.constant.Operation.TheVariants.{Add, Sub, Mul}
-use Rattle.wasm_smith_types.specs.ValidGroups.{AllKeepTypeRules}
+use Rattle.wasm_smith_validity.specs.ValidGroups.{AllKeepTypeRules}
 use Rattle.wasm_smith_validity.specs.Constants.{IsBelow, IsOperation, Scope, scope}
 use Rattle.wasm_smith_validity.specs.Spaces.{Spaces, functions_of, globals_of, is_value}
 use Rattle.wasm_smith_definitions.specs.Constants.{MayWrite, Gives, IsPlain, IsOnIntegers}

@@ -3,7 +3,7 @@ use Rattle.std.specs.Prelude.{ℕ, zero, suc, List, [], ◌∷◌, map, Option, 
 use Rattle.std.specs.String.{string_bytes}
 use Rattle.wasm_core_types.specs.CoreTypes.{heap_type, val_type}
 use Rattle.wasm_encoder_instructions.specs.Instructions.{vector_bytes}
-use Rattle.wasm_encoder_sections.specs.CoreItems.{entity_type, export_kind, global_type, ref_type, table_type}
+use Rattle.wasm_encoder_sections.specs.CoreItems.{export_kind, global_type, ref_type, table_type}
 use Rattle.wasm_spec.specs.Constants.{ConstantOperator, I32Const, I64Const, F32Const, F64Const, V128Const, RefNull, RefFunc, GlobalGet, I32Add, I32Sub, I32Mul, I64Add, I64Sub, I64Mul, ConstantExpression}
 use Rattle.wasm_spec.specs.Syntax as spec
 use Rattle.wasm_validity.specs.TypeRules.{is_funcref}
@@ -15,9 +15,6 @@ use Rattle.wasm_smith_definitions.specs.declared.constant.Constant.TheVariants a
 use Rattle.wasm_smith_definitions.specs.declared.constant.Operation.{Operation}
 use Rattle.wasm_smith_definitions.specs.declared.constant.Operation.TheVariants.{Add, Sub, Mul}
 use Rattle.wasm_smith_definitions.specs.declared.custom_section.CustomSection.{CustomSection}
-use Rattle.wasm_smith_definitions.specs.declared.imports.ImportEntry.{ImportEntry}
-use Rattle.wasm_smith_definitions.specs.declared.imports.ImportEntry.TheVariants as entries
-use Rattle.wasm_smith_definitions.specs.declared.imports.ImportItem.{ImportItem}
 use Rattle.wasm_smith_definitions.specs.declared.items.Export.{Export}
 use Rattle.wasm_smith_definitions.specs.declared.items.Global.{Global}
 use Rattle.wasm_smith_definitions.specs.declared.items.Table.{Table}
@@ -54,16 +51,6 @@ expression (constants.Function function) = RefFunc function ∷ []
 expression (constants.Global global) = GlobalGet global ∷ []
 expression (constants.I32Operation operation a b) = I32Const a ∷ I32Const b ∷ on_i32 operation ∷ []
 expression (constants.I64Operation operation a b) = I64Const a ∷ I64Const b ∷ on_i64 operation ∷ []
-
--- ---- imports
-
-abbrev pub import_item : ImportItem → spec.ImportItem
-import_item item = record { name = string_bytes item.name; type = entity_type item.ty }
-
-abbrev pub import_entry : ImportEntry → spec.ImportEntry
-import_entry (entries.Single origin name type) = spec.Import (string_bytes origin) (string_bytes name) (entity_type type)
-import_entry (entries.Compact1 origin items) = spec.CompactItems (string_bytes origin) (map import_item items.items)
-import_entry (entries.Compact2 origin type names) = spec.CompactNames (string_bytes origin) (entity_type type) (map string_bytes names.items)
 
 -- ---- tables, globals, exports
 

@@ -4,7 +4,7 @@ ghost use Rattle.std.specs.Prelude.{◌≡◌, ◌≤◌, ◌↔◌, ◌∷◌, 
 ghost use Rattle.wasm_core_types.specs.CoreTypes.{val_type};
 ghost use Rattle.wasm_core_types.specs.SubTypes.{sub_type};
 ghost use Rattle.wasm_smith_definitions.specs.Constants.{Gives};
-ghost use Rattle.wasm_smith_types.specs.ValidGroups.{AllKeepTypeRules};
+ghost use Rattle.wasm_smith_validity.specs.ValidGroups.{AllKeepTypeRules};
 ghost use Rattle.wasm_smith_validity.specs.Constants.{IsBelow};
 ghost use Rattle.wasm_spec.specs.Constants.{GlobalGet, RefFunc};
 ghost use Rattle.wasm_spec.specs.Types.{Concrete, Ref};
@@ -16,8 +16,8 @@ use crate::merged::Merged;
 use std::alloc::{AllocError, Global};
 use wasm_core_types::types::{HeapType, RefType, SubType, ValType};
 use wasm_smith_config::config::Config;
-use wasm_smith_types::subtyping::is_ref_below;
 use wasm_smith_unstructured::unstructured::Unstructured;
+use wasm_smith_validity::subtyping::is_ref_below;
 
 /// A form of constant expressions.
 #[derive(Clone, Copy, Debug)]

@@ -4,7 +4,7 @@ ghost use Rattle.std.specs.Prelude.{◌≡◌, ◌≤◌, ◌⊎◌, true, false
 ghost use Rattle.wasm_core_types.specs.CoreTypes.{val_type};
 ghost use Rattle.wasm_smith_definitions.specs.Constants.{Fits, Gives, has_plain, IsInteger, IsOnIntegers, IsPlain, MayWrite};
 ghost use Rattle.wasm_smith_definitions.specs.Items.{expression};
-ghost use Rattle.wasm_smith_types.specs.ValidGroups.{AllKeepTypeRules};
+ghost use Rattle.wasm_smith_validity.specs.ValidGroups.{AllKeepTypeRules};
 
 use crate::candidates::{Candidates, Form, can_get, can_refer};
 use crate::constant::{Constant, Operation};

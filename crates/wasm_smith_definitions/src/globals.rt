@@ -7,7 +7,7 @@ ghost use Rattle.wasm_smith_definitions.specs.Offered.{AreOffersOf, IsOfferedVal
 ghost use Rattle.wasm_smith_definitions.specs.Items as items;
 ghost use Rattle.wasm_smith_definitions.specs.Kinds.{AnyBound, of_global, wanted_globals};
 ghost use Rattle.wasm_smith_definitions.specs.Steps.{Allows, IsGrown};
-ghost use Rattle.wasm_smith_types.specs.ValidGroups.{AllKeepTypeRules};
+ghost use Rattle.wasm_smith_validity.specs.ValidGroups.{AllKeepTypeRules};
 
 use crate::constants::Constants;
 use crate::index_spaces::IndexSpaces;

@@ -3,8 +3,7 @@
 use crate::merged::Merged;
 use std::alloc::{AllocError, Global};
 use wasm_core_types::types::{AbstractHeapType, CompositeType, HeapType, SubType, ValType};
-use wasm_smith_types::bounds::MAX_HEIGHT;
-use wasm_smith_types::subtyping::is_heap_below;
+use wasm_smith_validity::subtyping::{MAX_HEIGHT, is_heap_below};
 
 /// Lists of items by the types of their values, where nullable references count as others do. An item stands in the list of its own type and in that of each
 /// type above it, but an item of a bottom type stands in no list of a concrete type, since there may be many of those.

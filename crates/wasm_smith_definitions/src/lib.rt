@@ -11,7 +11,6 @@ pub mod draws;
 pub mod function_types;
 pub mod globals;
 pub mod growing;
-pub mod imports;
 pub mod index_spaces;
 pub mod indexes;
 pub mod item_lists;

@@ -7,7 +7,7 @@ ghost use Rattle.wasm_smith_definitions.specs.Offered.{AreOffersOf, HasFewTables
 ghost use Rattle.wasm_smith_definitions.specs.Items as items;
 ghost use Rattle.wasm_smith_definitions.specs.Kinds.{of_table, wanted_tables};
 ghost use Rattle.wasm_smith_definitions.specs.Steps.{Allows, IsGrown};
-ghost use Rattle.wasm_smith_types.specs.ValidGroups.{AllKeepTypeRules};
+ghost use Rattle.wasm_smith_validity.specs.ValidGroups.{AllKeepTypeRules};
 
 use crate::bounds::bounds_within;
 use crate::constants::Constants;

@@ -8,7 +8,7 @@ use Rattle.std.proofs.lemmas.List.Sums.{sum_by-append, sum_by-cons}
 use Rattle.wasm_spec.specs.Syntax.{Export}
 use Rattle.wasm_spec.specs.Types.{ExternalKind, FuncKind, TableKind, MemoryKind, GlobalKind, TagKind, FuncType}
 use Rattle.wasm_smith_config.specs.declared.config.Config.{Config}
-use Rattle.wasm_smith_config.specs.declared.error.Error.{Error}
+use Rattle.wasm_smith_unstructured.specs.declared.error.Error.{Error}
 use Rattle.wasm_smith_definitions.proofs.FrameLaws.{kept}
 use Rattle.wasm_smith_definitions.proofs.StepLaws.{keep_append, known_append}
 use Rattle.wasm_smith_definitions.specs.FunctionTypes.{func_size}

@@ -27,10 +27,10 @@ pub record IsImporterFor (types : List (SubType ℕ)) (it : Importer) : Type 0 w
   pub known : map sub_type it.types.now ≡ types
   pub functions : it.functions.items ≡ function_indexes 0 types
   pub tags : it.tags.items ≡ tag_indexes 0 types
-  pub offers : it.offers ≡ offers it.config
+  pub offers : it.offers ≡ offers it.config.now
   pub few : length types ≤ 2 ^ 31
-  pub limits : HasByteLimits it.config
-  pub tables : HasFewTables it.config
+  pub limits : HasByteLimits it.config.now
+  pub tables : HasFewTables it.config.now
 
 -- As many imports are made, and as many may still come.
 pub record IsAsFar (before after : Progress) : Type 0 where

@@ -6,7 +6,7 @@ ghost use Rattle.std.specs.Option.{option_to_list};
 ghost use Rattle.std.specs.String.{string_bytes};
 ghost use Rattle.wasm_encoder_sections.specs.CoreItems.{entity_type};
 ghost use Rattle.wasm_spec.specs.Types.{kind_of};
-ghost use Rattle.wasm_smith_definitions.specs.Items.{import_entry, import_item};
+ghost use Rattle.wasm_smith_shapes.specs.Imports.{import_entry, import_item};
 ghost use Rattle.wasm_smith_externs.specs.Added.{AreAdded, IsImporterFor};
 ghost use Rattle.wasm_smith_externs.specs.Candidates.{IsOfferedImport, can_import, can_import_some};
 ghost use Rattle.wasm_smith_externs.specs.Imports.{IsMadeEntry};
@@ -18,8 +18,8 @@ use crate::progress::Progress;
 use std::alloc::{AllocError, Global};
 use wasm_encoder_sections::entity_type::EntityType;
 use wasm_smith_config::error::Error;
-use wasm_smith_definitions::imports::{ImportEntry, ImportItem};
 use wasm_smith_definitions::index_spaces::IndexSpaces;
+use wasm_smith_shapes::imports::{ImportEntry, ImportItem};
 use wasm_smith_unstructured::unstructured::Unstructured;
 
 /// Adds a thing, if there is one, to a list.
@@ -48,9 +48,9 @@ fn import_of_type(
     requires importer { IsImporterFor spaces.old.types importer.now }
     requires left { 0 < progress.old.left }
     requires origin { length origin.now ≤ 1000 }
-    requires offered { IsOfferedImport importer.now.config spaces.old.types (entity_type ty.now) }
-    requires can { can_import importer.now.config spaces.old (kind_of (entity_type ty.now)) ≡ true }
-    ensures added { IfOk result (λ name. AreAdded importer.now.config spaces.old spaces.new progress.old progress.new (map (named origin.now (entity_type ty.now)) (map string_bytes (option_to_list name)))) }
+    requires offered { IsOfferedImport importer.now.config.now spaces.old.types (entity_type ty.now) }
+    requires can { can_import importer.now.config.now spaces.old (kind_of (entity_type ty.now)) ≡ true }
+    ensures added { IfOk result (λ name. AreAdded importer.now.config.now spaces.old spaces.new progress.old progress.new (map (named origin.now (entity_type ty.now)) (map string_bytes (option_to_list name)))) }
     ensures fewer { IfOk result (λ _. progress.new.left < progress.old.left) }
     ensures taken { length unstructured.new ≤ length unstructured.old }
     ensures refused { IfErr result (λ e. e ≡ Error.Memory) }
@@ -76,8 +76,8 @@ fn item(
     requires importer { IsImporterFor spaces.old.types importer.now }
     requires left { 0 < progress.old.left }
     requires origin { length origin.now ≤ 1000 }
-    requires can { can_import_some importer.now.config spaces.old ≡ true }
-    ensures added { IfOk result (λ item. AreAdded importer.now.config spaces.old spaces.new progress.old progress.new (map (named_item origin.now) (map import_item (option_to_list item)))) }
+    requires can { can_import_some importer.now.config.now spaces.old ≡ true }
+    ensures added { IfOk result (λ item. AreAdded importer.now.config.now spaces.old spaces.new progress.old progress.new (map (named_item origin.now) (map import_item (option_to_list item)))) }
     ensures fewer { IfOk result (λ _. progress.new.left < progress.old.left) }
     ensures taken { length unstructured.new ≤ length unstructured.old }
     ensures refused { IfErr result (λ e. e ≡ Error.Memory) }
@@ -100,9 +100,9 @@ fn single(
 ) -> Result<Option<ImportEntry>, Error>
     requires importer { IsImporterFor spaces.old.types importer.now }
     requires left { 0 < progress.old.left }
-    requires can { can_import_some importer.now.config spaces.old ≡ true }
-    ensures added { IfOk result (λ entry. AreAdded importer.now.config spaces.old spaces.new progress.old progress.new (all_named (map import_entry (option_to_list entry)))) }
-    ensures made { IfOk result (λ entry. AllByRecursion (IsMadeEntry importer.now.config) (map import_entry (option_to_list entry))) }
+    requires can { can_import_some importer.now.config.now spaces.old ≡ true }
+    ensures added { IfOk result (λ entry. AreAdded importer.now.config.now spaces.old spaces.new progress.old progress.new (all_named (map import_entry (option_to_list entry)))) }
+    ensures made { IfOk result (λ entry. AllByRecursion (IsMadeEntry importer.now.config.now) (map import_entry (option_to_list entry))) }
     ensures fewer { IfOk result (λ _. progress.new.left < progress.old.left) }
     ensures taken { length unstructured.new ≤ length unstructured.old }
     ensures refused { IfErr result (λ e. e ≡ Error.Memory) }
@@ -141,8 +141,8 @@ fn items(
     requires importer { IsImporterFor spaces.old.types importer.now }
     requires left { 0 < progress.old.left }
     requires origin { length origin.now ≤ 1000 }
-    requires can { can_import_some importer.now.config spaces.old ≡ true }
-    ensures added { IfOk result (λ items. AreAdded importer.now.config spaces.old spaces.new progress.old progress.new (map (named_item origin.now) (map import_item items.items))) }
+    requires can { can_import_some importer.now.config.now spaces.old ≡ true }
+    ensures added { IfOk result (λ items. AreAdded importer.now.config.now spaces.old spaces.new progress.old progress.new (map (named_item origin.now) (map import_item items.items))) }
     ensures fewer { IfOk result (λ _. progress.new.left < progress.old.left) }
     ensures taken { length unstructured.new ≤ length unstructured.old }
     ensures refused { IfErr result (λ e. e ≡ Error.Memory) }
@@ -174,9 +174,9 @@ fn names(
     requires importer { IsImporterFor spaces.old.types importer.now }
     requires left { 0 < progress.old.left }
     requires origin { length origin.now ≤ 1000 }
-    requires offered { IsOfferedImport importer.now.config spaces.old.types (entity_type ty.now) }
-    requires can { can_import importer.now.config spaces.old (kind_of (entity_type ty.now)) ≡ true }
-    ensures added { IfOk result (λ names. AreAdded importer.now.config spaces.old spaces.new progress.old progress.new (map (named origin.now (entity_type ty.now)) (map string_bytes names.items))) }
+    requires offered { IsOfferedImport importer.now.config.now spaces.old.types (entity_type ty.now) }
+    requires can { can_import importer.now.config.now spaces.old (kind_of (entity_type ty.now)) ≡ true }
+    ensures added { IfOk result (λ names. AreAdded importer.now.config.now spaces.old spaces.new progress.old progress.new (map (named origin.now (entity_type ty.now)) (map string_bytes names.items))) }
     ensures fewer { IfOk result (λ _. progress.new.left < progress.old.left) }
     ensures taken { length unstructured.new ≤ length unstructured.old }
     ensures refused { IfErr result (λ e. e ≡ Error.Memory) }
@@ -204,11 +204,11 @@ fn compact1(
     progress: &mut Progress,
 ) -> Result<Option<ImportEntry>, Error>
     requires importer { IsImporterFor spaces.old.types importer.now }
-    requires compact { importer.now.config.compact_imports_enabled ≡ true }
+    requires compact { importer.now.config.now.compact_imports_enabled ≡ true }
     requires left { 0 < progress.old.left }
-    requires can { can_import_some importer.now.config spaces.old ≡ true }
-    ensures added { IfOk result (λ entry. AreAdded importer.now.config spaces.old spaces.new progress.old progress.new (all_named (map import_entry (option_to_list entry)))) }
-    ensures made { IfOk result (λ entry. AllByRecursion (IsMadeEntry importer.now.config) (map import_entry (option_to_list entry))) }
+    requires can { can_import_some importer.now.config.now spaces.old ≡ true }
+    ensures added { IfOk result (λ entry. AreAdded importer.now.config.now spaces.old spaces.new progress.old progress.new (all_named (map import_entry (option_to_list entry)))) }
+    ensures made { IfOk result (λ entry. AllByRecursion (IsMadeEntry importer.now.config.now) (map import_entry (option_to_list entry))) }
     ensures fewer { IfOk result (λ _. progress.new.left < progress.old.left) }
     ensures taken { length unstructured.new ≤ length unstructured.old }
     ensures refused { IfErr result (λ e. e ≡ Error.Memory) }
@@ -231,11 +231,11 @@ fn compact2(
     progress: &mut Progress,
 ) -> Result<Option<ImportEntry>, Error>
     requires importer { IsImporterFor spaces.old.types importer.now }
-    requires compact { importer.now.config.compact_imports_enabled ≡ true }
+    requires compact { importer.now.config.now.compact_imports_enabled ≡ true }
     requires left { 0 < progress.old.left }
-    requires can { can_import_some importer.now.config spaces.old ≡ true }
-    ensures added { IfOk result (λ entry. AreAdded importer.now.config spaces.old spaces.new progress.old progress.new (all_named (map import_entry (option_to_list entry)))) }
-    ensures made { IfOk result (λ entry. AllByRecursion (IsMadeEntry importer.now.config) (map import_entry (option_to_list entry))) }
+    requires can { can_import_some importer.now.config.now spaces.old ≡ true }
+    ensures added { IfOk result (λ entry. AreAdded importer.now.config.now spaces.old spaces.new progress.old progress.new (all_named (map import_entry (option_to_list entry)))) }
+    ensures made { IfOk result (λ entry. AllByRecursion (IsMadeEntry importer.now.config.now) (map import_entry (option_to_list entry))) }
     ensures fewer { IfOk result (λ _. progress.new.left < progress.old.left) }
     ensures taken { length unstructured.new ≤ length unstructured.old }
     ensures refused { IfErr result (λ e. e ≡ Error.Memory) }
@@ -264,9 +264,9 @@ pub fn entry(
 ) -> Result<Option<ImportEntry>, Error>
     requires importer { IsImporterFor spaces.old.types importer.now }
     requires left { 0 < progress.old.left }
-    requires can { can_import_some importer.now.config spaces.old ≡ true }
-    ensures added { IfOk result (λ entry. AreAdded importer.now.config spaces.old spaces.new progress.old progress.new (all_named (map import_entry (option_to_list entry)))) }
-    ensures made { IfOk result (λ entry. AllByRecursion (IsMadeEntry importer.now.config) (map import_entry (option_to_list entry))) }
+    requires can { can_import_some importer.now.config.now spaces.old ≡ true }
+    ensures added { IfOk result (λ entry. AreAdded importer.now.config.now spaces.old spaces.new progress.old progress.new (all_named (map import_entry (option_to_list entry)))) }
+    ensures made { IfOk result (λ entry. AllByRecursion (IsMadeEntry importer.now.config.now) (map import_entry (option_to_list entry))) }
     ensures fewer { IfOk result (λ _. progress.new.left < progress.old.left) }
     ensures taken { length unstructured.new ≤ length unstructured.old }
     ensures refused { IfErr result (λ e. e ≡ Error.Memory) }

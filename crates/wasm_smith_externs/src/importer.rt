@@ -80,7 +80,7 @@ fn one_if(more: bool) -> u64
 /// The configuration and the types that imports are drawn from.
 #[derive(Debug, Drop)]
 pub struct Importer<'a> {
-    config: Config,
+    config: &'a Config,
     types: &'a [SubType],
     offers: Offers,
     // the indexes of the function types
@@ -105,20 +105,20 @@ impl<'a> Importer<'a> {
     /// Where memory runs out.
     pub fn new(
         alloc: Global,
-        config: &Config,
+        config: &'a Config,
         types: &'a [SubType],
     ) -> Result<Importer<'a>, AllocError>
         requires few { length types.now ≤ 2 ^ 31 }
         requires limits { HasByteLimits config.now }
         requires tables { HasFewTables config.now }
         ensures importer { IfOk result (IsImporterFor (map sub_type types.now)) }
-        ensures config { IfOk result (λ it. it.config ≡ config.now) }
+        ensures config { IfOk result (λ it. it.config.now ≡ config.now) }
     {
         let functions = function_types(alloc, types)?;
         let tags = tag_types(alloc, types)?;
         let offers = Offers::new(alloc, config)?;
         Ok(Importer {
-            config: *config,
+            config,
             types,
             offers,
             functions,
@@ -128,14 +128,14 @@ impl<'a> Importer<'a> {
 
     /// Returns the configuration.
     pub fn config(&self) -> &Config
-        ensures { result.now ≡ self.now.config }
+        ensures { result.now ≡ self.now.config.now }
     {
-        &self.config
+        self.config
     }
 
     // Checks that there is a type for an import of this kind.
     fn has_type(&self, kind: ExportKind) -> bool
-        ensures { (types : List (spec.SubType ℕ)) → IsImporterFor types self.now → result ≡ has_type self.now.config types (export_kind kind) }
+        ensures { (types : List (spec.SubType ℕ)) → IsImporterFor types self.now → result ≡ has_type self.now.config.now types (export_kind kind) }
     {
         match kind {
             ExportKind::Func => has_some(&self.functions),
@@ -149,15 +149,15 @@ impl<'a> Importer<'a> {
     /// Checks that an item of this kind can be imported.
     pub fn can_import(&self, spaces: &IndexSpaces<'_>, kind: ExportKind) -> bool
         requires { IsImporterFor spaces.now.types self.now }
-        ensures { result ≡ can_import self.now.config spaces.now (export_kind kind) }
+        ensures { result ≡ can_import self.now.config.now spaces.now (export_kind kind) }
     {
-        self.has_type(kind) && has_room(spaces.count_of(kind), most_of(&self.config, kind))
+        self.has_type(kind) && has_room(spaces.count_of(kind), most_of(self.config, kind))
     }
 
     /// Checks that an item of some kind can be imported.
     pub fn can_import_some(&self, spaces: &IndexSpaces<'_>) -> bool
         requires { IsImporterFor spaces.now.types self.now }
-        ensures { result ≡ can_import_some self.now.config spaces.now }
+        ensures { result ≡ can_import_some self.now.config.now spaces.now }
     {
         self.can_import(spaces, ExportKind::Func)
             || self.can_import(spaces, ExportKind::Tag)
@@ -173,8 +173,8 @@ impl<'a> Importer<'a> {
         spaces: &IndexSpaces<'_>,
     ) -> ExportKind
         requires importer { IsImporterFor spaces.now.types self.now }
-        requires some { can_import_some self.now.config spaces.now ≡ true }
-        ensures can { can_import self.now.config spaces.now (export_kind result) ≡ true }
+        requires some { can_import_some self.now.config.now spaces.now ≡ true }
+        ensures can { can_import self.now.config.now spaces.now (export_kind result) ≡ true }
         ensures taken { length unstructured.new ≤ length unstructured.old }
     {
         let function = self.can_import(spaces, ExportKind::Func);
@@ -211,9 +211,9 @@ impl<'a> Importer<'a> {
         kind: ExportKind,
     ) -> EntityType
         requires importer { IsImporterFor spaces.now.types self.now }
-        requires can { can_import self.now.config spaces.now (export_kind kind) ≡ true }
+        requires can { can_import self.now.config.now spaces.now (export_kind kind) ≡ true }
         ensures kind { kind_of (entity_type result) ≡ export_kind kind }
-        ensures offered { IsOfferedImport self.now.config spaces.now.types (entity_type result) }
+        ensures offered { IsOfferedImport self.now.config.now spaces.now.types (entity_type result) }
         ensures taken { length unstructured.new ≤ length unstructured.old }
     {
         let type_count = self.types.len() as u32;
@@ -232,11 +232,11 @@ impl<'a> Importer<'a> {
             )),
             ExportKind::Table => EntityType::Table(table_type(
                 unstructured,
-                &self.config,
+                self.config,
                 &self.offers,
                 type_count,
             )),
-            ExportKind::Memory => EntityType::Memory(memory_type(unstructured, &self.config)),
+            ExportKind::Memory => EntityType::Memory(memory_type(unstructured, self.config)),
         }
     }
 

@@ -6,7 +6,7 @@ ghost use Rattle.wasm_smith_externs.specs.Added.{IsImporterFor};
 ghost use Rattle.wasm_smith_externs.specs.Candidates.{can_import_some, type_sizes};
 ghost use Rattle.wasm_smith_externs.specs.Imports.{AreGrownImports, LackImports, asked_imports};
 ghost use Rattle.wasm_smith_externs.specs.Named.{all_named, types_of};
-ghost use Rattle.wasm_smith_definitions.specs.Items.{import_entry};
+ghost use Rattle.wasm_smith_shapes.specs.Imports.{import_entry};
 ghost use Rattle.wasm_smith_unstructured.specs.Draws.{IsDrawn};
 
 use crate::entries::{entry, push_some};
@@ -16,8 +16,8 @@ use crate::progress::Progress;
 use std::alloc::Global;
 use wasm_smith_config::config::Config;
 use wasm_smith_config::error::Error;
-use wasm_smith_definitions::imports::ImportEntry;
 use wasm_smith_definitions::index_spaces::IndexSpaces;
+use wasm_smith_shapes::imports::ImportEntry;
 use wasm_smith_unstructured::unstructured::Unstructured;
 
 /// The imports of a module.
@@ -40,9 +40,9 @@ fn has_another(
 ) -> bool
     requires { IsImporterFor spaces.now.types importer.now }
     ensures left { IsTrue result → 0 < progress.now.left }
-    ensures can { IsTrue result → can_import_some importer.now.config spaces.now ≡ true }
-    ensures ended { result ≡ false → progress.now.count < importer.now.config.min_imports → (progress.now.left ≡ 0) ⊎ (can_import_some importer.now.config spaces.now ≡ false) }
-    ensures first { progress.now.count ≡ 0 → progress.now.left ≡ importer.now.config.max_imports → IsDrawn (λ b. b) result unstructured.new (asked_imports importer.now.config spaces.now unstructured.old) }
+    ensures can { IsTrue result → can_import_some importer.now.config.now spaces.now ≡ true }
+    ensures ended { result ≡ false → progress.now.count < importer.now.config.now.min_imports → (progress.now.left ≡ 0) ⊎ (can_import_some importer.now.config.now spaces.now ≡ false) }
+    ensures first { progress.now.count ≡ 0 → progress.now.left ≡ importer.now.config.now.max_imports → IsDrawn (λ b. b) result unstructured.new (asked_imports importer.now.config.now spaces.now unstructured.old) }
     ensures taken { length unstructured.new ≤ length unstructured.old }
 {
     if progress.left() == 0 {
@@ -76,7 +76,7 @@ pub fn imports<'a>(
     ensures refused { IfErr result (λ e. (e ≡ Error.Memory) ⊎ ((e ≡ Error.IncorrectFormat) × LackImports config.now spaces.old spaces.new)) }
 {
     let importer = Importer::new(alloc, config, spaces.types())?;
-    let mut progress = Progress::new(alloc, config, duplicates);
+    let mut progress = Progress::new(alloc, config.max_imports, config.max_type_size, duplicates);
     let mut entries = Vec::new(alloc);
     'grow: while has_another(unstructured, &importer, spaces, &progress) {
         let next = entry(alloc, unstructured, &importer, spaces, &mut progress)?;

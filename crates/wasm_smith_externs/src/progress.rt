@@ -5,7 +5,6 @@ ghost use Rattle.std.specs.Prelude.{◌+◌, ◌<◌, ◌^◌};
 use crate::names::{DuplicateImportsBehavior, ImportNames};
 use std::alloc::{AllocError, Global};
 use wasm_encoder_sections::entity_type::EntityType;
-use wasm_smith_config::config::Config;
 use wasm_smith_definitions::index_spaces::IndexSpaces;
 use wasm_smith_unstructured::unstructured::Unstructured;
 
@@ -31,18 +30,22 @@ impl Progress {
     ghost use Rattle.wasm_smith_externs.specs.Names.{IsDrawnName};
     ghost use Rattle.wasm_smith_externs.specs.declared.names.DuplicateImportsBehavior.TheVariants.{Allowed};
 
-    /// Returns the progress where no import is made.
-    pub fn new(alloc: Global, config: &Config, duplicates: DuplicateImportsBehavior) -> Progress
-        requires { config.now.max_imports < 2 ^ 32 }
+    /// Returns the progress where no import is made, there may be `left` imports, and their types may come to `size_left`.
+    pub fn new(
+        alloc: Global,
+        left: u32,
+        size_left: u32,
+        duplicates: DuplicateImportsBehavior,
+    ) -> Progress
         ensures count { result.count ≡ 0 }
-        ensures left { result.left ≡ config.now.max_imports }
-        ensures size_left { result.size_left ≡ config.now.max_type_size }
+        ensures left { result.left ≡ left }
+        ensures size_left { result.size_left ≡ size_left }
         ensures duplicates { result.names.duplicates ≡ duplicates }
     {
         Progress {
             count: 0,
-            left: config.max_imports,
-            size_left: config.max_type_size,
+            left,
+            size_left,
             names: ImportNames::new(alloc, duplicates),
         }
     }

@@ -1,17 +1,18 @@
 -- A module for a configuration that is drawn first.
 use Rattle.std.proofs.Common.{◌≡◌, ℕ, ◌<◌, List, Result, Ok, Err, get_or, sym, ap, ◌∙◌, subst, arith}
-use Rattle.std.specs.Prelude.{◌≢◌, IfOk, IfErr, IfSome}
+use Rattle.std.specs.Prelude.{◌≢◌, IfOk, IfErr, IfSome, Option}
 use Rattle.wasm_smith_config.proofs.ArbitraryLaws.{IsKept, drawn_kept}
 use Rattle.wasm_smith_config.specs.Arbitrary.{IsArbitrary}
 use Rattle.wasm_smith_config.specs.Config.{sanitized}
 use Rattle.wasm_smith_config.specs.declared.config.Config.{Config}
-use Rattle.wasm_smith_config.specs.declared.error.Error.{Error}
-use Rattle.wasm_smith_config.specs.declared.error.Error.TheVariants.{IncorrectFormat}
+use Rattle.wasm_smith_unstructured.specs.declared.error.Error.{Error}
+use Rattle.wasm_smith_unstructured.specs.declared.error.Error.TheVariants.{IncorrectFormat}
 use Rattle.wasm_smith_module.proofs.OwedLaws.{fewer_exports}
 use Rattle.wasm_smith_module.specs.ArbitraryModules.{IsArbitraryModule, IsArbitraryReason}
 use Rattle.wasm_smith_module.specs.Generating.{HasFront, front_at}
 use Rattle.wasm_smith_module.specs.ModuleValue.{ModuleValue}
 use Rattle.wasm_smith_module.specs.Promise.{IsBadConfig, IsMadeFor, IsReason, owed}
+use Rattle.wasm_smith_shapes.specs.Shapes.{ShapeValue}
 
 abbrev HasDrawn : List ℕ → List ℕ → ModuleValue → Config → Type 0
 HasDrawn after left m c = IfSome (front_at c after) (λ drawn. HasFront c drawn m.made left)
@@ -36,12 +37,13 @@ refused_from_drawn s after left c (Err e) drawn same reason unread =
 
 none_owed : (c : Config) → IsKept c → 0 < owed c → ⊥
 none_owed c kept some =
-    let imports : c.min_imports ≡ 0 = ap (λ numbers. get_or numbers 5 0) kept in
-    let tags : c.min_tags ≡ 0 = ap (λ numbers. get_or numbers 6 0) kept in
-    let funcs : c.min_funcs ≡ 0 = ap (λ numbers. get_or numbers 7 0) kept in
-    let exports : c.min_exports ≡ 0 = ap (λ numbers. get_or numbers 9 0) kept in
-    let element_segments : c.min_element_segments ≡ 0 = ap (λ numbers. get_or numbers 10 0) kept in
-    let data_segments : c.min_data_segments ≡ 0 = ap (λ numbers. get_or numbers 12 0) kept in
+    let least = ap (λ (rest : List ℕ × List (Option ShapeValue)). rest.0) kept in
+    let imports : c.min_imports ≡ 0 = ap (λ numbers. get_or numbers 5 0) least in
+    let tags : c.min_tags ≡ 0 = ap (λ numbers. get_or numbers 6 0) least in
+    let funcs : c.min_funcs ≡ 0 = ap (λ numbers. get_or numbers 7 0) least in
+    let exports : c.min_exports ≡ 0 = ap (λ numbers. get_or numbers 9 0) least in
+    let element_segments : c.min_element_segments ≡ 0 = ap (λ numbers. get_or numbers 10 0) least in
+    let data_segments : c.min_data_segments ≡ 0 = ap (λ numbers. get_or numbers 12 0) least in
     omega (arith, some, imports, tags, funcs, exports, fewer_exports c, element_segments, data_segments)
 
 pub nothing_owed : (s after : List ℕ) (c : Config) (r : Result ModuleValue Error) → IsArbitrary s c after → sanitized c ≡ c → IfErr r (IsReason (sanitized c)) → IfErr r (λ e. e ≢ IncorrectFormat)

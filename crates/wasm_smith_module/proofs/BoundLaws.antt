@@ -17,7 +17,7 @@ use Rattle.wasm_smith_definitions.specs.Kinds.{of_data, of_element, of_memory, o
 use Rattle.wasm_smith_module.specs.Elements.{IsBoundedElement, IsDrawnElement}
 use Rattle.wasm_smith_module.specs.Traps.{IsSafeData, LiesInMemory, LiesInTable}
 use Rattle.wasm_smith_types.specs.Offering.{offers}
-use Rattle.wasm_smith_types.specs.ValidGroups.{types_of}
+use Rattle.wasm_smith_validity.specs.ValidGroups.{types_of}
 use Rattle.wasm_smith_validity.specs.Made.{Made, MadeBody, PlacedCustom}
 use Rattle.wasm_smith_validity.specs.Spaces.{Spaces, functions_of, globals_of}
 use Rattle.wasm_smith_validity.proofs.MadeSections.{made_spaces}

@@ -7,13 +7,14 @@ use Rattle.wasm_spec.specs.Limits.{Limit, Types, Groups, Imports, Functions, Glo
 use Rattle.wasm_spec.specs.Types.{SubType, FuncKind, TableKind, MemoryKind, GlobalKind, TagKind}
 use Rattle.wasm_validity.specs.Context.{names_of}
 use Rattle.wasm_validity.specs.Rules.{Passes, are_within, import_names, name_measures}
-use Rattle.wasm_smith_definitions.specs.Items.{data_segment, element_segment, export, import_entry}
+use Rattle.wasm_smith_definitions.specs.Items.{data_segment, element_segment, export}
+use Rattle.wasm_smith_shapes.specs.Imports.{import_entry}
 use Rattle.wasm_smith_definitions.specs.Kinds.{count_of}
 use Rattle.wasm_smith_sections.specs.ModuleItems.{made_of}
 use Rattle.wasm_smith_sections.specs.declared.module_items.ModuleItems.{ModuleItems}
 use Rattle.wasm_smith_types.specs.Drawing.{total}
 use Rattle.wasm_smith_types.specs.Grouped.{grouped}
-use Rattle.wasm_smith_types.specs.ValidGroups.{types_of}
+use Rattle.wasm_smith_validity.specs.ValidGroups.{types_of}
 use Rattle.wasm_smith_types.proofs.GroupedLaws.{types_of_grouped}
 use Rattle.wasm_smith_validity.specs.Made.{Made}
 use Rattle.wasm_smith_validity.specs.Spaces.{Spaces}

@@ -17,7 +17,7 @@ use Rattle.wasm_validity.specs.Entries.{Entry}
 use Rattle.wasm_smith_types.specs.DrawnGroups.{drawn_groups_at}
 use Rattle.wasm_smith_types.specs.Growing.{grows_at, grows_from}
 use Rattle.wasm_smith_types.specs.Offering.{offers}
-use Rattle.wasm_smith_types.specs.ValidGroups.{types_of}
+use Rattle.wasm_smith_validity.specs.ValidGroups.{types_of}
 use Rattle.wasm_smith_unstructured.specs.Draws.{bool_at}
 use Rattle.wasm_smith_validity.specs.Made.{Made, MadeBody, PlacedCustom}
 use Rattle.wasm_smith_validity.specs.Spaces.{Spaces, functions_of, spaces_after_all, spaces_of_types}

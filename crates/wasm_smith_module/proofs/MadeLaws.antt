@@ -4,8 +4,8 @@ use Rattle.std.specs.List.{AllByRecursion, IsDistinct}
 use Rattle.std.specs.Prelude.{IfOk, IfErr, IfSome, IfNone, MatchOption}
 use Rattle.wasm_smith_config.specs.Config.{IsGood, NamesBad, fields}
 use Rattle.wasm_smith_config.specs.declared.config.Config.{Config}
-use Rattle.wasm_smith_config.specs.declared.error.Error.{Error}
-use Rattle.wasm_smith_config.specs.declared.error.Error.TheVariants.{IncorrectFormat, EmptyChoose, NotEnoughData, BadConfig, BadShape, TypeSize, Memory, TooLong}
+use Rattle.wasm_smith_unstructured.specs.declared.error.Error.{Error}
+use Rattle.wasm_smith_unstructured.specs.declared.error.Error.TheVariants.{IncorrectFormat, EmptyChoose, NotEnoughData, BadConfig, BadShape, TypeSize, Memory, TooLong}
 use Rattle.wasm_smith_externs.specs.Named.{HasPlainName, all_named, have_same_names}
 use Rattle.wasm_smith_externs.specs.declared.names.DuplicateImportsBehavior.{DuplicateImportsBehavior}
 use Rattle.wasm_smith_externs.specs.declared.names.DuplicateImportsBehavior.TheVariants.{Allowed, Disallowed}
@@ -15,7 +15,7 @@ use Rattle.wasm_smith_types.specs.DrawnGroups.{AskForMore}
 use Rattle.wasm_smith_types.specs.Grouped.{groups, AreWhole}
 use Rattle.wasm_smith_types.specs.Making.{made}
 use Rattle.wasm_smith_types.specs.Offering.{offers}
-use Rattle.wasm_smith_types.specs.ValidGroups.{types_of}
+use Rattle.wasm_smith_validity.specs.ValidGroups.{types_of}
 use Rattle.wasm_smith_types.specs.declared.types.Types.{Types}
 use Rattle.wasm_smith_validity.specs.Made.{MadeBody}
 use Rattle.wasm_smith_module.proofs.BoundLaws.{bounds_for}

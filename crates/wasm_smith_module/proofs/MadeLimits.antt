@@ -12,8 +12,8 @@ use Rattle.wasm_validity.specs.Context.{Context, after, after_all, at_first}
 use Rattle.wasm_validity.specs.Entries.{Entry, OfType, entries_of}
 use Rattle.wasm_validity.specs.Rules.{KeepLimits, PassLimit, Passes, PassesByTypes, are_within}
 use Rattle.wasm_smith_types.specs.Bounds.{AreSmall}
-use Rattle.wasm_smith_types.specs.ValidGroups.{types_of}
-use Rattle.wasm_smith_types.proofs.GroupLaws.{small_groups}
+use Rattle.wasm_smith_validity.specs.ValidGroups.{types_of}
+use Rattle.wasm_smith_types.proofs.SmallLaws.{small_groups}
 use Rattle.wasm_smith_validity.specs.Made.{Made}
 use Rattle.wasm_smith_validity.specs.Sections.{kinds_with, sections_with}
 use Rattle.wasm_smith_validity.proofs.CustomSections.{HasLegalName, limits_between, passed_between}

@@ -16,7 +16,7 @@ use Rattle.wasm_validity.specs.Context.{Context, after, after_all, after_item, a
 use Rattle.wasm_validity.specs.DefinedTypes.{func_type_at as defined_at}
 use Rattle.wasm_validity.specs.Entries.{Entry, OfCustom, OfType, OfImport, OfFunction, OfTable, OfMemory, OfTags, OfTag, OfGlobal, OfExport, OfStart, OfElement, OfDataCount, OfBody, OfData}
 use Rattle.wasm_validity.specs.Rules.{PassesByTypes, count_of, import_names, name_measures}
-use Rattle.wasm_smith_types.specs.ValidGroups.{types_of}
+use Rattle.wasm_smith_validity.specs.ValidGroups.{types_of}
 use Rattle.wasm_smith_validity.specs.Made.{Made}
 use Rattle.wasm_smith_validity.specs.Rules.{item_at}
 use Rattle.wasm_smith_validity.specs.Spaces.{Spaces, func_type_at, functions_of, globals_of, spaces_after, spaces_of_types, with_item, with_items}

@@ -9,7 +9,7 @@ use Rattle.wasm_smith_externs.specs.declared.names.DuplicateImportsBehavior.{Dup
 use Rattle.wasm_smith_definitions.proofs.FrameLaws.{kept_by}
 use Rattle.wasm_smith_definitions.specs.Kinds.{of_data, of_element, of_export, of_global}
 use Rattle.wasm_smith_definitions.specs.Steps.{IsStep}
-use Rattle.wasm_smith_types.specs.ValidGroups.{types_of}
+use Rattle.wasm_smith_validity.specs.ValidGroups.{types_of}
 use Rattle.wasm_smith_validity.specs.Made.{Made}
 use Rattle.wasm_smith_validity.specs.Spaces.{Spaces, spaces_after, spaces_after_all, spaces_of_types}
 use Rattle.wasm_smith_validity.proofs.MadeSections.{entries_behind_types}

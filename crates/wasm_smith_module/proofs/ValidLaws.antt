@@ -7,9 +7,9 @@ use Rattle.wasm_smith_config.specs.Config.{AreFeaturesOf}
 use Rattle.wasm_smith_config.specs.Rows.{switches}
 use Rattle.wasm_smith_config.specs.declared.config.Config.{Config}
 use Rattle.wasm_smith_externs.specs.declared.names.DuplicateImportsBehavior.{DuplicateImportsBehavior}
-use Rattle.wasm_smith_types.proofs.GroupLaws.{all_rules}
+use Rattle.wasm_smith_validity.proofs.GroupLaws.{all_rules}
 use Rattle.wasm_smith_types.specs.Offering.{offers}
-use Rattle.wasm_smith_types.specs.ValidGroups.{AllKeepTypeRules, types_of}
+use Rattle.wasm_smith_validity.specs.ValidGroups.{AllKeepTypeRules, types_of}
 use Rattle.wasm_smith_validity.specs.Made.{MadeBody}
 use Rattle.wasm_smith_validity.specs.Spaces.{is_value}
 use Rattle.wasm_smith_validity.specs.Validity.{IsValidByIndex}

@@ -2,7 +2,7 @@
 use Rattle.std.specs.Prelude.{◌≡◌, ℕ, List, IfSome}
 use Rattle.wasm_smith_config.specs.Arbitrary.{IsArbitrary}
 use Rattle.wasm_smith_config.specs.declared.config.Config.{Config}
-use Rattle.wasm_smith_config.specs.declared.error.Error.{Error}
+use Rattle.wasm_smith_unstructured.specs.declared.error.Error.{Error}
 use Rattle.wasm_smith_module.specs.Generating.{HasFront, front_at}
 use Rattle.wasm_smith_module.specs.ModuleValue.{ModuleValue}
 use Rattle.wasm_smith_module.specs.Promise.{IsBadConfig, IsMadeFor, IsReason}

@@ -16,7 +16,7 @@ use Rattle.wasm_smith_module.specs.Elements.{IsBoundedElement}
 use Rattle.wasm_smith_module.specs.Traps.{LiesInMemory, LiesInTable}
 use Rattle.wasm_smith_types.specs.Bounds.{AreSmall}
 use Rattle.wasm_smith_types.specs.DrawnGroups.{AreSome}
-use Rattle.wasm_smith_types.specs.ValidGroups.{types_of}
+use Rattle.wasm_smith_validity.specs.ValidGroups.{types_of}
 use Rattle.wasm_smith_validity.specs.Made.{Made}
 use Rattle.wasm_smith_validity.specs.Spaces.{Spaces, functions_of, globals_of, spaces_after_all, spaces_of_types}
 use Rattle.wasm_smith_validity.specs.Validity.{made_entries}

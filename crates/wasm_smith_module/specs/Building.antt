@@ -6,8 +6,8 @@ use Rattle.wasm_spec.specs.Syntax.{ImportEntry, Table, Global, ElementSegment, D
 use Rattle.wasm_spec.specs.Types.{MemoryType, RecGroup, SubType}
 use Rattle.wasm_smith_config.specs.Config.{AreFeaturesOf}
 use Rattle.wasm_smith_config.specs.declared.config.Config.{Config}
-use Rattle.wasm_smith_config.specs.declared.error.Error.{Error}
-use Rattle.wasm_smith_config.specs.declared.error.Error.TheVariants.{IncorrectFormat, EmptyChoose, NotEnoughData, BadConfig, BadShape, TypeSize, Memory, TooLong}
+use Rattle.wasm_smith_unstructured.specs.declared.error.Error.{Error}
+use Rattle.wasm_smith_unstructured.specs.declared.error.Error.TheVariants.{IncorrectFormat, EmptyChoose, NotEnoughData, BadConfig, BadShape, TypeSize, Memory, TooLong}
 use Rattle.wasm_smith_definitions.specs.Bounds.{IsBoundedTable}
 use Rattle.wasm_smith_definitions.specs.Offered.{IsOfferedMemory}
 use Rattle.wasm_smith_externs.specs.AllExports.{AreExports}
@@ -25,7 +25,7 @@ use Rattle.wasm_smith_module.specs.Traps.{IsSafeData}
 use Rattle.wasm_smith_types.specs.Bounds.{AreSmall}
 use Rattle.wasm_smith_types.specs.DrawnGroups.{AreSome, drawn_groups_at}
 use Rattle.wasm_smith_types.specs.Offering.{offers}
-use Rattle.wasm_smith_types.specs.ValidGroups.{AreValidGroups, types_of}
+use Rattle.wasm_smith_validity.specs.ValidGroups.{AreValidGroups, types_of}
 use Rattle.wasm_smith_validity.specs.Spaces.{Spaces, functions_of, spaces_of_types}
 use Rattle.wasm_smith_module.specs.Code.{code_at}
 use Rattle.wasm_smith_module.specs.Customs.{customs_at}

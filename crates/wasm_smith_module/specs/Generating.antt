@@ -8,7 +8,7 @@ use Rattle.wasm_smith_externs.specs.Wanted.{functions_at, wanted_tags}
 use Rattle.wasm_smith_externs.specs.Imports.{asked_imports}
 use Rattle.wasm_smith_definitions.specs.Steps.{asked}
 use Rattle.wasm_smith_types.specs.DrawnGroups.{drawn_groups_at}
-use Rattle.wasm_smith_types.specs.ValidGroups.{types_of}
+use Rattle.wasm_smith_validity.specs.ValidGroups.{types_of}
 use Rattle.wasm_smith_validity.specs.Made.{Made, MadeBody}
 use Rattle.wasm_smith_validity.specs.Spaces.{spaces_of_types}
 

@@ -3,7 +3,8 @@ use Rattle.std.specs.Prelude.{ℕ, List, Option, map}
 use Rattle.wasm_encoder_sections.specs.CoreItems.{memory_type}
 use Rattle.wasm_spec.specs.Syntax.{ImportEntry, Table, Global, Export, ElementSegment, DataSegment}
 use Rattle.wasm_spec.specs.Types.{MemoryType, RecGroup}
-use Rattle.wasm_smith_definitions.specs.Items.{import_entry, table, global, export, element_segment, data_segment}
+use Rattle.wasm_smith_definitions.specs.Items.{table, global, export, element_segment, data_segment}
+use Rattle.wasm_smith_shapes.specs.Imports.{import_entry}
 use Rattle.wasm_smith_validity.specs.Made.{Made, MadeBody, PlacedCustom}
 use Rattle.wasm_smith_module.specs.declared.items.Items.{Items}
 

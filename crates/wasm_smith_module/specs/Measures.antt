@@ -8,7 +8,7 @@ use Rattle.wasm_spec.specs.Syntax.{ElementSegment, Export, imported_by}
 use Rattle.wasm_spec.specs.Types.{FuncType, SubType, ExternalType, FuncExternal, TableExternal, MemoryExternal, GlobalExternal, TagExternal}
 use Rattle.wasm_validity.specs.Context.{names_of}
 use Rattle.wasm_validity.specs.Rules.{count_of, import_names, name_measures}
-use Rattle.wasm_smith_types.specs.ValidGroups.{types_of}
+use Rattle.wasm_smith_validity.specs.ValidGroups.{types_of}
 use Rattle.wasm_smith_validity.specs.Made.{Made}
 use Rattle.wasm_smith_validity.specs.Rules.{item_at}
 use Rattle.wasm_smith_validity.specs.Spaces.{Spaces, spaces_of_types, functions_of, globals_of, func_type_at, with_items}

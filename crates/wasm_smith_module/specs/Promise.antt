@@ -3,8 +3,8 @@ use Rattle.std.specs.Prelude.{◌≡◌, ⊤, ℕ, ◌+◌, ◌<◌, ◌≤◌, 
 use Rattle.wasm_spec.specs.Features.{Features}
 use Rattle.wasm_smith_config.specs.Config.{AreFeaturesOf, IsGood, IsBadField}
 use Rattle.wasm_smith_config.specs.declared.config.Config.{Config}
-use Rattle.wasm_smith_config.specs.declared.error.Error.{Error}
-use Rattle.wasm_smith_config.specs.declared.error.Error.TheVariants.{IncorrectFormat, EmptyChoose, NotEnoughData, BadConfig, BadShape, TypeSize, Memory, TooLong}
+use Rattle.wasm_smith_unstructured.specs.declared.error.Error.{Error}
+use Rattle.wasm_smith_unstructured.specs.declared.error.Error.TheVariants.{IncorrectFormat, EmptyChoose, NotEnoughData, BadConfig, BadShape, TypeSize, Memory, TooLong}
 use Rattle.wasm_smith_module.specs.Contents.{contents_size}
 use Rattle.wasm_smith_types.specs.DrawnGroups.{AskForMore}
 use Rattle.wasm_smith_validity.specs.Made.{Made}

@@ -7,7 +7,7 @@ ghost use Rattle.wasm_smith_definitions.specs.Kinds.{of_data, wanted_data};
 ghost use Rattle.wasm_smith_definitions.specs.Steps.{Allows, IsGrown};
 ghost use Rattle.wasm_smith_module.specs.Data.{total_size};
 ghost use Rattle.wasm_smith_module.specs.Traps.{IsSafeData, least_bytes};
-ghost use Rattle.wasm_smith_types.specs.ValidGroups.{AllKeepTypeRules};
+ghost use Rattle.wasm_smith_validity.specs.ValidGroups.{AllKeepTypeRules};
 
 use crate::choices::{can_be_made, draw_index, push_owned};
 use crate::offsets::draw_offset;

@@ -5,7 +5,7 @@ ghost use Rattle.wasm_encoder_sections.specs.CoreItems.{memory_type};
 ghost use Rattle.wasm_smith_config.specs.Config.{IsGood};
 ghost use Rattle.wasm_smith_definitions.specs.Offered.{AreOffersOf, HasFewTables};
 ghost use Rattle.wasm_smith_definitions.specs.Items.{global, table};
-ghost use Rattle.wasm_smith_types.specs.ValidGroups.{AllKeepTypeRules};
+ghost use Rattle.wasm_smith_validity.specs.ValidGroups.{AllKeepTypeRules};
 ghost use Rattle.wasm_smith_module.specs.Building.{AreDefinitions, IsEnd};
 
 use std::alloc;

@@ -10,7 +10,7 @@ ghost use Rattle.wasm_smith_definitions.specs.Items.{element_items, element_segm
 ghost use Rattle.wasm_smith_definitions.specs.Kinds.{of_element, wanted_elements};
 ghost use Rattle.wasm_smith_definitions.specs.Steps.{Allows, IsGrown, TablesKeep};
 ghost use Rattle.wasm_smith_module.specs.Elements.{AreBounded, AreItems, AreNullable, IsDrawnElement, IsElementType, within_table};
-ghost use Rattle.wasm_smith_types.specs.ValidGroups.{AllKeepTypeRules};
+ghost use Rattle.wasm_smith_validity.specs.ValidGroups.{AllKeepTypeRules};
 ghost use Rattle.wasm_smith_validity.specs.Spaces.{functions_of};
 ghost use Rattle.wasm_validity.specs.Rules.{count_of};
 ghost use Rattle.wasm_validity.specs.TypeRules.{is_funcref};

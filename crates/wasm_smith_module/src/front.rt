@@ -5,18 +5,18 @@ ghost use Rattle.wasm_smith_config.specs.Config.{IsGood};
 ghost use Rattle.wasm_smith_definitions.specs.Offered.{HasFewTables};
 ghost use Rattle.wasm_smith_externs.specs.Candidates.{type_sizes};
 ghost use Rattle.wasm_smith_externs.specs.Named.{all_named, types_of};
-ghost use Rattle.wasm_smith_definitions.specs.Items.{import_entry};
+ghost use Rattle.wasm_smith_shapes.specs.Imports.{import_entry};
 ghost use Rattle.wasm_smith_module.specs.Building.{IsEnd, IsFront};
 
 use std::alloc::Global;
 use wasm_smith_config::config::Config;
 use wasm_smith_config::error::Error;
-use wasm_smith_definitions::imports::ImportEntry;
 use wasm_smith_definitions::index_spaces::IndexSpaces;
 use wasm_smith_externs::functions::functions;
 use wasm_smith_externs::imports::imports;
 use wasm_smith_externs::names::DuplicateImportsBehavior;
 use wasm_smith_externs::tags::tags;
+use wasm_smith_shapes::imports::ImportEntry;
 use wasm_smith_unstructured::unstructured::Unstructured;
 
 /// The imports, tags and functions of a module.

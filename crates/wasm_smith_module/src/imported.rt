@@ -4,7 +4,7 @@ ghost use Rattle.std.specs.Prelude.{◌≡◌, IfOk, map};
 ghost use Rattle.std.specs.List.{flat_map};
 ghost use Rattle.wasm_core_types.specs.SubTypes.{sub_type};
 ghost use Rattle.wasm_encoder_sections.specs.CoreItems.{entity_type};
-ghost use Rattle.wasm_smith_definitions.specs.Items.{import_entry, import_item};
+ghost use Rattle.wasm_smith_shapes.specs.Imports.{import_entry, import_item};
 ghost use Rattle.wasm_smith_module.specs.Measured.{HasNoOwn};
 ghost use Rattle.wasm_smith_validity.specs.Spaces.{spaces_of_types, with_items};
 ghost use Rattle.wasm_spec.specs.Syntax.{imported_by};
@@ -12,8 +12,8 @@ ghost use Rattle.wasm_spec.specs.Syntax.{imported_by};
 use std::alloc::{AllocError, Global};
 use wasm_core_types::types::SubType;
 use wasm_encoder_sections::entity_type::EntityType;
-use wasm_smith_definitions::imports::{ImportEntry, ImportItem};
 use wasm_smith_definitions::index_spaces::IndexSpaces;
+use wasm_smith_shapes::imports::{ImportEntry, ImportItem};
 
 // Adds items.
 fn push_items(spaces: &mut IndexSpaces<'_>, items: &[ImportItem]) -> Result<(), AllocError>

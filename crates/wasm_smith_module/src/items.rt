@@ -5,7 +5,7 @@ ghost use Rattle.wasm_core_types.specs.SubTypes.{sub_type};
 ghost use Rattle.wasm_smith_config.specs.Config.{IsGood};
 ghost use Rattle.wasm_smith_definitions.specs.Offered.{AreOffersOf, HasFewTables};
 ghost use Rattle.wasm_smith_module.specs.Data.{total_size};
-ghost use Rattle.wasm_smith_types.specs.ValidGroups.{AllKeepTypeRules};
+ghost use Rattle.wasm_smith_validity.specs.ValidGroups.{AllKeepTypeRules};
 ghost use Rattle.wasm_smith_module.specs.Building.{AreItems, IsEnd};
 ghost use Rattle.wasm_smith_module.specs.Items.{drawn_items};
 

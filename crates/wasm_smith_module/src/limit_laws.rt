@@ -4,7 +4,7 @@ ghost use Rattle.std.specs.Prelude.{◌≡◌, ◌≤◌, ℕ, Bool, true, List,
 ghost use Rattle.std.specs.List.{AllByRecursion};
 ghost use Rattle.wasm_smith_module.specs.Measures.{numbers_of};
 ghost use Rattle.wasm_smith_types.specs.Bounds.{AreSmall};
-ghost use Rattle.wasm_smith_types.specs.ValidGroups.{types_of};
+ghost use Rattle.wasm_smith_validity.specs.ValidGroups.{types_of};
 ghost use Rattle.wasm_smith_validity.specs.Made.{Made};
 ghost use Rattle.wasm_smith_validity.specs.Sections.{sections_with};
 ghost use Rattle.wasm_smith_validity.specs.Validity.{IsValidByIndex};

@@ -8,7 +8,7 @@ ghost use Rattle.wasm_smith_types.specs.DrawnGroups.{AskForMore};
 ghost use Rattle.wasm_smith_types.specs.Grouped.{groups, AreWhole};
 ghost use Rattle.wasm_smith_types.specs.Making.{made};
 ghost use Rattle.wasm_smith_types.specs.Offering.{offers};
-ghost use Rattle.wasm_smith_types.specs.ValidGroups.{AllKeepTypeRules, types_of};
+ghost use Rattle.wasm_smith_validity.specs.ValidGroups.{AllKeepTypeRules, types_of};
 ghost use Rattle.wasm_smith_module.specs.Building.{AreGroups, IsBuilt, IsEnd, IsFinished};
 ghost use Rattle.wasm_smith_module.specs.Items.{drawn_items, module_of};
 ghost use Rattle.wasm_smith_module.specs.Promise.{HasDrawnData};
@@ -25,12 +25,12 @@ use wasm_smith_config::config::Config;
 use wasm_smith_config::error::Error;
 use wasm_smith_definitions::code::{Code, Instructions};
 use wasm_smith_definitions::custom_section::CustomSection;
-use wasm_smith_definitions::imports::ImportEntry;
 use wasm_smith_definitions::items::{Export, Global, Table};
 use wasm_smith_definitions::segments::{DataSegment, ElementSegment};
 use wasm_smith_externs::names::DuplicateImportsBehavior;
 use wasm_smith_sections::module_items::ModuleItems;
 use wasm_smith_sections::writing::write_module;
+use wasm_smith_shapes::imports::ImportEntry;
 use wasm_smith_types::error::TypesError;
 use wasm_smith_types::types::{Types, make_types};
 use wasm_smith_types::value_types::Offers;
@@ -59,6 +59,7 @@ impl Model for Module {
     ghost use Rattle.std.specs.Prelude.{map};
     ghost use Rattle.wasm_encoder_sections.specs.CoreItems.{memory_type};
     ghost use Rattle.wasm_smith_definitions.specs.Items as items;
+    ghost use Rattle.wasm_smith_shapes.specs.Imports.{import_entry};
     ghost use Rattle.wasm_smith_types.specs.Grouped.{groups, AreWhole};
     ghost use Rattle.wasm_smith_module.specs.ModuleValue.{ModuleValue};
 
@@ -68,7 +69,7 @@ impl Model for Module {
       config = m.config;
       made = record {
         groups = groups m.types;
-        imports = map items.import_entry m.imports.items;
+        imports = map import_entry m.imports.items;
         funcs = m.funcs.items;
         tables = map items.table m.tables.items;
         memories = map memory_type m.memories.items;
@@ -222,11 +223,12 @@ impl Module {
     ghost use Rattle.wasm_smith_config.specs.Config.{sanitized};
     ghost use Rattle.wasm_smith_externs.specs.Named.{HasPlainName, all_named, have_same_names};
     ghost use Rattle.wasm_smith_definitions.specs.Items as views;
+    ghost use Rattle.wasm_smith_shapes.specs.Imports.{import_entry};
     ghost use Rattle.wasm_smith_validity.specs.MadeBodies.{is_raw_at};
     ghost use Rattle.wasm_smith_sections.specs.ModuleEncoding.{IsModuleEncoding, IsUnwritten};
     ghost use Rattle.wasm_smith_sections.specs.ModuleItems.{made_of};
     ghost use Rattle.wasm_smith_types.specs.Drawing.{total};
-    ghost use Rattle.wasm_smith_types.specs.ValidGroups.{types_of};
+    ghost use Rattle.wasm_smith_validity.specs.ValidGroups.{types_of};
     ghost use Rattle.wasm_smith_module.specs.ArbitraryModules.{IsArbitraryModule, IsArbitraryReason};
     ghost use Rattle.wasm_smith_module.specs.Generating.{HasFront, front_at};
     ghost use Rattle.wasm_smith_module.specs.Promise.{HasDrawnData, IsMadeFor, IsReason, IsBadConfig, PassesTypes};
@@ -380,7 +382,7 @@ impl Module {
 
     /// Returns the entries of the import section.
     pub fn imports(&self) -> &[ImportEntry]
-        ensures { map views.import_entry result.now ≡ self.now.made.imports }
+        ensures { map import_entry result.now ≡ self.now.made.imports }
     {
         &self.imports
     }

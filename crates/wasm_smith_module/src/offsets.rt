@@ -4,7 +4,7 @@ ghost use Rattle.std.specs.Prelude.{◌≡◌, ◌≤◌, true, length, IfOk, If
 ghost use Rattle.wasm_smith_definitions.specs.Constants.{Gives, IsPlain};
 ghost use Rattle.wasm_smith_definitions.specs.Items.{expression};
 ghost use Rattle.wasm_smith_module.specs.Traps.{IsUpTo};
-ghost use Rattle.wasm_smith_types.specs.ValidGroups.{AllKeepTypeRules};
+ghost use Rattle.wasm_smith_validity.specs.ValidGroups.{AllKeepTypeRules};
 ghost use Rattle.wasm_smith_validity.specs.Rules.{index_type};
 
 use crate::choices::index_type;

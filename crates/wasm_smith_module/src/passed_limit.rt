@@ -10,7 +10,7 @@ ghost use Rattle.wasm_smith_module.specs.Measures.{counts_of, imported_items, nu
 ghost use Rattle.wasm_smith_sections.specs.ModuleEncoding.{SomeByRecursion};
 ghost use Rattle.wasm_smith_sections.specs.ModuleItems.{made_of};
 ghost use Rattle.wasm_smith_types.specs.Drawing.{total};
-ghost use Rattle.wasm_smith_types.specs.ValidGroups.{types_of};
+ghost use Rattle.wasm_smith_validity.specs.ValidGroups.{types_of};
 ghost use Rattle.wasm_smith_validity.specs.Spaces.{spaces_of_types, with_items};
 ghost use Rattle.wasm_validity.specs.Rules.{Passes, are_within, count_of};
 

@@ -4,7 +4,7 @@ ghost use Rattle.std.specs.Prelude.{◌≡◌, ◌*◌, length, map};
 ghost use Rattle.std.specs.List.{flat_map, sum_by};
 ghost use Rattle.wasm_core_types.specs.SubTypes.{composite_type, sub_type};
 ghost use Rattle.wasm_encoder_sections.specs.CoreItems.{entity_type};
-ghost use Rattle.wasm_smith_definitions.specs.Items.{import_entry, import_item};
+ghost use Rattle.wasm_smith_shapes.specs.Imports.{import_entry, import_item};
 ghost use Rattle.wasm_smith_module.specs.Measured.{saturated};
 ghost use Rattle.wasm_smith_module.specs.Measures.{size_of, size_of_func};
 ghost use Rattle.wasm_smith_validity.specs.Spaces.{func_type_at};
@@ -13,7 +13,7 @@ ghost use Rattle.wasm_validity.specs.DefinedTypes.{func_in};
 
 use wasm_core_types::types::{CompositeType, SubType};
 use wasm_encoder_sections::entity_type::EntityType;
-use wasm_smith_definitions::imports::{ImportEntry, ImportItem};
+use wasm_smith_shapes::imports::{ImportEntry, ImportItem};
 
 // Returns the size of a function type.
 fn size_of_composite(ty: &CompositeType) -> u64

@@ -7,7 +7,7 @@ ghost use Rattle.wasm_smith_definitions.specs.Items.{data_segment, element_segme
 ghost use Rattle.wasm_smith_definitions.specs.Steps.{TablesKeep};
 ghost use Rattle.wasm_smith_module.specs.Data.{total_size};
 ghost use Rattle.wasm_smith_module.specs.Elements.{AreNullable};
-ghost use Rattle.wasm_smith_types.specs.ValidGroups.{AllKeepTypeRules};
+ghost use Rattle.wasm_smith_validity.specs.ValidGroups.{AllKeepTypeRules};
 ghost use Rattle.wasm_smith_validity.specs.Spaces.{functions_of};
 ghost use Rattle.wasm_smith_module.specs.Building.{AreUses, IsEnd};
 

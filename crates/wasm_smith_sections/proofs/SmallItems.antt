@@ -5,10 +5,11 @@ use Rattle.std.proofs.lemmas.List.{drop_more, drop_all}
 use Rattle.wasm_encoder_expression_sections.specs.ReadItems.{IsSmallOption}
 use Rattle.wasm_encoder_instructions.specs.Instructions.{vector_bytes}
 use Rattle.wasm_encoder_sections.specs.SmallItems.{HasBits, IsSmallImport}
-use Rattle.wasm_smith_definitions.specs.Items.{import_entry}
-use Rattle.wasm_smith_definitions.specs.declared.imports.ImportEntry.{ImportEntry}
+use Rattle.wasm_smith_shapes.specs.Imports.{import_entry}
+use Rattle.wasm_smith_shapes.specs.declared.imports.ImportEntry.{ImportEntry}
 use Rattle.wasm_smith_sections.specs.SmallModules.{IsReadable}
-use Rattle.wasm_smith_types.specs.Grouped.{entry, grouped}
+use Rattle.wasm_smith_validity.specs.ValidGroups.{entry}
+use Rattle.wasm_smith_types.specs.Grouped.{grouped}
 use Rattle.wasm_spec.specs.Bytes.{AreBytes}
 use Rattle.wasm_spec.specs.SmallIndexes.{IsSmallIndex, IsSmallGroup, IsSmallSub}
 use Rattle.wasm_spec.specs.Types.{SubType}

@@ -6,8 +6,9 @@ use Rattle.wasm_core_types.specs.declared.types.SubType as code
 use Rattle.wasm_spec.specs.Syntax.{members}
 use Rattle.wasm_spec.specs.Types.{RecGroup, SubType}
 use Rattle.wasm_smith_types.specs.Drawing.{total}
-use Rattle.wasm_smith_types.specs.Grouped.{entry, grouped}
-use Rattle.wasm_smith_types.proofs.GroupedLaws.{entry_members}
+use Rattle.wasm_smith_validity.specs.ValidGroups.{entry}
+use Rattle.wasm_smith_types.specs.Grouped.{grouped}
+use Rattle.wasm_smith_validity.proofs.GroupLaws.{entry_members}
 
 map_take : {A B : Type 0} (f : A → B) (n : ℕ) (xs : List A) → take n (map f xs) ≡ map f (take n xs)
 map_take f zero xs = refl

@@ -2,7 +2,8 @@
 use Rattle.std.specs.Prelude.{map}
 use Rattle.wasm_core_types.specs.SubTypes.{sub_type}
 use Rattle.wasm_encoder_sections.specs.CoreItems.{memory_type}
-use Rattle.wasm_smith_definitions.specs.Items.{import_entry, table, global, export, element_segment, data_segment, made_body, placed_custom}
+use Rattle.wasm_smith_definitions.specs.Items.{table, global, export, element_segment, data_segment, made_body, placed_custom}
+use Rattle.wasm_smith_shapes.specs.Imports.{import_entry}
 use Rattle.wasm_smith_sections.specs.declared.module_items.ModuleItems.{ModuleItems}
 use Rattle.wasm_smith_types.specs.Grouped.{grouped}
 use Rattle.wasm_smith_validity.specs.Made.{Made}

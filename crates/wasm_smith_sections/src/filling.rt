@@ -5,6 +5,7 @@ ghost use Rattle.std.specs.Option.{option_to_list};
 ghost use Rattle.wasm_core_types.specs.SubTypes.{sub_type};
 ghost use Rattle.wasm_encoder_sections.specs.CoreItems.{memory_type};
 ghost use Rattle.wasm_smith_definitions.specs.Items as items;
+ghost use Rattle.wasm_smith_shapes.specs.Imports.{import_entry};
 ghost use Rattle.wasm_smith_sections.specs.FilledSections.{AddSections, filled_frame, first_sections, frame, last_sections, middle_sections};
 ghost use Rattle.wasm_smith_sections.specs.ModuleEncoding.{AreBodyEncodings, PassesLength, SomeHaveLongFront};
 ghost use Rattle.wasm_smith_sections.specs.ModuleItems.{made_of};
@@ -32,10 +33,10 @@ use wasm_encoder_sections::entity_type::MemoryType;
 use wasm_encoder_sections::start_section::StartSection;
 use wasm_smith_definitions::code::Code;
 use wasm_smith_definitions::custom_section::CustomSection;
-use wasm_smith_definitions::imports::ImportEntry;
 use wasm_smith_definitions::items;
 use wasm_smith_definitions::items::{Export, Table};
 use wasm_smith_definitions::segments::{DataSegment, ElementSegment};
+use wasm_smith_shapes::imports::ImportEntry;
 
 /// Returns the sections that have items, in their order.
 ///
@@ -183,7 +184,7 @@ fn add_imports(
     imports: &[ImportEntry],
     sections: &mut Vec<FilledSection<'_>>,
 ) -> Result<(), EncodeError>
-    ensures added { IfOk result (λ _. AddSections sections.old.items sections.new.items (unless_empty (λ xs. spec.ImportSection xs) (map items.import_entry imports.now))) }
+    ensures added { IfOk result (λ _. AddSections sections.old.items sections.new.items (unless_empty (λ xs. spec.ImportSection xs) (map import_entry imports.now))) }
     ensures too_long { IfErr result (λ e. e ≡ EncodeError.TooLong → 2 ^ 32 ≤ length imports.now) }
 {
     let section = import_section(alloc, imports)?;

@@ -3,13 +3,13 @@
 ghost use Rattle.std.specs.Prelude.{◌≡◌, ◌++◌, ◌∷◌, [], ◌+◌, ◌≤◌, ◌^◌, length, map, IfOk, IfErr};
 ghost use Rattle.std.specs.String.{string_bytes};
 ghost use Rattle.wasm_encoder_sections.specs.CoreImports.{lent_item};
-ghost use Rattle.wasm_smith_definitions.specs.Items.{import_entry, import_item};
+ghost use Rattle.wasm_smith_shapes.specs.Imports.{import_entry, import_item};
 
 use std::alloc::Global;
 use wasm_core_write::encode_error::EncodeError;
 use wasm_encoder_sections::import_section::ImportSection;
 use wasm_encoder_sections::imports::{Import, ImportCompact, Imports};
-use wasm_smith_definitions::imports::{ImportEntry, ImportItem};
+use wasm_smith_shapes::imports::{ImportEntry, ImportItem};
 
 /// Returns the import section.
 ///

@@ -4,9 +4,9 @@ use wasm_core_types::types::SubType;
 use wasm_encoder_sections::entity_type::MemoryType;
 use wasm_smith_definitions::code::Code;
 use wasm_smith_definitions::custom_section::CustomSection;
-use wasm_smith_definitions::imports::ImportEntry;
 use wasm_smith_definitions::items::{Export, Global, Table};
 use wasm_smith_definitions::segments::{DataSegment, ElementSegment};
+use wasm_smith_shapes::imports::ImportEntry;
 
 /// The items of a module that is to be written.
 #[derive(Drop)]

@@ -11,12 +11,12 @@ use crate::small_types::{heap_is_small, values_are_small};
 use wasm_smith_definitions::code::{Code, Instructions};
 use wasm_smith_definitions::constant::Constant;
 use wasm_smith_definitions::custom_section::CustomSection;
-use wasm_smith_definitions::imports::{ImportEntry, ImportItem};
 use wasm_smith_definitions::items;
 use wasm_smith_definitions::items::{Export, Table};
 use wasm_smith_definitions::segments::{
     DataMode, DataSegment, ElementItems, ElementMode, ElementSegment,
 };
+use wasm_smith_shapes::imports::{ImportEntry, ImportItem};
 
 impl Small for String {
     ghost use Rattle.std.specs.String.{string_bytes};
@@ -31,7 +31,7 @@ impl Small for String {
 
 impl Small for ImportItem {
     ghost use Rattle.wasm_encoder_sections.specs.SmallItems.{IsSmallItem};
-    ghost use Rattle.wasm_smith_definitions.specs.Items.{import_item};
+    ghost use Rattle.wasm_smith_shapes.specs.Imports.{import_item};
 
     ghost fits = { λ item. IsSmallItem (import_item item) };
 
@@ -44,7 +44,7 @@ impl Small for ImportItem {
 impl Small for ImportEntry {
     ghost use Rattle.std.specs.Prelude.{Bool};
     ghost use Rattle.wasm_encoder_sections.specs.SmallItems.{IsSmallImport};
-    ghost use Rattle.wasm_smith_definitions.specs.Items.{import_entry};
+    ghost use Rattle.wasm_smith_shapes.specs.Imports.{import_entry};
     ghost use Rattle.wasm_smith_sections.specs.SmallModules.{IsReadable};
 
     ghost fits = { λ entry. (compact : Bool) → IsReadable compact (import_entry entry) → IsSmallImport compact (import_entry entry) };

@@ -1,45 +1,18 @@
 //! The type section (Core Specification 3.0, Binary Format, Modules, "Type Section").
 
 ghost use Rattle.std.specs.Prelude.{◌≡◌, ◌≤◌, ◌^◌, length, map, IfOk, IfErr};
-ghost use Rattle.wasm_core_types.specs.SubTypes.{composite_type, sub_type};
+ghost use Rattle.wasm_core_types.specs.SubTypes.{sub_type};
 ghost use Rattle.wasm_core_write.specs.CoreRecGroups.{rec_group};
 ghost use Rattle.wasm_smith_types.specs.Drawing.{total};
-ghost use Rattle.wasm_smith_types.specs.Grouped.{entry, grouped};
+ghost use Rattle.wasm_smith_validity.specs.ValidGroups.{entry};
+ghost use Rattle.wasm_smith_types.specs.Grouped.{grouped};
 
 use std::alloc::{AllocError, Global};
-use wasm_core_types::types::{CompositeType, FuncType, StructType, SubType};
+use wasm_core_types::types::SubType;
 use wasm_core_write::encode_error::EncodeError;
 use wasm_core_write::rec_group::RecGroup;
 use wasm_core_write::type_section::TypeSection;
-
-// Returns a copy of a composite type.
-fn copied_composite(alloc: Global, ty: &CompositeType) -> Result<CompositeType, AllocError>
-    ensures { IfOk result (λ copy. composite_type copy ≡ composite_type ty.now) }
-{
-    Ok(match ty {
-        CompositeType::Func(ty) => {
-            let params = ty.params().to_vec(alloc)?;
-            CompositeType::Func(FuncType::new(params, ty.results().to_vec(alloc)?))
-        }
-        CompositeType::Array(ty) => CompositeType::Array(*ty),
-        CompositeType::Struct(ty) => {
-            CompositeType::Struct(StructType::new(ty.fields().to_vec(alloc)?))
-        }
-        CompositeType::Cont(ty) => CompositeType::Cont(*ty),
-    })
-}
-
-// Returns a copy of a type.
-fn copied(alloc: Global, ty: &SubType) -> Result<SubType, AllocError>
-    ensures { IfOk result (λ copy. sub_type copy ≡ sub_type ty.now) }
-{
-    let composite_type = copied_composite(alloc, &ty.composite_type)?;
-    Ok(SubType {
-        is_final: ty.is_final,
-        supertype_idx: ty.supertype_idx,
-        composite_type,
-    })
-}
+use wasm_smith_shapes::copies::copied;
 
 // Returns copies of these types.
 fn copied_types(alloc: Global, types: &[SubType]) -> Result<Vec<SubType>, AllocError>

@@ -11,6 +11,7 @@ use wasm_smith::unstructured::Unstructured;
 use wasm_smith_config_rows::settings::config_of;
 use wasm_test_rows::fields::two_fields;
 use wasm_test_rows::rows::check_rows;
+use wasm_test_rows::shown::debugs_same;
 
 // Checks that the counts of the configuration are those of the default.
 fn has_default_counts(config: &Config) -> bool {
@@ -46,14 +47,15 @@ fn turns_off_what_needs_more(rt: HostRuntime) {
 }
 
 #[test]
-fn keeps_what_needs_nothing_more(rt: HostRuntime) {
+fn keeps_what_needs_nothing_more(rt: HostRuntime) -> Result<(), Fail> {
     let mut config = Config::default();
     config.max_tables = 7;
     config.allowed_instructions = InstructionKinds::none();
     config.memory_offset_choices = MemoryOffsetChoices(1, 2, 3);
-    let before = config;
+    let before = config.try_clone(rt.alloc())?;
     config.sanitize();
-    assert!(rt; config == before);
+    assert!(rt; debugs_same(rt.alloc(), &config, &before));
+    Ok(())
 }
 
 #[test]
@@ -345,14 +347,15 @@ const COUNTED: &str =
     max_elements=33 max_data_segments=34 max_tables=1 max_memories=36";
 
 // Returns true if this is drawn of the bytes, and no byte is left.
-fn draws(bytes: &[u8], config: Option<Config>) -> bool {
+fn draws(alloc: Global, bytes: &[u8], config: Option<Config>) -> bool {
     let mut unstructured = Unstructured::new(bytes);
-    Some(Config::arbitrary(&mut unstructured)) == config && unstructured.is_empty()
+    let drawn = Some(Config::arbitrary(&mut unstructured));
+    debugs_same(alloc, &drawn, &config) && unstructured.is_empty()
 }
 
 #[test]
 fn draws_nothing_of_no_bytes(rt: HostRuntime) {
-    assert!(rt; draws(&[], config_of(Config::default(), NOTHING)));
+    assert!(rt; draws(rt.alloc(), &[], config_of(Config::default(), NOTHING)));
     assert!(rt; Config::arbitrary(&mut Unstructured::new(&[])).check() == Ok(()));
 }
 
@@ -363,7 +366,7 @@ fn draws_all_that_is_on(rt: HostRuntime) {
     config.disallow_traps = true;
     config.memory_max_size_required = true;
     config.table_max_size_required = true;
-    assert!(rt; draws(&[0xff; 37], config_of(config, EVERYTHING)));
+    assert!(rt; draws(rt.alloc(), &[0xff; 37], config_of(config, EVERYTHING)));
 }
 
 #[test]
@@ -375,5 +378,5 @@ fn draws_in_order(rt: HostRuntime) {
         0, 1, 2, 3, 4, 5, 6, 7, 8, 9, 10, 11, 12, 13, 14, 15, 16, 17, 18, 19, 20, 21, 22, 23, 24,
         25, 26, 27, 28, 29, 30, 31, 32, 33, 34, 35, 36,
     ];
-    assert!(rt; draws(&bytes, config_of(config, COUNTED)));
+    assert!(rt; draws(rt.alloc(), &bytes, config_of(config, COUNTED)));
 }

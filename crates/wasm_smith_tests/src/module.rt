@@ -3,6 +3,7 @@
 use std::alloc::Global;
 use std::test::Fail;
 use wasm_smith::config::Config;
+use wasm_smith::error::Error;
 use wasm_smith::module::Module;
 use wasm_smith::unstructured::Unstructured;
 use wasm_smith_config_rows::settings::config_in;
@@ -42,14 +43,22 @@ fn has_types(alloc: Global, module: &Module, types: &str) -> bool {
 }
 
 /// Checks that a module has this configuration, these types, and these functions and bodies.
-pub fn has_parts(alloc: Global, module: &Module, config: Config, types: &str, rest: &str) -> bool {
+pub fn has_parts(alloc: Global, module: &Module, config: &Config, types: &str, rest: &str) -> bool {
     let parts = (module.funcs(), module.bodies());
-    module.config() == &config && has_types(alloc, module, types) && debugs(alloc, &parts, rest)
+    debugs_same(alloc, module.config(), config)
+        && has_types(alloc, module, types)
+        && debugs(alloc, &parts, rest)
+}
+
+/// Makes a module for a copy of the configuration.
+pub fn new_module(alloc: Global, config: &Config, bytes: &[u8]) -> Result<Module, Error> {
+    let config = config.try_clone(alloc)?;
+    Module::new(alloc, config, &mut Unstructured::new(bytes))
 }
 
 // Checks that what is expected is made of the bytes, or the cause of the refusal is.
-fn makes(alloc: Global, config: Config, bytes: &[u8], types: &str, rest: &str) -> bool {
-    let made = Module::new(alloc, config, &mut Unstructured::new(bytes));
+fn makes(alloc: Global, config: &Config, bytes: &[u8], types: &str, rest: &str) -> bool {
+    let made = new_module(alloc, config, bytes);
     let holds = match &made {
         Ok(module) => has_parts(alloc, module, config, types, rest),
         Err(error) => types == "refused" && displays(alloc, error, rest),
@@ -62,7 +71,7 @@ fn holds(alloc: Global, row: &str) -> Option<bool> {
     let (settings, bytes, types, rest) = four_fields(row)?;
     let config = config_in(settings)?;
     let bytes = bytes_of(alloc, bytes)?;
-    Some(makes(alloc, config, &bytes, types, rest))
+    Some(makes(alloc, &config, &bytes, types, rest))
 }
 
 /// The bytes of a module with most kinds of items.

@@ -1,11 +1,11 @@
 //! Seeds for lists.
 
+use crate::module::new_module;
 use std::alloc::Global;
 use std::test::Fail;
 use wasm_core::types::SubType;
 use wasm_smith::config::Config;
 use wasm_smith::module::Module;
-use wasm_smith::unstructured::Unstructured;
 use wasm_smith::witness::witness;
 use wasm_smith_config_rows::settings::config_in;
 use wasm_test_rows::fields::four_fields;
@@ -133,12 +133,12 @@ fn has_lists(alloc: Global, module: &Module, groups: &[Vec<SubType>], funcs: &[u
 // Checks that these are made of the seed.
 fn makes(
     alloc: Global,
-    config: Config,
+    config: &Config,
     groups: &[Vec<SubType>],
     funcs: &[u32],
     seed: &[u8],
 ) -> bool {
-    let made = Module::new(alloc, config, &mut Unstructured::new(seed));
+    let made = new_module(alloc, config, seed);
     let holds = match &made {
         Ok(module) => has_lists(alloc, module, groups, funcs),
         Err(_) => false,
@@ -151,11 +151,11 @@ fn makes(
 // Checks that the lists have the seed that is expected, or have none.
 fn has_seed(
     alloc: Global,
-    config: Config,
+    config: &Config,
     (groups, funcs): (&[Vec<SubType>], &[u32]),
     expected: &str,
 ) -> bool {
-    match witness(alloc, &config, groups, funcs) {
+    match witness(alloc, config, groups, funcs) {
         Ok(Some(seed)) => {
             let is_expected = expected == "some" || are_bytes(alloc, expected, &seed);
             is_expected && makes(alloc, config, groups, funcs, &seed)
@@ -170,7 +170,7 @@ fn holds(alloc: Global, row: &str) -> Option<bool> {
     let config = config_in(settings)?;
     let funcs = numbers_of(alloc, funcs)?;
     let groups = groups_of(alloc, groups)?;
-    let holds = has_seed(alloc, config, (&groups, &funcs), expected);
+    let holds = has_seed(alloc, &config, (&groups, &funcs), expected);
     drop(groups);
     Some(holds)
 }

@@ -18,8 +18,8 @@ use Rattle.wasm_spec.proofs.MappedTypes.{all_map}
 use Rattle.wasm_spec.proofs.Places.{get_left, get_right, get_cases}
 use Rattle.wasm_spec.proofs.TypeMaps.{sub_map_agree, group_refs-map}
 use Rattle.wasm_smith_types.specs.Clones.{shifted, clone_of}
-use Rattle.wasm_smith_types.specs.ValidGroups.{IsValidGroup, AreValidAfter, AreValidGroups, types_of}
-use Rattle.wasm_smith_types.proofs.GroupLaws.{sub_map-id, rules_moved, valid_in_range}
+use Rattle.wasm_smith_validity.specs.ValidGroups.{IsValidGroup, AreValidAfter, AreValidGroups, types_of}
+use Rattle.wasm_smith_validity.proofs.GroupLaws.{sub_map-id, rules_moved, valid_in_range}
 
 -- ---- gates don't ask to what references refer
 

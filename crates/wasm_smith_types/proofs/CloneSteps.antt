@@ -17,14 +17,15 @@ use Rattle.wasm_smith_types.specs.Copies.{shifted_index}
 use Rattle.wasm_smith_types.specs.Drawing.{total}
 use Rattle.wasm_smith_types.specs.Bounds.{IsSmallComposite}
 use Rattle.wasm_smith_types.specs.Fitting.{IsSpan}
-use Rattle.wasm_smith_types.specs.Grouped.{cloned, entry, grouped, shifted_types}
+use Rattle.wasm_smith_types.specs.Grouped.{cloned, grouped, shifted_types}
 use Rattle.wasm_smith_types.specs.Making.{IsMember, AreMembers}
-use Rattle.wasm_smith_types.specs.ValidGroups.{IsValidGroup, AreValidGroups, types_of}
+use Rattle.wasm_smith_validity.specs.ValidGroups.{IsValidGroup, AreValidGroups, types_of, entry}
 use Rattle.wasm_smith_types.specs.declared.fitting.Span.{Span}
 use Rattle.wasm_smith_types.proofs.CloneLaws.{clone_of_valid, allowed_composite, from_option}
 use Rattle.wasm_smith_types.proofs.PermittedLaws.{all_imply'}
-use Rattle.wasm_smith_types.proofs.GroupLaws.{rules_with_more}
-use Rattle.wasm_smith_types.proofs.GroupedLaws.{entry_members, types_of_grouped, grouped_more, valid_more, whole_more, sum_more, sub_in_range, members_below_more}
+use Rattle.wasm_smith_validity.proofs.GroupLaws.{rules_with_more}
+use Rattle.wasm_smith_types.proofs.GroupedLaws.{types_of_grouped, grouped_more, valid_more, whole_more, sum_more, sub_in_range, members_below_more}
+use Rattle.wasm_smith_validity.proofs.GroupLaws.{entry_members}
 
 -- ---- lists in parts
 

@@ -7,7 +7,8 @@ use Rattle.std.specs.Prelude.{nat_lt, ◌==◌}
 use Rattle.wasm_spec.specs.Types.{SubType}
 use Rattle.wasm_smith_unstructured.specs.Draws.{int_at}
 use Rattle.wasm_smith_types.specs.Drawing.{Offers, Front, front_then, bool_if, with_first, fits, total, members_at, group_at, groups_at, no_groups}
-use Rattle.wasm_smith_types.specs.Grouped.{entry, grouped, front_of, AreWhole, AddsGroupDrawn, AreLeft}
+use Rattle.wasm_smith_validity.specs.ValidGroups.{entry}
+use Rattle.wasm_smith_types.specs.Grouped.{grouped, front_of, AreWhole, AddsGroupDrawn, AreLeft}
 use Rattle.wasm_smith_types.specs.Growing.{grows_from, grows_at}
 use Rattle.wasm_smith_types.specs.Making.{made}
 use Rattle.wasm_smith_types.specs.declared.candidates.Candidate.{Candidate}

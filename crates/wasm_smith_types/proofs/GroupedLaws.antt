@@ -17,19 +17,15 @@ use Rattle.wasm_smith_types.specs.declared.types.Types.{Types}
 use Rattle.wasm_smith_types.specs.Bounds.{IsSmall, AreSmall}
 use Rattle.wasm_smith_types.specs.Drawing.{Offers, total, function_at}
 use Rattle.wasm_smith_types.specs.Permitted.{IsPermittedComposite, SuitsValues, Suits}
-use Rattle.wasm_smith_types.specs.Grouped.{entry, grouped, AreWhole, AreDone, AddsGroup}
+use Rattle.wasm_smith_types.specs.Grouped.{grouped, AreWhole, AreDone, AddsGroup}
 use Rattle.wasm_smith_types.specs.Making.{made, AreCandidates, IsMember, AreMembers, AddsAll}
-use Rattle.wasm_smith_types.specs.ValidGroups.{KeepsTypeRules, IsValidGroup, AreValidAfter, AreValidGroups, types_of}
+use Rattle.wasm_smith_validity.proofs.GroupLaws.{entry_members}
+use Rattle.wasm_smith_validity.specs.ValidGroups.{KeepsTypeRules, IsValidGroup, AreValidAfter, AreValidGroups, types_of, entry}
 use Rattle.wasm_smith_types.proofs.PermittedLaws.{all_imply', all_flat, function_permitted}
 use Rattle.wasm_smith_types.proofs.MakingLaws.{plain_member, members_with_one, function_continues}
 use Rattle.wasm_smith_types.proofs.ListLaws.{all_append, all_pass}
 
 -- ---- lists in parts
-
-pub entry_members : (types : List (SubType ℕ)) → members (entry types) ≡ types
-entry_members [] = refl
-entry_members (t ∷ []) = refl
-entry_members (t ∷ u ∷ types) = refl
 
 pub take_front : {X : Type 0} (n : ℕ) (xs ys : List X) → n ≤ length xs → take n (xs ++ ys) ≡ take n xs
 take_front zero xs ys h = refl

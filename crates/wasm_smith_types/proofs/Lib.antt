@@ -1,4 +1,3 @@
-pub mod GroupLaws
 pub mod CloneLaws
 pub mod GrowLaws
 pub mod OfferLaws
@@ -7,12 +6,11 @@ pub mod PermittedLaws
 pub mod CopyLaws
 pub mod MakingLaws
 pub mod GroupedLaws
-pub mod WalkLaws
 pub mod CloneSteps
 pub mod GroupDraws
 pub mod PastLaws
 pub mod ReachLaws
-pub mod BelowLaws
 pub mod OfferingLaws
 pub mod ShiftLaws
 pub mod FittingLaws
+pub mod SmallLaws

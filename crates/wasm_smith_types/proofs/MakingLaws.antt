@@ -15,11 +15,11 @@ use Rattle.wasm_spec.proofs.Places.{get_left, get_right, get_cases}
 use Rattle.wasm_smith_types.specs.Drawing.{Offers, function_at, structure_at, array_at, composite_at, with_first, asks_then, asked_after, type_at, members_at, bool_if}
 use Rattle.wasm_smith_types.specs.Permitted.{IsPermittedComposite, IsPermittedCopy}
 use Rattle.wasm_smith_types.specs.Making.{made, has_candidates, IsCandidate, AreCandidates, IsMember, AreMembers, Adds, AddsDrawn, AddsAll, AddsAllDrawn, IsLeft}
-use Rattle.wasm_smith_types.specs.ValidGroups.{HasHeight}
+use Rattle.wasm_smith_validity.specs.ValidGroups.{HasHeight}
 use Rattle.wasm_smith_types.specs.declared.types.Types.{Types}
 use Rattle.wasm_smith_types.specs.declared.candidates.Candidate.{Candidate}
 use Rattle.wasm_smith_types.proofs.PermittedLaws.{all_imply'}
-use Rattle.wasm_smith_types.proofs.GroupLaws.{more_keep, rules_with_more}
+use Rattle.wasm_smith_validity.proofs.GroupLaws.{more_keep, rules_with_more}
 use Rattle.wasm_smith_types.proofs.OfferLaws.{was_asked}
 use Rattle.wasm_smith_types.proofs.ListLaws.{all_append}
 use Rattle.wasm_smith_unstructured.specs.Draws.{int_at}

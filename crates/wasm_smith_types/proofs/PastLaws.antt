@@ -10,14 +10,15 @@ use Rattle.wasm_spec.specs.Types.{SubType, RecGroup, Single}
 use Rattle.wasm_smith_config.specs.declared.config.Config.{Config}
 use Rattle.wasm_smith_types.specs.Drawing.{Offers, front_then, asks_then, bool_if, total, type_at, members_at, group_at, groups_at}
 use Rattle.wasm_smith_types.specs.DrawnGroups.{AreSome, drawn_groups_at}
-use Rattle.wasm_smith_types.specs.Grouped.{entry, grouped, front_of, AreWhole, AreLeft}
+use Rattle.wasm_smith_types.specs.Grouped.{grouped, front_of, AreWhole, AreLeft}
 use Rattle.wasm_smith_types.specs.Growing.{grow_at, grows_at, with_front}
 use Rattle.wasm_smith_types.specs.Making.{made}
 use Rattle.wasm_smith_types.specs.Offering.{function_types_at, gc_groups_at}
-use Rattle.wasm_smith_types.specs.ValidGroups.{types_of}
+use Rattle.wasm_smith_validity.specs.ValidGroups.{types_of, entry}
 use Rattle.wasm_smith_types.specs.declared.types.Types.{Types}
 use Rattle.wasm_smith_types.proofs.GroupDraws.{first_of, more_groups, grows_free}
-use Rattle.wasm_smith_types.proofs.GroupedLaws.{entry_members, types_of_grouped}
+use Rattle.wasm_smith_types.proofs.GroupedLaws.{types_of_grouped}
+use Rattle.wasm_smith_validity.proofs.GroupLaws.{entry_members}
 use Rattle.wasm_smith_types.proofs.GrowLaws.{grow_goes_on}
 use Rattle.wasm_smith_types.proofs.ListLaws.{all_append}
 

@@ -10,7 +10,7 @@ use Rattle.wasm_spec.specs.Types.{HeapType, Abstract, Concrete, ValType, I32, I6
 use Rattle.wasm_smith_unstructured.specs.Draws.{bool_at, width, int_at, choose_at}
 use Rattle.wasm_smith_types.specs.Growing.{grows_from, grow_from, grow_at, with_front}
 use Rattle.wasm_smith_types.specs.Drawing.{NumberOrVector, Reference, Offers, Front, front_then, bool_if, heap_at, reference_at, value_at, values_at, storage_at, field_at, fields_at, function_at, structure_at, array_at, composite_at, plain_type_at, type_at, asks_then, with_first, members_at, fits, total, group_at, groups_at, no_groups}
-use Rattle.wasm_smith_types.specs.Grouped.{entry}
+use Rattle.wasm_smith_validity.specs.ValidGroups.{entry}
 use Rattle.wasm_smith_types.proofs.GroupedLaws.{sum_more}
 use Rattle.wasm_smith_types.specs.Spelling.{SpellsBool, SpellsNo, SpellsInt, SpellsChoice, SpellsEach, SpellsEnd, SpellsList, SpellsHeap, SpellsValue, SpellsStorage, SpellsField, SpellsComposite, SpellsType, SpellsMembers, SpellsGroup, SpellsGroups}
 

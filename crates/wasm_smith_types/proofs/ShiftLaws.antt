@@ -13,9 +13,9 @@ use Rattle.wasm_spec.specs.Types.{SubType, RecGroup}
 use Rattle.wasm_spec.proofs.MappedTypes.{all_map}
 use Rattle.wasm_spec.proofs.Places.{get_right}
 use Rattle.wasm_spec.proofs.TypeMaps.{group_refs-map}
-use Rattle.wasm_smith_types.specs.ValidGroups.{IsValidGroup, AreValidAfter, AreValidGroups, types_of}
+use Rattle.wasm_smith_validity.specs.ValidGroups.{IsValidGroup, AreValidAfter, AreValidGroups, types_of}
 use Rattle.wasm_smith_types.proofs.CloneLaws.{allowed_group, members_map, from_option}
-use Rattle.wasm_smith_types.proofs.GroupLaws.{rules_moved}
+use Rattle.wasm_smith_validity.proofs.GroupLaws.{rules_moved}
 
 module _ (features : Features) (made : List (SubType ℕ)) where
   abbrev f : ℕ → ℕ

@@ -1,4 +1,5 @@
--- How large the types are at most, whatever the configuration says. What a reader has to believe of the shape of types that are made.
+-- How large the types are at most, whatever the configuration says. This, with how groups are drawn (`DrawnGroups` and what it names, `Spelling`), is
+-- what a reader has to believe of this crate.
 use Rattle.std.specs.Prelude.{⊤, ℕ, ◌≤◌, List, length}
 use Rattle.std.specs.List.{AllByRecursion}
 use Rattle.wasm_spec.specs.Types.{CompositeType, FuncComposite, StructComposite, ArrayComposite, ContComposite, SubType}

@@ -4,9 +4,8 @@ use Rattle.std.specs.List.{AllByRecursion}
 use Rattle.wasm_spec.specs.Syntax.{members}
 use Rattle.wasm_spec.specs.Types.{RecGroup, Single}
 use Rattle.wasm_smith_config.specs.declared.config.Config.{Config}
-use Rattle.wasm_smith_types.specs.Grouped.{entry}
 use Rattle.wasm_smith_types.specs.Offering.{function_types_at, gc_groups_at}
-use Rattle.wasm_smith_types.specs.ValidGroups.{types_of}
+use Rattle.wasm_smith_validity.specs.ValidGroups.{types_of, entry}
 
 -- With garbage collection, these are the groups unless one is a clone, a type has a supertype, or some types are owed. Without, each type is a group
 -- by itself.

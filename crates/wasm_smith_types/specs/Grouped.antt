@@ -2,18 +2,13 @@
 use Rattle.std.specs.Prelude.{◌≡◌, ◌<◌, ◌+◌, ◌-◌, ℕ, List, [], ◌∷◌, ◌++◌, length, map, take, drop, Some}
 use Rattle.wasm_spec.specs.Features.{Features}
 use Rattle.wasm_spec.specs.TypeReferences.{sub_map}
-use Rattle.wasm_spec.specs.Types.{SubType, RecGroup, Single, Group}
+use Rattle.wasm_spec.specs.Types.{SubType, RecGroup}
 use Rattle.wasm_smith_types.specs.declared.fitting.Span.{Span}
 use Rattle.wasm_smith_types.specs.declared.types.Types.{Types}
 use Rattle.wasm_smith_types.specs.Copies.{shifted_index}
 use Rattle.wasm_smith_types.specs.Drawing.{Offers, Front, front_then, groups_at, total}
 use Rattle.wasm_smith_types.specs.Making.{made, has_candidates, AreCandidates, AreMembers}
-use Rattle.wasm_smith_types.specs.ValidGroups.{AreValidGroups}
-
--- one type is a group without its form
-abbrev pub entry : {R : Type 0} → List (SubType R) → RecGroup R
-entry (type ∷ []) = Single type
-entry types = Group types
+use Rattle.wasm_smith_validity.specs.ValidGroups.{AreValidGroups, entry}
 
 -- types as groups of these sizes
 abbrev pub grouped : List ℕ → List (SubType ℕ) → List (RecGroup ℕ)

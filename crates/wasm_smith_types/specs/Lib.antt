@@ -1,4 +1,3 @@
-pub mod Below
 pub mod Bounds
 pub mod Clones
 pub mod Copies
@@ -12,4 +11,3 @@ pub mod Offered
 pub mod Offering
 pub mod Permitted
 pub mod Spelling
-pub mod ValidGroups

@@ -8,7 +8,7 @@ use Rattle.wasm_smith_types.specs.declared.candidates.Candidate.{Candidate}
 use Rattle.wasm_smith_types.specs.declared.types.Types.{Types}
 use Rattle.wasm_smith_types.specs.Drawing.{Offers, asks_then, asked_after, members_at}
 use Rattle.wasm_smith_types.specs.Permitted.{IsPermittedComposite, Suits}
-use Rattle.wasm_smith_types.specs.ValidGroups.{HasHeight, KeepsTypeRules}
+use Rattle.wasm_smith_validity.specs.ValidGroups.{HasHeight, KeepsTypeRules}
 
 -- the types, by type index
 abbrev pub made : Types → List (SubType ℕ)

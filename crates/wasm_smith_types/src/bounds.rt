@@ -14,9 +14,6 @@ pub const MAX_RESULTS: usize = 20;
 /// The most fields of a structure type.
 pub const MAX_FIELDS: usize = 20;
 
-/// The most supertypes above a type, one above the other.
-pub const MAX_HEIGHT: u32 = 63;
-
 /// Returns the most results of a function type with this configuration.
 pub fn max_results(config: &Config) -> usize
     ensures { result ≡ max_results config.now }

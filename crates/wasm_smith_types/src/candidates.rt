@@ -4,10 +4,10 @@ ghost use Rattle.std.specs.Prelude.{◌≡◌, ◌≤◌, ℕ, IfSome, Some, fal
 ghost use Rattle.wasm_core_types.specs.SubTypes.{sub_type};
 ghost use Rattle.wasm_spec.specs.Types as spec;
 ghost use Rattle.wasm_smith_types.specs.Making.{IsCandidate};
-ghost use Rattle.wasm_smith_types.specs.ValidGroups.{HasHeight};
+ghost use Rattle.wasm_smith_validity.specs.ValidGroups.{HasHeight};
 
-use crate::bounds::MAX_HEIGHT;
 use wasm_core_types::types::SubType;
+use wasm_smith_validity::subtyping::MAX_HEIGHT;
 
 /// A type that may have a type below it.
 #[derive(Clone, Copy, Debug)]

@@ -1,13 +1,10 @@
-//! Laws of groups that are valid by index. The functions do nothing: their contracts are theorems.
+//! Laws of groups that are made: their limits, clones, shifts and draws. The functions do nothing: their contracts are theorems.
 
-ghost use Rattle.std.specs.Prelude.{◌≡◌, ℕ, List, [], ◌∷◌, ◌+◌, ◌++◌, map, Some, length, slice_get, true};
+ghost use Rattle.std.specs.Prelude.{◌≡◌, ℕ, List, [], ◌∷◌, ◌+◌, ◌++◌, map, length, true};
 ghost use Rattle.wasm_spec.specs.Features.{Features};
-ghost use Rattle.wasm_spec.specs.Groups.{AreWellFormedGroups, KeepGroupRules, PassesLimit};
-ghost use Rattle.wasm_spec.specs.Limits.{Depth};
-ghost use Rattle.wasm_spec.specs.Subtyping.{RefBelow};
-ghost use Rattle.wasm_spec.specs.TypeReferences.{group_map, ref_map};
-ghost use Rattle.wasm_spec.specs.Trees.{DefType, section_types, type_at, unrolled};
-ghost use Rattle.wasm_spec.specs.Types.{RecGroup, RefType};
+ghost use Rattle.wasm_spec.specs.Groups.{AreWellFormedGroups};
+ghost use Rattle.wasm_spec.specs.TypeReferences.{group_map};
+ghost use Rattle.wasm_spec.specs.Types.{RecGroup};
 ghost use Rattle.wasm_smith_config.specs.Config.{AreFeaturesOf};
 ghost use Rattle.wasm_smith_config.specs.declared.config.Config.{Config};
 ghost use Rattle.wasm_smith_types.specs.Bounds.{AreSmall};
@@ -15,23 +12,7 @@ ghost use Rattle.wasm_smith_types.specs.Clones.{clone_of};
 ghost use Rattle.wasm_smith_types.specs.Drawing.{Offers, composite_at};
 ghost use Rattle.wasm_smith_types.specs.Offering.{offers};
 ghost use Rattle.wasm_smith_types.specs.Permitted.{Suits, SuitsValues, IsPermittedComposite};
-ghost use Rattle.wasm_smith_types.specs.ValidGroups.{AllKeepTypeRules, AreValidGroups, IsValidGroup, types_of};
-
-/// Groups that are valid by index keep the rules over trees, and no type of theirs is too deep.
-pub fn valid_groups()
-    ensures rules { (features : Features) (groups : List (RecGroup ℕ)) → AreValidGroups features groups → KeepGroupRules features [] groups }
-    ensures depth { (features : Features) (groups : List (RecGroup ℕ)) (index : ℕ) (type : DefType) → AreValidGroups features groups
-        → slice_get (section_types groups) index ≡ Some type → ¬ (PassesLimit unrolled type Depth) }
-{}
-
-/// In groups that are valid by index each type keeps the rules that the test of subtyping ([`is_ref_below`](crate::subtyping::is_ref_below)) is
-/// promised for, and a reference type that is below another by index is below it over trees. The converse doesn't hold: a clone has the tree of
-/// its original, but another index.
-pub fn subtypes()
-    ensures rules { (features : Features) (groups : List (RecGroup ℕ)) → AreValidGroups features groups → AllKeepTypeRules (types_of groups) }
-    ensures trees { (features : Features) (groups : List (RecGroup ℕ)) (low high : RefType ℕ) → AreValidGroups features groups
-        → RefBelow (slice_get (types_of groups)) low high → RefBelow unrolled (ref_map (type_at (section_types groups)) low) (ref_map (type_at (section_types groups)) high) }
-{}
+ghost use Rattle.wasm_smith_validity.specs.ValidGroups.{AreValidGroups, IsValidGroup, types_of};
 
 /// Groups that are valid by index and whose types are small are well-formed: no limit is passed.
 pub fn small_groups()

@@ -10,6 +10,5 @@ pub mod growing;
 pub mod laws;
 pub mod narrowing;
 pub mod shifts;
-pub mod subtyping;
 pub mod types;
 pub mod value_types;

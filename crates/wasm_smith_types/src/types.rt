@@ -12,14 +12,13 @@ ghost use Rattle.wasm_smith_types.specs.Copies.{shifted_index};
 ghost use Rattle.wasm_smith_types.specs.Drawing.{asks_then, plain_type_at, type_at, members_at, group_at, groups_at, no_groups, total, function_type_at};
 ghost use Rattle.wasm_smith_types.specs.DrawnGroups.{AreSome, AskForMore, drawn_groups_at};
 ghost use Rattle.wasm_smith_types.specs.Fitting.{AreFitting, AreChoices, IsSpan};
-ghost use Rattle.wasm_smith_types.specs.Grouped.{cloned, entry, front_of, groups, AddsGroupDrawn, AreWhole, AreDone, AddsGroup};
+ghost use Rattle.wasm_smith_types.specs.Grouped.{cloned, front_of, groups, AddsGroupDrawn, AreWhole, AreDone, AddsGroup};
 ghost use Rattle.wasm_smith_types.specs.Growing.{grow_at};
 ghost use Rattle.wasm_smith_types.specs.Making.{made, has_candidates, AreCandidates, IsCandidate, Adds, AddsDrawn, AddsAll, AddsAllDrawn};
 ghost use Rattle.wasm_smith_types.specs.Offering.{offers};
 ghost use Rattle.wasm_smith_types.specs.Permitted.{Suits, SuitsValues};
-ghost use Rattle.wasm_smith_types.specs.ValidGroups.{HasHeight, AreValidGroups, types_of};
+ghost use Rattle.wasm_smith_validity.specs.ValidGroups.{HasHeight, AreValidGroups, types_of, entry};
 
-use crate::bounds::MAX_HEIGHT;
 use crate::candidates::{Candidate, candidate_at};
 use crate::error::TypesError;
 use crate::fitting::{Fitting, Span};
@@ -30,6 +29,7 @@ use std::alloc::{AllocError, Global};
 use wasm_core_types::types::SubType;
 use wasm_smith_config::config::Config;
 use wasm_smith_unstructured::unstructured::Unstructured;
+use wasm_smith_validity::subtyping::MAX_HEIGHT;
 
 /// The types of a module, in groups.
 #[derive(Debug, Drop)]

@@ -18,13 +18,13 @@ use Rattle.wasm_validity.specs.DefinedTypes.{func_in}
 use Rattle.wasm_validity.specs.Entries.{Entry, OfType, OfImport, OfFunction}
 use Rattle.wasm_validity.specs.Rules.{KeepLimits}
 use Rattle.wasm_validity.specs.ModuleBodies.{func_type_in}
-use Rattle.wasm_smith_types.specs.ValidGroups.{types_of}
+use Rattle.wasm_smith_validity.specs.ValidGroups.{types_of}
 use Rattle.wasm_smith_validity.specs.Made.{Made}
 use Rattle.wasm_smith_validity.specs.Rules.{KeepAll}
 use Rattle.wasm_smith_validity.specs.Spaces.{Spaces, func_type_at, with_item, with_items, spaces_after, spaces_after_all, spaces_of_types}
 use Rattle.wasm_smith_validity.specs.Validity.{IsValidByIndex}
 use Rattle.wasm_smith_validity.proofs.MadeGroups.{of_groups}
-use Rattle.wasm_smith_validity.proofs.MadeSections.{rules_of}
+use Rattle.wasm_smith_validity.proofs.MadeSections.{all_append, rules_of}
 
 -- ---- the rule on functions
 
@@ -101,10 +101,6 @@ function_at features m valid place index at =
 -- the type passes no limit on parameters
 abbrev Fits : DefType → Type 0
 Fits type = ¬ (PassesLimit unrolled type Params)
-
-all_append : {A : Type 0} (P : A → Type 0) (xs ys : List A) → AllByRecursion P xs → AllByRecursion P ys → AllByRecursion P (xs ++ ys)
-all_append P [] ys p q = q
-all_append P (x ∷ xs) ys p q = (p.0, all_append P xs ys p.1 q)
 
 groups_fit : (cx : Context) (groups : List (RecGroup ℕ)) (others : List Entry) → KeepLimits cx (of_groups groups ++ others) → AllByRecursion Fits cx.types
     → AllByRecursion Fits (types_from cx.types groups)

@@ -1,5 +1,7 @@
+pub mod BelowLaws
 pub mod CustomSections
 mod FunctionTypes
+pub mod GroupLaws
 pub mod IndexedContext
 mod LocalRuns
 pub mod MadeGroups
@@ -12,3 +14,4 @@ mod SectionItems
 pub mod SmallIndexes
 mod TypedBodies
 pub mod ValidModules
+pub mod WalkLaws

@@ -12,8 +12,8 @@ use Rattle.wasm_spec.proofs.GroupTrees.{Stand, all_each, length-types_after, sec
 use Rattle.wasm_validity.specs.Context.{Context, after, after_all, at_first}
 use Rattle.wasm_validity.specs.Entries.{Entry, OfType}
 use Rattle.wasm_validity.specs.Rules.{KeepRules}
-use Rattle.wasm_smith_types.specs.ValidGroups.{AreValidAfter, AreValidGroups, types_of}
-use Rattle.wasm_smith_types.proofs.GroupLaws.{valid_in_range, valid_rules}
+use Rattle.wasm_smith_validity.specs.ValidGroups.{AreValidAfter, AreValidGroups, types_of}
+use Rattle.wasm_smith_validity.proofs.GroupLaws.{valid_in_range, valid_rules}
 use Rattle.wasm_smith_validity.specs.Rules.{KeepAll}
 use Rattle.wasm_smith_validity.specs.Spaces.{Spaces, spaces_after, spaces_after_all, spaces_of_types}
 use Rattle.wasm_smith_validity.proofs.IndexedContext.{by_index}

@@ -9,8 +9,7 @@ use Rattle.wasm_spec.specs.Syntax.{Section, TypeSection, ImportSection, Function
 use Rattle.wasm_validity.specs.Context.{Context, after, after_all, at_first}
 use Rattle.wasm_validity.specs.Entries.{Entry, entries_in, entries_of, OfType, OfImport, OfFunction, OfTable, OfMemory, OfTags, OfTag, OfGlobal, OfExport, OfStart, OfElement, OfDataCount, OfBody, OfData}
 use Rattle.wasm_validity.specs.Rules.{KeepRules}
-use Rattle.wasm_smith_types.specs.ValidGroups.{types_of}
-use Rattle.wasm_smith_types.proofs.ListLaws.{all_append}
+use Rattle.wasm_smith_validity.specs.ValidGroups.{types_of}
 use Rattle.wasm_smith_validity.specs.Made.{Made}
 use Rattle.wasm_smith_validity.specs.Rules.{KeepAll}
 use Rattle.wasm_smith_validity.specs.Sections.{unless_empty, ordered_sections, sections_with, kinds_with}
@@ -20,6 +19,10 @@ use Rattle.wasm_smith_validity.proofs.MadeGroups.{KeepRulesBehind, of_groups, ty
 use Rattle.wasm_smith_validity.proofs.IndexedContext.{IsBehind}
 use Rattle.wasm_smith_validity.proofs.CustomSections.{rules_between}
 use Rattle.wasm_smith_validity.proofs.MeantEntries.{rules_as}
+
+pub all_append : {A : Type 0} (P : A → Type 0) (xs ys : List A) → AllByRecursion P xs → AllByRecursion P ys → AllByRecursion P (xs ++ ys)
+all_append P [] ys p q = q
+all_append P (x ∷ xs) ys p q = (p.0, all_append P xs ys p.1 q)
 
 -- ---- one after the other
 

@@ -13,8 +13,8 @@ use Rattle.wasm_validity.specs.Rules.{KeepLimits}
 use Rattle.wasm_validity.specs.Validity.{AreFine, context_of}
 use Rattle.wasm_validity.specs.ModuleBodies.{BodyAt, EachBodyAmong, func_type_in, items_in, named_from}
 use Rattle.wasm_validity.specs.Modules.{IsTypedBody, IsValid, IsValidBut}
-use Rattle.wasm_smith_types.specs.ValidGroups.{types_of}
-use Rattle.wasm_smith_types.proofs.GroupLaws.{valid_in_range}
+use Rattle.wasm_smith_validity.specs.ValidGroups.{types_of}
+use Rattle.wasm_smith_validity.proofs.GroupLaws.{valid_in_range}
 use Rattle.wasm_smith_validity.specs.Made.{Made, MadeBody}
 use Rattle.wasm_smith_validity.specs.Sections.{kinds_with, sections_with}
 use Rattle.wasm_smith_validity.specs.Spaces.{is_value}

@@ -1,7 +1,10 @@
+pub mod Below
 pub mod Constants
+pub mod Linked
 pub mod Made
 pub mod MadeBodies
 pub mod Rules
 pub mod Sections
 pub mod Spaces
+pub mod ValidGroups
 pub mod Validity

@@ -12,7 +12,7 @@ use Rattle.wasm_validity.specs.Context.{element_type, names_of}
 use Rattle.wasm_validity.specs.Entries.{Entry, OfCustom, OfType, OfImport, OfFunction, OfTable, OfMemory, OfTags, OfTag, OfGlobal, OfExport, OfStart, OfElement, OfDataCount, OfBody, OfData}
 use Rattle.wasm_validity.specs.Rules.{may_cross, may_leave, value_of}
 use Rattle.wasm_validity.specs.TypeRules.{implies, are_bounds, is_funcref, is_memory_type}
-use Rattle.wasm_smith_types.specs.ValidGroups.{IsValidGroup}
+use Rattle.wasm_smith_validity.specs.ValidGroups.{IsValidGroup}
 use Rattle.wasm_smith_validity.specs.Spaces.{Spaces, spaces_after, functions_of, globals_of, func_type_at, is_named, is_value, with_item}
 use Rattle.wasm_smith_validity.specs.Constants.{IsBelow, IsConstant, Scope, imported_scope, scope}
 

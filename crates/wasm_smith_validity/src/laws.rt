@@ -1,7 +1,7 @@
 //! Laws that made modules which are valid by index keep the rules on sections. The functions do nothing: their contracts are theorems.
 
 ghost use Rattle.std.specs.Prelude.{◌≡◌, ◌≤◌, ℕ, Bool, true, List, length};
-ghost use Rattle.wasm_smith_types.specs.ValidGroups.{types_of};
+ghost use Rattle.wasm_smith_validity.specs.ValidGroups.{types_of};
 ghost use Rattle.wasm_smith_validity.specs.Made.{Made};
 ghost use Rattle.wasm_smith_validity.specs.Sections.{sections_with};
 ghost use Rattle.wasm_smith_validity.specs.Validity.{IsValidByIndex};

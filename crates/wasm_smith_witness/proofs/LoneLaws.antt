@@ -7,7 +7,7 @@ use Rattle.std.proofs.lemmas.Bool.{and_parts, lt-ltb}
 use Rattle.wasm_spec.specs.Types.{HeapType, Abstract, Concrete, ValType, I32, I64, F32, F64, V128, Ref, StorageType, I8, I16, Val, FieldType, CompositeType, FuncComposite, StructComposite, ArrayComposite, ContComposite, SubType, Single}
 use Rattle.wasm_smith_config.specs.declared.config.Config.{Config}
 use Rattle.wasm_smith_types.specs.Drawing.{Offers}
-use Rattle.wasm_smith_types.specs.Grouped.{entry}
+use Rattle.wasm_smith_validity.specs.ValidGroups.{entry}
 use Rattle.wasm_smith_types.specs.Offering.{max_results}
 use Rattle.wasm_smith_types.specs.Spelling.{SpellsEach}
 use Rattle.wasm_smith_witness.specs.Family.{is_target, is_enabled, is_member_storage, is_member_field, is_member_composite, is_member_type, is_lone_function, is_member_group, are_member_groups, types_of}

@@ -11,11 +11,11 @@ use Rattle.wasm_spec.specs.Types.{SubType}
 use Rattle.wasm_smith_witness.specs.Groups.{group_of}
 use Rattle.wasm_smith_config.specs.Config.{IsGood, NamesBad, AreGood, HasBad, Field, at_least, fields}
 use Rattle.wasm_smith_config.specs.declared.config.Config.{Config}
-use Rattle.wasm_smith_config.specs.declared.error.Error.{Error}
-use Rattle.wasm_smith_config.specs.declared.error.Error.TheVariants.{IncorrectFormat, EmptyChoose, NotEnoughData, BadConfig, BadShape, TypeSize, Memory, TooLong}
-use Rattle.wasm_smith_types.specs.Grouped.{entry}
-use Rattle.wasm_smith_types.specs.ValidGroups as flat
-use Rattle.wasm_smith_types.proofs.GroupedLaws.{entry_members}
+use Rattle.wasm_smith_unstructured.specs.declared.error.Error.{Error}
+use Rattle.wasm_smith_unstructured.specs.declared.error.Error.TheVariants.{IncorrectFormat, EmptyChoose, NotEnoughData, BadConfig, BadShape, TypeSize, Memory, TooLong}
+use Rattle.wasm_smith_validity.specs.ValidGroups.{entry}
+use Rattle.wasm_smith_validity.specs.ValidGroups as flat
+use Rattle.wasm_smith_validity.proofs.GroupLaws.{entry_members}
 use Rattle.wasm_smith_module.specs.Generating.{OwesNothingElse}
 use Rattle.wasm_smith_witness.specs.Family.{AreMemberGroups, IsAskable, is_member_group, are_member_groups, types_of}
 

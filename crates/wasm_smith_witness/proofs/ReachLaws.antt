@@ -9,7 +9,7 @@ use Rattle.wasm_smith_unstructured.specs.Draws.{bool_at}
 use Rattle.wasm_smith_config.specs.declared.config.Config.{Config}
 use Rattle.wasm_smith_types.specs.Drawing.{Offers, function_at, function_type_at, no_groups}
 use Rattle.wasm_smith_types.specs.DrawnGroups.{drawn_groups_at}
-use Rattle.wasm_smith_types.specs.Grouped.{entry}
+use Rattle.wasm_smith_validity.specs.ValidGroups.{entry}
 use Rattle.wasm_smith_types.specs.Growing.{grows_from, grows_at, grow_from, grow_at, with_front}
 use Rattle.wasm_smith_types.specs.Offering.{function_types_at, gc_groups_at, offers}
 use Rattle.wasm_smith_types.specs.Spelling.{SpellsChoice, SpellsEach, SpellsList, SpellsGroups, SpellsNo}
@@ -21,7 +21,7 @@ use Rattle.wasm_smith_externs.specs.Candidates.{can_import_some}
 use Rattle.wasm_smith_externs.specs.Imports.{asked_imports}
 use Rattle.wasm_smith_definitions.specs.Steps.{asked}
 use Rattle.wasm_smith_module.specs.Generating.{front_at, left_for_functions, with_functions}
-use Rattle.wasm_smith_types.specs.ValidGroups as flat
+use Rattle.wasm_smith_validity.specs.ValidGroups as flat
 use Rattle.wasm_smith_validity.specs.Spaces.{spaces_of_types}
 use Rattle.wasm_smith_witness.specs.Asking.{asks_for_import, asks_for_tag}
 use Rattle.wasm_smith_witness.specs.Family.{IsAskable, types_of}

@@ -1,8 +1,8 @@
 -- Why no module is made.
 use Rattle.std.proofs.Common.{◌≡◌, true, false, refl, sym, ◌∙◌, arith}
 use Rattle.wasm_smith_config.specs.declared.config.Config.{Config}
-use Rattle.wasm_smith_config.specs.declared.error.Error.{Error}
-use Rattle.wasm_smith_config.specs.declared.error.Error.TheVariants.{IncorrectFormat, EmptyChoose, NotEnoughData, BadConfig, BadShape, TypeSize, Memory, TooLong}
+use Rattle.wasm_smith_unstructured.specs.declared.error.Error.{Error}
+use Rattle.wasm_smith_unstructured.specs.declared.error.Error.TheVariants.{IncorrectFormat, EmptyChoose, NotEnoughData, BadConfig, BadShape, TypeSize, Memory, TooLong}
 use Rattle.wasm_smith_module.proofs.OwedLaws.{fewer_exports}
 use Rattle.wasm_smith_module.specs.Promise.{IsReason}
 use Rattle.wasm_smith_witness.specs.Family.{IsAskable}

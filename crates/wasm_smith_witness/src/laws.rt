@@ -3,9 +3,9 @@
 ghost use Rattle.std.specs.Prelude.{◌≡◌, ◌<◌, ◌≤◌, ◌%◌, ◌++◌, [], ◌∷◌, ℕ, true, false, map, List, Some};
 ghost use Rattle.wasm_spec.specs.Types.{SubType};
 ghost use Rattle.wasm_smith_config.specs.declared.config.Config.{Config};
-ghost use Rattle.wasm_smith_config.specs.declared.error.Error.{Error};
-ghost use Rattle.wasm_smith_config.specs.declared.error.Error.TheVariants.{Memory};
-ghost use Rattle.wasm_smith_types.specs.Grouped.{entry};
+ghost use Rattle.wasm_smith_unstructured.specs.declared.error.Error.{Error};
+ghost use Rattle.wasm_smith_unstructured.specs.declared.error.Error.TheVariants.{Memory};
+ghost use Rattle.wasm_smith_validity.specs.ValidGroups.{entry};
 ghost use Rattle.wasm_smith_module.specs.Generating.{OwesNothingElse, front_at};
 ghost use Rattle.wasm_smith_module.specs.Promise.{IsReason};
 ghost use Rattle.wasm_smith_witness.specs.Examples.{one_function, two_functions, two_structures};

@@ -14,12 +14,12 @@ use wasm_core_types::types::SubType;
 use wasm_smith_config::config::Config;
 
 // Returns the configuration as it is put in order before modules are made from it.
-fn in_order(config: &Config) -> Config
-    ensures { result ≡ sanitized config.now }
+fn in_order(alloc: Global, config: &Config) -> Result<Config, AllocError>
+    ensures { IfOk result (λ copy. copy ≡ sanitized config.now) }
 {
-    let mut config = *config;
+    let mut config = config.try_clone(alloc)?;
     config.sanitize();
-    config
+    Ok(config)
 }
 
 // Returns a seed for the list, if it is of the family of a configuration that is in order.
@@ -66,6 +66,6 @@ pub fn witness(
         (λ seed. IsInFamily (sanitized config.now) (map group_of groups.now) funcs.now
         × Spells (sanitized config.now) (map group_of groups.now) funcs.now seed.items)) }
 {
-    let config = in_order(config);
+    let config = in_order(alloc, config)?;
     spelling(alloc, &config, groups, funcs)
 }

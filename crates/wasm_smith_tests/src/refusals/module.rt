@@ -1,6 +1,6 @@
 //! Modules, and their bytes.
 
-use crate::module::{BYTES, MADE, has_parts};
+use crate::module::{BYTES, MADE, has_parts, new_module};
 use std::alloc::Global;
 use std::test::Fail;
 use wasm_smith::config::Config;
@@ -13,12 +13,8 @@ use wasm_test_rows::rows::check_rows;
 use wasm_test_rows::shown::displays;
 use wasm_test_rows::values::bytes_of;
 
-fn new_module(alloc: Global, config: Config, bytes: &[u8]) -> Result<Module, Error> {
-    Module::new(alloc, config, &mut Unstructured::new(bytes))
-}
-
 // Makes a module, at the second time where memory runs out at the first.
-fn made(alloc: Global, config: Config, bytes: &[u8]) -> Result<Module, Error> {
+fn made(alloc: Global, config: &Config, bytes: &[u8]) -> Result<Module, Error> {
     match new_module(alloc, config, bytes) {
         Err(Error::Memory) => new_module(alloc, config, bytes),
         answer => answer,
@@ -34,7 +30,7 @@ fn has_bytes(alloc: Global, module: &Module) -> bool {
 }
 
 // Checks that a module is what the row says. Where memory runs out on the words, it doesn't a second time.
-fn is_so(alloc: Global, module: &Module, config: Config, types: &str, rest: &str) -> bool {
+fn is_so(alloc: Global, module: &Module, config: &Config, types: &str, rest: &str) -> bool {
     has_parts(alloc, module, config, types, rest) || has_parts(alloc, module, config, types, rest)
 }
 
@@ -43,7 +39,7 @@ fn is_cause(alloc: Global, error: Error, types: &str, rest: &str) -> bool {
     types == "refused" && (displays(alloc, &error, rest) || displays(alloc, &error, rest))
 }
 
-fn makes(alloc: Global, config: Config, bytes: &[u8], types: &str, rest: &str) -> bool {
+fn makes(alloc: Global, config: &Config, bytes: &[u8], types: &str, rest: &str) -> bool {
     let made = made(alloc, config, bytes);
     let holds = match &made {
         Ok(module) => is_so(alloc, module, config, types, rest) && has_bytes(alloc, module),
@@ -61,7 +57,7 @@ fn holds(alloc: Global, row: &str) -> Option<bool> {
         Some(bytes) => bytes,
         None => bytes_of(alloc, field)?,
     };
-    Some(makes(alloc, config, &bytes, types, rest))
+    Some(makes(alloc, &config, &bytes, types, rest))
 }
 
 #[test]
@@ -71,7 +67,7 @@ fn modules_are_made(rt: HostRuntime) -> Result<(), Fail> {
 
 // Checks that a module with items of most kinds is made, and written.
 fn makes_most_kinds(alloc: Global) -> bool {
-    let made = made(alloc, Config::default(), BYTES);
+    let made = made(alloc, &Config::default(), BYTES);
     let holds = match &made {
         Ok(module) => module.elems().len() == 1 && has_bytes(alloc, module),
         Err(_) => false,

@@ -2,7 +2,7 @@ use Rattle.std.proofs.Common.{◌-◌, length, map, ◌≤◌}
 use Rattle.wasm_smith_definitions.specs.Items as items
 use Rattle.wasm_smith_definitions.specs.Kinds.{AnyBound, of_global, wanted_globals}
 use Rattle.wasm_smith_definitions.proofs.StepLaws.{IsGrowing}
-use Rattle.wasm_smith_types.specs.ValidGroups.{AllKeepTypeRules}
+use Rattle.wasm_smith_validity.specs.ValidGroups.{AllKeepTypeRules}
 use Rattle.wasm_smith_validity.specs.Spaces.{globals_of}
 use Rattle.wasm_smith_definitions.proofs.globals.globals.Given as goal
 

@@ -3,7 +3,7 @@ use Rattle.wasm_smith_definitions.specs.Bounds.{IsBoundedTable}
 use Rattle.wasm_smith_definitions.specs.Items as items
 use Rattle.wasm_smith_definitions.specs.Kinds.{of_table, wanted_tables}
 use Rattle.wasm_smith_definitions.proofs.StepLaws.{IsGrowing}
-use Rattle.wasm_smith_types.specs.ValidGroups.{AllKeepTypeRules}
+use Rattle.wasm_smith_validity.specs.ValidGroups.{AllKeepTypeRules}
 use Rattle.wasm_smith_definitions.proofs.tables.tables.Given as goal
 
 abbrev pub invariant-grow : goal.invariant-grow

@@ -9,7 +9,7 @@ use Rattle.wasm_smith_externs.proofs.entries.import_of_type.Goals as goal
 
 pub returns-then-added-clause-added : goal.returns-then-added-clause-added
 returns-then-added-clause-added c =
-    let config = c.args.importer.now.config in
+    let config = c.args.importer.now.config.now in
     let type = entity_type c.args.ty.now in
     let room : count_of c.args.spaces.now (kind_of type) < most_of config (kind_of type) = room_from config c.args.spaces.now (kind_of type) c.requires.can in
     one_added config c.args.spaces.now c.add.new.spaces c.args.progress.now c.draw_name.new.self c.add.new.self c.args.origin.now type (string_bytes c.in_ok-name.name)
@@ -19,5 +19,5 @@ returns-then-added-clause-added c =
 
 pub returns-clause-added : goal.returns-clause-added
 returns-clause-added c =
-    last_added c.args.importer.now.config c.args.spaces.now c.add.new.spaces c.args.progress.now c.draw_name.new.self c.add.new.self c.args.origin.now (entity_type c.args.ty.now) (string_bytes c.in_ok-name.name) c.requires.offered
+    last_added c.args.importer.now.config.now c.args.spaces.now c.add.new.spaces c.args.progress.now c.draw_name.new.self c.add.new.self c.args.origin.now (entity_type c.args.ty.now) (string_bytes c.in_ok-name.name) c.requires.offered
     c.in_ok-name.ensures.same.count c.in_ok-name.ensures.same.left c.in_ok-name.ensures.same.size c.in_ok-name.ensures.drawn (c.in_ok-added.ensures.last c.if-added.false)

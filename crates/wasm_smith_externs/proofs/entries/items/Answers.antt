@@ -1,6 +1,6 @@
 use Rattle.std.proofs.Common.{◌≡◌, sym, subst, arith}
 use Rattle.std.specs.Option.{option_to_list}
-use Rattle.wasm_smith_definitions.specs.Items.{import_item}
+use Rattle.wasm_smith_shapes.specs.Imports.{import_item}
 use Rattle.wasm_smith_externs.specs.Added.{IsImporterFor}
 use Rattle.wasm_smith_externs.specs.Named.{named_item}
 use Rattle.wasm_smith_externs.proofs.AddedLaws.{more_mapped, types_kept}
@@ -8,7 +8,7 @@ use Rattle.wasm_smith_externs.proofs.entries.items.Goals as goal
 
 pub items-preserved : goal.items-preserved
 items-preserved c =
-    let config = c.args.importer.now.config in
+    let config = c.args.importer.now.config.now in
     let old = c.items.spaces in
     let new = c.item-in-items.new.spaces in
     let types : new.types ≡ old.types = types_kept config old new c.items.progress c.item-in-items.new.progress _ c.in_ok-next.ensures.added in

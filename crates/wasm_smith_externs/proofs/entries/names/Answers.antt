@@ -9,7 +9,7 @@ use Rattle.wasm_smith_externs.proofs.entries.names.Goals as goal
 
 pub names-preserved : goal.names-preserved
 names-preserved c =
-    let config = c.args.importer.now.config in
+    let config = c.args.importer.now.config.now in
     let type = entity_type c.args.ty.now in
     let old = c.names.spaces in
     let new = c.import_of_type-in-names.new.spaces in

@@ -1,7 +1,7 @@
 use Rattle.std.proofs.Common.{◌≡◌, ◌<◌, [], map, ap, sym, ◌∙◌, inl, inr, refl, subst, arith}
 use Rattle.std.specs.Option.{option_to_list}
 use Rattle.wasm_smith_config.specs.declared.config.Config.{Config}
-use Rattle.wasm_smith_definitions.specs.Items.{import_entry}
+use Rattle.wasm_smith_shapes.specs.Imports.{import_entry}
 use Rattle.std.specs.List.{AllByRecursion}
 use Rattle.wasm_smith_externs.specs.Added.{AreAdded, AreMadeSoFar, IsImporterFor}
 use Rattle.wasm_smith_externs.specs.Imports.{IsMadeEntry}

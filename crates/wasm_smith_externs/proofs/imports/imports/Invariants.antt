@@ -1,5 +1,5 @@
 use Rattle.std.proofs.Common.{◌≡◌, map, ◌≤◌, length}
-use Rattle.wasm_smith_definitions.specs.Items.{import_entry}
+use Rattle.wasm_smith_shapes.specs.Imports.{import_entry}
 use Rattle.wasm_smith_externs.specs.Added.{AreMadeSoFar, IsImporterFor}
 use Rattle.wasm_smith_externs.proofs.ImportLaws.{HasBegun}
 use Rattle.wasm_smith_externs.proofs.imports.imports.Given as goal
@@ -7,7 +7,7 @@ use Rattle.wasm_smith_externs.proofs.imports.imports.Given as goal
 abbrev pub invariant-grow : goal.invariant-grow
 invariant-grow l = record {
   importer : IsImporterFor l.spaces.types l.importer;
-  config : l.importer.config ≡ l.config;
+  config : l.importer.config.now ≡ l.config;
   made : AreMadeSoFar l.config l.fn.duplicates l.fn.spaces l.spaces l.progress (map import_entry l.entries.items);
   taken : length l.unstructured ≤ length l.fn.unstructured;
   begun : HasBegun l.config l.fn.spaces l.fn.unstructured l.progress l.spaces l.unstructured (map import_entry l.entries.items);

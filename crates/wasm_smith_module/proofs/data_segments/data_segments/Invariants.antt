@@ -5,7 +5,7 @@ use Rattle.wasm_smith_definitions.proofs.StepLaws.{IsGrowing}
 use Rattle.wasm_smith_module.specs.Data.{total_size}
 use Rattle.wasm_smith_module.specs.Traps.{IsSafeData}
 use Rattle.wasm_smith_module.proofs.data_segments.data_segments.Given as goal
-use Rattle.wasm_smith_types.specs.ValidGroups.{AllKeepTypeRules}
+use Rattle.wasm_smith_validity.specs.ValidGroups.{AllKeepTypeRules}
 
 abbrev pub invariant-grow : goal.invariant-grow
 invariant-grow l = record {

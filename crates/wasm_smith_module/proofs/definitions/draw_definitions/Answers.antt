@@ -1,7 +1,7 @@
 use Rattle.std.proofs.Common.{◌≡◌, refl, sym, ◌∙◌, subst}
 use Rattle.wasm_smith_definitions.proofs.FrameLaws.{kept_by}
 use Rattle.wasm_smith_definitions.specs.Kinds.{of_memory, of_table}
-use Rattle.wasm_smith_types.specs.ValidGroups.{AllKeepTypeRules}
+use Rattle.wasm_smith_validity.specs.ValidGroups.{AllKeepTypeRules}
 use Rattle.wasm_smith_module.proofs.GoodLaws.{byte_limits, globals_fine, memories_fine, tables_fine}
 use Rattle.wasm_smith_module.proofs.definitions.draw_definitions.Goals as goal
 

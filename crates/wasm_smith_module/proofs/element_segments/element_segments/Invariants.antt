@@ -5,7 +5,7 @@ use Rattle.wasm_smith_definitions.specs.Steps.{TablesKeep}
 use Rattle.wasm_smith_definitions.proofs.StepLaws.{IsGrowing}
 use Rattle.wasm_smith_module.specs.Elements.{AreNullable, IsDrawnElement}
 use Rattle.wasm_smith_module.proofs.element_segments.element_segments.Given as goal
-use Rattle.wasm_smith_types.specs.ValidGroups.{AllKeepTypeRules}
+use Rattle.wasm_smith_validity.specs.ValidGroups.{AllKeepTypeRules}
 use Rattle.wasm_smith_validity.specs.Spaces.{functions_of}
 
 abbrev pub invariant-grow : goal.invariant-grow

@@ -1,7 +1,7 @@
 use Rattle.std.proofs.Common.{ap, sym, ◌∙◌, map, subst}
 use Rattle.std.specs.List.{flat_map}
 use Rattle.wasm_core_types.specs.SubTypes.{sub_type}
-use Rattle.wasm_smith_definitions.specs.Items.{import_entry}
+use Rattle.wasm_smith_shapes.specs.Imports.{import_entry}
 use Rattle.wasm_smith_module.proofs.ImportedLimits.{all_items, imported_alone, mapped_items, next_items}
 use Rattle.wasm_smith_module.proofs.imported.imported_spaces.Goals as goal
 use Rattle.wasm_smith_module.specs.Measured.{HasNoOwn}

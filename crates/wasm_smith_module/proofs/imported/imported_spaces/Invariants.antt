@@ -1,7 +1,7 @@
 use Rattle.std.proofs.Common.{◌≡◌, map, drop}
 use Rattle.std.specs.List.{flat_map}
 use Rattle.wasm_core_types.specs.SubTypes.{sub_type}
-use Rattle.wasm_smith_definitions.specs.Items.{import_entry}
+use Rattle.wasm_smith_shapes.specs.Imports.{import_entry}
 use Rattle.wasm_smith_module.proofs.imported.imported_spaces.Given as goal
 use Rattle.wasm_smith_validity.specs.Spaces.{spaces_of_types, with_items}
 use Rattle.wasm_spec.specs.Syntax.{imported_by}

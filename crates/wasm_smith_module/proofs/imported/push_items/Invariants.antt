@@ -1,5 +1,5 @@
 use Rattle.std.proofs.Common.{◌≡◌, map, drop}
-use Rattle.wasm_smith_definitions.specs.Items.{import_item}
+use Rattle.wasm_smith_shapes.specs.Imports.{import_item}
 use Rattle.wasm_smith_module.proofs.imported.push_items.Given as goal
 use Rattle.wasm_smith_validity.specs.Spaces.{with_items}
 

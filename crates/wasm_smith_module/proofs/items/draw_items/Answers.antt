@@ -2,8 +2,8 @@ use Rattle.std.proofs.Common.{map, sym, ap, ◌∙◌, subst}
 use Rattle.wasm_core_types.specs.SubTypes.{sub_type}
 use Rattle.wasm_smith_externs.specs.Candidates.{type_sizes}
 use Rattle.wasm_smith_externs.specs.Named.{all_named, types_of}
-use Rattle.wasm_smith_definitions.specs.Items.{import_entry}
-use Rattle.wasm_smith_types.specs.ValidGroups.{AllKeepTypeRules}
+use Rattle.wasm_smith_shapes.specs.Imports.{import_entry}
+use Rattle.wasm_smith_validity.specs.ValidGroups.{AllKeepTypeRules}
 use Rattle.wasm_smith_validity.specs.Spaces.{Spaces}
 use Rattle.wasm_smith_module.proofs.FrontLaws.{defined_exports, defined_nullable, defined_tables_keep, defined_types, few_functions, few_tags, from_types, front_later, front_types}
 use Rattle.wasm_smith_module.proofs.items.draw_items.Goals as goal

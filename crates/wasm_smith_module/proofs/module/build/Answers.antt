@@ -1,6 +1,6 @@
 use Rattle.std.proofs.Common.{length, ap, subst, arith}
 use Rattle.wasm_smith_types.specs.Making.{made}
-use Rattle.wasm_smith_types.specs.ValidGroups.{AllKeepTypeRules}
+use Rattle.wasm_smith_validity.specs.ValidGroups.{AllKeepTypeRules}
 use Rattle.wasm_smith_types.proofs.GroupedLaws.{types_of_grouped}
 use Rattle.wasm_smith_module.proofs.GoodLaws.{types_small}
 use Rattle.wasm_smith_module.proofs.ValidLaws.{type_rules}

@@ -4,7 +4,7 @@ use Rattle.wasm_core_types.specs.SubTypes.{sub_type}
 use Rattle.wasm_smith_types.proofs.GroupedLaws.{types_of_grouped}
 use Rattle.wasm_smith_types.specs.Grouped.{groups}
 use Rattle.wasm_smith_types.specs.Making.{made}
-use Rattle.wasm_smith_types.specs.ValidGroups.{AllKeepTypeRules, types_of}
+use Rattle.wasm_smith_validity.specs.ValidGroups.{AllKeepTypeRules, types_of}
 use Rattle.wasm_smith_module.proofs.MadeLaws.{bodies_are}
 use Rattle.wasm_smith_module.specs.Building.{AreItems}
 use Rattle.wasm_smith_module.specs.Items.{drawn_items}

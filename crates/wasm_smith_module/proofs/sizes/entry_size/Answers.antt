@@ -3,7 +3,7 @@ use Rattle.std.specs.List.{sum_by}
 use Rattle.std.specs.String.{string_bytes}
 use Rattle.wasm_core_types.specs.SubTypes.{sub_type}
 use Rattle.wasm_encoder_sections.specs.CoreItems.{entity_type}
-use Rattle.wasm_smith_definitions.specs.Items.{import_entry}
+use Rattle.wasm_smith_shapes.specs.Imports.{import_entry}
 use Rattle.wasm_smith_module.proofs.SaturatedSums.{sum_alike}
 use Rattle.wasm_smith_module.proofs.sizes.entry_size.Goals as goal
 use Rattle.wasm_smith_module.specs.Measured.{saturated}

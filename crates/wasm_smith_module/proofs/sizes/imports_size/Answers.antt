@@ -1,7 +1,7 @@
 use Rattle.std.proofs.Common.{ap, sym, ◌∙◌, map}
 use Rattle.std.specs.List.{sum_by}
 use Rattle.wasm_core_types.specs.SubTypes.{sub_type}
-use Rattle.wasm_smith_definitions.specs.Items.{import_entry}
+use Rattle.wasm_smith_shapes.specs.Imports.{import_entry}
 use Rattle.wasm_smith_module.proofs.SaturatedSums.{all_sizes, sum_joined, sum_mapped}
 use Rattle.wasm_smith_module.proofs.sizes.imports_size.Goals as goal
 use Rattle.wasm_smith_module.specs.Measured.{saturated}

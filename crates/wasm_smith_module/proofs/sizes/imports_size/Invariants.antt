@@ -1,7 +1,7 @@
 use Rattle.std.proofs.Common.{◌≡◌, ◌+◌, ◌-◌, ◌^◌, ◌≤◌, map, drop}
 use Rattle.std.specs.List.{sum_by}
 use Rattle.wasm_core_types.specs.SubTypes.{sub_type}
-use Rattle.wasm_smith_definitions.specs.Items.{import_entry}
+use Rattle.wasm_smith_shapes.specs.Imports.{import_entry}
 use Rattle.wasm_smith_module.proofs.sizes.imports_size.Given as goal
 use Rattle.wasm_smith_module.specs.Measured.{saturated}
 use Rattle.wasm_smith_module.specs.Measures.{size_of}

@@ -2,7 +2,7 @@ use Rattle.std.proofs.Common.{ap, sym, ◌∙◌, map}
 use Rattle.std.specs.List.{sum_by}
 use Rattle.wasm_core_types.specs.SubTypes.{sub_type}
 use Rattle.wasm_encoder_sections.specs.CoreItems.{entity_type}
-use Rattle.wasm_smith_definitions.specs.Items.{import_item}
+use Rattle.wasm_smith_shapes.specs.Imports.{import_item}
 use Rattle.wasm_smith_module.proofs.SaturatedSums.{all_sizes, sum_mapped}
 use Rattle.wasm_smith_module.proofs.sizes.items_size.Goals as goal
 use Rattle.wasm_smith_module.specs.Measured.{saturated}

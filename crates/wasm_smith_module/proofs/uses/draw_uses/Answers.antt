@@ -2,7 +2,7 @@ use Rattle.std.proofs.Common.{◌≡◌, length, refl, sym, ap, ◌∙◌, subst
 use Rattle.wasm_smith_definitions.proofs.FrameLaws.{kept_by, tables_still_keep}
 use Rattle.wasm_smith_definitions.specs.Kinds.{of_element, of_export}
 use Rattle.wasm_smith_module.specs.Elements.{AreNullable}
-use Rattle.wasm_smith_types.specs.ValidGroups.{AllKeepTypeRules}
+use Rattle.wasm_smith_validity.specs.ValidGroups.{AllKeepTypeRules}
 use Rattle.wasm_smith_validity.specs.Spaces.{functions_of}
 use Rattle.wasm_smith_module.proofs.GoodLaws.{data_segments_fine, element_segments_fine, elements_fine}
 use Rattle.wasm_smith_module.proofs.uses.draw_uses.Goals as goal

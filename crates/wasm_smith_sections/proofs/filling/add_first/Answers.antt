@@ -3,6 +3,7 @@ use Rattle.std.proofs.lemmas.Result.{IfOk-weaker, IfErr-weaker, err_from_is_err_
 use Rattle.wasm_core_types.specs.SubTypes.{sub_type}
 use Rattle.wasm_encoder_sections.specs.CoreItems.{memory_type}
 use Rattle.wasm_smith_definitions.specs.Items as items
+use Rattle.wasm_smith_shapes.specs.Imports.{import_entry}
 use Rattle.wasm_smith_sections.specs.ModuleItems.{made_of}
 use Rattle.wasm_smith_sections.proofs.FilledParts.{five_added, two_added, many_mapped, many_types, many_imports, many_functions, many_tables, many_memories}
 use Rattle.wasm_smith_sections.proofs.TypeGroups.{many_groups}
@@ -26,7 +27,7 @@ returns-in_err-add_types-clause-too_long c =
 pub returns-in_err-add_imports-clause-too_long : goal.returns-in_err-add_imports-clause-too_long
 returns-in_err-add_imports-clause-too_long c =
     let p = err_from_is_err_and c.from_residual-in_err-add_imports.result c.from_residual-in_err-add_imports.ensures.1 in
-    rw (p.1, p.2) (λ same. many_imports c.args.made.now.data_count (made_of c.args.made.now) (many_mapped items.import_entry c.args.made.now.imports.now (c.in_err-add_imports.ensures.too_long same)))
+    rw (p.1, p.2) (λ same. many_imports c.args.made.now.data_count (made_of c.args.made.now) (many_mapped import_entry c.args.made.now.imports.now (c.in_err-add_imports.ensures.too_long same)))
 
 pub returns-in_err-add_functions-clause-too_long : goal.returns-in_err-add_functions-clause-too_long
 returns-in_err-add_functions-clause-too_long c =

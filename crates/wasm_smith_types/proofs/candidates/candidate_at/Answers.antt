@@ -1,6 +1,6 @@
 use Rattle.std.proofs.Common.{◌≡◌, Some, None, sym, ap, ◌∙◌}
 use Rattle.wasm_core_types.specs.SubTypes.{sub_type}
-use Rattle.wasm_smith_types.proofs.WalkLaws.{seen_get}
+use Rattle.wasm_smith_validity.proofs.WalkLaws.{seen_get}
 use Rattle.wasm_smith_types.proofs.candidates.candidate_at.Goals as goal
 
 pub returns-clause-candidate : goal.returns-clause-candidate

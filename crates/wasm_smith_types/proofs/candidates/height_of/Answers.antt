@@ -1,8 +1,8 @@
 use Rattle.std.proofs.Common.{ap, arith, Some}
 use Rattle.wasm_core_types.specs.SubTypes.{sub_type}
 use Rattle.wasm_spec.specs.Groups.{no_link}
-use Rattle.wasm_smith_types.proofs.BelowLaws.{height_inside, rest_goes_on, rest_at_top}
-use Rattle.wasm_smith_types.proofs.WalkLaws.{seen_get, seen_none, link_up, at_top}
+use Rattle.wasm_smith_validity.proofs.BelowLaws.{height_inside, rest_goes_on, rest_at_top}
+use Rattle.wasm_smith_validity.proofs.WalkLaws.{seen_get, seen_none, link_up, at_top}
 use Rattle.wasm_smith_types.proofs.candidates.height_of.Goals as goal
 
 pub loop-height-init : goal.loop-height-init

@@ -1,6 +1,6 @@
 use Rattle.wasm_spec.specs.Groups.{Links}
-use Rattle.wasm_smith_types.specs.Below.{seen}
-use Rattle.wasm_smith_types.proofs.BelowLaws.{IsRest}
+use Rattle.wasm_smith_validity.specs.Below.{seen}
+use Rattle.wasm_smith_validity.proofs.BelowLaws.{IsRest}
 use Rattle.wasm_smith_types.proofs.candidates.height_of.Given as goal
 
 abbrev pub invariant-loop-height : goal.invariant-loop-height

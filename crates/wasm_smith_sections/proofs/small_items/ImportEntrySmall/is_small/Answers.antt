@@ -1,7 +1,7 @@
 use Rattle.std.proofs.Common.{Bool, subst, string_bytes}
 use Rattle.std.specs.List.{AllByRecursion}
 use Rattle.wasm_encoder_sections.specs.SmallItems.{IsNameText, IsSmallItem}
-use Rattle.wasm_smith_definitions.specs.Items.{import_item}
+use Rattle.wasm_smith_shapes.specs.Imports.{import_item}
 use Rattle.wasm_smith_sections.proofs.SmallItems.{seen}
 use Rattle.wasm_smith_sections.proofs.small_items.ImportEntrySmall.is_small.Goals as goal
 

@@ -3,7 +3,7 @@ use Rattle.std.proofs.lemmas.List.{map_push, length-map}
 use Rattle.std.proofs.lemmas.Bool.{not-true}
 use Rattle.wasm_core_types.specs.SubTypes.{sub_type}
 use Rattle.std.specs.Prelude.{slice_get}
-use Rattle.wasm_smith_types.specs.ValidGroups.{HasHeight}
+use Rattle.wasm_smith_validity.specs.ValidGroups.{HasHeight}
 use Rattle.wasm_smith_types.specs.Making.{made}
 use Rattle.wasm_smith_types.proofs.MakingLaws.{candidates_with_more, one_more_candidate}
 use Rattle.wasm_smith_types.proofs.types.Types.push.Goals as goal

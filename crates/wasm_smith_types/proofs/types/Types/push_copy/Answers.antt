@@ -4,7 +4,7 @@ use Rattle.std.proofs.lemmas.List.{map_push, length-map}
 use Rattle.wasm_core_types.specs.SubTypes.{sub_type}
 use Rattle.wasm_smith_types.specs.Making.{made}
 use Rattle.wasm_smith_types.proofs.MakingLaws.{candidates_with_more}
-use Rattle.wasm_smith_types.proofs.WalkLaws.{seen_get}
+use Rattle.wasm_smith_validity.proofs.WalkLaws.{seen_get}
 use Rattle.wasm_smith_types.proofs.types.Types.push_copy.Goals as goal
 
 pub note-requires : goal.note-requires

@@ -1,0 +1,11 @@
+mod Fronts
+mod FormLaws
+mod GroupParts
+mod FlatLaws
+mod GateLaws
+mod LinkLaws
+mod RangeLaws
+mod GroupWalk
+mod ItemWalk
+mod NameWalk
+mod ReasonLaws

@@ -1,0 +1,14 @@
+use Rattle.std.proofs.Common.{◌∙◌, Bool, sym, rules, tests}
+use Rattle.std.proofs.lemmas.List.Folds.{list_all-map}
+use Rattle.std.proofs.lemmas.Iterator.{YieldsList-from_slice}
+use Rattle.std.proofs.lemmas.Iterator.Search.{all_from_yields_List}
+use Rattle.wasm_smith_shapes.specs.Forms.{may_have_entry, most_named}
+use Rattle.wasm_smith_shapes.specs.Imports.{import_entry}
+use Rattle.wasm_spec.specs.Syntax.{ImportEntry}
+use Rattle.wasm_smith_shapes.proofs.forms.may_have_entries.Goals as goal
+
+pub returns : goal.returns
+returns c =
+    let test : ImportEntry → Bool = may_have_entry (most_named c.args.purpose) in
+    all_from_yields_List (λ x. test (import_entry x)) _ _ _ c.all.ensures.ran (YieldsList-from_slice c.args.imports.now cc) (λ x b q k. search (rules, tests))
+    ∙ sym (list_all-map test import_entry c.args.imports.now)

@@ -38,9 +38,9 @@ enum wasm_gen_kind {
     WASM_GEN_ORDER = 7,         /* a part of a module comes too early or late */
     WASM_GEN_FAILED = 8,        /* the validator refused a module before */
     WASM_GEN_CONFIG = 13,       /* a value of the configuration isn't allowed */
-    WASM_GEN_SHAPE = 14,        /* the configuration asks for what can't be made */
+    WASM_GEN_SHAPE = 14,        /* a shape of the configuration isn't allowed */
     WASM_GEN_MINIMUM = 15,      /* fewer items than the configuration's minimum can be made */
-    WASM_GEN_EMPTY_CHOICE = 16, /* a choice among no alternatives */
+    WASM_GEN_EMPTY_CHOICE = 16, /* a shape asks for references that aren't null, of which there is no constant */
     WASM_GEN_TYPE_SIZE = 17     /* the types of imports and exports are too large together */
 };
 

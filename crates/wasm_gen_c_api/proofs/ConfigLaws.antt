@@ -142,6 +142,7 @@ askable = record {
   good = are_good (fields made) refl;
   nothing_owed = (refl, (refl, (refl, (refl, (refl, (refl, (refl, (refl, (refl, (refl, (refl, tt)))))))))));
   no_exports = refl;
+  no_shapes = refl;
 }
 
 is_made : (c : Config) → IsDefault c → sanitized c ≡ made

@@ -4,4 +4,5 @@ pub mod Faults
 pub mod Found
 pub mod Plain
 mod ReadLaws
+mod RunLaws
 mod WriteLaws

@@ -1,5 +1,5 @@
 -- Generating from the seeds of lists.
-use Rattle.std.proofs.Common.{◌≡◌, ℕ, ◌+◌, ◌≤◌, ◌<◌, ◌%◌, Bool, List, [], ◌∷◌, ◌++◌, length, map, drop, get_or, Option, Some, None, IfSome, refl, sym, subst, ap, ◌∙◌, inl, inr, arith, length-append}
+use Rattle.std.proofs.Common.{◌≡◌, ℕ, ◌+◌, ◌≤◌, ◌<◌, ◌%◌, Bool, true, false, if◌then◌else◌, List, [], ◌∷◌, ◌++◌, length, map, drop, get_or, Option, Some, None, IfSome, refl, sym, subst, ap, ◌∙◌, inl, inr, arith, length-append}
 use Rattle.std.specs.Option.{option_and_then, unwrap_or}
 use Rattle.std.specs.Prelude.{option_map}
 use Rattle.std.specs.declared.vec.Vec.{Vec}
@@ -22,9 +22,9 @@ use Rattle.wasm_smith.specs.ValidGroups as flat
 use Rattle.wasm_smith.specs.Spelling.{Spells}
 use Rattle.wasm_smith.specs.Parts.{Config, Error}
 use Rattle.wasm_smith.proofs.SeedLaws.{features_for, flat_entries}
-use Rattle.wasm_smith_module.specs.Bounds.{IsWithinBounds}
-use Rattle.wasm_smith_module.specs.Generating.{HasFront, OwesNothingElse, bare_body, bare_module, front_at, left_for_functions, with_functions}
+use Rattle.wasm_smith_module.specs.Generating.{HasFront, OwesNothingElse, bare_body, bare_module, front_at, has_shape, left_for_functions, with_functions}
 use Rattle.wasm_smith_module.specs.Promise.{IsReason}
+use Rattle.wasm_smith_module.specs.TrueToShapes.{IsTrueTo}
 use Rattle.wasm_smith_sections.specs.ModuleEncoding.{PassesLength, SomeByRecursion}
 use Rattle.wasm_smith_module.specs.Measured.{IsLongBody}
 use Rattle.wasm_smith_types.specs.Bounds.{AreSmall}
@@ -34,6 +34,7 @@ use Rattle.wasm_smith_validity.specs.Validity.{IsValidByIndex}
 use Rattle.wasm_gen_sessions.specs.Written.{IsGenerated}
 use Rattle.wasm_gen_sessions.specs.Asked.{IsMemoryOrLimit, IsReachable, MakesLists, RefusesRightly}
 use Rattle.wasm_gen_sessions.specs.Generate.{AsksPast, IsGeneratedFrom, IsCause, IsPast, MakesPast, PassesLimit}
+use Rattle.wasm_gen_sessions.proofs.NoShapes.{drawn_alone, more_drawn}
 use Rattle.wasm_gen_sessions.specs.declared.error.GenerateError.{GenerateError}
 use Rattle.wasm_gen_sessions.specs.declared.error.GenerateError.TheVariants.{Config as BadConfig, Shape, Minimum, EmptyChoice, TypeSize, Limit, Memory}
 
@@ -94,9 +95,9 @@ makes_lists reach c seed bytes g = record {
 
 all_refusals : TotalLaw → (c : Config) (seed : List ℕ) (e : GenerateError) → IsCause c seed e → IsAskable c → IsMemoryOrLimit c seed e
 all_refusals law c seed (BadConfig field) h asked = let e = law c (smith.BadConfig field) asked h in absurd cc
-all_refusals law c seed (Shape part) h asked = absurd h
+all_refusals law c seed (Shape part) h asked = let e = law c (smith.BadShape part) asked h in absurd cc
 all_refusals law c seed Minimum h asked = let e = law c smith.IncorrectFormat asked h in absurd cc
-all_refusals law c seed EmptyChoice h asked = absurd h
+all_refusals law c seed EmptyChoice h asked = let e = law c smith.EmptyChoose asked h in absurd cc
 all_refusals law c seed TypeSize h asked = let e = law c smith.TypeSize asked h in absurd cc
 all_refusals law c seed (Limit passed) h asked = inr (passed, refl, h)
 all_refusals law c seed Memory h asked = inl refl
@@ -104,8 +105,12 @@ all_refusals law c seed Memory h asked = inl refl
 -- the groups of a front are drawn
 groups_drawn : (c : Config) (s : List ℕ) (front : Front) → front_at c s ≡ Some front → (left : List ℕ) × (drawn_groups_at c s ≡ Some (front.0.0, left))
 unfolding front_at
-groups_drawn c s front e = go (drawn_groups_at c s) refl e
+groups_drawn c s front e = go (drawn_groups_at c s) refl (drawn_so (has_shape c) _ e)
   where
+    drawn_so : (shaped : Bool) (o : Option Front) → (if shaped then None else o) ≡ Some front → o ≡ Some front
+    drawn_so true o e = absurd cc
+    drawn_so false o e = e
+
     left_then : (drawn : List (RecGroup ℕ) × List ℕ) → drawn_groups_at c s ≡ Some drawn → (o : Option (List ℕ)) → option_map (with_functions c drawn.0) o ≡ Some front
         → (left : List ℕ) × (drawn_groups_at c s ≡ Some (front.0.0, left))
     left_then drawn same None e = absurd cc
@@ -133,12 +138,13 @@ none_made reach bare c seed groups funcs passed asked spelled past =
     let (features, are) = features_for c in
     let same = is_bare reach c seed groups funcs past.made past.left asked.family.askable spelled past.drawn in
     let valid = subst (λ (m : Made). IsValidByIndex features m) same (past.valid features are) in
-    let bounds = subst (λ (m : Made). IsWithinBounds c m) same past.bounds in
+    let shaped = subst (λ (m : Made). IsTrueTo c m) same past.true_to_shapes in
+    let drawn = drawn_alone c (map entry groups) asked.family.askable.no_shapes shaped.types in
     let few = few_entries c groups funcs asked in
     elim (subst (λ (m : Made). IsPast c passed m) same past.past) [
-      | inl p ↦ bare.limits features (map entry groups) funcs c.bulk_memory_enabled passed valid bounds.small_types bounds.some_types few asked.few_funcs p
+      | inl p ↦ bare.limits features (map entry groups) funcs c.bulk_memory_enabled passed valid drawn.0 drawn.1 few asked.few_funcs p
       | inr (inl long) ↦ none_long funcs long.1
-      | inr (inr long) ↦ bare.lengths features (map entry groups) funcs c.bulk_memory_enabled valid bounds.small_types bounds.some_types few asked.few_funcs long.1
+      | inr (inr long) ↦ bare.lengths features (map entry groups) funcs c.bulk_memory_enabled valid drawn.0 drawn.1 few asked.few_funcs long.1
     ]
 
 -- nor are more types asked for
@@ -147,7 +153,8 @@ none_asked : Reach → (c : Config) (seed : List ℕ) (groups : List (List (SubT
 none_asked reach c seed groups funcs passed asked spelled past =
     let drawn = groups_drawn c seed ((map entry groups, funcs), []) (reach.exact c groups funcs seed asked.family.askable spelled) in
     let many : most Types < length (flat.types_of (map entry groups)) =
-    known (λ (d : List (RecGroup ℕ) × List ℕ). most Types < length (flat.types_of d.0)) (drawn_groups_at c seed) (map entry groups, drawn.0) drawn.1 past.asks.more.drawn in
+    known (λ (d : List (RecGroup ℕ) × List ℕ). most Types < length (flat.types_of d.0)) (drawn_groups_at c seed) (map entry groups, drawn.0) drawn.1
+    (more_drawn c seed (most Types) asked.family.askable.no_shapes past.asks.more) in
     omega (arith, many, few_entries c groups funcs asked)
 
 no_limit : Reach → Bare → (c : Config) (seed : List ℕ) (groups : List (List (SubType ℕ))) (funcs : List ℕ) (passed : core.Limit) → IsReachable c groups funcs

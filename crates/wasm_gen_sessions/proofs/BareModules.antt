@@ -3,10 +3,11 @@ use Rattle.std.proofs.Common.{◌≡◌, ℕ, zero, suc, is_some, ◌<◌, ◌�
 use Rattle.std.specs.List.{AllByRecursion}
 use Rattle.std.proofs.lemmas.Bool.{and_parts, le-ltb}
 use Rattle.std.proofs.lemmas.List.{append-nil, length-map}
-use Rattle.wasm_smith_module.specs.Measures.{numbers_of}
+use Rattle.wasm_smith_module.specs.Measures.{counts_of, item_limits, lengths_of, measures_of_type, numbers_of, sizes_of, type_measures}
+use Rattle.wasm_smith_module.proofs.EntryNumbers.{within_append}
 use Rattle.wasm_smith_module.specs.Generating.{bare_body, bare_module}
 use Rattle.wasm_smith_sections.specs.ModuleEncoding.{HasLongFront, HasManyItems, IsLongSection, PassesLength, SomeByRecursion, SomeHaveLongFront}
-use Rattle.wasm_smith_types.specs.Bounds.{AreSmall}
+use Rattle.wasm_smith_types.specs.Bounds.{AreSmall, IsSmallComposite}
 use Rattle.wasm_smith_types.specs.DrawnGroups.{AreSome}
 use Rattle.wasm_smith_validity.specs.ValidGroups.{types_of}
 use Rattle.wasm_smith_validity.specs.Made.{Made, MadeBody}
@@ -17,12 +18,13 @@ use Rattle.wasm_smith_validity.specs.Spaces.{func_type_at, spaces_after, spaces_
 use Rattle.wasm_smith_validity.specs.Validity.{IsValidByIndex}
 use Rattle.wasm_smith_validity.proofs.MadeSections.{rules_of}
 use Rattle.wasm_spec.specs.Features.{Features}
+use Rattle.wasm_spec.specs.Groups.{items_in}
 use Rattle.wasm_spec.specs.Limits.{Limit, Name, Types, Functions, most}
 use Rattle.wasm_spec.specs.Shortest.{unsigned_encoding, list_encoding, framed_encoding}
 use Rattle.wasm_spec.specs.SmallIndexes.{IsSmallIndex}
 use Rattle.wasm_spec.specs.Syntax.{Section, TypeSection, FunctionSection, CodeSection}
 use Rattle.wasm_spec.specs.Trees.{section_types, types_from}
-use Rattle.wasm_spec.specs.Types.{RecGroup, SubType, ValType}
+use Rattle.wasm_spec.specs.Types.{CompositeType, FuncComposite, StructComposite, ArrayComposite, ContComposite, RecGroup, SubType, ValType}
 use Rattle.wasm_spec.proofs.UnsignedEncodings.{at_most_five}
 use Rattle.wasm_validity.specs.Context.{Context, after, after_all, at_first, functions_in}
 use Rattle.wasm_validity.specs.Entries.{Entry, OfFunction, OfType, OfBody, entries_of}
@@ -65,11 +67,33 @@ of_bodies bodies = map (λ x. OfBody x) bodies
 
 -- ---- limits
 
-numbers_within : (groups : List (RecGroup ℕ)) (funcs : List ℕ) → AreSome groups → length (types_of groups) ≤ most Types → length funcs ≤ most Functions
-    → are_within (numbers_of [] (bare_module groups funcs)) ≡ true
-numbers_within groups funcs some few_types few_funcs =
+counts_within : (groups : List (RecGroup ℕ)) (funcs : List ℕ) → AreSome groups → length (types_of groups) ≤ most Types → length funcs ≤ most Functions
+    → are_within (counts_of (bare_module groups funcs)) ≡ true
+counts_within groups funcs some few_types few_funcs =
     let few : length groups ≤ 1000000 = omega (arith, few_types, few_groups groups some) in
     rw (le-ltb 1000000 (length (types_of groups)) few_types, le-ltb 1000000 (length groups) few, le-ltb 1000000 (length funcs) few_funcs) refl
+
+-- a small type is within its limits
+type_within : (c : CompositeType ℕ) → IsSmallComposite c → are_within (map (λ limit. (limit, items_in c limit)) item_limits) ≡ true
+type_within (FuncComposite type) small =
+    let params = small.0 in
+    let results = small.1 in
+    rw (le-ltb 1000 (length type.params) (omega (arith, params)), le-ltb 1000 (length type.results) (omega (arith, results))) refl
+type_within (StructComposite fields) small = rw (le-ltb 10000 (length fields) (omega (arith, small))) refl
+type_within (ArrayComposite field) small = refl
+type_within (ContComposite function) small = refl
+
+types_within : (types : List (SubType ℕ)) → AreSmall types → are_within (type_measures types) ≡ true
+types_within [] small = refl
+types_within (type ∷ types) small =
+    within_append (measures_of_type type) (type_measures types) (type_within type.composite_type small.0) (types_within types small.1)
+
+numbers_within : (groups : List (RecGroup ℕ)) (funcs : List ℕ) → AreSmall (types_of groups) → AreSome groups → length (types_of groups) ≤ most Types
+    → length funcs ≤ most Functions → are_within (numbers_of [] (bare_module groups funcs)) ≡ true
+numbers_within groups funcs small some few_types few_funcs =
+    let m = bare_module groups funcs in
+    within_append (counts_of m) (sizes_of [] m) (counts_within groups funcs some few_types few_funcs)
+    (within_append (type_measures (types_of groups)) (lengths_of [] m) (types_within (types_of groups) small) refl)
 
 is_not : (b : Bool) → not b ≡ true → b ≡ true → ⊥
 is_not true h k = absurd cc
@@ -88,7 +112,7 @@ none_passed limit cx (entry ∷ entries) h (inr (inr p)) = none_passed limit (af
 
 -- the law of limits
 abbrev LimitLaw : Type 0
-LimitLaw = (features : Features) (m : Made) (counted : Bool) (bodies : List (List ℕ)) → IsValidByIndex features m → AreSmall (types_of m.groups)
+LimitLaw = (features : Features) (m : Made) (counted : Bool) (bodies : List (List ℕ)) → IsValidByIndex features m
     → AllByRecursion (λ custom. length custom.name ≤ most Name) m.customs → are_within (numbers_of bodies m) ≡ true
     → KeepLimits at_first (entries_of (sections_with counted bodies m))
 
@@ -97,7 +121,7 @@ pub no_limit : LimitLaw → (features : Features) (groups : List (RecGroup ℕ))
     → PassLimit limit at_first (entries_of (sections_with counted [] (bare_module groups funcs))) → ⊥
 no_limit law features groups funcs counted limit v small some few_types few_funcs p =
     none_passed limit at_first (entries_of (sections_with counted [] (bare_module groups funcs)))
-    (law features (bare_module groups funcs) counted [] v small tt (numbers_within groups funcs some few_types few_funcs)) p
+    (law features (bare_module groups funcs) counted [] v tt (numbers_within groups funcs small some few_types few_funcs)) p
 
 -- ---- lengths
 

@@ -6,6 +6,7 @@ mod Forms
 mod GenerateLaws
 mod GeneratedLaws
 mod ListsLaws
+mod NoShapes
 mod Numbers
 mod RunEncodings
 mod SmallModules

@@ -13,10 +13,12 @@ use Rattle.wasm_validity.specs.Rules.{PassLimit}
 use Rattle.wasm_smith.specs.Config.{AreFeaturesOf, IsGood, IsBadField}
 use Rattle.wasm_smith.specs.ErrorCases as smith
 use Rattle.wasm_smith.specs.Parts.{Config, Error}
+use Rattle.wasm_smith_module.specs.Asked.{HasGoodShapes}
 use Rattle.wasm_smith_module.specs.Bounds.{IsWithinBounds}
 use Rattle.wasm_smith_module.specs.Generating.{HasFront, front_at}
 use Rattle.wasm_smith_module.specs.Measured.{HasLongBody}
-use Rattle.wasm_smith_module.specs.Promise.{ExportsEverything, HasDrawnData, IsOwed, PassesTypes}
+use Rattle.wasm_smith_module.specs.Promise.{ExportsEverything, HasDrawnData, HasNonNull, IsOwed, PassesTypes, RefusesShape}
+use Rattle.wasm_smith_module.specs.TrueToShapes.{IsTrueTo, TakesImports}
 use Rattle.wasm_smith_sections.specs.ModuleEncoding.{PassesLength}
 use Rattle.wasm_smith_validity.specs.Made.{Made}
 use Rattle.wasm_smith_validity.specs.MadeBodies.{is_raw_at}
@@ -37,14 +39,16 @@ told smith.TypeSize = TypeSize
 told smith.Memory = Memory
 told smith.TooLong = Limit limits.Length
 
--- From these bytes a made module is generated, for a configuration that was put in order and is good. Its types and functions are those that are drawn,
--- where the draws say which they are; where nothing is left then, and nothing else is owed, it has nothing else. Its data, raw bodies and custom sections
--- are no longer than these bytes.
+-- From these bytes a made module is generated, for a configuration that was put in order and is good, as its shapes are. Its types and functions are those that
+-- are drawn, where the draws say which they are; where nothing is left then, and nothing else is owed, it has nothing else. The imports that it takes of a shape
+-- are those that the draws choose, where these say which they are. Its data, raw bodies and custom sections are no longer than these bytes.
 pub record IsGeneratedFrom (c : Config) (seed bytes : List ℕ) : Type 0 where
   pub good : IsGood c
+  pub shapes : HasGoodShapes c
   pub made : Made
   pub left : List ℕ
   pub drawn : IfSome (front_at c seed) (λ drawn. HasFront c drawn made left)
+  pub imports : TakesImports c seed made
   pub contents : HasDrawnData seed left made
   pub generated : IsGenerated c made bytes
 
@@ -69,9 +73,11 @@ pub record MakesPast (c : Config) (seed : List ℕ) (passed : NumberedLimit) : T
   pub left : List ℕ
   pub valid : (features : Features) → AreFeaturesOf c features → IsValidByIndex features made
   pub bounds : IsWithinBounds c made
+  pub true_to_shapes : IsTrueTo c made
   pub contents : HasDrawnData seed left made
   pub past : IsPast c passed made
   pub drawn : IfSome (front_at c seed) (λ drawn. HasFront c drawn made left)
+  pub imports : TakesImports c seed made
 
 -- More types are asked for than there may be, and are allowed. They aren't made past their limit.
 pub record AsksPast (c : Config) (seed : List ℕ) (passed : NumberedLimit) : Type 0 where
@@ -81,6 +87,7 @@ pub record AsksPast (c : Config) (seed : List ℕ) (passed : NumberedLimit) : Ty
 -- the limit is passed by what is made from these bytes, or is asked for
 pub record PassesLimit (c : Config) (seed : List ℕ) (passed : core.Limit) : Type 0 where
   pub good : IsGood c
+  pub shapes : HasGoodShapes c
   pub past : MakesPast c seed (limit passed) ⊎ AsksPast c seed (limit passed)
 
 -- ---- refusals
@@ -98,9 +105,9 @@ IsUnwritable c made Memory = ⊤
 -- why nothing is generated for a configuration that was put in order, from these bytes
 abbrev pub IsCause : Config → List ℕ → GenerateError → Type 0
 IsCause c seed (BadConfig field) = IsBadField c field.now
-IsCause c seed (Shape part) = ⊥
+IsCause c seed (Shape part) = RefusesShape c part.now
 IsCause c seed Minimum = IsOwed c
-IsCause c seed EmptyChoice = ⊥
+IsCause c seed EmptyChoice = HasNonNull c
 IsCause c seed TypeSize = ExportsEverything c
 IsCause c seed (Limit passed) = PassesLimit c seed passed
 IsCause c seed Memory = ⊤

@@ -14,13 +14,13 @@ pub enum GenerateError {
     /// The configuration has a value that is not allowed at this key.
     #[error("config {0}")]
     Config(&'static str),
-    /// The shape that is asked for has this part, which cannot be made.
+    /// A shape is not allowed; its part is `groups`, `imports`, `exports`, or `together` for two shapes that aren't allowed beside each other.
     #[error("shape {0}")]
     Shape(&'static str),
-    /// Fewer items than the configuration's minimum can be made.
+    /// Fewer items than the configuration's minimum can be made, or `module_shape` has fewer types.
     #[error("minimum")]
     Minimum,
-    /// A choice was to be made where there is nothing to choose.
+    /// A shape has a table or a global of references that can't be null, and there is no constant of its type.
     #[error("empty choice")]
     EmptyChoice,
     /// The types of the module's imports and exports are too large together.

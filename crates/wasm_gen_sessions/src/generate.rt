@@ -57,17 +57,24 @@ fn drawn_bytes(alloc: Global, config: &Config, seed: &[u8]) -> Result<Vec<u8>, G
     bytes_for(alloc, config, seed)
 }
 
-/// Returns a module that is valid but for its raw bodies, for the configuration put in order, drawn from the bytes of the seed. A list for which
-/// [`seed_for`](crate::seed::seed_for) gives a seed is made exactly, without locals and with nothing else, from every seed that spells
-/// it. With a configuration with which lists can be asked for, it is refused only when out of memory, or when a limit is passed.
+/// Returns a module that is valid but for its raw bodies, for the configuration put in order and true to its shapes, drawn from the bytes of
+/// the seed. A list for which [`seed_for`](crate::seed::seed_for) gives a seed is made exactly, without locals and with nothing else, from
+/// every seed that spells it. With a configuration with which lists can be asked for, it is refused only when out of memory, or when a limit
+/// is passed.
+///
+/// With `module_shape` the module has the types, imports and exports of this shape, and no others. Else the types of `available_imports`,
+/// and then those of `exports`, stand behind drawn ones; the imports are some of the first shape's entries, and the exports are the second's.
+/// Each export of a shape is an item that the module defines for it. Maximums hold except as far as shapes have more.
 ///
 /// As soon as more types than their limit are made and asked for, `Limit` is returned, and no further type is made. All other items
 /// are drawn before their limits are looked at, so a `min_funcs` in the billions may end in `Memory`.
 ///
 /// # Errors
-/// `Config` by the configuration, `Minimum` where imports, tags, functions, exports or segments are asked for that can't be made,
-/// `TypeSize` where everything is exported and the types are too large, `Limit` where the module would pass one, `Memory` where memory
-/// runs out.
+/// `Config` by the configuration. `Shape` by the part of a shape that [`Shape::check`](wasm_smith::shape::Shape::check) doesn't allow, or
+/// `together` for two shapes with two tables or two memories where several aren't enabled. `Minimum` where imports, tags, functions,
+/// exports or segments are asked for that can't be made, or more types than `module_shape` has. `EmptyChoice` where a shape has a table or a
+/// global of references that can't be null, and there is no constant of its type. `TypeSize` where everything is exported and the types are
+/// too large. `Limit` where the module would pass one. `Memory` where memory runs out.
 pub fn generate(alloc: Global, config: &Config, seed: &[u8]) -> Result<Vec<u8>, GenerateError>
     ensures generated { IfOk result (λ bytes. IsGeneratedFrom (sanitized config.now) seed.now bytes.items) }
     ensures refused { IfErr result (IsCause (sanitized config.now) seed.now) }

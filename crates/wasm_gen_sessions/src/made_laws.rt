@@ -6,6 +6,7 @@ ghost use Rattle.wasm_smith_config.specs.Config.{AreFeaturesOf};
 ghost use Rattle.wasm_smith_config.specs.declared.config.Config.{Config};
 ghost use Rattle.wasm_smith_module.specs.Bounds.{IsWithinBounds};
 ghost use Rattle.wasm_smith_module.specs.Generating.{bare_module};
+ghost use Rattle.wasm_smith_module.specs.TrueToShapes.{IsTrueTo};
 ghost use Rattle.wasm_smith_sections.specs.ModuleEncoding.{IsModuleEncoding, PassesLength};
 ghost use Rattle.wasm_smith_types.specs.Bounds.{AreSmall};
 ghost use Rattle.wasm_smith_types.specs.DrawnGroups.{AreSome};
@@ -28,11 +29,11 @@ use wasm_smith_sections::laws::modules_read;
 use wasm_smith_validity::laws::valid_by_index;
 use wasm_smith_validity::module_laws::valid_modules;
 
-/// A made module that is valid by index under the configuration's features, is within the configuration's bounds and passes no limit, is
-/// generated as its encoding: this reads as its sections, and they are valid but for raw bodies.
+/// A made module that is valid by index under the configuration's features, is within the configuration's bounds, true to its shapes, and
+/// passes no limit, is generated as its encoding: this reads as its sections, and they are valid but for raw bodies.
 pub fn made_is_generated()
     ensures { (c : Config) (m : Made) (bytes : List ℕ) → ((features : Features) → AreFeaturesOf c features → IsValidByIndex features m) → IsWithinBounds c m
-        → CanBeStated m → PassesNoLimit m → IsModuleEncoding c.bulk_memory_enabled m bytes → IsGenerated c m bytes }
+        → IsTrueTo c m → CanBeStated m → PassesNoLimit m → IsModuleEncoding c.bulk_memory_enabled m bytes → IsGenerated c m bytes }
 {
     within();
     modules_read();

@@ -32,7 +32,7 @@ fn are_few_types(groups: &[Vec<SubType>]) -> bool
 /// Returns a seed from which [`generate`](crate::generate::generate) makes a module of exactly these groups and functions, the
 /// functions without locals and `unreachable`. A function is the index of its type.
 ///
-/// `None` where the configuration, put in order, is not allowed, has a minimum above 0, or has exports of everything; where a
+/// `None` where the configuration, put in order, is not allowed, has a shape, has a minimum above 0, or has exports of everything; where a
 /// group is empty; where a type is a continuation type, or has a supertype, more than 20 fields, parameters or results, or parts
 /// that the configuration doesn't enable; where a reference isn't nullable, or goes to a type past its group; without garbage
 /// collection, where a group is other than one final function type; where a function's index isn't that of a function type; where

@@ -10,8 +10,8 @@ use wasm_gen::generate::generate;
 use wasm_gen::smith::{Config, Error, Unstructured};
 use wasm_smith::module::Module;
 
-// Returns so many bytes, which are odd in so many more of eight draws.
-fn drawn_bytes(alloc: Global, numbers: &mut Numbers, len: u32, made_odd: u32) -> Vec<u8> {
+/// Returns so many bytes, which are odd in so many more of eight draws.
+pub fn drawn_bytes(alloc: Global, numbers: &mut Numbers, len: u32, made_odd: u32) -> Vec<u8> {
     let mut bytes = Vec::new(alloc);
     for _ in 0..len {
         put(&mut bytes, numbers.byte(made_odd));

@@ -37,10 +37,16 @@ mod same_types;
 #[cfg(test)]
 mod seeds;
 #[cfg(test)]
+mod shaped;
+#[cfg(test)]
+mod shaped_modules;
+#[cfg(test)]
 mod special;
 #[cfg(test)]
 mod status;
 #[cfg(test)]
 mod transfer;
+#[cfg(test)]
+mod true_to_shape;
 #[cfg(test)]
 mod words;

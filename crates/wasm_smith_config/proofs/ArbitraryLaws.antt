@@ -1,5 +1,5 @@
 -- Drawn configurations keep their minimums and maximums.
-use Rattle.std.proofs.Common.{◌≡◌, ℕ, ◌^◌, ◌≤◌, Bool, true, false, List, [], ◌∷◌, ◌++◌, Option, None, is_some, IsFalse, get_or, min, replicate, if◌then◌else◌, nat_lt, refl, sym, ap, ◌∙◌, arith}
+use Rattle.std.proofs.Common.{◌≡◌, ℕ, ◌^◌, ◌≤◌, Bool, true, false, List, [], ◌∷◌, ◌++◌, Option, None, is_some, ◌&&◌, ◌||◌, IsFalse, get_or, min, replicate, if◌then◌else◌, nat_lt, refl, sym, ap, ◌∙◌, arith}
 use Rattle.std.specs.List.{AllByRecursion}
 use Rattle.std.proofs.lemmas.Bool.{le-ltb}
 use Rattle.std.proofs.lemmas.List.Elements.{All-append, All-from_recursion}
@@ -157,7 +157,8 @@ good_maximums c kept (types, (imports, (tags, (funcs, (globals, (exports, (segme
 good_shapes : (c : Config) → IsKept c → AreGood (shapes (sanitized c))
 good_shapes c kept =
     let none : (i : ℕ) → get_or (kept_of c).1 i None ≡ get_or (None ∷ None ∷ None ∷ []) i None = λ i. ap (λ (rest : List ℕ × List (Option ShapeValue)). get_or rest.1 i None) kept in
-    All-from_recursion (λ field. IsFalse field.is_bad) (shapes (sanitized c)) (ap is_some (none 0), (ap is_some (none 1), (ap is_some (none 2), tt)))
+    let alone : (is_some c.module_shape && (is_some c.available_imports || is_some c.exports)) ≡ false = ap (λ asked. is_some asked && (is_some c.available_imports || is_some c.exports)) (none 0) in
+    All-from_recursion (λ field. IsFalse field.is_bad) (shapes (sanitized c)) (alone, tt)
 
 pub good_fields : (c : Config) → IsKept c → AllByRecursion (λ most. most ≤ 100) (maximums_of c) → IsGood (sanitized c)
 good_fields c kept small =

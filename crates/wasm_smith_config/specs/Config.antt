@@ -1,8 +1,7 @@
 -- Configurations: how they are put in order, which of them are allowed, and which features their modules may use.
-use Rattle.std.specs.Prelude.{◌≡◌, ℕ, Bool, true, ◌&&◌, ◌^◌, List, [], ◌∷◌, ◌++◌, All, Any, IsTrue, IsFalse, min, nat_lt, if◌then◌else◌, codes, Option, is_some}
+use Rattle.std.specs.Prelude.{◌≡◌, ℕ, Bool, true, ◌&&◌, ◌||◌, ◌^◌, List, [], ◌∷◌, ◌++◌, All, Any, IsTrue, IsFalse, min, nat_lt, if◌then◌else◌, codes, is_some}
 use Rattle.wasm_spec.specs.Features.{Features, Flag, MutableGlobal, SaturatingFloatToInt, SignExtension, ReferenceTypes, MultiValue, BulkMemory, Simd, RelaxedSimd, Threads, TailCall, Floats, MultiMemory, Exceptions, Memory64, ExtendedConst, FunctionReferences, Gc, GcTypes, CustomPageSizes, CompactImports, WideArithmetic, StackSwitching, has}
 use Rattle.wasm_smith_config.specs.declared.config.Config.{Config}
-use Rattle.wasm_smith_shapes.specs.Shapes.{ShapeValue}
 use Rattle.wasm_smith_unstructured.specs.declared.error.Error.{Error}
 use Rattle.wasm_smith_unstructured.specs.declared.error.Error.TheVariants.{IncorrectFormat, EmptyChoose, NotEnoughData, BadConfig, BadShape, TypeSize, Memory, TooLong}
 
@@ -107,16 +106,9 @@ maximums c =
     at_most (codes "max_memory32_bytes") (2 ^ 32) c.max_memory32_bytes ∷
     at_most (codes "max_memory64_bytes") (2 ^ 64) c.max_memory64_bytes ∷ []
 
--- no module is made for shapes yet
-abbrev pub no_shape : List ℕ → Option ShapeValue → Field
-no_shape name shape = record { name = name; is_bad = is_some shape }
-
--- each shape
+-- the shape of a whole module stands alone
 abbrev pub shapes : Config → List Field
-shapes c =
-    no_shape (codes "module_shape") c.module_shape ∷
-    no_shape (codes "available_imports") c.available_imports ∷
-    no_shape (codes "exports") c.exports ∷ []
+shapes c = record { name = codes "module_shape"; is_bad = is_some c.module_shape && (is_some c.available_imports || is_some c.exports) } ∷ []
 
 -- the fields of which something is asked, once for each thing that is asked
 abbrev pub fields : Config → List Field

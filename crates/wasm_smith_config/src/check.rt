@@ -6,7 +6,6 @@ ghost use Rattle.wasm_smith_config.specs.Fields.{field_of};
 
 use crate::config::{Config, DEFAULT_MEMORY32_BYTES, DEFAULT_MEMORY64_BYTES};
 use crate::error::Error;
-use wasm_smith_shapes::shape::Shape;
 
 // The largest maximum of a count.
 const LARGEST_COUNT: u32 = 0x8000_0000;
@@ -100,24 +99,15 @@ impl Config {
         ]
     }
 
-    // Returns each shape.
-    fn shapes(&self) -> [Field; 3]
+    // Returns what is asked of the shapes: that of a whole module stands alone.
+    fn shapes(&self) -> [Field; 1]
         ensures { map field_of result ≡ table.shapes self.now }
     {
-        [
-            no_shape("module_shape", &self.module_shape),
-            no_shape("available_imports", &self.available_imports),
-            no_shape("exports", &self.exports),
-        ]
-    }
-}
-
-fn no_shape(name: &'static str, shape: &Option<Shape>) -> Field
-    ensures { field_of result ≡ table.no_shape name.now shape.now }
-{
-    Field {
-        name,
-        is_bad: shape.is_some(),
+        let has_other = self.available_imports.is_some() || self.exports.is_some();
+        [Field {
+            name: "module_shape",
+            is_bad: self.module_shape.is_some() && has_other,
+        }]
     }
 }
 

@@ -137,11 +137,11 @@ pub struct Config {
     /// Weights of the offsets of memory accesses in function bodies. They are kept for those who make bodies, and steer nothing here.
     pub memory_offset_choices: MemoryOffsetChoices,
 
-    /// The types, imports and exports that the module is asked to have. No module is made for shapes yet: [`Config::check`] doesn't allow this field.
+    /// The types, imports and exports that the module is asked to have. It has no other types, imports and exports. No other shape may stand beside this one.
     pub module_shape: Option<Shape>,
-    /// The imports that the module may have. [`Config::check`] doesn't allow it yet.
+    /// The imports that the module may have, entry by entry: those that are drawn, and no others. Their types stand behind drawn ones.
     pub available_imports: Option<Shape>,
-    /// The exports that the module is asked to have. [`Config::check`] doesn't allow it yet.
+    /// The exports that the module is asked to have, and no others: for each it defines an item. Their types stand last.
     pub exports: Option<Shape>,
 }
 

@@ -68,3 +68,11 @@ with_maximums c other = record c {
   max_memory32_bytes = other.max_memory32_bytes;
   max_memory64_bytes = other.max_memory64_bytes;
 }
+
+-- the configuration with the shapes of another
+abbrev pub with_shapes : Config → Config → Config
+with_shapes c other = record c {
+  module_shape = other.module_shape;
+  available_imports = other.available_imports;
+  exports = other.exports;
+}

@@ -2,4 +2,5 @@
 #![tactic(auto)]
 
 pub mod settings;
+pub mod shaped;
 pub mod shapes;

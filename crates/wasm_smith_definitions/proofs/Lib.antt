@@ -1,8 +1,15 @@
 pub mod ConstantLaws
+pub mod FilledLaws
 pub mod FrameLaws
 pub mod FunctionTypeLaws
+pub mod ImportCounts
 pub mod IndexLaws
+pub mod MovedImports
+pub mod MovedTypes
 pub mod OfferedLaws
+pub mod OwnItemLaws
+pub mod OwnStepLaws
+pub mod ShapeRules
 pub mod SizeLaws
 pub mod SpaceLaws
 pub mod StepLaws

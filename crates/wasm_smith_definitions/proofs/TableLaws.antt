@@ -101,7 +101,7 @@ imported_alone k own true e none = rw (e, none) (append-nil k.imported_globals)
 imported_alone k own false e none = refl
 
 -- before a module's own globals all expressions see the imported ones alone
-same_scope : (features : Features) (k : Spaces) → k.own_globals ≡ [] → scope features k ≡ imported_scope k
+pub same_scope : (features : Features) (k : Spaces) → k.own_globals ≡ [] → scope features k ≡ imported_scope k
 same_scope features k none =
     ap (λ (globals : List (GlobalType ℕ)). let s : Scope = record { types = k.types; functions = functions_of k; globals = globals } in s) (imported_alone k k.own_globals (has features Gc) refl none)
 

@@ -5,4 +5,6 @@ pub mod Indexes
 pub mod Items
 pub mod Kinds
 pub mod Offered
+pub mod OwnItems
+pub mod Parts
 pub mod Steps

@@ -1,5 +1,5 @@
 -- The steps of the generator, each of which makes items of one kind that keep their rules, each in the index spaces before it.
-use Rattle.std.specs.Prelude.{◌≡◌, ℕ, ◌≤◌, Bool, true, false, List, [], map, max, slice_get, Some, if◌then◌else◌}
+use Rattle.std.specs.Prelude.{◌≡◌, ℕ, ◌≤◌, Bool, true, false, List, [], ◌++◌, map, max, slice_get, Some, if◌then◌else◌}
 use Rattle.std.specs.List.{AllByRecursion}
 use Rattle.wasm_spec.specs.Features.{Features}
 use Rattle.wasm_spec.specs.Types.{TableType}
@@ -38,6 +38,19 @@ pub record IsGrown {A : Type 0} (c : Config) (wanted : Wanted) (entry : A → En
   pub bounded : AllByRecursion Bound items
   pub few : wanted.count new ≤ max wanted.most (wanted.count old)
   pub nothing : (asked wanted old s).0 ≡ false → (items ≡ []) × (left ≡ (asked wanted old s).1)
+
+-- Items of these types, which are asked for, and then items that are drawn. Nothing is drawn for the first where there are none.
+pub record IsFilled {A B : Type 0} (c : Config) (wanted : Wanted) (entry : A → Entry) (Bound : A → Type 0) (type : A → B) (types : List B) (old : Spaces) (s : List ℕ) (new : Spaces) (left : List ℕ) (items : List A) : Type 0 where
+  pub own : List A
+  pub drawn : List A
+  pub parts : items ≡ own ++ drawn
+  -- the spaces, and the bytes that are left, after the items that are asked for
+  pub between : Spaces
+  pub after : List ℕ
+  pub are : map type own ≡ types
+  pub first : IsStep c entry old between own
+  pub grown : IsGrown c wanted entry Bound between after new left drawn
+  pub alone : types ≡ [] → after ≡ s
 
 -- the types of all tables may be written
 abbrev pub TablesKeep : Config → Spaces → Type 0

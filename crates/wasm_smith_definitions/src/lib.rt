@@ -18,6 +18,7 @@ pub mod items;
 pub mod lists;
 pub mod memories;
 pub mod merged;
+pub mod own_items;
 pub mod segments;
 pub mod tables;
 pub mod value_types;

@@ -1,11 +1,16 @@
 //! The memories of a module.
 
-ghost use Rattle.std.specs.Prelude.{◌≡◌, ◌≤◌, true, map, IfOk, is_some, length};
+ghost use Rattle.std.specs.Prelude.{◌≡◌, ◌+◌, ◌≤◌, true, map, IfOk, is_some, length};
+ghost use Rattle.std.specs.List.{AllByRecursion};
 ghost use Rattle.wasm_encoder_sections.specs.CoreItems.{memory_type};
+ghost use Rattle.wasm_spec.specs.Features.{Features, has, MultiMemory};
+ghost use Rattle.wasm_smith_config.specs.Config.{AreFeaturesOf};
+ghost use Rattle.wasm_smith_config.specs.declared.config.Config as configs;
 ghost use Rattle.wasm_smith_definitions.specs.Offered.{HasByteLimits, IsOfferedMemory, most_pages_for};
 ghost use Rattle.wasm_smith_definitions.specs.Kinds.{of_memory, wanted_memories};
-ghost use Rattle.wasm_smith_definitions.specs.Steps.{IsGrown};
-ghost use Rattle.wasm_validity.specs.TypeRules.{is_page_size};
+ghost use Rattle.wasm_smith_definitions.specs.OwnItems.{HasFewOf};
+ghost use Rattle.wasm_smith_definitions.specs.Steps.{IsGrown, IsStep};
+ghost use Rattle.wasm_validity.specs.TypeRules.{is_memory_type, is_page_size};
 
 use crate::bounds::bounds_within;
 use crate::index_spaces::IndexSpaces;
@@ -96,6 +101,26 @@ pub fn memories(
         let ty = memory_type(unstructured, config);
         spaces.push_memory(ty)?;
         own.push(ty)?;
+    }
+    Ok(own)
+}
+
+/// Defines a memory of each of these types.
+///
+/// # Errors
+/// Where memory runs out. Some of them may be defined by then.
+pub fn shape_memories(
+    alloc: Global,
+    spaces: &mut IndexSpaces<'_>,
+    types: &[MemoryType],
+) -> Result<Vec<MemoryType>, AllocError>
+    ensures step { IfOk result (λ v. (c : configs.Config) → ((features : Features) → AreFeaturesOf c features → AllByRecursion (λ type. is_memory_type features type ≡ true) (map memory_type types.now)) → ((features : Features) → AreFeaturesOf c features → HasFewOf (has features MultiMemory) (length spaces.old.memories + length types.now)) → IsStep c of_memory spaces.old spaces.new (map memory_type v.items)) }
+    ensures types { IfOk result (λ v. map memory_type v.items ≡ map memory_type types.now) }
+{
+    let mut own = Vec::new(alloc);
+    for ty in types {
+        spaces.push_memory(*ty)?;
+        own.push(*ty)?;
     }
     Ok(own)
 }

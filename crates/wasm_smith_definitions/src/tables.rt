@@ -1,12 +1,17 @@
 //! The tables of a module.
 
-ghost use Rattle.std.specs.Prelude.{◌≡◌, ◌≤◌, ◌<◌, [], length, map, IfOk, IfErr};
+ghost use Rattle.std.specs.Prelude.{◌≡◌, ◌⊎◌, ◌+◌, ◌≤◌, ◌<◌, ◌||◌, true, false, nat_eq, [], length, map, Any, IfOk, IfErr};
+ghost use Rattle.std.specs.List.{AllByRecursion};
 ghost use Rattle.wasm_encoder_sections.specs.CoreItems.{table_type};
+ghost use Rattle.wasm_spec.specs.Features.{Features, has, ReferenceTypes};
+ghost use Rattle.wasm_smith_config.specs.Config.{AreFeaturesOf};
 ghost use Rattle.wasm_smith_definitions.specs.Bounds.{IsBoundedTable};
 ghost use Rattle.wasm_smith_definitions.specs.Offered.{AreOffersOf, HasFewTables, IsOfferedTable, most_elements_for};
 ghost use Rattle.wasm_smith_definitions.specs.Items as items;
 ghost use Rattle.wasm_smith_definitions.specs.Kinds.{of_table, wanted_tables};
-ghost use Rattle.wasm_smith_definitions.specs.Steps.{Allows, IsGrown};
+ghost use Rattle.wasm_smith_definitions.specs.OwnItems.{HasFewOf, KeepsOwnTableType, initialiser_at};
+ghost use Rattle.wasm_smith_definitions.specs.Steps.{Allows, IsGrown, IsStep};
+ghost use Rattle.wasm_smith_unstructured.specs.Draws.{IsDrawn};
 ghost use Rattle.wasm_smith_validity.specs.ValidGroups.{AllKeepTypeRules};
 
 use crate::bounds::bounds_within;
@@ -118,6 +123,82 @@ pub fn tables(
         config.max_tables as usize,
     ) {
         let table = table(alloc, unstructured, config, offers, constants, spaces)?;
+        spaces.push_table(table.ty)?;
+        push(&mut own, table)?;
+    }
+    Ok(own)
+}
+
+// Draws an answer: true where a table has an initialiser. Elements that can't be null always have one.
+fn is_initialised(unstructured: &mut Unstructured<'_>, config: &Config, nullable: bool) -> bool
+    ensures exact { IsDrawn (λ b. b) result unstructured.new (initialiser_at config.now nullable unstructured.old) }
+    ensures taken { length unstructured.new ≤ length unstructured.old }
+{
+    if !nullable {
+        return true;
+    }
+    // A configuration in order has garbage collection only with reference types, without which no initialiser may be written.
+    bool_if(
+        unstructured,
+        config.gc_enabled && config.reference_types_enabled,
+    )
+}
+
+// Defines a table of a type.
+fn shape_table(
+    alloc: Global,
+    unstructured: &mut Unstructured<'_>,
+    config: &Config,
+    constants: &mut Constants,
+    spaces: &IndexSpaces<'_>,
+    ty: TableType,
+) -> Result<Table, Error>
+    requires rules { AllKeepTypeRules spaces.now.types }
+    requires no_own_globals { spaces.now.own_globals ≡ [] }
+    requires kept { (features : Features) → AreFeaturesOf config.now features → KeepsOwnTableType features spaces.now.types (table_type ty) }
+    requires few { (features : Features) → AreFeaturesOf config.now features → (nat_eq (length spaces.now.tables) 0 || has features ReferenceTypes) ≡ true }
+    ensures allowed { IfOk result (λ table. Allows config.now spaces.now (of_table (items.table table))) }
+    ensures typed { IfOk result (λ table. table_type table.ty ≡ table_type ty) }
+    ensures taken { length unstructured.new ≤ length unstructured.old }
+    ensures refused { IfErr result (λ e. (e ≡ Error.Memory) ⊎ ((e ≡ Error.EmptyChoose) × ((table_type ty).element_type.nullable ≡ false))) }
+{
+    if !is_initialised(unstructured, config, ty.element_type.nullable) {
+        return Ok(Table { ty, init: None });
+    }
+    let element_type = ValType::Ref(ty.element_type);
+    let init = constants.draw(alloc, unstructured, config, spaces, element_type)?;
+    Ok(Table {
+        ty,
+        init: Some(init),
+    })
+}
+
+/// Defines a table of each of these types, and draws its initialiser.
+///
+/// # Errors
+/// [`EmptyChoose`](Error::EmptyChoose) only where the elements of some table can't be null, and [`Memory`](Error::Memory). Some of the source's bytes may be
+/// taken by then.
+pub fn shape_tables(
+    alloc: Global,
+    unstructured: &mut Unstructured<'_>,
+    config: &Config,
+    constants: &mut Constants,
+    spaces: &mut IndexSpaces<'_>,
+    types: &[TableType],
+) -> Result<Vec<Table>, Error>
+    requires rules { AllKeepTypeRules spaces.old.types }
+    requires no_own_globals { spaces.old.own_globals ≡ [] }
+    requires kept { (features : Features) → AreFeaturesOf config.now features → AllByRecursion (KeepsOwnTableType features spaces.old.types) (map table_type types.now) }
+    requires few { (features : Features) → AreFeaturesOf config.now features → HasFewOf (has features ReferenceTypes) (length spaces.old.tables + length types.now) }
+    ensures step { IfOk result (λ v. IsStep config.now of_table spaces.old spaces.new (map items.table v.items)) }
+    ensures types { IfOk result (λ v. map (λ t. t.type) (map items.table v.items) ≡ map table_type types.now) }
+    ensures unread { IfOk result (λ _. types.now ≡ [] → unstructured.new ≡ unstructured.old) }
+    ensures taken { length unstructured.new ≤ length unstructured.old }
+    ensures refused { IfErr result (λ e. (e ≡ Error.Memory) ⊎ ((e ≡ Error.EmptyChoose) × Any (λ t. t.element_type.nullable ≡ false) (map table_type types.now))) }
+{
+    let mut own = Vec::new(alloc);
+    for ty in types {
+        let table = shape_table(alloc, unstructured, config, constants, spaces, *ty)?;
         spaces.push_table(table.ty)?;
         push(&mut own, table)?;
     }

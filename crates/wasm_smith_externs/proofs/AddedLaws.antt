@@ -14,9 +14,11 @@ use Rattle.wasm_smith_validity.specs.Rules.{keep_items, keeps_item}
 use Rattle.wasm_smith_validity.specs.Spaces.{Spaces, with_item, with_items}
 use Rattle.wasm_smith_externs.proofs.NamedLaws.{more_names, no_names, none_distinct, one_distinct}
 use Rattle.wasm_smith_externs.specs.Added.{AreAdded, IsAdded, IsLast}
-use Rattle.wasm_smith_externs.specs.Candidates.{HasLarger, IsOfferedImport, most_of, type_size, type_sizes}
+use Rattle.wasm_smith_externs.specs.Bounds.{most_in}
+use Rattle.wasm_smith_externs.specs.Candidates.{HasLarger, IsOfferedImport, type_size, type_sizes}
 use Rattle.wasm_smith_externs.specs.Named.{HasPlainName, IsShortlyNamed, Named, named, types_of}
 use Rattle.wasm_smith_externs.specs.Names.{IsDrawnName}
+use Rattle.wasm_smith_externs.specs.declared.bounds.ImportBounds.{ImportBounds}
 use Rattle.wasm_smith_externs.specs.declared.names.DuplicateImportsBehavior.TheVariants.{Allowed}
 use Rattle.wasm_smith_externs.specs.declared.progress.Progress.{Progress}
 
@@ -44,37 +46,37 @@ keep_more features k (x ∷ xs) ys h g =
     and_from (keeps_item features k x) (keep_items features (with_item k x) (xs ++ ys)) parts.0 (keep_more features (with_item k x) xs ys parts.1 g)
 
 -- one more of a kind that has room
-pub room_after : (c : Config) (k : Spaces) (item : ExternalType ℕ) → count_of k (kind_of item) < most_of c (kind_of item) → (kind : ExternalKind) → count_of (with_item k item) kind ≤ max (most_of c kind) (count_of k kind)
-room_after c k (FuncExternal x) room FuncKind = omega (arith, room, length-append k.imported_functions k.own_functions, length-append (k.imported_functions ++ x ∷ []) k.own_functions, length-append k.imported_functions (x ∷ []))
-room_after c k (FuncExternal x) room TableKind = omega arith
-room_after c k (FuncExternal x) room MemoryKind = omega arith
-room_after c k (FuncExternal x) room GlobalKind = omega arith
-room_after c k (FuncExternal x) room TagKind = omega arith
-room_after c k (TableExternal x) room FuncKind = omega arith
-room_after c k (TableExternal x) room TableKind = omega (arith, room, length-append k.tables (x ∷ []))
-room_after c k (TableExternal x) room MemoryKind = omega arith
-room_after c k (TableExternal x) room GlobalKind = omega arith
-room_after c k (TableExternal x) room TagKind = omega arith
-room_after c k (MemoryExternal x) room FuncKind = omega arith
-room_after c k (MemoryExternal x) room TableKind = omega arith
-room_after c k (MemoryExternal x) room MemoryKind = omega (arith, room, length-append k.memories (x ∷ []))
-room_after c k (MemoryExternal x) room GlobalKind = omega arith
-room_after c k (MemoryExternal x) room TagKind = omega arith
-room_after c k (GlobalExternal x) room FuncKind = omega arith
-room_after c k (GlobalExternal x) room TableKind = omega arith
-room_after c k (GlobalExternal x) room MemoryKind = omega arith
-room_after c k (GlobalExternal x) room GlobalKind = omega (arith, room, length-append k.imported_globals k.own_globals, length-append (k.imported_globals ++ x ∷ []) k.own_globals, length-append k.imported_globals (x ∷ []))
-room_after c k (GlobalExternal x) room TagKind = omega arith
-room_after c k (TagExternal x) room FuncKind = omega arith
-room_after c k (TagExternal x) room TableKind = omega arith
-room_after c k (TagExternal x) room MemoryKind = omega arith
-room_after c k (TagExternal x) room GlobalKind = omega arith
-room_after c k (TagExternal x) room TagKind = omega (arith, room, length-append k.tags (x ∷ []))
+pub room_after : (b : ImportBounds) (k : Spaces) (item : ExternalType ℕ) → count_of k (kind_of item) < most_in b (kind_of item) → (kind : ExternalKind) → count_of (with_item k item) kind ≤ max (most_in b kind) (count_of k kind)
+room_after b k (FuncExternal x) room FuncKind = omega (arith, room, length-append k.imported_functions k.own_functions, length-append (k.imported_functions ++ x ∷ []) k.own_functions, length-append k.imported_functions (x ∷ []))
+room_after b k (FuncExternal x) room TableKind = omega arith
+room_after b k (FuncExternal x) room MemoryKind = omega arith
+room_after b k (FuncExternal x) room GlobalKind = omega arith
+room_after b k (FuncExternal x) room TagKind = omega arith
+room_after b k (TableExternal x) room FuncKind = omega arith
+room_after b k (TableExternal x) room TableKind = omega (arith, room, length-append k.tables (x ∷ []))
+room_after b k (TableExternal x) room MemoryKind = omega arith
+room_after b k (TableExternal x) room GlobalKind = omega arith
+room_after b k (TableExternal x) room TagKind = omega arith
+room_after b k (MemoryExternal x) room FuncKind = omega arith
+room_after b k (MemoryExternal x) room TableKind = omega arith
+room_after b k (MemoryExternal x) room MemoryKind = omega (arith, room, length-append k.memories (x ∷ []))
+room_after b k (MemoryExternal x) room GlobalKind = omega arith
+room_after b k (MemoryExternal x) room TagKind = omega arith
+room_after b k (GlobalExternal x) room FuncKind = omega arith
+room_after b k (GlobalExternal x) room TableKind = omega arith
+room_after b k (GlobalExternal x) room MemoryKind = omega arith
+room_after b k (GlobalExternal x) room GlobalKind = omega (arith, room, length-append k.imported_globals k.own_globals, length-append (k.imported_globals ++ x ∷ []) k.own_globals, length-append k.imported_globals (x ∷ []))
+room_after b k (GlobalExternal x) room TagKind = omega arith
+room_after b k (TagExternal x) room FuncKind = omega arith
+room_after b k (TagExternal x) room TableKind = omega arith
+room_after b k (TagExternal x) room MemoryKind = omega arith
+room_after b k (TagExternal x) room GlobalKind = omega arith
+room_after b k (TagExternal x) room TagKind = omega (arith, room, length-append k.tags (x ∷ []))
 
 -- ---- adding
 
-pub none_added : (c : Config) (k : Spaces) (p : Progress) → AreAdded c k k p p []
-none_added c k p = record {
+pub none_added : (c : Config) (b : ImportBounds) (k : Spaces) (p : Progress) → AreAdded c b k k p p []
+none_added c b k p = record {
   keep = λ features f. refl;
   spaces = refl;
   offered = tt;
@@ -98,8 +100,8 @@ stopped_more c types p q r sizes later first more = elim more [
   | inr h ↦ inr h
 ]
 
-pub more_added : (c : Config) (k m n : Spaces) (p q r : Progress) (xs ys : List Named) → AreAdded c k m p q xs → AreAdded c m n q r ys → AreAdded c k n p r (xs ++ ys)
-more_added c k m n p q r xs ys h g =
+pub more_added : (c : Config) (b : ImportBounds) (k m n : Spaces) (p q r : Progress) (xs ys : List Named) → AreAdded c b k m p q xs → AreAdded c b m n q r ys → AreAdded c b k n p r (xs ++ ys)
+more_added c b k m n p q r xs ys h g =
     let types : types_of (xs ++ ys) ≡ types_of xs ++ types_of ys = map-append (λ (x : Named). x.type) xs ys in
     let same_types : m.types ≡ k.types = ap (λ (s : Spaces). s.types) h.spaces ∙ all_keep_types k (types_of xs) in
     record {
@@ -122,8 +124,8 @@ more_added c k m n p q r xs ys h g =
     }
 
 -- no import is added, and none comes after it, though a name may have been drawn
-pub last_added : (c : Config) (k n : Spaces) (p q r : Progress) (origin : List ℕ) (type : ExternalType ℕ) (name : List ℕ) → IsOfferedImport c k.types type → q.count ≡ p.count → q.left ≡ p.left → q.size_left ≡ p.size_left → IsDrawnName p.names q.names origin name → IsLast k n q r type → AreAdded c k n p r []
-last_added c k n p q r origin type name offered count left size drawn h = record {
+pub last_added : (c : Config) (b : ImportBounds) (k n : Spaces) (p q r : Progress) (origin : List ℕ) (type : ExternalType ℕ) (name : List ℕ) → IsOfferedImport c k.types type → q.count ≡ p.count → q.left ≡ p.left → q.size_left ≡ p.size_left → IsDrawnName p.names q.names origin name → IsLast k n q r type → AreAdded c b k n p r []
+last_added c b k n p q r origin type name offered count left size drawn h = record {
   keep = λ features f. refl;
   spaces = h.spaces;
   offered = tt;
@@ -137,15 +139,15 @@ last_added c k n p q r origin type name offered count left size drawn h = record
   plain = λ _. tt;
 }
 
-pub one_added : (c : Config) (k n : Spaces) (p q r : Progress) (origin : List ℕ) (type : ExternalType ℕ) (name : List ℕ) → q.count ≡ p.count → q.left ≡ p.left → q.size_left ≡ p.size_left
+pub one_added : (c : Config) (b : ImportBounds) (k n : Spaces) (p q r : Progress) (origin : List ℕ) (type : ExternalType ℕ) (name : List ℕ) → q.count ≡ p.count → q.left ≡ p.left → q.size_left ≡ p.size_left
     → IsDrawnName p.names q.names origin name → length origin ≤ 1000 → length name ≤ 1020 → (p.names.duplicates ≡ Allowed → length name ≤ 1000)
-    → ((features : Features) → AreFeaturesOf c features → keeps_item features k type ≡ true) → IsOfferedImport c k.types type → count_of k (kind_of type) < most_of c (kind_of type)
-    → IsAdded k n q r type → AreAdded c k n p r (named origin type name ∷ [])
-one_added c k n p q r origin type name count left size drawn of name_short name_plain keeps offered room h = record {
+    → ((features : Features) → AreFeaturesOf c features → keeps_item features k type ≡ true) → IsOfferedImport c k.types type → count_of k (kind_of type) < most_in b (kind_of type)
+    → IsAdded k n q r type → AreAdded c b k n p r (named origin type name ∷ [])
+one_added c b k n p q r origin type name count left size drawn of name_short name_plain keeps offered room h = record {
   keep = λ features f. and_from (keeps_item features k type) true (keeps features f) refl;
   spaces = h.spaces;
   offered = (offered, tt);
-  room = λ kind. rw h.spaces (room_after c k type room kind);
+  room = λ kind. rw h.spaces (room_after b k type room kind);
   count = omega (arith, h.count, count);
   left = omega (arith, h.left, left);
   stopped = inl (omega (arith, h.count, count, h.left, left));
@@ -163,13 +165,13 @@ one_added c k n p q r origin type name count left size drawn of name_short name_
 
 -- ---- lists of what is drawn
 
-pub types_kept : (c : Config) (k n : Spaces) (p q : Progress) (xs : List Named) → AreAdded c k n p q xs → n.types ≡ k.types
-types_kept c k n p q xs h = ap (λ (s : Spaces). s.types) h.spaces ∙ all_keep_types k (types_of xs)
+pub types_kept : (c : Config) (b : ImportBounds) (k n : Spaces) (p q : Progress) (xs : List Named) → AreAdded c b k n p q xs → n.types ≡ k.types
+types_kept c b k n p q xs h = ap (λ (s : Spaces). s.types) h.spaces ∙ all_keep_types k (types_of xs)
 
 maps_append : {A B C : Type 0} (f : B → C) (g : A → B) (xs ys : List A) → map f (map g (xs ++ ys)) ≡ map f (map g xs) ++ map f (map g ys)
 maps_append f g xs ys = ap (map f) (map-append g xs ys) ∙ map-append f (map g xs) (map g ys)
 
-pub more_mapped : {A B : Type 0} (f : B → Named) (g : A → B) (c : Config) (k m n : Spaces) (p q r : Progress) (xs ys zs : List A) → zs ≡ xs ++ ys
-    → AreAdded c k m p q (map f (map g xs)) → AreAdded c m n q r (map f (map g ys)) → AreAdded c k n p r (map f (map g zs))
-more_mapped f g c k m n p q r xs ys zs e h next =
-    subst (AreAdded c k n p r) (sym (ap (λ l. map f (map g l)) e ∙ maps_append f g xs ys)) (more_added c k m n p q r (map f (map g xs)) (map f (map g ys)) h next)
+pub more_mapped : {A B : Type 0} (f : B → Named) (g : A → B) (c : Config) (b : ImportBounds) (k m n : Spaces) (p q r : Progress) (xs ys zs : List A) → zs ≡ xs ++ ys
+    → AreAdded c b k m p q (map f (map g xs)) → AreAdded c b m n q r (map f (map g ys)) → AreAdded c b k n p r (map f (map g zs))
+more_mapped f g c b k m n p q r xs ys zs e h next =
+    subst (AreAdded c b k n p r) (sym (ap (λ l. map f (map g l)) e ∙ maps_append f g xs ys)) (more_added c b k m n p q r (map f (map g xs)) (map f (map g ys)) h next)

@@ -15,7 +15,9 @@ use Rattle.wasm_smith_definitions.proofs.FunctionTypeLaws.{IsFunctionAt, IsResul
 use Rattle.wasm_smith_definitions.proofs.IndexLaws.{all_places, index_of}
 use Rattle.wasm_smith_validity.specs.Rules.{keeps_item}
 use Rattle.wasm_smith_validity.specs.Spaces.{Spaces, func_type_at}
-use Rattle.wasm_smith_externs.specs.Candidates.{IsOfferedImport, can_import, has_type, most_of}
+use Rattle.wasm_smith_externs.specs.Bounds.{most_in, most_of}
+use Rattle.wasm_smith_externs.specs.Candidates.{IsOfferedImport, can_import, has_type}
+use Rattle.wasm_smith_externs.specs.declared.bounds.ImportBounds.{ImportBounds}
 
 -- ---- types of functions and tags
 
@@ -30,14 +32,14 @@ tag_offered types s t index some drawn = resultless_at types index (index_of (Is
 below_of : (i n : ℕ) → nat_lt i n ≡ true → i < n
 below_of i n e = grind arith
 
-pub room_from : (c : Config) (k : Spaces) (kind : ExternalKind) → can_import c k kind ≡ true → count_of k kind < most_of c kind
-room_from c k kind e = below_of (count_of k kind) (most_of c kind) (and_parts (has_type c k.types kind) (nat_lt (count_of k kind) (most_of c kind)) e).1
+pub room_from : (c : Config) (b : ImportBounds) (k : Spaces) (kind : ExternalKind) → can_import c b k kind ≡ true → count_of k kind < most_in b kind
+room_from c b k kind e = below_of (count_of k kind) (most_in b kind) (and_parts (has_type c k.types kind) (nat_lt (count_of k kind) (most_in b kind)) e).1
 
-pub some_functions : (c : Config) (k : Spaces) → can_import c k FuncKind ≡ true → 0 < length (function_indexes 0 k.types)
-some_functions c k e = below_of 0 (length (function_indexes 0 k.types)) (and_parts (nat_lt 0 (length (function_indexes 0 k.types))) _ e).0
+pub some_functions : (c : Config) (b : ImportBounds) (k : Spaces) → can_import c b k FuncKind ≡ true → 0 < length (function_indexes 0 k.types)
+some_functions c b k e = below_of 0 (length (function_indexes 0 k.types)) (and_parts (nat_lt 0 (length (function_indexes 0 k.types))) _ e).0
 
-pub some_tags : (c : Config) (k : Spaces) → can_import c k TagKind ≡ true → (c.exceptions_enabled ≡ true) × (0 < length (tag_indexes 0 k.types))
-some_tags c k e =
+pub some_tags : (c : Config) (b : ImportBounds) (k : Spaces) → can_import c b k TagKind ≡ true → (c.exceptions_enabled ≡ true) × (0 < length (tag_indexes 0 k.types))
+some_tags c b k e =
     let parts = and_parts c.exceptions_enabled (nat_lt 0 (length (tag_indexes 0 k.types))) (and_parts (has_type c k.types TagKind) _ e).0 in
     (parts.0, below_of 0 (length (tag_indexes 0 k.types)) parts.1)
 

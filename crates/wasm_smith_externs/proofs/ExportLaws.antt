@@ -44,7 +44,7 @@ export_allowed c k export lt new features f = and_from _ _ (may_be_exported c fe
 
 -- ---- the names of exports are among those that differ
 
-bytes_alike : (xs ys : List ℕ) → bytes_eq xs ys ≡ bytes_eq ys xs
+pub bytes_alike : (xs ys : List ℕ) → bytes_eq xs ys ≡ bytes_eq ys xs
 bytes_alike xs ys = go (bytes_eq xs ys) (bytes_eq ys xs) refl refl
   where
     go : (a b : Bool) → bytes_eq xs ys ≡ a → bytes_eq ys xs ≡ b → a ≡ b

@@ -1,9 +1,14 @@
 pub mod AddedLaws
 pub mod AllExportLaws
+pub mod BoundLaws
 pub mod CandidateLaws
 pub mod ExportLaws
 pub mod FittingLaws
 pub mod GrowLaws
 pub mod ImportLaws
+pub mod ImportSizeLaws
 pub mod NamedLaws
+pub mod OwnTypeLaws
+pub mod ShapeExportLaws
+pub mod ShapeImportLaws
 pub mod TypeLaws

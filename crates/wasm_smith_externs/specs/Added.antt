@@ -13,10 +13,12 @@ use Rattle.wasm_smith_types.specs.Offering.{offers}
 use Rattle.wasm_smith_validity.specs.Rules.{keep_items}
 use Rattle.wasm_smith_validity.specs.Spaces.{Spaces, with_item, with_items}
 use Rattle.wasm_smith_definitions.specs.FunctionTypes.{function_indexes, tag_indexes}
-use Rattle.wasm_smith_externs.specs.Candidates.{HasLarger, IsOfferedImport, most_of, type_size, type_sizes}
+use Rattle.wasm_smith_externs.specs.Bounds.{AreWithin, most_in}
+use Rattle.wasm_smith_externs.specs.Candidates.{HasLarger, IsOfferedImport, type_size, type_sizes}
 use Rattle.wasm_smith_externs.specs.Imports.{IsMadeEntry}
 use Rattle.wasm_smith_externs.specs.Named.{HasPlainName, IsShortlyNamed, Named, all_named, types_of}
 use Rattle.wasm_smith_externs.specs.Names.{AreDrawnNames}
+use Rattle.wasm_smith_externs.specs.declared.bounds.ImportBounds.{ImportBounds}
 use Rattle.wasm_smith_externs.specs.declared.names.DuplicateImportsBehavior.{DuplicateImportsBehavior}
 use Rattle.wasm_smith_externs.specs.declared.names.DuplicateImportsBehavior.TheVariants.{Allowed}
 use Rattle.wasm_smith_externs.specs.declared.importer.Importer.{Importer}
@@ -29,6 +31,7 @@ pub record IsImporterFor (types : List (SubType ℕ)) (it : Importer) : Type 0 w
   pub tags : it.tags.items ≡ tag_indexes 0 types
   pub offers : it.offers ≡ offers it.config.now
   pub few : length types ≤ 2 ^ 31
+  pub within : AreWithin it.config.now it.bounds
   pub limits : HasByteLimits it.config.now
   pub tables : HasFewTables it.config.now
 
@@ -56,11 +59,11 @@ pub record IsLast (old new : Spaces) (before after : Progress) (item : ExternalT
   pub names : after.names ≡ before.names
 
 -- These imports are added, one after the other: each keeps its rule under the features of the configuration, and there is room for each.
-pub record AreAdded (c : Config) (old new : Spaces) (before after : Progress) (xs : List Named) : Type 0 where
+pub record AreAdded (c : Config) (b : ImportBounds) (old new : Spaces) (before after : Progress) (xs : List Named) : Type 0 where
   pub keep : (features : Features) → AreFeaturesOf c features → keep_items features old (types_of xs) ≡ true
   pub spaces : new ≡ with_items old (types_of xs)
   pub offered : AllByRecursion (IsOfferedImport c old.types) (types_of xs)
-  pub room : (kind : ExternalKind) → count_of new kind ≤ max (most_of c kind) (count_of old kind)
+  pub room : (kind : ExternalKind) → count_of new kind ≤ max (most_in b kind) (count_of old kind)
   pub count : after.count ≡ before.count + length xs
   pub left : after.left + length xs ≤ before.left
   -- as many may still come as before, but for these; or one was too large
@@ -71,11 +74,11 @@ pub record AreAdded (c : Config) (old new : Spaces) (before after : Progress) (x
   pub plain : before.names.duplicates ≡ Allowed → AllByRecursion HasPlainName xs
 
 -- The imports that are made so far, from the start of the step on.
-pub record AreMadeSoFar (c : Config) (duplicates : DuplicateImportsBehavior) (start now : Spaces) (progress : Progress) (entries : List ImportEntry) : Type 0 where
+pub record AreMadeSoFar (c : Config) (b : ImportBounds) (duplicates : DuplicateImportsBehavior) (start now : Spaces) (progress : Progress) (entries : List ImportEntry) : Type 0 where
   pub before : Progress
   pub count : before.count ≡ 0
   pub left : before.left ≡ c.max_imports
-  pub size : before.size_left ≡ c.max_type_size
+  pub size : before.size_left ≡ b.type_size
   pub names : before.names.duplicates ≡ duplicates
-  pub added : AreAdded c start now before progress (all_named entries)
+  pub added : AreAdded c b start now before progress (all_named entries)
   pub made : AllByRecursion (IsMadeEntry c) entries

@@ -7,16 +7,10 @@ use Rattle.wasm_smith_definitions.specs.Offered.{IsOfferedMemory, IsOfferedTable
 use Rattle.wasm_smith_definitions.specs.FunctionTypes.{func_size, function_indexes, lacks_results, tag_indexes}
 use Rattle.wasm_smith_definitions.specs.Kinds.{count_of}
 use Rattle.wasm_smith_validity.specs.Spaces.{Spaces, func_type_at}
+use Rattle.wasm_smith_externs.specs.Bounds.{most_in}
+use Rattle.wasm_smith_externs.specs.declared.bounds.ImportBounds.{ImportBounds}
 
 -- ---- kinds
-
--- the most items of a kind
-abbrev pub most_of : Config → ExternalKind → ℕ
-most_of c FuncKind = c.max_funcs
-most_of c TableKind = c.max_tables
-most_of c MemoryKind = c.max_memories
-most_of c GlobalKind = c.max_globals
-most_of c TagKind = c.max_tags
 
 -- there is a type for an import of this kind
 abbrev pub has_type : Config → List (SubType ℕ) → ExternalKind → Bool
@@ -27,12 +21,13 @@ has_type c types GlobalKind = true
 has_type c types TagKind = c.exceptions_enabled && nat_lt 0 (length (tag_indexes 0 types))
 
 -- an item of this kind can be imported: there is a type for it, and room in its index space
-abbrev pub can_import : Config → Spaces → ExternalKind → Bool
-can_import c k kind = has_type c k.types kind && nat_lt (count_of k kind) (most_of c kind)
+abbrev pub can_import : Config → ImportBounds → Spaces → ExternalKind → Bool
+can_import c b k kind = has_type c k.types kind && nat_lt (count_of k kind) (most_in b kind)
 
 -- an item of some kind can be imported
-abbrev pub can_import_some : Config → Spaces → Bool
-can_import_some c k = can_import c k FuncKind || (can_import c k TagKind || (can_import c k GlobalKind || (can_import c k TableKind || can_import c k MemoryKind)))
+abbrev pub can_import_some : Config → ImportBounds → Spaces → Bool
+can_import_some c b k =
+    can_import c b k FuncKind || (can_import c b k TagKind || (can_import c b k GlobalKind || (can_import c b k TableKind || can_import c b k MemoryKind)))
 
 -- ---- types of imports
 

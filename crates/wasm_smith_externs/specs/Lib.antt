@@ -1,10 +1,13 @@
 pub mod Added
 pub mod AllExports
+pub mod Bounds
 pub mod Candidates
 pub mod Exports
 pub mod Fitting
 pub mod Imports
 pub mod Named
 pub mod Names
+pub mod ShapeExports
+pub mod ShapeImports
 pub mod Sizes
 pub mod Wanted

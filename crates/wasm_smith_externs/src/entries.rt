@@ -49,8 +49,8 @@ fn import_of_type(
     requires left { 0 < progress.old.left }
     requires origin { length origin.now ≤ 1000 }
     requires offered { IsOfferedImport importer.now.config.now spaces.old.types (entity_type ty.now) }
-    requires can { can_import importer.now.config.now spaces.old (kind_of (entity_type ty.now)) ≡ true }
-    ensures added { IfOk result (λ name. AreAdded importer.now.config.now spaces.old spaces.new progress.old progress.new (map (named origin.now (entity_type ty.now)) (map string_bytes (option_to_list name)))) }
+    requires can { can_import importer.now.config.now importer.now.bounds spaces.old (kind_of (entity_type ty.now)) ≡ true }
+    ensures added { IfOk result (λ name. AreAdded importer.now.config.now importer.now.bounds spaces.old spaces.new progress.old progress.new (map (named origin.now (entity_type ty.now)) (map string_bytes (option_to_list name)))) }
     ensures fewer { IfOk result (λ _. progress.new.left < progress.old.left) }
     ensures taken { length unstructured.new ≤ length unstructured.old }
     ensures refused { IfErr result (λ e. e ≡ Error.Memory) }
@@ -76,8 +76,8 @@ fn item(
     requires importer { IsImporterFor spaces.old.types importer.now }
     requires left { 0 < progress.old.left }
     requires origin { length origin.now ≤ 1000 }
-    requires can { can_import_some importer.now.config.now spaces.old ≡ true }
-    ensures added { IfOk result (λ item. AreAdded importer.now.config.now spaces.old spaces.new progress.old progress.new (map (named_item origin.now) (map import_item (option_to_list item)))) }
+    requires can { can_import_some importer.now.config.now importer.now.bounds spaces.old ≡ true }
+    ensures added { IfOk result (λ item. AreAdded importer.now.config.now importer.now.bounds spaces.old spaces.new progress.old progress.new (map (named_item origin.now) (map import_item (option_to_list item)))) }
     ensures fewer { IfOk result (λ _. progress.new.left < progress.old.left) }
     ensures taken { length unstructured.new ≤ length unstructured.old }
     ensures refused { IfErr result (λ e. e ≡ Error.Memory) }
@@ -100,8 +100,8 @@ fn single(
 ) -> Result<Option<ImportEntry>, Error>
     requires importer { IsImporterFor spaces.old.types importer.now }
     requires left { 0 < progress.old.left }
-    requires can { can_import_some importer.now.config.now spaces.old ≡ true }
-    ensures added { IfOk result (λ entry. AreAdded importer.now.config.now spaces.old spaces.new progress.old progress.new (all_named (map import_entry (option_to_list entry)))) }
+    requires can { can_import_some importer.now.config.now importer.now.bounds spaces.old ≡ true }
+    ensures added { IfOk result (λ entry. AreAdded importer.now.config.now importer.now.bounds spaces.old spaces.new progress.old progress.new (all_named (map import_entry (option_to_list entry)))) }
     ensures made { IfOk result (λ entry. AllByRecursion (IsMadeEntry importer.now.config.now) (map import_entry (option_to_list entry))) }
     ensures fewer { IfOk result (λ _. progress.new.left < progress.old.left) }
     ensures taken { length unstructured.new ≤ length unstructured.old }
@@ -141,8 +141,8 @@ fn items(
     requires importer { IsImporterFor spaces.old.types importer.now }
     requires left { 0 < progress.old.left }
     requires origin { length origin.now ≤ 1000 }
-    requires can { can_import_some importer.now.config.now spaces.old ≡ true }
-    ensures added { IfOk result (λ items. AreAdded importer.now.config.now spaces.old spaces.new progress.old progress.new (map (named_item origin.now) (map import_item items.items))) }
+    requires can { can_import_some importer.now.config.now importer.now.bounds spaces.old ≡ true }
+    ensures added { IfOk result (λ items. AreAdded importer.now.config.now importer.now.bounds spaces.old spaces.new progress.old progress.new (map (named_item origin.now) (map import_item items.items))) }
     ensures fewer { IfOk result (λ _. progress.new.left < progress.old.left) }
     ensures taken { length unstructured.new ≤ length unstructured.old }
     ensures refused { IfErr result (λ e. e ≡ Error.Memory) }
@@ -175,8 +175,8 @@ fn names(
     requires left { 0 < progress.old.left }
     requires origin { length origin.now ≤ 1000 }
     requires offered { IsOfferedImport importer.now.config.now spaces.old.types (entity_type ty.now) }
-    requires can { can_import importer.now.config.now spaces.old (kind_of (entity_type ty.now)) ≡ true }
-    ensures added { IfOk result (λ names. AreAdded importer.now.config.now spaces.old spaces.new progress.old progress.new (map (named origin.now (entity_type ty.now)) (map string_bytes names.items))) }
+    requires can { can_import importer.now.config.now importer.now.bounds spaces.old (kind_of (entity_type ty.now)) ≡ true }
+    ensures added { IfOk result (λ names. AreAdded importer.now.config.now importer.now.bounds spaces.old spaces.new progress.old progress.new (map (named origin.now (entity_type ty.now)) (map string_bytes names.items))) }
     ensures fewer { IfOk result (λ _. progress.new.left < progress.old.left) }
     ensures taken { length unstructured.new ≤ length unstructured.old }
     ensures refused { IfErr result (λ e. e ≡ Error.Memory) }
@@ -206,8 +206,8 @@ fn compact1(
     requires importer { IsImporterFor spaces.old.types importer.now }
     requires compact { importer.now.config.now.compact_imports_enabled ≡ true }
     requires left { 0 < progress.old.left }
-    requires can { can_import_some importer.now.config.now spaces.old ≡ true }
-    ensures added { IfOk result (λ entry. AreAdded importer.now.config.now spaces.old spaces.new progress.old progress.new (all_named (map import_entry (option_to_list entry)))) }
+    requires can { can_import_some importer.now.config.now importer.now.bounds spaces.old ≡ true }
+    ensures added { IfOk result (λ entry. AreAdded importer.now.config.now importer.now.bounds spaces.old spaces.new progress.old progress.new (all_named (map import_entry (option_to_list entry)))) }
     ensures made { IfOk result (λ entry. AllByRecursion (IsMadeEntry importer.now.config.now) (map import_entry (option_to_list entry))) }
     ensures fewer { IfOk result (λ _. progress.new.left < progress.old.left) }
     ensures taken { length unstructured.new ≤ length unstructured.old }
@@ -233,8 +233,8 @@ fn compact2(
     requires importer { IsImporterFor spaces.old.types importer.now }
     requires compact { importer.now.config.now.compact_imports_enabled ≡ true }
     requires left { 0 < progress.old.left }
-    requires can { can_import_some importer.now.config.now spaces.old ≡ true }
-    ensures added { IfOk result (λ entry. AreAdded importer.now.config.now spaces.old spaces.new progress.old progress.new (all_named (map import_entry (option_to_list entry)))) }
+    requires can { can_import_some importer.now.config.now importer.now.bounds spaces.old ≡ true }
+    ensures added { IfOk result (λ entry. AreAdded importer.now.config.now importer.now.bounds spaces.old spaces.new progress.old progress.new (all_named (map import_entry (option_to_list entry)))) }
     ensures made { IfOk result (λ entry. AllByRecursion (IsMadeEntry importer.now.config.now) (map import_entry (option_to_list entry))) }
     ensures fewer { IfOk result (λ _. progress.new.left < progress.old.left) }
     ensures taken { length unstructured.new ≤ length unstructured.old }
@@ -264,8 +264,8 @@ pub fn entry(
 ) -> Result<Option<ImportEntry>, Error>
     requires importer { IsImporterFor spaces.old.types importer.now }
     requires left { 0 < progress.old.left }
-    requires can { can_import_some importer.now.config.now spaces.old ≡ true }
-    ensures added { IfOk result (λ entry. AreAdded importer.now.config.now spaces.old spaces.new progress.old progress.new (all_named (map import_entry (option_to_list entry)))) }
+    requires can { can_import_some importer.now.config.now importer.now.bounds spaces.old ≡ true }
+    ensures added { IfOk result (λ entry. AreAdded importer.now.config.now importer.now.bounds spaces.old spaces.new progress.old progress.new (all_named (map import_entry (option_to_list entry)))) }
     ensures made { IfOk result (λ entry. AllByRecursion (IsMadeEntry importer.now.config.now) (map import_entry (option_to_list entry))) }
     ensures fewer { IfOk result (λ _. progress.new.left < progress.old.left) }
     ensures taken { length unstructured.new ≤ length unstructured.old }

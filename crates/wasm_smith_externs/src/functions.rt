@@ -1,14 +1,18 @@
 //! The functions of a module.
 
-ghost use Rattle.std.specs.Prelude.{◌≡◌, ◌⊎◌, ◌+◌, ◌<◌, ◌≤◌, ◌^◌, IfOk, IfErr, length};
+ghost use Rattle.std.specs.Prelude.{◌≡◌, ◌⊎◌, ◌+◌, ◌<◌, ◌≤◌, ◌^◌, true, IfOk, IfErr, is_some, length};
+ghost use Rattle.std.specs.List.{AllByRecursion};
+ghost use Rattle.wasm_spec.specs.Features.{Features};
+ghost use Rattle.wasm_smith_config.specs.Config.{AreFeaturesOf};
+ghost use Rattle.wasm_smith_config.specs.declared.config.Config as configs;
 ghost use Rattle.wasm_smith_definitions.specs.Kinds.{AnyBound};
-ghost use Rattle.wasm_smith_definitions.specs.Steps.{IsGrown};
+ghost use Rattle.wasm_smith_definitions.specs.Steps.{IsGrown, IsStep};
 ghost use Rattle.wasm_smith_types.specs.Growing.{Draws};
-ghost use Rattle.wasm_smith_validity.specs.Spaces.{functions_of};
+ghost use Rattle.wasm_smith_validity.specs.Spaces.{func_type_at, functions_of};
 ghost use Rattle.wasm_smith_definitions.specs.FunctionTypes.{function_indexes};
 ghost use Rattle.wasm_smith_externs.specs.Wanted.{AreTooFew, functions_at, of_function, wanted_functions};
 
-use std::alloc::Global;
+use std::alloc::{AllocError, Global};
 use wasm_encoder_sections::entity_type::ExportKind;
 use wasm_smith_config::config::Config;
 use wasm_smith_config::error::Error;
@@ -49,6 +53,26 @@ pub fn functions(
     }
     if spaces.count_of(ExportKind::Func) < config.min_funcs as usize {
         return Err(Error::IncorrectFormat);
+    }
+    Ok(own)
+}
+
+/// Defines a function of each of the types of these indexes.
+///
+/// # Errors
+/// Where memory runs out. Some of them may be defined by then.
+pub fn shape_functions(
+    alloc: Global,
+    spaces: &mut IndexSpaces<'_>,
+    types: &[u32],
+) -> Result<Vec<u32>, AllocError>
+    ensures step { IfOk result (λ own. (c : configs.Config) → ((features : Features) → AreFeaturesOf c features → AllByRecursion (λ index. is_some (func_type_at spaces.old.types index) ≡ true) types.now) → IsStep c of_function spaces.old spaces.new own.items) }
+    ensures types { IfOk result (λ own. own.items ≡ types.now) }
+{
+    let mut own = Vec::new(alloc);
+    for index in types {
+        spaces.push_function(*index)?;
+        push_index(&mut own, *index)?;
     }
     Ok(own)
 }

@@ -3,9 +3,10 @@
 ghost use Rattle.std.specs.Prelude.{◌≡◌, length, map, nat_lt, if◌then◌else◌};
 ghost use Rattle.wasm_core_types.specs.SubTypes.{sub_type};
 ghost use Rattle.wasm_encoder_sections.specs.CoreItems.{entity_type, export_kind};
-ghost use Rattle.wasm_smith_externs.specs.Candidates.{most_of, type_size};
+ghost use Rattle.wasm_smith_externs.specs.Candidates.{type_size};
 ghost use Rattle.wasm_spec.specs.Types.{kind_of};
 
+use crate::bounds::ImportBounds;
 use std::alloc::{AllocError, Global};
 use wasm_core_types::types::SubType;
 use wasm_encoder_sections::entity_type::{EntityType, ExportKind, TagKind, TagType};
@@ -19,27 +20,14 @@ use wasm_smith_definitions::tables::table_type;
 use wasm_smith_types::value_types::Offers;
 use wasm_smith_unstructured::unstructured::Unstructured;
 
-// Returns the size of the type of an import.
-fn type_size(types: &[SubType], ty: &EntityType) -> u64
+/// Returns the size of the type of an import.
+pub fn type_size(types: &[SubType], ty: &EntityType) -> u64
     ensures { result ≡ type_size (map sub_type types.now) (entity_type ty.now) }
 {
     match ty {
         EntityType::Function(index) => function_size(types, *index) as u64,
         EntityType::Tag(ty) => function_size(types, ty.func_type_idx) as u64,
         EntityType::Table(_) | EntityType::Memory(_) | EntityType::Global(_) => 1,
-    }
-}
-
-// Returns the most items of a kind.
-fn most_of(config: &Config, kind: ExportKind) -> u32
-    ensures { result ≡ most_of config.now (export_kind kind) }
-{
-    match kind {
-        ExportKind::Func => config.max_funcs,
-        ExportKind::Table => config.max_tables,
-        ExportKind::Memory => config.max_memories,
-        ExportKind::Global => config.max_globals,
-        ExportKind::Tag => config.max_tags,
     }
 }
 
@@ -81,6 +69,7 @@ fn one_if(more: bool) -> u64
 #[derive(Debug, Drop)]
 pub struct Importer<'a> {
     config: &'a Config,
+    bounds: ImportBounds,
     types: &'a [SubType],
     offers: Offers,
     // the indexes of the function types
@@ -97,28 +86,33 @@ impl<'a> Importer<'a> {
     ghost use Rattle.wasm_spec.specs.Types.{kind_of};
     ghost use Rattle.wasm_smith_definitions.specs.Offered.{HasByteLimits, HasFewTables};
     ghost use Rattle.wasm_smith_externs.specs.Added.{IsImporterFor};
+    ghost use Rattle.wasm_smith_externs.specs.Bounds.{AreWithin};
     ghost use Rattle.wasm_smith_externs.specs.Candidates.{IsOfferedImport, can_import, can_import_some, has_type, type_size};
 
-    /// Returns what imports are drawn from where there are these types.
+    /// Returns what imports are drawn from within these bounds, where there are these types.
     ///
     /// # Errors
     /// Where memory runs out.
     pub fn new(
         alloc: Global,
         config: &'a Config,
+        bounds: ImportBounds,
         types: &'a [SubType],
     ) -> Result<Importer<'a>, AllocError>
+        requires within { AreWithin config.now bounds }
         requires few { length types.now ≤ 2 ^ 31 }
         requires limits { HasByteLimits config.now }
         requires tables { HasFewTables config.now }
         ensures importer { IfOk result (IsImporterFor (map sub_type types.now)) }
         ensures config { IfOk result (λ it. it.config.now ≡ config.now) }
+        ensures bounds { IfOk result (λ it. it.bounds ≡ bounds) }
     {
         let functions = function_types(alloc, types)?;
         let tags = tag_types(alloc, types)?;
         let offers = Offers::new(alloc, config)?;
         Ok(Importer {
             config,
+            bounds,
             types,
             offers,
             functions,
@@ -149,15 +143,15 @@ impl<'a> Importer<'a> {
     /// Checks that an item of this kind can be imported.
     pub fn can_import(&self, spaces: &IndexSpaces<'_>, kind: ExportKind) -> bool
         requires { IsImporterFor spaces.now.types self.now }
-        ensures { result ≡ can_import self.now.config.now spaces.now (export_kind kind) }
+        ensures { result ≡ can_import self.now.config.now self.now.bounds spaces.now (export_kind kind) }
     {
-        self.has_type(kind) && has_room(spaces.count_of(kind), most_of(self.config, kind))
+        self.has_type(kind) && has_room(spaces.count_of(kind), self.bounds.most(kind))
     }
 
     /// Checks that an item of some kind can be imported.
     pub fn can_import_some(&self, spaces: &IndexSpaces<'_>) -> bool
         requires { IsImporterFor spaces.now.types self.now }
-        ensures { result ≡ can_import_some self.now.config.now spaces.now }
+        ensures { result ≡ can_import_some self.now.config.now self.now.bounds spaces.now }
     {
         self.can_import(spaces, ExportKind::Func)
             || self.can_import(spaces, ExportKind::Tag)
@@ -173,8 +167,8 @@ impl<'a> Importer<'a> {
         spaces: &IndexSpaces<'_>,
     ) -> ExportKind
         requires importer { IsImporterFor spaces.now.types self.now }
-        requires some { can_import_some self.now.config.now spaces.now ≡ true }
-        ensures can { can_import self.now.config.now spaces.now (export_kind result) ≡ true }
+        requires some { can_import_some self.now.config.now self.now.bounds spaces.now ≡ true }
+        ensures can { can_import self.now.config.now self.now.bounds spaces.now (export_kind result) ≡ true }
         ensures taken { length unstructured.new ≤ length unstructured.old }
     {
         let function = self.can_import(spaces, ExportKind::Func);
@@ -211,7 +205,7 @@ impl<'a> Importer<'a> {
         kind: ExportKind,
     ) -> EntityType
         requires importer { IsImporterFor spaces.now.types self.now }
-        requires can { can_import self.now.config.now spaces.now (export_kind kind) ≡ true }
+        requires can { can_import self.now.config.now self.now.bounds spaces.now (export_kind kind) ≡ true }
         ensures kind { kind_of (entity_type result) ≡ export_kind kind }
         ensures offered { IsOfferedImport self.now.config.now spaces.now.types (entity_type result) }
         ensures taken { length unstructured.new ≤ length unstructured.old }

@@ -1,11 +1,16 @@
 //! The tags of a module.
 
-ghost use Rattle.std.specs.Prelude.{◌≡◌, ◌⊎◌, ◌<◌, ◌≤◌, ◌^◌, IfOk, IfErr, length};
+ghost use Rattle.std.specs.Prelude.{◌≡◌, ◌⊎◌, ◌<◌, ◌≤◌, ◌^◌, true, IfOk, IfErr, length};
+ghost use Rattle.std.specs.List.{AllByRecursion};
+ghost use Rattle.wasm_spec.specs.Features.{Features};
+ghost use Rattle.wasm_smith_config.specs.Config.{AreFeaturesOf};
+ghost use Rattle.wasm_smith_config.specs.declared.config.Config as configs;
 ghost use Rattle.wasm_smith_definitions.specs.Kinds.{AnyBound};
-ghost use Rattle.wasm_smith_definitions.specs.Steps.{IsGrown};
+ghost use Rattle.wasm_smith_definitions.specs.Steps.{IsGrown, IsStep};
+ghost use Rattle.wasm_smith_validity.specs.Rules.{keeps_tag};
 ghost use Rattle.wasm_smith_externs.specs.Wanted.{AreTooFew, of_tag, wanted_tags};
 
-use std::alloc::Global;
+use std::alloc::{AllocError, Global};
 use wasm_encoder_sections::entity_type::ExportKind;
 use wasm_smith_config::config::Config;
 use wasm_smith_config::error::Error;
@@ -46,6 +51,26 @@ pub fn tags(
     }
     if spaces.count_of(ExportKind::Tag) < config.min_tags as usize {
         return Err(Error::IncorrectFormat);
+    }
+    Ok(own)
+}
+
+/// Defines a tag of each of the types of these indexes.
+///
+/// # Errors
+/// Where memory runs out. Some of them may be defined by then.
+pub fn shape_tags(
+    alloc: Global,
+    spaces: &mut IndexSpaces<'_>,
+    types: &[u32],
+) -> Result<Vec<u32>, AllocError>
+    ensures step { IfOk result (λ own. (c : configs.Config) → ((features : Features) → AreFeaturesOf c features → AllByRecursion (λ index. keeps_tag features spaces.old index ≡ true) types.now) → IsStep c of_tag spaces.old spaces.new own.items) }
+    ensures types { IfOk result (λ own. own.items ≡ types.now) }
+{
+    let mut own = Vec::new(alloc);
+    for index in types {
+        spaces.push_tag(*index)?;
+        push_index(&mut own, *index)?;
     }
     Ok(own)
 }

@@ -1,6 +1,6 @@
--- The counts that the test of limits computes pass the limits that those of a made module pass. Where counts, segments, names and bodies pass none, no number does.
-use Rattle.std.proofs.Common.{◌≡◌, ◌+◌, ◌-◌, ◌^◌, ℕ, suc, true, List, [], ◌∷◌, ◌++◌, length, map, min, refl, ap, sym, ◌∙◌}
-use Rattle.std.specs.List.{flat_map, sum_by}
+-- The counts that the test of limits computes pass the limits that those of a made module pass. Where counts, types, names, segments and bodies pass none, no number does.
+use Rattle.std.proofs.Common.{◌≡◌, ◌+◌, ◌-◌, ◌^◌, ℕ, suc, true, false, List, [], ◌∷◌, ◌++◌, length, map, min, refl, ap, sym, ◌∙◌}
+use Rattle.std.specs.List.{flat_map, list_any, sum_by}
 use Rattle.std.proofs.lemmas.List.{length-map}
 use Rattle.wasm_core_types.specs.SubTypes.{sub_type}
 use Rattle.wasm_spec.specs.Limits.{Limit, Types, Groups, Imports, Functions, Globals, Tags, Exports, Tables, Memories, ElementSegments, DataSegments, BodySize, Name, TypeSize}
@@ -18,9 +18,10 @@ use Rattle.wasm_smith_validity.specs.ValidGroups.{types_of}
 use Rattle.wasm_smith_types.proofs.GroupedLaws.{types_of_grouped}
 use Rattle.wasm_smith_validity.specs.Made.{Made}
 use Rattle.wasm_smith_validity.specs.Spaces.{Spaces}
-use Rattle.wasm_smith_module.specs.Measured.{AreNames, AreShort, HasShortNames, saturated}
-use Rattle.wasm_smith_module.specs.Measures.{counts_of, imported_items, lengths_of, numbers_of, segment_measures, size_of, size_of_export, spaces_of, type_size, with_own}
+use Rattle.wasm_smith_module.specs.Measured.{AreShort, is_long_name, saturated}
+use Rattle.wasm_smith_module.specs.Measures.{counts_of, imported_items, lengths_of, numbers_of, segment_measures, size_of, size_of_export, sizes_of, spaces_of, type_measures, type_size, with_own}
 use Rattle.wasm_smith_module.proofs.EntryNumbers.{passes_left, passes_right, within_append, within_one}
+use Rattle.wasm_smith_module.proofs.NameLaws.{long_passes, short_within}
 use Rattle.wasm_smith_module.proofs.PassedLaws.{AreAlike, same_alike, saturated_alike}
 use Rattle.wasm_smith_module.proofs.SaturatedSums.{whole_size}
 
@@ -114,32 +115,57 @@ size_counted items k i e s t whole spaces imports exports both all =
 
 -- ---- lengths
 
-names_within : (names : List (List ℕ)) → AreNames names → are_within (name_measures names) ≡ true
-names_within [] h = refl
-names_within (name ∷ names) h = within_one Name (length name) (name_measures names) h.0 (names_within names h.1)
-
 bodies_within : (bodies : List (List ℕ)) → AreShort bodies → are_within (map (λ body. (BodySize, length body)) bodies) ≡ true
 bodies_within [] h = refl
 bodies_within (body ∷ bodies) h = within_one BodySize (length body) (map (λ body. (BodySize, length body)) bodies) h.0 (bodies_within bodies h.1)
 
-pub all_within : (m : Made) (bodies : List (List ℕ)) → are_within (counts_of m) ≡ true → are_within (segment_measures m.elems) ≡ true → HasShortNames m → AreShort bodies
-    → are_within (numbers_of bodies m) ≡ true
-all_within m bodies counts segments names short =
+pub sizes_within : (m : Made) (bodies : List (List ℕ)) → are_within (type_measures (types_of m.groups)) ≡ true → list_any is_long_name (flat_map import_names m.imports) ≡ false
+    → list_any is_long_name (names_of m.exports) ≡ false → are_within (segment_measures m.elems) ≡ true → AreShort bodies → are_within (sizes_of bodies m) ≡ true
+sizes_within m bodies types imported exported segments short =
     let origins = name_measures (flat_map import_names m.imports) in
     let exports = name_measures (names_of m.exports) in
     let sizes = map (λ body. (BodySize, length body)) bodies in
-    within_append (counts_of m) (lengths_of bodies m) counts
-    (within_append origins (exports ++ (segment_measures m.elems ++ sizes)) (names_within (flat_map import_names m.imports) names.imports)
-    (within_append exports (segment_measures m.elems ++ sizes) (names_within (names_of m.exports) names.exports)
+    within_append (type_measures (types_of m.groups)) (lengths_of bodies m) types
+    (within_append origins (exports ++ (segment_measures m.elems ++ sizes)) (short_within (flat_map import_names m.imports) imported)
+    (within_append exports (segment_measures m.elems ++ sizes) (short_within (names_of m.exports) exported)
     (within_append (segment_measures m.elems) sizes segments (bodies_within bodies short))))
 
-pub count_passed : (m : Made) (bodies : List (List ℕ)) (limit : Limit) → Passes limit (counts_of m) → Passes limit (numbers_of bodies m)
-count_passed m bodies limit p = passes_left limit (counts_of m) (lengths_of bodies m) p
+pub type_passed : (m : Made) (bodies : List (List ℕ)) (limit : Limit) → Passes limit (type_measures (types_of m.groups)) → Passes limit (sizes_of bodies m)
+type_passed m bodies limit p = passes_left limit (type_measures (types_of m.groups)) (lengths_of bodies m) p
 
-pub segment_passed : (m : Made) (bodies : List (List ℕ)) (limit : Limit) → Passes limit (segment_measures m.elems) → Passes limit (numbers_of bodies m)
-segment_passed m bodies limit p =
+pub import_passed : (m : Made) (bodies : List (List ℕ)) → list_any is_long_name (flat_map import_names m.imports) ≡ true → Passes Name (sizes_of bodies m)
+import_passed m bodies long =
+    let origins = name_measures (flat_map import_names m.imports) in
     let exports = name_measures (names_of m.exports) in
     let sizes = map (λ body. (BodySize, length body)) bodies in
-    passes_right limit (counts_of m) (lengths_of bodies m)
-    (passes_right limit (name_measures (flat_map import_names m.imports)) (exports ++ (segment_measures m.elems ++ sizes))
+    passes_right Name (type_measures (types_of m.groups)) (lengths_of bodies m)
+    (passes_left Name origins (exports ++ (segment_measures m.elems ++ sizes)) (long_passes (flat_map import_names m.imports) long))
+
+pub export_passed : (m : Made) (bodies : List (List ℕ)) → list_any is_long_name (names_of m.exports) ≡ true → Passes Name (sizes_of bodies m)
+export_passed m bodies long =
+    let origins = name_measures (flat_map import_names m.imports) in
+    let exports = name_measures (names_of m.exports) in
+    let sizes = map (λ body. (BodySize, length body)) bodies in
+    passes_right Name (type_measures (types_of m.groups)) (lengths_of bodies m)
+    (passes_right Name origins (exports ++ (segment_measures m.elems ++ sizes))
+    (passes_left Name exports (segment_measures m.elems ++ sizes) (long_passes (names_of m.exports) long)))
+
+pub segment_passed : (m : Made) (bodies : List (List ℕ)) (limit : Limit) → Passes limit (segment_measures m.elems) → Passes limit (sizes_of bodies m)
+segment_passed m bodies limit p =
+    let origins = name_measures (flat_map import_names m.imports) in
+    let exports = name_measures (names_of m.exports) in
+    let sizes = map (λ body. (BodySize, length body)) bodies in
+    passes_right limit (type_measures (types_of m.groups)) (lengths_of bodies m)
+    (passes_right limit origins (exports ++ (segment_measures m.elems ++ sizes))
     (passes_right limit exports (segment_measures m.elems ++ sizes) (passes_left limit (segment_measures m.elems) sizes p)))
+
+-- ---- all numbers
+
+pub all_within : (m : Made) (bodies : List (List ℕ)) → are_within (counts_of m) ≡ true → are_within (sizes_of bodies m) ≡ true → are_within (numbers_of bodies m) ≡ true
+all_within m bodies counts sizes = within_append (counts_of m) (sizes_of bodies m) counts sizes
+
+pub count_passed : (m : Made) (bodies : List (List ℕ)) (limit : Limit) → Passes limit (counts_of m) → Passes limit (numbers_of bodies m)
+count_passed m bodies limit p = passes_left limit (counts_of m) (sizes_of bodies m) p
+
+pub size_passed : (m : Made) (bodies : List (List ℕ)) (limit : Limit) → Passes limit (sizes_of bodies m) → Passes limit (numbers_of bodies m)
+size_passed m bodies limit p = passes_right limit (counts_of m) (sizes_of bodies m) p

@@ -69,8 +69,12 @@ table_element c k type h = record {
       ];
 }
 
-pub nullable_table : (tables : List (TableType ℕ)) (index : ℕ) (type : TableType ℕ) → AreNullable tables → slice_get tables index ≡ Some type → type.element_type.nullable ≡ true
-nullable_table tables index type h at = all_get (λ type. type.element_type.nullable ≡ true) tables h index type at
+true_is_not_false : (b : Bool) → b ≡ true → b ≡ false → ⊥
+true_is_not_false b on off = no_false (sym off ∙ on)
+
+-- the elements of one of the tables can't be null
+pub not_nullable : (tables : List (TableType ℕ)) (index : ℕ) (type : TableType ℕ) → slice_get tables index ≡ Some type → type.element_type.nullable ≡ false → ¬ (AreNullable tables)
+not_nullable tables index type at off all = true_is_not_false type.element_type.nullable (all_get (λ type. type.element_type.nullable ≡ true) tables all index type at) off
 
 -- ---- segments
 

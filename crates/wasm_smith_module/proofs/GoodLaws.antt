@@ -4,6 +4,8 @@ use Rattle.std.proofs.lemmas.Bool.{ltb-false}
 use Rattle.wasm_smith_config.specs.Config.{IsGood, at_least}
 use Rattle.wasm_smith_config.specs.declared.config.Config.{Config}
 use Rattle.wasm_smith_definitions.specs.Offered.{HasByteLimits}
+use Rattle.wasm_smith_externs.specs.Bounds.{most_of}
+use Rattle.wasm_spec.specs.Types.{ExternalKind, FuncKind, TableKind, MemoryKind, GlobalKind, TagKind}
 
 pub types_fine : (c : Config) → IsGood c → c.min_types ≤ c.max_types
 types_fine c good = ltb-false c.max_types c.min_types (good 0 (at_least [] 0 0) (omega arith))
@@ -46,6 +48,14 @@ tags_small c good = ltb-false (2 ^ 31) c.max_tags (good 13 (at_least [] 0 0) (om
 
 pub funcs_small : (c : Config) → IsGood c → c.max_funcs ≤ 2 ^ 31
 funcs_small c good = ltb-false (2 ^ 31) c.max_funcs (good 14 (at_least [] 0 0) (omega arith))
+
+-- the most items of each kind
+pub most_small : (c : Config) → IsGood c → (kind : ExternalKind) → most_of c kind ≤ 2 ^ 31
+most_small c good FuncKind = funcs_small c good
+most_small c good TableKind = ltb-false (2 ^ 31) c.max_tables (good 20 (at_least [] 0 0) (omega arith))
+most_small c good MemoryKind = ltb-false (2 ^ 31) c.max_memories (good 21 (at_least [] 0 0) (omega arith))
+most_small c good GlobalKind = ltb-false (2 ^ 31) c.max_globals (good 15 (at_least [] 0 0) (omega arith))
+most_small c good TagKind = tags_small c good
 
 pub byte_limits : (c : Config) → IsGood c → HasByteLimits c
 byte_limits c good = record {

@@ -1,13 +1,14 @@
 -- Numbers that are tested one after the other, and those that stand for others.
 use Rattle.std.specs.Prelude.{⊤, IfNone, IfSome, MatchOption, Option, Some, None}
-use Rattle.std.proofs.Common.{◌≡◌, ◌<◌, ◌≤◌, ◌+◌, ◌^◌, ℕ, true, not, ◌&&◌, List, [], ◌∷◌, length, map, drop, get_or, nat_lt, refl, ap, sym, ◌∙◌, subst, arith, inl, inr}
+use Rattle.std.proofs.Common.{◌≡◌, ◌<◌, ◌≤◌, ◌+◌, ◌^◌, ℕ, true, not, ◌&&◌, List, [], ◌∷◌, ◌++◌, length, map, drop, get_or, nat_lt, refl, ap, sym, ◌∙◌, subst, arith, inl, inr}
+use Rattle.std.specs.List.{flat_map}
 use Rattle.std.proofs.lemmas.List.{drop_more, drop_all}
 use Rattle.std.proofs.lemmas.Bool.{and_parts, lt-ltb, le-ltb}
 use Rattle.std.proofs.lemmas.Bool.Decides.{leb_tells}
 use Rattle.wasm_spec.specs.Limits.{Limit, Types, most}
 use Rattle.wasm_validity.specs.Rules.{Passes, are_within, is_past}
 use Rattle.wasm_smith_module.specs.Measured.{saturated}
-use Rattle.wasm_smith_module.proofs.EntryNumbers.{within_one}
+use Rattle.wasm_smith_module.proofs.EntryNumbers.{passes_left, passes_right, within_append, within_one}
 
 -- ---- one after the other
 
@@ -43,6 +44,33 @@ no_number f xs i past so_far = so_far.within (ap (λ l. are_within (map f l)) (d
 pub map_twice : {A B C : Type 0} (g : B → C) (h : A → B) (xs : List A) → map g (map h xs) ≡ map (λ x. g (h x)) xs
 map_twice g h [] = refl
 map_twice g h (x ∷ xs) = ap (λ l. g (h x) ∷ l) (map_twice g h xs)
+
+-- ---- several numbers of each
+
+-- no number of the first ones passes its limit
+pub record AreSoFar {A : Type 0} (f : A → List (Limit × ℕ)) (xs : List A) (i : ℕ) : Type 0 where
+  pub passed : (limit : Limit) → Passes limit (flat_map f (drop i xs)) → Passes limit (flat_map f xs)
+  pub within : are_within (flat_map f (drop i xs)) ≡ true → are_within (flat_map f xs) ≡ true
+
+pub next_numbers : {A : Type 0} (f : A → List (Limit × ℕ)) (xs : List A) (i : ℕ) (x d : A) → i < length xs → x ≡ get_or xs i d → are_within (f x) ≡ true → AreSoFar f xs i
+    → AreSoFar f xs (i + 1)
+next_numbers f xs i x d below is few so_far =
+    let others = flat_map f (drop (i + 1) xs) in
+    let split : flat_map f (drop i xs) ≡ f x ++ others = ap (flat_map f) (here xs i x d below is) in
+    record {
+      passed = λ limit p. so_far.passed limit (subst (Passes limit) (sym split) (passes_right limit (f x) others p));
+      within = λ h. so_far.within (ap are_within split ∙ within_append (f x) others few h);
+    }
+
+pub these_numbers : {A : Type 0} (f : A → List (Limit × ℕ)) (xs : List A) (i : ℕ) (x d : A) (limit : Limit) → i < length xs → x ≡ get_or xs i d → Passes limit (f x)
+    → AreSoFar f xs i → Passes limit (flat_map f xs)
+these_numbers f xs i x d limit below is many so_far =
+    let others = flat_map f (drop (i + 1) xs) in
+    let split : flat_map f (drop i xs) ≡ f x ++ others = ap (flat_map f) (here xs i x d below is) in
+    so_far.passed limit (subst (Passes limit) (sym split) (passes_left limit (f x) others many))
+
+pub no_numbers : {A : Type 0} (f : A → List (Limit × ℕ)) (xs : List A) (i : ℕ) → length xs ≤ i → AreSoFar f xs i → are_within (flat_map f xs) ≡ true
+no_numbers f xs i past so_far = so_far.within (ap (λ l. are_within (flat_map f l)) (drop_all i xs past))
 
 -- ---- numbers that stand for others
 

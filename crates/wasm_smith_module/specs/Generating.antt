@@ -1,5 +1,5 @@
 -- The first draws of a module: its types, then, where no import and no tag is made, its functions; and the bytes that are left then.
-use Rattle.std.specs.Prelude.{◌≡◌, ℕ, ◌+◌, Bool, false, List, [], map, Option, Some, None, option_map, if◌then◌else◌}
+use Rattle.std.specs.Prelude.{◌≡◌, ℕ, ◌+◌, Bool, false, ◌||◌, List, [], map, is_some, Option, Some, None, option_map, if◌then◌else◌}
 use Rattle.std.specs.Option.{option_and_then}
 use Rattle.wasm_spec.specs.Types.{RecGroup}
 use Rattle.wasm_smith_config.specs.declared.config.Config.{Config}
@@ -8,6 +8,7 @@ use Rattle.wasm_smith_externs.specs.Wanted.{functions_at, wanted_tags}
 use Rattle.wasm_smith_externs.specs.Imports.{asked_imports}
 use Rattle.wasm_smith_definitions.specs.Steps.{asked}
 use Rattle.wasm_smith_types.specs.DrawnGroups.{drawn_groups_at}
+use Rattle.wasm_smith_module.specs.Asked.{import_bounds}
 use Rattle.wasm_smith_validity.specs.ValidGroups.{types_of}
 use Rattle.wasm_smith_validity.specs.Made.{Made, MadeBody}
 use Rattle.wasm_smith_validity.specs.Spaces.{spaces_of_types}
@@ -20,7 +21,7 @@ left_unless_made first = if first.0 then None else Some first.1
 abbrev pub left_for_functions : Config → List (RecGroup ℕ) → List ℕ → Option (List ℕ)
 left_for_functions c groups s =
     option_and_then (λ left. left_unless_made (asked (wanted_tags c) (spaces_of_types (types_of groups)) left))
-    (left_unless_made (asked_imports c (spaces_of_types (types_of groups)) s))
+    (left_unless_made (asked_imports c (import_bounds c (types_of groups)) (spaces_of_types (types_of groups)) s))
 
 -- the functions, where no import comes before them
 abbrev pub with_functions : Config → List (RecGroup ℕ) → List ℕ → (List (RecGroup ℕ) × List ℕ) × List ℕ
@@ -28,9 +29,14 @@ with_functions c groups s =
     let funcs = functions_at c (function_indexes 0 (types_of groups)) 0 s in
     ((groups, funcs.0), funcs.1)
 
--- The groups, then the functions; only where the groups are drawn so, and the draws that come between say that there is no import and no tag.
+-- a configuration has a shape
+abbrev pub has_shape : Config → Bool
+has_shape c = is_some c.module_shape || (is_some c.available_imports || is_some c.exports)
+
+-- The groups, then the functions; only where there are no shapes, the groups are drawn so, and the draws that come between say that there is no import and no tag.
 unfoldable pub front_at : Config → List ℕ → Option ((List (RecGroup ℕ) × List ℕ) × List ℕ)
-front_at c s = option_and_then (λ drawn. option_map (with_functions c drawn.0) (left_for_functions c drawn.0 drawn.1)) (drawn_groups_at c s)
+front_at c s =
+    if has_shape c then None else option_and_then (λ drawn. option_map (with_functions c drawn.0) (left_for_functions c drawn.0 drawn.1)) (drawn_groups_at c s)
 
 -- ---- nothing but types and functions
 

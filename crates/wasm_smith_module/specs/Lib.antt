@@ -1,4 +1,5 @@
 pub mod ArbitraryModules
+pub mod Asked
 pub mod Bounds
 pub mod Building
 pub mod Code
@@ -7,9 +8,11 @@ pub mod Customs
 pub mod Data
 pub mod Elements
 pub mod Generating
+pub mod ItemKinds
 pub mod Items
 pub mod Measured
 pub mod Measures
 pub mod ModuleValue
 pub mod Promise
 pub mod Traps
+pub mod TrueToShapes

@@ -1,14 +1,13 @@
 -- The values that the test of limits computes on its way.
-use Rattle.std.specs.Prelude.{◌≡◌, ◌⊎◌, ℕ, ◌-◌, ◌^◌, ◌≤◌, ◌<◌, true, List, [], length, min, is_some}
-use Rattle.std.specs.List.{AllByRecursion, flat_map}
+use Rattle.std.specs.Prelude.{◌≡◌, ◌⊎◌, ℕ, ◌-◌, ◌^◌, ◌≤◌, ◌<◌, Bool, true, List, [], length, min, is_some}
+use Rattle.std.specs.List.{AllByRecursion}
 use Rattle.wasm_core_types.specs.Limits.{limit}
 use Rattle.wasm_core_types.specs.declared.limits.Limit.{Limit}
 use Rattle.wasm_spec.specs.Limits as spec
 use Rattle.wasm_spec.specs.Limits.{BodySize, Name, most}
 use Rattle.wasm_spec.specs.Types.{ExternalKind, FuncKind, TableKind, MemoryKind, GlobalKind, TagKind}
 use Rattle.wasm_smith_sections.specs.ModuleEncoding.{HasLongFront, IsBodyEncoding, SomeByRecursion}
-use Rattle.wasm_validity.specs.Context.{names_of}
-use Rattle.wasm_validity.specs.Rules.{Passes, import_names}
+use Rattle.wasm_validity.specs.Rules.{Passes, is_past}
 use Rattle.wasm_smith_module.specs.Measures.{numbers_of}
 use Rattle.wasm_smith_validity.specs.Made.{Made, MadeBody}
 use Rattle.wasm_smith_validity.specs.Spaces.{Spaces}
@@ -34,16 +33,12 @@ own_of m MemoryKind = length m.memories
 own_of m GlobalKind = length m.globals
 own_of m TagKind = length m.tags
 
-abbrev pub AreNames : List (List ℕ) → Type 0
-AreNames names = AllByRecursion (λ name. length name ≤ most Name) names
+-- a name is longer than it may be
+abbrev pub is_long_name : List ℕ → Bool
+is_long_name name = is_past Name (length name)
 
 abbrev pub AreShort : List (List ℕ) → Type 0
 AreShort bodies = AllByRecursion (λ body. length body ≤ most BodySize) bodies
-
--- no name of a module is too long
-pub record HasShortNames (m : Made) : Type 0 where
-  pub imports : AreNames (flat_map import_names m.imports)
-  pub exports : AreNames (names_of m.exports)
 
 -- A body with raw bytes is too long: its encoding has more bytes than a body may have, or its locals can't be stated, as those of a module within bounds can.
 abbrev pub IsLongBody : MadeBody → Type 0

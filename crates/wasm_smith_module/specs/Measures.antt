@@ -1,9 +1,10 @@
--- The numbers of a made module that limits bound, those of its types aside, which have bounds of their own. They are what is measured with the entries of
+-- The numbers of a made module that limits bound, the depth of its types aside, which a rule bounds. They are what is measured with the entries of
 -- a module, read after the last of them, where counts and the size of all types are greatest, and over plain lists: a type is its index. Core
 -- Specification 3.0, appendix "Implementation Limitations".
 use Rattle.std.specs.Prelude.{ℕ, ◌+◌, List, [], ◌∷◌, ◌++◌, length, map, Option, Some, None}
 use Rattle.std.specs.List.{flat_map, sum_by}
-use Rattle.wasm_spec.specs.Limits.{Limit, Types, Groups, Imports, Functions, Globals, Tags, Exports, Tables, Memories, ElementSegments, DataSegments, SegmentEntries, BodySize, TypeSize}
+use Rattle.wasm_spec.specs.Groups.{items_in}
+use Rattle.wasm_spec.specs.Limits.{Limit, Types, Groups, Imports, Functions, Globals, Tags, Exports, Tables, Memories, ElementSegments, DataSegments, SegmentEntries, Params, Results, Fields, BodySize, TypeSize}
 use Rattle.wasm_spec.specs.Syntax.{ElementSegment, Export, imported_by}
 use Rattle.wasm_spec.specs.Types.{FuncType, SubType, ExternalType, FuncExternal, TableExternal, MemoryExternal, GlobalExternal, TagExternal}
 use Rattle.wasm_validity.specs.Context.{names_of}
@@ -81,6 +82,18 @@ counts_of m =
     ∷ (TypeSize, type_size m)
     ∷ []
 
+-- the limits on what a type has
+abbrev pub item_limits : List Limit
+item_limits = Params ∷ Results ∷ Fields ∷ []
+
+-- how many parameters, results and fields a type has
+abbrev pub measures_of_type : SubType ℕ → List (Limit × ℕ)
+measures_of_type type = map (λ limit. (limit, items_in type.composite_type limit)) item_limits
+
+-- how many each type has
+abbrev pub type_measures : List (SubType ℕ) → List (Limit × ℕ)
+type_measures types = flat_map measures_of_type types
+
 -- how many items each element segment has
 abbrev pub segment_measures : List ElementSegment → List (Limit × ℕ)
 segment_measures segments = map (λ segment. (SegmentEntries, count_of segment.items)) segments
@@ -93,6 +106,10 @@ lengths_of bodies m =
     ++ (segment_measures m.elems
     ++ map (λ body. (BodySize, length body)) bodies))
 
+-- how large each type is, too
+abbrev pub sizes_of : List (List ℕ) → Made → List (Limit × ℕ)
+sizes_of bodies m = type_measures (types_of m.groups) ++ lengths_of bodies m
+
 -- all numbers of a module whose functions have these bodies
 abbrev pub numbers_of : List (List ℕ) → Made → List (Limit × ℕ)
-numbers_of bodies m = counts_of m ++ lengths_of bodies m
+numbers_of bodies m = counts_of m ++ sizes_of bodies m

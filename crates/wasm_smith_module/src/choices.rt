@@ -1,4 +1,4 @@
-//! Choices that the steps of element segments and of data segments share.
+//! What several steps share: choices, and lists.
 
 ghost use Rattle.std.specs.Prelude.{◌≡◌, ◌≤◌, ◌<◌, ◌+◌, ◌++◌, ◌∷◌, ◌||◌, [], length, nat_lt, IfOk};
 ghost use Rattle.wasm_core_types.specs.CoreTypes.{val_type};
@@ -45,4 +45,15 @@ pub fn push_owned<T: Drop>(items: &mut Vec<T>, item: T) -> Result<(), AllocError
 {
     items.push(item)?;
     Ok(())
+}
+
+/// Returns a list with other items behind its own.
+///
+/// # Errors
+/// Where memory runs out.
+pub fn joined<T: Copy>(mut items: Vec<T>, others: &[T]) -> Result<Vec<T>, AllocError>
+    ensures { IfOk result (λ all. all.items ≡ items.items ++ others.now) }
+{
+    items.extend_from_slice(others)?;
+    Ok(items)
 }

@@ -117,13 +117,12 @@ fn draw_constants(
 ) -> Result<Vec<Constant>, Error>
     requires rules { AllKeepTypeRules spaces.now.types }
     requires written { MayWrite config.now spaces.now (val_type (ValType.Ref ty)) }
-    requires nullable { ty.nullable ≡ true }
     requires ordered { bounds.least ≤ bounds.most }
     ensures given { IfOk result (λ v. AllByRecursion (λ constant. Gives config.now spaces.now (val_type (ValType.Ref ty)) (expression constant)) v.items) }
     ensures taken { length unstructured.new ≤ length unstructured.old }
     ensures few { IfOk result (λ v. length v.items ≤ bounds.most) }
     ensures enough { IfOk result (λ v. bounds.least ≤ length v.items) }
-    ensures refused { IfErr result (λ e. e ≡ Error.Memory) }
+    ensures refused { IfErr result (λ e. (e ≡ Error.Memory) ⊎ ((e ≡ Error.EmptyChoose) × (ty.nullable ≡ false))) }
 {
     let mut items = Vec::new(alloc);
     'grow: while grows(
@@ -175,12 +174,11 @@ fn draw_items(
 ) -> Result<ElementItems, Error>
     requires rules { AllKeepTypeRules spaces.now.types }
     requires element { IsElementType config.now spaces.now (ref_type ty) }
-    requires nullable { ty.nullable ≡ true }
     requires ordered { bounds.least ≤ bounds.most }
     ensures drawn { IfOk result (λ items. AreItems config.now spaces.now (ref_type ty) (element_items items)) }
     ensures taken { length unstructured.new ≤ length unstructured.old }
     ensures bounded { IfOk result (λ items. AreBounded bounds.least bounds.most (length (functions_of spaces.now)) (element_items items)) }
-    ensures refused { IfErr result (λ e. e ≡ Error.Memory) }
+    ensures refused { IfErr result (λ e. (e ≡ Error.Memory) ⊎ ((e ≡ Error.EmptyChoose) × (ty.nullable ≡ false))) }
 {
     if are_functions(unstructured, config, ty) {
         let functions = draw_functions(alloc, unstructured, bounds, spaces)?;
@@ -231,12 +229,11 @@ fn draw_active(
     requires rules { AllKeepTypeRules spaces.now.types }
     requires there { slice_get spaces.now.tables index ≡ Some (table_type table.now) }
     requires tables { TablesKeep config.now spaces.now }
-    requires nullable { AreNullable spaces.now.tables }
     requires bounds { config.now.min_elements ≤ config.now.max_elements }
     ensures allowed { IfOk result (λ segment. Allows config.now spaces.now (of_element (element_segment segment))) }
     ensures taken { length unstructured.new ≤ length unstructured.old }
     ensures drawn { IfOk result (λ segment. IsDrawnElement config.now spaces.now (element_segment segment)) }
-    ensures refused { IfErr result (λ e. e ≡ Error.Memory) }
+    ensures refused { IfErr result (λ e. (e ≡ Error.Memory) ⊎ ((e ≡ Error.EmptyChoose) × ¬ (AreNullable spaces.now.tables))) }
 {
     let bounds = bounds_within(config, table);
     let ty = table.element_type;
@@ -263,14 +260,13 @@ fn draw_segment(
 ) -> Result<ElementSegment, Error>
     requires rules { AllKeepTypeRules spaces.now.types }
     requires tables { TablesKeep config.now spaces.now }
-    requires nullable { AreNullable spaces.now.tables }
     requires offers { AreOffersOf config.now offers.now }
     requires bounds { config.now.min_elements ≤ config.now.max_elements }
     requires can { (nat_lt 0 (length spaces.now.tables) || config.now.bulk_memory_enabled) ≡ true }
     ensures allowed { IfOk result (λ segment. Allows config.now spaces.now (of_element (element_segment segment))) }
     ensures taken { length unstructured.new ≤ length unstructured.old }
     ensures drawn { IfOk result (λ segment. IsDrawnElement config.now spaces.now (element_segment segment)) }
-    ensures refused { IfErr result (λ e. e ≡ Error.Memory) }
+    ensures refused { IfErr result (λ e. (e ≡ Error.Memory) ⊎ ((e ≡ Error.EmptyChoose) × ¬ (AreNullable spaces.now.tables))) }
 {
     let tables = spaces.count_of(ExportKind::Table);
     let others = modes_without_table(config.bulk_memory_enabled);
@@ -298,7 +294,8 @@ fn draw_segment(
 /// Draws the element segments: an active one is for one of the tables, and has its type.
 ///
 /// # Errors
-/// `IncorrectFormat` if segments are asked for and none can be made, and otherwise `Memory`. Some of the source's bytes may be taken by then.
+/// `IncorrectFormat` if segments are asked for and none can be made, `EmptyChoose` if there is no constant of the type of a table whose elements can't be null,
+/// and otherwise `Memory`. Some of the source's bytes may be taken by then.
 pub fn element_segments(
     alloc: Global,
     unstructured: &mut Unstructured<'_>,
@@ -309,13 +306,13 @@ pub fn element_segments(
 ) -> Result<Vec<ElementSegment>, Error>
     requires rules { AllKeepTypeRules spaces.old.types }
     requires tables { TablesKeep config.now spaces.old }
-    requires nullable { AreNullable spaces.old.tables }
     requires offers { AreOffersOf config.now offers.now }
     requires bounds { config.now.min_elements ≤ config.now.max_elements }
     requires counts { config.now.min_element_segments ≤ config.now.max_element_segments }
     ensures grown { IfOk result (λ v. IsGrown config.now (wanted_elements config.now) of_element (IsDrawnElement config.now spaces.old) spaces.old unstructured.old spaces.new unstructured.new (map element_segment v.items)) }
     ensures taken { length unstructured.new ≤ length unstructured.old }
-    ensures refused { IfErr result (λ e. (e ≡ Error.Memory) ⊎ ((e ≡ Error.IncorrectFormat) × (0 < config.now.min_element_segments))) }
+    ensures refused { IfErr result (λ e. (e ≡ Error.Memory) ⊎ (((e ≡ Error.IncorrectFormat) × (0 < config.now.min_element_segments))
+        ⊎ ((e ≡ Error.EmptyChoose) × ¬ (AreNullable spaces.old.tables)))) }
     ensures impossible { IfErr result (λ e. e ≡ Error.IncorrectFormat → (wanted_elements config.now).can spaces.old ≡ false) }
 {
     let can = can_be_made(

@@ -4,18 +4,21 @@ ghost use Rattle.std.specs.Prelude.{◌≡◌, ◌≤◌, ◌^◌, IfOk, IfErr, 
 ghost use Rattle.wasm_smith_definitions.specs.Items.{made_body, placed_custom, raw_bytes};
 ghost use Rattle.wasm_smith_config.specs.Config.{IsGood};
 ghost use Rattle.wasm_smith_definitions.specs.Offered.{HasFewTables};
-ghost use Rattle.wasm_smith_types.specs.DrawnGroups.{AskForMore};
+ghost use Rattle.wasm_smith_types.specs.Given.{AskForMore};
 ghost use Rattle.wasm_smith_types.specs.Grouped.{groups, AreWhole};
 ghost use Rattle.wasm_smith_types.specs.Making.{made};
 ghost use Rattle.wasm_smith_types.specs.Offering.{offers};
 ghost use Rattle.wasm_smith_validity.specs.ValidGroups.{AllKeepTypeRules, types_of};
+ghost use Rattle.wasm_smith_module.specs.Asked.{HasGoodShapes};
 ghost use Rattle.wasm_smith_module.specs.Building.{AreGroups, IsBuilt, IsEnd, IsFinished};
 ghost use Rattle.wasm_smith_module.specs.Items.{drawn_items, module_of};
 ghost use Rattle.wasm_smith_module.specs.Promise.{HasDrawnData};
+ghost use Rattle.wasm_smith_module.specs.TrueToShapes.{AreTypesOf};
 
 use crate::code::code;
 use crate::custom_sections::custom_sections;
 use crate::items::{Items, draw_items};
+use crate::shapes::check_shapes;
 use std::alloc;
 use std::marker::Model;
 use wasm_core_types::types::SubType;
@@ -96,6 +99,7 @@ fn build_types(
     most_types: u32,
 ) -> Result<Option<Types>, Error>
     requires good { IsGood config.now }
+    requires shapes { HasGoodShapes config.now }
     requires offered { offered.now ≡ offers config.now }
     ensures made { IfOk result (λ made. MatchOption made (AskForMore config.now unstructured.old most_types)
         (λ types. AreGroups config.now unstructured.old unstructured.new (groups types))) }
@@ -107,6 +111,7 @@ fn build_types(
     match make_types(alloc, unstructured, offered, config, most_types) {
         Ok(types) => Ok(Some(types)),
         Err(TypesError::TooMany) => Ok(None),
+        Err(TypesError::TooFew) => Err(Error::IncorrectFormat),
         Err(TypesError::Memory) => Err(Error::Memory),
     }
 }
@@ -153,11 +158,13 @@ fn finish(
     types: Types,
 ) -> Result<Module, Error>
     requires good { IsGood config }
+    requires shapes { HasGoodShapes config }
     requires tables { HasFewTables config }
     requires offered { offered.now ≡ offers config }
     requires whole { AreWhole types }
     requires few { length (made types) ≤ 2 ^ 31 }
     requires rules { AllKeepTypeRules (made types) }
+    requires types { AreTypesOf config (made types) }
     ensures finished { IfOk result (IsFinished config duplicates (groups types) unstructured.old unstructured.new) }
     ensures contents { IfOk result (λ m. HasDrawnData unstructured.old unstructured.new m.made) }
     ensures taken { length unstructured.new ≤ length unstructured.old }
@@ -188,6 +195,7 @@ fn build(
     most_types: u32,
 ) -> Result<Option<Module>, Error>
     requires good { IsGood config }
+    requires shapes { HasGoodShapes config }
     requires tables { HasFewTables config }
     ensures built { IfOk result (λ built. MatchOption built (AskForMore config unstructured.old most_types)
         (IsBuilt config duplicates unstructured.old unstructured.new)) }
@@ -215,7 +223,7 @@ fn is_raw(instructions: &Instructions) -> bool
 }
 
 impl Module {
-    ghost use Rattle.std.specs.Prelude.{◌≡◌, ◌≢◌, ◌≤◌, length, map, IfOk, IfErr, IfSome, IfNone};
+    ghost use Rattle.std.specs.Prelude.{◌≡◌, ◌≢◌, ◌≤◌, length, map, None, IfOk, IfErr, IfSome, IfNone};
     ghost use Rattle.std.specs.List.{AllByRecursion, IsDistinct};
     ghost use Rattle.wasm_core_types.specs.SubTypes.{sub_type};
     ghost use Rattle.wasm_encoder_sections.specs.CoreItems.{memory_type};
@@ -228,19 +236,23 @@ impl Module {
     ghost use Rattle.wasm_smith_sections.specs.ModuleEncoding.{IsModuleEncoding, IsUnwritten};
     ghost use Rattle.wasm_smith_sections.specs.ModuleItems.{made_of};
     ghost use Rattle.wasm_smith_types.specs.Drawing.{total};
+    ghost use Rattle.wasm_smith_types.specs.Given.{import_shape};
     ghost use Rattle.wasm_smith_validity.specs.ValidGroups.{types_of};
     ghost use Rattle.wasm_smith_module.specs.ArbitraryModules.{IsArbitraryModule, IsArbitraryReason};
     ghost use Rattle.wasm_smith_module.specs.Generating.{HasFront, front_at};
     ghost use Rattle.wasm_smith_module.specs.Promise.{HasDrawnData, IsMadeFor, IsReason, IsBadConfig, PassesTypes};
+    ghost use Rattle.wasm_smith_module.specs.TrueToShapes.{TakesImports};
 
-    /// Returns the module that is drawn from the source, for the configuration put in order ([`Config::sanitize`]). Two imports may have the same
-    /// names.
+    /// Returns the module that is drawn from the source, for the configuration put in order ([`Config::sanitize`]) and true to its shapes. Two imports may
+    /// have the same names.
     ///
     /// # Errors
     ///
-    /// [`Error::BadConfig`] names a field whose value [`Config::check`] doesn't allow; no bytes are taken then.
-    /// [`Error::IncorrectFormat`] is for items that are owed though none can be made: imports, tags, functions, exports, or segments.
-    /// [`Error::TypeSize`] is for exports of everything where the types of all imports and exports are larger together than is allowed. After
+    /// [`Error::BadConfig`] names a field whose value [`Config::check`] doesn't allow, and [`Error::BadShape`] the part of a shape that
+    /// [`Shape::check`](wasm_smith_shapes::shape::Shape::check) doesn't allow, or `together` for two shapes with two tables or two memories where several aren't
+    /// enabled; no bytes are taken then. [`Error::IncorrectFormat`] is for items that are owed though none can be made: imports, tags, functions, exports, or
+    /// segments, and types where `module_shape` has fewer. [`Error::EmptyChoose`] is for a shape's table or global of references that can't be null, where there is
+    /// no constant of its type. [`Error::TypeSize`] is for exports of everything where the types of all imports and exports are larger together than is allowed. After
     /// these, and after [`Error::Memory`], some of the source's bytes may be taken.
     pub fn new(
         alloc: alloc::Global,
@@ -249,7 +261,8 @@ impl Module {
     ) -> Result<Module, Error>
         ensures made { IfOk result (IsMadeFor (sanitized config)) }
         ensures drawn { IfOk result (λ m. IfSome (front_at (sanitized config) unstructured.old) (λ drawn. HasFront (sanitized config) drawn m.made unstructured.new)) }
-        ensures plain { IfOk result (λ m. AllByRecursion HasPlainName (all_named m.made.imports)) }
+        ensures imports { IfOk result (λ m. TakesImports (sanitized config) unstructured.old m.made) }
+        ensures plain { IfOk result (λ m. import_shape m.config ≡ None → AllByRecursion HasPlainName (all_named m.made.imports)) }
         ensures contents { IfOk result (λ m. HasDrawnData unstructured.old unstructured.new m.made) }
         ensures taken { length unstructured.new ≤ length unstructured.old }
         ensures refused { IfErr result (IsReason (sanitized config)) }
@@ -298,8 +311,9 @@ impl Module {
     ) -> Result<Module, Error>
         ensures made { IfOk result (IsMadeFor (sanitized config)) }
         ensures drawn { IfOk result (λ m. IfSome (front_at (sanitized config) unstructured.old) (λ drawn. HasFront (sanitized config) drawn m.made unstructured.new)) }
-        ensures distinct { IfOk result (λ m. duplicates ≡ DuplicateImportsBehavior.Disallowed → IsDistinct have_same_names (all_named m.made.imports)) }
-        ensures plain { IfOk result (λ m. duplicates ≡ DuplicateImportsBehavior.Allowed → AllByRecursion HasPlainName (all_named m.made.imports)) }
+        ensures imports { IfOk result (λ m. TakesImports (sanitized config) unstructured.old m.made) }
+        ensures distinct { IfOk result (λ m. import_shape m.config ≡ None → duplicates ≡ DuplicateImportsBehavior.Disallowed → IsDistinct have_same_names (all_named m.made.imports)) }
+        ensures plain { IfOk result (λ m. import_shape m.config ≡ None → duplicates ≡ DuplicateImportsBehavior.Allowed → AllByRecursion HasPlainName (all_named m.made.imports)) }
         ensures contents { IfOk result (λ m. HasDrawnData unstructured.old unstructured.new m.made) }
         ensures taken { length unstructured.new ≤ length unstructured.old }
         ensures refused { IfErr result (IsReason (sanitized config)) }
@@ -323,7 +337,8 @@ impl Module {
     ) -> Result<Option<Module>, Error>
         ensures made { IfOk result (λ made. IfSome made (IsMadeFor (sanitized config))) }
         ensures drawn { IfOk result (λ made. IfSome made (λ m. IfSome (front_at (sanitized config) unstructured.old) (λ drawn. HasFront (sanitized config) drawn m.made unstructured.new))) }
-        ensures plain { IfOk result (λ made. IfSome made (λ m. AllByRecursion HasPlainName (all_named m.made.imports))) }
+        ensures imports { IfOk result (λ made. IfSome made (λ m. TakesImports (sanitized config) unstructured.old m.made)) }
+        ensures plain { IfOk result (λ made. IfSome made (λ m. import_shape m.config ≡ None → AllByRecursion HasPlainName (all_named m.made.imports))) }
         ensures within { IfOk result (λ made. IfSome made (λ m. length (types_of m.made.groups) ≤ most_types)) }
         ensures passed { IfOk result (λ made. IfNone made (PassesTypes (sanitized config) unstructured.old most_types)) }
         ensures contents { IfOk result (λ made. IfSome made (λ m. HasDrawnData unstructured.old unstructured.new m.made)) }
@@ -345,8 +360,9 @@ impl Module {
     ) -> Result<Option<Module>, Error>
         ensures made { IfOk result (λ made. IfSome made (IsMadeFor (sanitized config))) }
         ensures drawn { IfOk result (λ made. IfSome made (λ m. IfSome (front_at (sanitized config) unstructured.old) (λ drawn. HasFront (sanitized config) drawn m.made unstructured.new))) }
-        ensures distinct { IfOk result (λ made. IfSome made (λ m. duplicates ≡ DuplicateImportsBehavior.Disallowed → IsDistinct have_same_names (all_named m.made.imports))) }
-        ensures plain { IfOk result (λ made. IfSome made (λ m. duplicates ≡ DuplicateImportsBehavior.Allowed → AllByRecursion HasPlainName (all_named m.made.imports))) }
+        ensures imports { IfOk result (λ made. IfSome made (λ m. TakesImports (sanitized config) unstructured.old m.made)) }
+        ensures distinct { IfOk result (λ made. IfSome made (λ m. import_shape m.config ≡ None → duplicates ≡ DuplicateImportsBehavior.Disallowed → IsDistinct have_same_names (all_named m.made.imports))) }
+        ensures plain { IfOk result (λ made. IfSome made (λ m. import_shape m.config ≡ None → duplicates ≡ DuplicateImportsBehavior.Allowed → AllByRecursion HasPlainName (all_named m.made.imports))) }
         ensures within { IfOk result (λ made. IfSome made (λ m. length (types_of m.made.groups) ≤ most_types)) }
         ensures passed { IfOk result (λ made. IfNone made (PassesTypes (sanitized config) unstructured.old most_types)) }
         ensures contents { IfOk result (λ made. IfSome made (λ m. HasDrawnData unstructured.old unstructured.new m.made)) }
@@ -356,6 +372,7 @@ impl Module {
     {
         config.sanitize();
         config.check()?;
+        check_shapes(alloc, &config)?;
         build(alloc, config, duplicates, unstructured, most_types)
     }
 

@@ -4,9 +4,10 @@ ghost use Rattle.std.specs.Prelude.{◌≡◌, ℕ, List, IfOk, IfSome, IfNone, 
 ghost use Rattle.std.specs.List.{AllByRecursion};
 ghost use Rattle.wasm_core_types.specs.CoreTypes.{val_type};
 ghost use Rattle.wasm_core_types.specs.Limits.{limit};
+ghost use Rattle.wasm_core_types.specs.SubTypes.{sub_type};
 ghost use Rattle.wasm_smith_definitions.specs.Items.{element_items, element_segment, made_body};
-ghost use Rattle.wasm_smith_module.specs.Measured.{AreShort, HasNoOwn, HasShortNames, IsLongBody, IsPassed, IsShortRaw, measured};
-ghost use Rattle.wasm_smith_module.specs.Measures.{counts_of, imported_items, numbers_of, segment_measures};
+ghost use Rattle.wasm_smith_module.specs.Measured.{AreShort, HasNoOwn, IsLongBody, IsPassed, IsShortRaw, measured};
+ghost use Rattle.wasm_smith_module.specs.Measures.{counts_of, imported_items, measures_of_type, numbers_of, segment_measures, sizes_of, type_measures};
 ghost use Rattle.wasm_smith_sections.specs.ModuleEncoding.{SomeByRecursion};
 ghost use Rattle.wasm_smith_sections.specs.ModuleItems.{made_of};
 ghost use Rattle.wasm_smith_types.specs.Drawing.{total};
@@ -17,10 +18,11 @@ ghost use Rattle.wasm_validity.specs.Rules.{Passes, are_within, count_of};
 use crate::counts::{count_of, exports_size};
 use crate::element_segments::count_items;
 use crate::imported::imported_spaces;
+use crate::names::{has_long_export, has_long_import};
 use crate::sizes::imports_size;
 use std::alloc::{AllocError, Global};
 use wasm_core_types::limits::Limit;
-use wasm_core_types::types::ValType;
+use wasm_core_types::types::{CompositeType, SubType, ValType};
 use wasm_core_write::encode_error::EncodeError;
 use wasm_encoder_sections::entity_type::ExportKind;
 use wasm_smith_definitions::code::{Code, Instructions};
@@ -67,6 +69,36 @@ fn passed_count(spaces: &IndexSpaces<'_>, items: &ModuleItems<'_>) -> Option<Lim
         (Limit::DataSegments, items.data_segments.len() as u64),
         (Limit::TypeSize, size.saturating_add(1)),
     ])
+}
+
+// Returns a limit that the number of a type's parameters, results or fields passes.
+fn passed_by_type(ty: &SubType) -> Option<Limit>
+    ensures passed { IfSome result (λ l. Passes (limit l) (measures_of_type (sub_type ty.now))) }
+    ensures within { IfNone result (are_within (measures_of_type (sub_type ty.now)) ≡ true) }
+{
+    match &ty.composite_type {
+        CompositeType::Func(function) => first_passed(&[
+            (Limit::Params, function.params().len() as u64),
+            (Limit::Results, function.results().len() as u64),
+        ]),
+        CompositeType::Struct(structure) => {
+            first_passed(&[(Limit::Fields, structure.fields().len() as u64)])
+        }
+        CompositeType::Array(_) | CompositeType::Cont(_) => None,
+    }
+}
+
+// Returns a limit that the number of parameters, results or fields of one of the types passes.
+fn passed_type(types: &[SubType]) -> Option<Limit>
+    ensures passed { IfSome result (λ l. Passes (limit l) (type_measures (map sub_type types.now))) }
+    ensures within { IfNone result (are_within (type_measures (map sub_type types.now)) ≡ true) }
+{
+    for ty in types {
+        if let Some(limit) = passed_by_type(ty) {
+            return Some(limit);
+        }
+    }
+    None
 }
 
 // Returns the number of items of a segment.
@@ -125,15 +157,30 @@ fn has_long_body(alloc: Global, bodies: &[Code]) -> Result<bool, AllocError>
     Ok(false)
 }
 
-/// Returns a limit that a module of these items passes, if it passes one. Neither names nor bodies without raw bytes are looked at:
-/// those that are drawn are far shorter than they may be.
+// Returns a limit that a type, a name or a segment passes by its size.
+fn passed_size(items: &ModuleItems<'_>) -> Option<Limit>
+    requires whole { total items.now.sizes.now ≡ length items.now.types.now }
+    ensures passed { IfSome result (λ l. (bodies : List (List ℕ)) → Passes (limit l) (sizes_of bodies (made_of items.now))) }
+    ensures within { IfNone result ((bodies : List (List ℕ)) → AreShort bodies → are_within (sizes_of bodies (made_of items.now)) ≡ true) }
+{
+    if let Some(limit) = passed_type(items.types) {
+        return Some(limit);
+    }
+    if has_long_import(items.imports) || has_long_export(items.exports) {
+        return Some(Limit::Name);
+    }
+    passed_segment(items.elems)
+}
+
+/// Returns a limit that a module of these items passes, if it passes one. Bodies without raw bytes aren't looked at: those that are
+/// drawn are far shorter than they may be.
 ///
 /// # Errors
 /// Where memory runs out.
 pub fn passed_limit(alloc: Global, items: &ModuleItems<'_>) -> Result<Option<Limit>, AllocError>
     requires whole { total items.now.sizes.now ≡ length items.now.types.now }
     ensures passed { IfOk result (λ found. IfSome found (IsPassed (made_of items.now))) }
-    ensures within { IfOk result (λ found. IfNone found ((bodies : List (List ℕ)) → HasShortNames (made_of items.now) → AreShort bodies
+    ensures within { IfOk result (λ found. IfNone found ((bodies : List (List ℕ)) → AreShort bodies
         → are_within (numbers_of bodies (made_of items.now)) ≡ true)) }
     ensures short { IfOk result (λ found. IfNone found (AllByRecursion IsShortRaw (made_of items.now).bodies)) }
 {
@@ -144,5 +191,5 @@ pub fn passed_limit(alloc: Global, items: &ModuleItems<'_>) -> Result<Option<Lim
     if has_long_body(alloc, items.bodies)? {
         return Ok(Some(Limit::BodySize));
     }
-    Ok(passed_segment(items.elems))
+    Ok(passed_size(items))
 }

@@ -1,3 +1,4 @@
+pub mod AlikeShapes
 mod Fronts
 mod FormLaws
 mod GroupParts

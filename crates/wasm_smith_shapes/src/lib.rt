@@ -11,5 +11,6 @@ mod gates;
 mod groups;
 pub mod imports;
 mod items;
+pub mod laws;
 mod matching;
 pub mod shape;

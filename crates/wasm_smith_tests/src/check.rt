@@ -5,6 +5,7 @@ use std::test::Fail;
 use wasm_smith::config::Config;
 use wasm_smith::error::Error;
 use wasm_smith_config_rows::settings::config_of;
+use wasm_smith_config_rows::shaped::with_shapes;
 use wasm_test_rows::fields::two_fields;
 use wasm_test_rows::rows::check_rows;
 
@@ -54,4 +55,26 @@ fn holds(_alloc: Global, row: &str) -> Option<bool> {
 #[test]
 fn bad_fields_are_named(rt: HostRuntime) -> Result<(), Fail> {
     Ok(check_rows(rt.alloc(), CHECKED, 21, holds)?)
+}
+
+// Shapes of the default configuration, and the field that is named. What shapes ask for isn't looked at.
+const SHAPED: &str = "
+    module func 1? -> ; / / | allowed
+    imports / / a memory 0.. | allowed
+    exports struct ; / / | allowed
+    imports / one m a memory 0.. ; / & exports / / b memory 0.. | allowed
+    module / / & imports / / | module_shape
+    module / / & exports / / | module_shape
+    module / / & imports / / & exports / / | module_shape
+";
+
+fn is_checked(alloc: Global, row: &str) -> Option<bool> {
+    let (shapes, expected) = two_fields(row)?;
+    let config = with_shapes(alloc, Config::default(), shapes)?;
+    Some(is_answer(config.check(), expected))
+}
+
+#[test]
+fn shape_of_a_module_stands_alone(rt: HostRuntime) -> Result<(), Fail> {
+    Ok(check_rows(rt.alloc(), SHAPED, 7, is_checked)?)
 }

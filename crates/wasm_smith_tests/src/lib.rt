@@ -16,6 +16,8 @@ mod names;
 #[cfg(test)]
 mod refusals;
 #[cfg(test)]
+mod shaped;
+#[cfg(test)]
 mod shapes;
 #[cfg(test)]
 mod unstructured;

@@ -3,5 +3,6 @@
 
 mod module;
 mod names;
+mod shaped;
 mod shapes;
 mod witness;

@@ -108,7 +108,7 @@ shifted_same start by r h = elim (cases_lt r start) [
   | inr high ↦ rw (le-ltb r start high) (omega (arith, h))
 ]
 
-entry_map : (f : ℕ → ℕ) (types : List (SubType ℕ)) → group_map f (entry types) ≡ entry (map (sub_map f) types)
+pub entry_map : (f : ℕ → ℕ) (types : List (SubType ℕ)) → group_map f (entry types) ≡ entry (map (sub_map f) types)
 entry_map f [] = refl
 entry_map f (t ∷ []) = refl
 entry_map f (t ∷ u ∷ types) = refl

@@ -1,4 +1,8 @@
 pub mod CloneLaws
+pub mod GivenDraws
+pub mod GivenLaws
+pub mod GivenLists
+pub mod GivenSteps
 pub mod GrowLaws
 pub mod OfferLaws
 pub mod ListLaws

@@ -1,11 +1,11 @@
 -- The groups of a module as they are drawn.
-use Rattle.std.specs.Prelude.{◌<◌, ◌==◌, ℕ, List, length, map, Option, Some, None, IfSome, option_map, if◌then◌else◌}
+use Rattle.std.specs.Prelude.{◌<◌, ◌==◌, ℕ, List, length, map, Option, Some, None, option_map, if◌then◌else◌}
 use Rattle.std.specs.List.{AllByRecursion}
 use Rattle.wasm_spec.specs.Syntax.{members}
 use Rattle.wasm_spec.specs.Types.{RecGroup, Single}
 use Rattle.wasm_smith_config.specs.declared.config.Config.{Config}
 use Rattle.wasm_smith_types.specs.Offering.{function_types_at, gc_groups_at}
-use Rattle.wasm_smith_validity.specs.ValidGroups.{types_of, entry}
+use Rattle.wasm_smith_validity.specs.ValidGroups.{entry}
 
 -- With garbage collection, these are the groups unless one is a clone, a type has a supertype, or some types are owed. Without, each type is a group
 -- by itself.
@@ -18,8 +18,3 @@ drawn_groups_at c s =
 -- no group is empty
 abbrev pub AreSome : List (RecGroup ℕ) → Type 0
 AreSome groups = AllByRecursion (λ group. 0 < length (members group)) groups
-
--- More types than these are asked for: the configuration allows more, and where the groups are drawn so, they have more.
-pub record AskForMore (c : Config) (s : List ℕ) (most : ℕ) : Type 0 where
-  pub allowed : most < c.max_types
-  pub drawn : IfSome (drawn_groups_at c s) (λ drawn. most < length (types_of drawn.0))

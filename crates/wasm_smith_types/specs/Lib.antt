@@ -4,6 +4,7 @@ pub mod Copies
 pub mod Drawing
 pub mod DrawnGroups
 pub mod Fitting
+pub mod Given
 pub mod Grouped
 pub mod Growing
 pub mod Making

@@ -12,6 +12,9 @@ pub enum TypesError {
     /// More types are asked for than there may be.
     #[error("too many types")]
     TooMany,
+    /// The shape of the module has fewer types than there have to be.
+    #[error("too few types")]
+    TooFew,
 }
 
 impl From<AllocError> for TypesError {

@@ -6,6 +6,7 @@ mod candidates;
 pub mod composite_types;
 pub mod error;
 mod fitting;
+pub mod given;
 pub mod growing;
 pub mod laws;
 pub mod narrowing;

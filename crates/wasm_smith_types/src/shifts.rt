@@ -1,6 +1,6 @@
 //! Types with their references shifted.
 
-ghost use Rattle.std.specs.Prelude.{◌≡◌, IfOk, map};
+ghost use Rattle.std.specs.Prelude.{◌≡◌, ◌++◌, IfOk, map};
 ghost use Rattle.wasm_core_types.specs.CoreTypes.{val_type, field_type};
 ghost use Rattle.wasm_core_types.specs.SubTypes.{composite_type, sub_type};
 ghost use Rattle.wasm_spec.specs.TypeReferences.{val_map, field_map, composite_map, sub_map};
@@ -22,7 +22,8 @@ pub struct Shift {
 }
 
 impl Shift {
-    fn index(self, index: u32) -> u32
+    /// Returns the index of a type, shifted. Numbers wrap at 2^32.
+    pub fn index(self, index: u32) -> u32
         ensures { result ≡ shifted_index self.start self.by index }
     {
         if index < self.start {
@@ -32,7 +33,8 @@ impl Shift {
         }
     }
 
-    fn value(self, type_: ValType) -> ValType
+    /// Returns the value type with its reference shifted. Numbers wrap at 2^32.
+    pub fn value(self, type_: ValType) -> ValType
         ensures { val_type result ≡ val_map (shifted_index self.start self.by) (val_type type_) }
     {
         match type_ {
@@ -120,5 +122,24 @@ impl Shift {
             supertype_idx,
             composite_type,
         })
+    }
+
+    /// Adds types with their references shifted.
+    ///
+    /// # Errors
+    /// Where memory runs out.
+    pub fn push_all(
+        self,
+        alloc: Global,
+        types: &mut Vec<SubType>,
+        more: &[SubType],
+    ) -> Result<(), AllocError>
+        ensures { IfOk result (λ _. map sub_type types.new.items ≡ map sub_type types.old.items
+            ++ map (sub_map (shifted_index self.start self.by)) (map sub_type more.now)) }
+    {
+        for type_ in more {
+            types.push(self.sub_type(alloc, type_)?)?;
+        }
+        Ok(())
     }
 }

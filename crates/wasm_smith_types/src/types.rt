@@ -1,17 +1,20 @@
 //! The types of a module, one group after the other.
 
-ghost use Rattle.std.specs.Prelude.{◌≡◌, ◌<◌, ◌≤◌, ◌+◌, ◌++◌, ◌∷◌, [], ℕ, ◌^◌, IfErr, IfOk, IfSome, length, map, slice_get, List, Some, true, false};
+ghost use Rattle.std.specs.Prelude.{◌≡◌, ◌<◌, ◌≤◌, ◌+◌, ◌-◌, ◌++◌, ◌∷◌, [], ℕ, ◌^◌, IfErr, IfOk, IfSome, is_some, length, map, max, slice_get, List, Some, None, true, false};
 ghost use Rattle.std.specs.List.{AllByRecursion};
 ghost use Rattle.wasm_core_types.specs.SubTypes.{sub_type};
 ghost use Rattle.wasm_spec.specs.Features.{Features, Gc, has};
-ghost use Rattle.wasm_spec.specs.TypeReferences.{sub_map};
+ghost use Rattle.wasm_spec.specs.Trees.{AreInRange};
+ghost use Rattle.wasm_spec.specs.TypeReferences.{group_map, sub_map};
 ghost use Rattle.wasm_spec.specs.Types as spec;
 ghost use Rattle.wasm_smith_config.specs.Config.{AreFeaturesOf};
+ghost use Rattle.wasm_smith_shapes.specs.Shapes.{group_of, shape_types};
 ghost use Rattle.wasm_smith_types.specs.Bounds.{AreSmall};
 ghost use Rattle.wasm_smith_types.specs.Copies.{shifted_index};
 ghost use Rattle.wasm_smith_types.specs.Drawing.{asks_then, plain_type_at, type_at, members_at, group_at, groups_at, no_groups, total, function_type_at};
-ghost use Rattle.wasm_smith_types.specs.DrawnGroups.{AreSome, AskForMore, drawn_groups_at};
+ghost use Rattle.wasm_smith_types.specs.DrawnGroups.{AreSome, drawn_groups_at};
 ghost use Rattle.wasm_smith_types.specs.Fitting.{AreFitting, AreChoices, IsSpan};
+ghost use Rattle.wasm_smith_types.specs.Given.{AreDrawnBeside, AreMade, AskForMore, HaveGoodGroups, for_drawing, given_types, then_groups, type_count};
 ghost use Rattle.wasm_smith_types.specs.Grouped.{cloned, front_of, groups, AddsGroupDrawn, AreWhole, AreDone, AddsGroup};
 ghost use Rattle.wasm_smith_types.specs.Growing.{grow_at};
 ghost use Rattle.wasm_smith_types.specs.Making.{made, has_candidates, AreCandidates, IsCandidate, Adds, AddsDrawn, AddsAll, AddsAllDrawn};
@@ -22,12 +25,14 @@ ghost use Rattle.wasm_smith_validity.specs.ValidGroups.{HasHeight, AreValidGroup
 use crate::candidates::{Candidate, candidate_at};
 use crate::error::TypesError;
 use crate::fitting::{Fitting, Span};
+use crate::given::{type_count, types_in};
 use crate::growing::{bool_if, grows};
 use crate::shifts::Shift;
 use crate::value_types::Offers;
 use std::alloc::{AllocError, Global};
 use wasm_core_types::types::SubType;
 use wasm_smith_config::config::Config;
+use wasm_smith_shapes::shape::Shape;
 use wasm_smith_unstructured::unstructured::Unstructured;
 use wasm_smith_validity::subtyping::MAX_HEIGHT;
 
@@ -42,6 +47,19 @@ pub struct Types {
 }
 
 impl Types {
+    // Returns no types.
+    fn new(alloc: Global) -> Types
+        ensures types { result.types.items ≡ [] }
+        ensures sizes { result.sizes.items ≡ [] }
+        ensures candidates { result.candidates.items ≡ [] }
+    {
+        Types {
+            types: Vec::new(alloc),
+            sizes: Vec::new(alloc),
+            candidates: Vec::new(alloc),
+        }
+    }
+
     // Adds a type that has so many supertypes above it.
     fn push(&mut self, type_: SubType, height: u32) -> Result<(), AllocError>
         requires few { length (made self.old) < 2 ^ 31 }
@@ -292,6 +310,7 @@ impl Types {
         ensures taken { length unstructured.new ≤ length unstructured.old }
         ensures too_many { IfErr result (λ e. e ≡ TypesError.TooMany → (room < left)
             × IfSome (group_at offers.now left (front_of self.old) unstructured.old) (λ drawn. room < length drawn.0)) }
+        ensures enough { IfErr result (λ e. ¬ (e ≡ TypesError.TooFew)) }
     {
         let asked = !choices.is_empty();
         if bool_if(unstructured, asked) {
@@ -334,6 +353,7 @@ impl Types {
         ensures taken { length unstructured.new ≤ length unstructured.old }
         ensures too_many { IfErr result (λ e. e ≡ TypesError.TooMany → (room < left)
             × IfSome (group_at offers.now left (front_of self.old) unstructured.old) (λ drawn. room < length drawn.0)) }
+        ensures enough { IfErr result (λ e. ¬ (e ≡ TypesError.TooFew)) }
         ensures fitting { IfOk result (λ _. AreFitting self.new.sizes.items left fitting.new) }
     {
         fitting.keep(left);
@@ -341,6 +361,70 @@ impl Types {
         self.push_any(alloc, unstructured, offers, fitting.spans(), left, room)?;
         let size = self.types.len() as u32 - start;
         fitting.push(Span { start, size })?;
+        Ok(())
+    }
+
+    // Adds a group with its references shifted.
+    fn push_shifted(
+        &mut self,
+        alloc: Global,
+        group: &[SubType],
+        shift: Shift,
+    ) -> Result<(), AllocError>
+        requires few { length group.now < 2 ^ 32 }
+        requires whole { AreWhole self.old }
+        ensures whole { IfOk result (λ _. AreWhole self.new) }
+        ensures added { IfOk result (λ _. groups self.new ≡ groups self.old
+            ++ (group_map (shifted_index shift.start shift.by) (entry (map sub_type group.now)) ∷ [])) }
+    {
+        shift.push_all(alloc, &mut self.types, group)?;
+        self.sizes.push(group.len() as u32)?;
+        Ok(())
+    }
+
+    // Adds groups with their references shifted.
+    fn push_groups(
+        &mut self,
+        alloc: Global,
+        added: &[Vec<SubType>],
+        shift: Shift,
+    ) -> Result<(), AllocError>
+        requires few { length (types_of (map group_of added.now)) ≤ 2 ^ 29 }
+        requires whole { AreWhole self.old }
+        ensures whole { IfOk result (λ _. AreWhole self.new) }
+        ensures added { IfOk result (λ _. groups self.new ≡ groups self.old ++ map (group_map (shifted_index shift.start shift.by)) (map group_of added.now)) }
+    {
+        for group in added {
+            self.push_shifted(alloc, group, shift)?;
+        }
+        Ok(())
+    }
+
+    // Adds the groups of a shape, their references moved behind the types so far.
+    fn push_shape_groups(&mut self, alloc: Global, shape: &Shape) -> Result<(), AllocError>
+        requires few { length (shape_types shape.now) ≤ 2 ^ 29 }
+        requires room { length (made self.old) + length (shape_types shape.now) < 2 ^ 32 }
+        requires in_range { AreInRange 0 shape.now.groups }
+        requires whole { AreWhole self.old }
+        ensures whole { IfOk result (λ _. AreWhole self.new) }
+        ensures added { IfOk result (λ _. groups self.new ≡ then_groups (groups self.old) (Some shape.now)) }
+    {
+        let by = self.types.len() as u32;
+        self.push_groups(alloc, &shape.groups, Shift { start: 0, by })
+    }
+
+    // Adds the groups of a shape, if there is one.
+    fn push_shape(&mut self, alloc: Global, shape: &Option<Shape>) -> Result<(), AllocError>
+        requires few { type_count shape.now ≤ 2 ^ 29 }
+        requires room { length (made self.old) + type_count shape.now < 2 ^ 32 }
+        requires in_range { IfSome shape.now (λ it. AreInRange 0 it.groups) }
+        requires whole { AreWhole self.old }
+        ensures whole { IfOk result (λ _. AreWhole self.new) }
+        ensures added { IfOk result (λ _. groups self.new ≡ then_groups (groups self.old) shape.now) }
+    {
+        if let Some(shape) = shape {
+            self.push_shape_groups(alloc, shape)?;
+        }
         Ok(())
     }
 
@@ -381,12 +465,9 @@ fn make_groups(
     ensures too_many { IfErr result (λ e. e ≡ TypesError.TooMany → most < max) }
     ensures too_many_drawn { IfErr result (λ e. e ≡ TypesError.TooMany → min ≡ 0
         → IfSome (groups_at offers.now max (max + 1) no_groups unstructured.old) (λ drawn. most < length (types_of (map entry drawn.0)))) }
+    ensures enough { IfErr result (λ e. ¬ (e ≡ TypesError.TooFew)) }
 {
-    let mut made = Types {
-        types: Vec::new(alloc),
-        sizes: Vec::new(alloc),
-        candidates: Vec::new(alloc),
-    };
+    let mut made = Types::new(alloc);
     let mut fitting = Fitting::new(alloc);
     'grow: while grows(unstructured, made.types.len(), min as usize, max as usize) {
         let count = made.types.len() as u32;
@@ -424,12 +505,9 @@ fn make_function_types(
     ensures singles { IfOk result (λ t. groups t ≡ map spec.Single (made t)) }
     ensures too_many { IfErr result (λ e. e ≡ TypesError.TooMany → most < max) }
     ensures too_many_drawn { IfErr result (λ e. e ≡ TypesError.TooMany → most < length (grow_at (function_type_at offers.now) min max 0 unstructured.old).0) }
+    ensures enough { IfErr result (λ e. ¬ (e ≡ TypesError.TooFew)) }
 {
-    let mut made = Types {
-        types: Vec::new(alloc),
-        sizes: Vec::new(alloc),
-        candidates: Vec::new(alloc),
-    };
+    let mut made = Types::new(alloc);
     'grow: while grows(unstructured, made.types.len(), min as usize, max as usize) {
         if made.types.len() >= most as usize {
             return Err(TypesError::TooMany);
@@ -439,12 +517,104 @@ fn make_function_types(
     Ok(made)
 }
 
-/// Makes the types of a module, at most `most` of them. With garbage collection there are groups of several types, clones of
-/// earlier groups, supertypes, and references to types; without it, each type is a final function type in a group by itself.
+// Draws the types of a module beside `given` others, at most `most` of them.
+fn draw_types(
+    alloc: Global,
+    unstructured: &mut Unstructured<'_>,
+    offered: &Offers,
+    config: &Config,
+    given: u32,
+    most: u32,
+) -> Result<Types, TypesError>
+    requires offered { offered.now ≡ offers config.now }
+    requires few { config.now.max_types ≤ 2 ^ 31 }
+    requires given { given ≡ given_types config.now }
+    ensures valid { IfOk result (λ t. (features : Features) → AreFeaturesOf config.now features → AreValidGroups features (groups t)) }
+    ensures most { IfOk result (λ t. length (made t) ≤ config.now.max_types - given_types config.now) }
+    ensures within { IfOk result (λ t. length (made t) ≤ most) }
+    ensures least { IfOk result (λ t. config.now.min_types ≤ config.now.max_types → config.now.min_types - given_types config.now ≤ length (made t)) }
+    ensures small { IfOk result (λ t. AreSmall (made t)) }
+    ensures some { IfOk result (λ t. AreSome (groups t)) }
+    ensures whole { IfOk result AreWhole }
+    ensures drawn { IfOk result (λ t. IfSome (drawn_groups_at (for_drawing config.now) unstructured.old) (λ drawn. drawn ≡ (groups t, unstructured.new))) }
+    ensures taken { length unstructured.new ≤ length unstructured.old }
+    ensures too_many { IfErr result (λ e. e ≡ TypesError.TooMany → most < config.now.max_types - given_types config.now) }
+    ensures too_many_drawn { IfErr result (λ e. e ≡ TypesError.TooMany
+        → IfSome (drawn_groups_at (for_drawing config.now) unstructured.old) (λ drawn. most < length (types_of drawn.0))) }
+    ensures enough { IfErr result (λ e. ¬ (e ≡ TypesError.TooFew)) }
+{
+    let min = config.min_types.saturating_sub(given);
+    let max = config.max_types.saturating_sub(given);
+    if config.gc_enabled {
+        let made = make_groups(alloc, unstructured, offered, min, max, most)?;
+        return Ok(made);
+    }
+    let made = make_function_types(alloc, unstructured, offered, min, max, most)?;
+    Ok(made)
+}
+
+// Makes types that are drawn, and then those of the shapes of imports and exports, at most `most` in all.
+fn make_beside(
+    alloc: Global,
+    unstructured: &mut Unstructured<'_>,
+    offered: &Offers,
+    config: &Config,
+    most: u32,
+) -> Result<Types, TypesError>
+    requires offered { offered.now ≡ offers config.now }
+    requires few { config.now.max_types ≤ 2 ^ 31 }
+    requires given { HaveGoodGroups config.now }
+    requires none { config.now.module_shape ≡ None }
+    ensures valid { IfOk result (λ t. (features : Features) → AreFeaturesOf config.now features → AreValidGroups features (groups t)) }
+    ensures made { IfOk result (λ t. AreDrawnBeside config.now unstructured.old unstructured.new (groups t)) }
+    ensures most { IfOk result (λ t. length (types_of (groups t)) ≤ max config.now.max_types (given_types config.now)) }
+    ensures within { IfOk result (λ t. length (types_of (groups t)) ≤ most) }
+    ensures least { IfOk result (λ t. config.now.min_types ≤ config.now.max_types → config.now.min_types ≤ length (types_of (groups t))) }
+    ensures whole { IfOk result AreWhole }
+    ensures taken { length unstructured.new ≤ length unstructured.old }
+    ensures too_many { IfErr result (λ e. e ≡ TypesError.TooMany → AskForMore config.now unstructured.old most) }
+    ensures enough { IfErr result (λ e. ¬ (e ≡ TypesError.TooFew)) }
+{
+    let given = type_count(&config.available_imports) + type_count(&config.exports);
+    if given > most {
+        return Err(TypesError::TooMany);
+    }
+    let mut made = draw_types(alloc, unstructured, offered, config, given, most - given)?;
+    made.push_shape(alloc, &config.available_imports)?;
+    made.push_shape(alloc, &config.exports)?;
+    Ok(made)
+}
+
+// Makes the types of a shape and no others, at least `min` and at most `most` of them.
+fn make_given(alloc: Global, shape: &Shape, min: u32, most: u32) -> Result<Types, TypesError>
+    requires few { length (shape_types shape.now) ≤ 2 ^ 29 }
+    requires in_range { AreInRange 0 shape.now.groups }
+    ensures made { IfOk result (λ t. groups t ≡ shape.now.groups) }
+    ensures least { IfOk result (λ t. min ≤ length (shape_types shape.now)) }
+    ensures within { IfOk result (λ t. length (shape_types shape.now) ≤ most) }
+    ensures whole { IfOk result AreWhole }
+    ensures too_many { IfErr result (λ e. e ≡ TypesError.TooMany → most < length (shape_types shape.now)) }
+    ensures too_few { IfErr result (λ e. e ≡ TypesError.TooFew → length (shape_types shape.now) < min) }
+{
+    let count = types_in(&shape.groups);
+    if count < min {
+        return Err(TypesError::TooFew);
+    }
+    if count > most {
+        return Err(TypesError::TooMany);
+    }
+    let mut made = Types::new(alloc);
+    made.push_shape_groups(alloc, shape)?;
+    Ok(made)
+}
+
+/// Makes the types of a module, at most `most` of them. Where the configuration has a shape of the module, these are its types and nothing is drawn. Else
+/// types are drawn, and those of its other shapes follow. With garbage collection there are groups of several types, clones of earlier groups, supertypes,
+/// and references to types; without it, each type that is drawn is a final function type in a group by itself.
 ///
 /// # Errors
-/// `TooMany` as soon as more than `most` types are made and asked for, else `Memory`. Some of the source's bytes may be taken by
-/// then.
+/// `TooFew` where the shape of the module has fewer types than there have to be, `TooMany` as soon as more than `most` types are made and asked for, else
+/// `Memory`. But for `TooFew`, some of the source's bytes may be taken by then.
 pub fn make_types(
     alloc: Global,
     unstructured: &mut Unstructured<'_>,
@@ -454,22 +624,21 @@ pub fn make_types(
 ) -> Result<Types, TypesError>
     requires offered { offered.now ≡ offers config.now }
     requires few { config.now.max_types ≤ 2 ^ 31 }
+    requires given { HaveGoodGroups config.now }
     ensures valid { IfOk result (λ t. (features : Features) → AreFeaturesOf config.now features → AreValidGroups features (groups t)) }
-    ensures most { IfOk result (λ t. length (types_of (groups t)) ≤ config.now.max_types) }
+    ensures made { IfOk result (λ t. AreMade config.now unstructured.old unstructured.new (groups t)) }
+    ensures most { IfOk result (λ t. length (types_of (groups t)) ≤ max config.now.max_types (given_types config.now)) }
     ensures within { IfOk result (λ t. length (types_of (groups t)) ≤ most) }
     ensures least { IfOk result (λ t. config.now.min_types ≤ config.now.max_types → config.now.min_types ≤ length (types_of (groups t))) }
-    ensures small { IfOk result (λ t. AreSmall (types_of (groups t))) }
-    ensures some { IfOk result (λ t. AreSome (groups t)) }
     ensures whole { IfOk result AreWhole }
-    ensures drawn { IfOk result (λ t. IfSome (drawn_groups_at config.now unstructured.old) (λ drawn. drawn ≡ (groups t, unstructured.new))) }
     ensures taken { length unstructured.new ≤ length unstructured.old }
     ensures too_many { IfErr result (λ e. e ≡ TypesError.TooMany → AskForMore config.now unstructured.old most) }
+    ensures too_few { IfErr result (λ e. e ≡ TypesError.TooFew
+        → (is_some config.now.module_shape ≡ true) × (type_count config.now.module_shape < config.now.min_types)) }
+    ensures unread { IfErr result (λ e. e ≡ TypesError.TooFew → unstructured.new ≡ unstructured.old) }
 {
-    let (min, max) = (config.min_types, config.max_types);
-    if config.gc_enabled {
-        let made = make_groups(alloc, unstructured, offered, min, max, most)?;
-        return Ok(made);
+    if let Some(shape) = &config.module_shape {
+        return make_given(alloc, shape, config.min_types, most);
     }
-    let made = make_function_types(alloc, unstructured, offered, min, max, most)?;
-    Ok(made)
+    make_beside(alloc, unstructured, offered, config, most)
 }

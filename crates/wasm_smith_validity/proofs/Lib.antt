@@ -1,3 +1,4 @@
+pub mod AlikeFeatures
 pub mod BelowLaws
 pub mod CustomSections
 mod FunctionTypes

@@ -11,7 +11,7 @@ use Rattle.wasm_smith_types.specs.Offering.{offers}
 use Rattle.wasm_smith_types.specs.Spelling.{SpellsNo, SpellsEnd, SpellsInt, SpellsChoice, SpellsList, SpellsValue, SpellsType, SpellsMembers, SpellsGroups}
 use Rattle.wasm_smith_externs.specs.Candidates.{can_import, can_import_some}
 use Rattle.wasm_smith_validity.specs.Spaces.{spaces_of_types}
-use Rattle.wasm_smith_witness.specs.Asking.{asks_for_import, asks_for_tag}
+use Rattle.wasm_smith_witness.specs.Asking.{asks_for_import, asks_for_tag, full_bounds}
 use Rattle.wasm_smith_witness.specs.Family.{types_of}
 use Rattle.wasm_smith_witness.specs.Examples.{no_values, one_function, two_functions, pointer, two_structures}
 use Rattle.wasm_smith_witness.specs.Spelling.{SpellsLoneFunction, SpellsTypes, Spells}
@@ -46,8 +46,9 @@ last_of_five false false false false last on = on
 memory_asks : (c : Config) (types : List (SubType ℕ)) → 0 < c.max_imports → 0 < c.max_memories → asks_for_import c types ≡ true
 memory_asks c types imports memories =
     let k = spaces_of_types types in
-    let can : can_import_some c k ≡ true = last_of_five (can_import c k FuncKind) (can_import c k TagKind) (can_import c k GlobalKind) (can_import c k TableKind) (can_import c k MemoryKind) (lt-ltb 0 c.max_memories memories) in
-    and_from (can_import_some c k) (nat_lt 0 c.max_imports) can (lt-ltb 0 c.max_imports imports)
+    let b = full_bounds c in
+    let can : can_import_some c b k ≡ true = last_of_five (can_import c b k FuncKind) (can_import c b k TagKind) (can_import c b k GlobalKind) (can_import c b k TableKind) (can_import c b k MemoryKind) (lt-ltb 0 c.max_memories memories) in
+    and_from (can_import_some c b k) (nat_lt 0 c.max_imports) can (lt-ltb 0 c.max_imports imports)
 
 -- ---- without garbage collection
 
@@ -109,7 +110,7 @@ second_spelled c byte off exceptions tags no_imports types funcs small odd =
       tags = 0 ∷ [];
       back = 1 ∷ byte ∷ [];
       parts = refl;
-      spells_imports = none_spelled (asks_for_import c (types_of two_functions)) (rw no_imports (and_none (can_import_some c (spaces_of_types (types_of two_functions)))));
+      spells_imports = none_spelled (asks_for_import c (types_of two_functions)) (rw no_imports (and_none (can_import_some c (full_bounds c) (spaces_of_types (types_of two_functions)))));
       spells_tags = byte_spelled (asks_for_tag c (types_of two_functions)) 0 (rw (exceptions, lt-ltb 0 c.max_tags tags) refl) refl;
       spells_groups = lone_types c.gc_enabled (offers c) c.max_types two_functions (1 ∷ 0 ∷ 0 ∷ 1 ∷ 0 ∷ 0 ∷ 0 ∷ []) off (
         1 ∷ 0 ∷ 0 ∷ 1 ∷ 0 ∷ 0 ∷ [],

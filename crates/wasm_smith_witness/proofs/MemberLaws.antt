@@ -16,7 +16,10 @@ use Rattle.wasm_smith_unstructured.specs.declared.error.Error.TheVariants.{Incor
 use Rattle.wasm_smith_validity.specs.ValidGroups.{entry}
 use Rattle.wasm_smith_validity.specs.ValidGroups as flat
 use Rattle.wasm_smith_validity.proofs.GroupLaws.{entry_members}
+use Rattle.wasm_smith_module.proofs.BareLaws.{HasNoShapes, bare_bounds, has_no_shapes}
+use Rattle.wasm_smith_module.specs.Asked.{import_bounds}
 use Rattle.wasm_smith_module.specs.Generating.{OwesNothingElse}
+use Rattle.wasm_smith_witness.specs.Asking.{full_bounds}
 use Rattle.wasm_smith_witness.specs.Family.{AreMemberGroups, IsAskable, is_member_group, are_member_groups, types_of}
 
 -- ---- configurations
@@ -36,6 +39,12 @@ not_good c (BadShape name) h good = h
 not_good c TypeSize h good = h
 not_good c Memory h good = h
 not_good c TooLong h good = h
+
+pub shapeless : (c : Config) → IsAskable c → HasNoShapes c
+shapeless c asked = has_no_shapes c asked.no_shapes
+
+pub bounds_are : (c : Config) → IsAskable c → (types : List (SubType ℕ)) → import_bounds c types ≡ full_bounds c
+bounds_are c asked types = bare_bounds c (shapeless c asked) types
 
 pub types_small : (c : Config) → IsAskable c → c.max_types ≤ 2 ^ 31
 types_small c asked = ltb-false (2 ^ 31) c.max_types (asked.good 11 (at_least [] 0 0) (omega arith))

@@ -19,15 +19,17 @@ use Rattle.wasm_smith_definitions.specs.Indexes.{index_at}
 use Rattle.wasm_smith_externs.specs.Wanted.{functions_at, wanted_tags}
 use Rattle.wasm_smith_externs.specs.Candidates.{can_import_some}
 use Rattle.wasm_smith_externs.specs.Imports.{asked_imports}
+use Rattle.wasm_smith_externs.specs.declared.bounds.ImportBounds.{ImportBounds}
 use Rattle.wasm_smith_definitions.specs.Steps.{asked}
-use Rattle.wasm_smith_module.specs.Generating.{front_at, left_for_functions, with_functions}
+use Rattle.wasm_smith_module.specs.Asked.{import_bounds}
+use Rattle.wasm_smith_module.specs.Generating.{front_at, has_shape, left_for_functions, with_functions}
 use Rattle.wasm_smith_validity.specs.ValidGroups as flat
 use Rattle.wasm_smith_validity.specs.Spaces.{spaces_of_types}
-use Rattle.wasm_smith_witness.specs.Asking.{asks_for_import, asks_for_tag}
+use Rattle.wasm_smith_witness.specs.Asking.{asks_for_import, asks_for_tag, full_bounds}
 use Rattle.wasm_smith_witness.specs.Family.{IsAskable, types_of}
 use Rattle.wasm_smith_witness.specs.Spelling.{SpellsLoneComposite, SpellsLoneFunction, SpellsTypes, SpellsFunctions, Spells}
 use Rattle.wasm_smith_witness.proofs.LoneLaws.{SpellsLone, are_lone}
-use Rattle.wasm_smith_witness.proofs.MemberLaws.{flat_entries, no_min_types, no_min_imports, no_min_tags, no_min_funcs}
+use Rattle.wasm_smith_witness.proofs.MemberLaws.{bounds_are, flat_entries, no_min_types, no_min_imports, no_min_tags, no_min_funcs}
 
 -- ---- the last list, which nothing follows, or an even byte
 
@@ -130,8 +132,11 @@ no_first true min max s rest none h = first_draw min max (s ++ rest) none ∙ by
     by_room false h = rw h refl
 no_first false min max s rest none h = rw h refl
 
-no_imports : (c : Config) → IsAskable c → (types : List (SubType ℕ)) (s rest : List ℕ) → SpellsNo (asks_for_import c types) s → asked_imports c (spaces_of_types types) (s ++ rest) ≡ (false, rest)
-no_imports c asked_for types s rest h = no_first (can_import_some c (spaces_of_types types)) c.min_imports c.max_imports s rest (no_min_imports c asked_for) h
+no_imports : (c : Config) → IsAskable c → (types : List (SubType ℕ)) (s rest : List ℕ) → SpellsNo (asks_for_import c types) s
+    → asked_imports c (import_bounds c types) (spaces_of_types types) (s ++ rest) ≡ (false, rest)
+no_imports c asked_for types s rest h =
+    ap (λ (b : ImportBounds). asked_imports c b (spaces_of_types types) (s ++ rest)) (bounds_are c asked_for types)
+    ∙ no_first (can_import_some c (full_bounds c) (spaces_of_types types)) c.min_imports c.max_imports s rest (no_min_imports c asked_for) h
 
 no_tags : (c : Config) → IsAskable c → (types : List (SubType ℕ)) (s rest : List ℕ) → SpellsNo (asks_for_tag c types) s → asked (wanted_tags c) (spaces_of_types types) (s ++ rest) ≡ (false, rest)
 no_tags c asked_for types s rest h = no_first ((wanted_tags c).can (spaces_of_types types)) c.min_tags c.max_tags s rest (no_min_tags c asked_for) h
@@ -184,7 +189,8 @@ front_parts c groups funcs s more asked_for h =
     let after = h.back ++ more in
     let split : s ++ more ≡ h.front ++ (h.imports ++ (h.tags ++ after)) = rw h.parts (simp append_assoc) in
     let between = none_between c asked_for (map entry groups) (types_of groups) h.imports h.tags after (flat_entries groups) h.spells_imports h.spells_tags in
-    rw (split, groups_drawn c groups h.front (h.imports ++ (h.tags ++ after)) asked_for h.spells_groups, between) (ap (λ d. Some d) (flat_functions c groups after))
+    cond-false (has_shape c) _ _ asked_for.no_shapes
+    ∙ rw (split, groups_drawn c groups h.front (h.imports ++ (h.tags ++ after)) asked_for h.spells_groups, between) (ap (λ d. Some d) (flat_functions c groups after))
 
 pub whole_reach : (c : Config) (groups : List (List (SubType ℕ))) (funcs s : List ℕ) → IsAskable c → Spells c groups funcs s → front_at c s ≡ Some ((map entry groups, funcs), [])
 whole_reach c groups funcs s asked_for h =

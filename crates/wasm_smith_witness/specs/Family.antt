@@ -5,14 +5,16 @@ use Rattle.wasm_spec.specs.Types.{AbstractHeapType, Func, Extern, Exn, NoExn, Co
 use Rattle.wasm_smith_config.specs.Config.{IsGood}
 use Rattle.wasm_smith_config.specs.Defaults.{least_counts}
 use Rattle.wasm_smith_config.specs.declared.config.Config.{Config}
+use Rattle.wasm_smith_module.specs.Generating.{has_shape}
 use Rattle.wasm_smith_types.specs.Offering.{max_results}
 use Rattle.wasm_smith_definitions.specs.FunctionTypes.{is_function}
 
 -- ---- configurations
 
--- A configuration with which lists can be asked for: modules are made from it, no minimum is above 0, and not everything is exported.
+-- A configuration with which lists can be asked for: modules are made from it, it has no shapes, no minimum is above 0, and not everything is exported.
 pub record IsAskable (c : Config) : Type 0 where
   pub good : IsGood c
+  pub no_shapes : has_shape c ≡ false
   pub nothing_owed : AllByRecursion (λ minimum. minimum ≡ 0) (least_counts c)
   pub no_exports : c.export_everything ≡ false
 

@@ -5,6 +5,7 @@ ghost use Rattle.std.specs.List.{list_all};
 ghost use Rattle.wasm_core_types.specs.CoreTypes.{abstract_heap_type, val_type, heap_type, storage_type, field_type};
 ghost use Rattle.wasm_core_types.specs.SubTypes.{composite_type, sub_type};
 ghost use Rattle.wasm_smith_config.specs.Defaults.{least_counts};
+ghost use Rattle.wasm_smith_module.specs.Generating.{has_shape};
 ghost use Rattle.wasm_smith_witness.specs.Family.{AreMemberGroups, IsAskable, is_offered_heap, is_target, is_enabled, is_member_storage, is_member_field, is_member_function, is_member_composite, is_member_type, is_lone_function, is_member_group};
 ghost use Rattle.wasm_smith_witness.specs.Groups.{group_of};
 ghost use Rattle.wasm_spec.specs.Types as spec;
@@ -198,12 +199,19 @@ fn owes_nothing(config: &Config) -> bool
     minimums.iter().all(|minimum| *minimum == 0)
 }
 
+// Checks that the configuration has a shape.
+fn has_shape(config: &Config) -> bool
+    ensures { result ≡ has_shape config.now }
+{
+    config.module_shape.is_some() || config.available_imports.is_some() || config.exports.is_some()
+}
+
 /// Checks that lists can be asked for with this configuration.
 pub fn is_askable(config: &Config) -> bool
     ensures { IsTrue result ↔ IsAskable config.now }
 {
     match config.check() {
-        Ok(()) => !config.export_everything && owes_nothing(config),
+        Ok(()) => !has_shape(config) && !config.export_everything && owes_nothing(config),
         Err(_) => false,
     }
 }

@@ -7,8 +7,9 @@ use wasm_gen::error::GenerateError;
 use wasm_gen::generate::generate;
 use wasm_gen::seed::seed_for;
 use wasm_gen::smith::Config;
-use wasm_smith_config_rows::settings::config_in;
-use wasm_test_rows::fields::{three_fields, two_fields};
+use wasm_smith_config_rows::settings::{config_in, config_of};
+use wasm_smith_config_rows::shaped::with_shapes;
+use wasm_test_rows::fields::{four_fields, three_fields, two_fields};
 use wasm_test_rows::rows::check_rows;
 use wasm_test_rows::values::{bytes_of, numbers_of};
 use wasm_test_types::types::groups_of;
@@ -60,6 +61,13 @@ const MADE_SPECIALLY: &str = "
     generate_custom_sections=yes | 00 01 02 61 62 01 02 63 64 01 01 01 01 | 0061736d01000000 00 03 01 61 62 00 03 01 63 64
     disallow_traps=yes min_memories=1 max_memories=1 min_data_segments=1 max_data_segments=1 | | 0061736d01000000 05 03 01 00 00 0c 01 01 0b 06 01 00 41 00 0b 00
     disallow_traps=yes min_tables=1 max_tables=1 min_element_segments=1 max_element_segments=1 min_elements=3 | | 0061736d01000000 04 04 01 70 00 00 09 06 01 04 41 00 0b 00
+";
+
+// Settings of the default configuration, its shapes, seeds, and the modules that are made of them.
+const MADE_FOR_SHAPES: &str = "
+    compact_imports_enabled=yes | module func -> ; / many m : a func 0 ; same m memory 0.. : b ; / f func 0, t table func 0.. | | 0061736d01000000 01 04 01 60 00 00 02 14 02 01 6d 00 7f 01 01 61 00 00 01 6d 00 7e 02 00 00 01 01 62 03 02 01 00 04 0a 01 40 00 64 70 00 00 d2 00 0b 07 09 02 01 66 00 01 01 74 01 00 0a 05 01 03 00 00 0b
+    | imports struct ; / one m t table 0? 0.. ; one m g global 0? ; / | 01 00 00 01 00 00 00 01 | 0061736d01000000 01 05 02 5f 00 5f 00 02 09 01 01 6d 01 67 03 63 01 00
+    | exports func i32 -> ; / / f func 0 | 01 00 00 01 00 00 | 0061736d01000000 01 07 02 5f 00 60 01 7f 00 03 02 01 01 07 05 01 01 66 00 00 0a 05 01 03 00 00 0b
 ";
 
 // Groups of types in words, the index of each function's type, and the seed that is found for them by default.
@@ -139,6 +147,28 @@ fn holds_specially(alloc: Global, row: &str) -> Option<bool> {
 #[test]
 fn special_modules_are_made_after_memory_ran_out(rt: HostRuntime) -> Result<(), Fail> {
     Ok(check_rows(rt.alloc(), MADE_SPECIALLY, 5, holds_specially)?)
+}
+
+// Returns the default configuration with these settings and shapes, at the second time where memory ran out.
+fn shaped_config(alloc: Global, settings: &str, shapes: &str) -> Option<Config> {
+    match with_shapes(alloc, config_of(Config::default(), settings)?, shapes) {
+        Some(config) => Some(config),
+        None => with_shapes(alloc, config_of(Config::default(), settings)?, shapes),
+    }
+}
+
+// Checks that just the module of a row is made for its shapes.
+fn holds_for_shapes(alloc: Global, row: &str) -> Option<bool> {
+    let (settings, shapes, seed, expected) = four_fields(row)?;
+    let config = shaped_config(alloc, settings, shapes)?;
+    let seed = field_bytes(alloc, seed)?;
+    let expected = field_bytes(alloc, expected)?;
+    Some(makes(alloc, &config, &seed, &expected))
+}
+
+#[test]
+fn modules_are_made_for_shapes_after_memory_ran_out(rt: HostRuntime) -> Result<(), Fail> {
+    Ok(check_rows(rt.alloc(), MADE_FOR_SHAPES, 3, holds_for_shapes)?)
 }
 
 #[test]

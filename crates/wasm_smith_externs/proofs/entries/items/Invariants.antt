@@ -7,7 +7,7 @@ use Rattle.wasm_smith_externs.proofs.entries.items.Given as goal
 abbrev pub invariant-items : goal.invariant-items
 invariant-items l = record {
   importer : IsImporterFor l.spaces.types l.importer;
-  added : AreAdded l.importer.config.now l.fn.spaces l.spaces l.fn.progress l.progress (map (named_item l.origin) (map import_item l.items.items));
+  added : AreAdded l.importer.config.now l.importer.bounds l.fn.spaces l.spaces l.fn.progress l.progress (map (named_item l.origin) (map import_item l.items.items));
   taken : length l.unstructured ≤ length l.fn.unstructured;
   fewer : l.progress.left < l.fn.progress.left;
 }

@@ -9,7 +9,7 @@ abbrev pub invariant-names : goal.invariant-names
 invariant-names l = record {
   importer : IsImporterFor l.spaces.types l.importer;
   offered : IsOfferedImport l.importer.config.now l.spaces.types (entity_type l.ty);
-  added : AreAdded l.importer.config.now l.fn.spaces l.spaces l.fn.progress l.progress (map (named l.origin (entity_type l.ty)) (map string_bytes l.names.items));
+  added : AreAdded l.importer.config.now l.importer.bounds l.fn.spaces l.spaces l.fn.progress l.progress (map (named l.origin (entity_type l.ty)) (map string_bytes l.names.items));
   taken : length l.unstructured ≤ length l.fn.unstructured;
   fewer : l.progress.left < l.fn.progress.left;
 }

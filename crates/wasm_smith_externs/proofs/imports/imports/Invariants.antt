@@ -8,9 +8,10 @@ abbrev pub invariant-grow : goal.invariant-grow
 invariant-grow l = record {
   importer : IsImporterFor l.spaces.types l.importer;
   config : l.importer.config.now ≡ l.config;
-  made : AreMadeSoFar l.config l.fn.duplicates l.fn.spaces l.spaces l.progress (map import_entry l.entries.items);
+  bounds : l.importer.bounds ≡ l.fn.bounds;
+  made : AreMadeSoFar l.config l.fn.bounds l.fn.duplicates l.fn.spaces l.spaces l.progress (map import_entry l.entries.items);
   taken : length l.unstructured ≤ length l.fn.unstructured;
-  begun : HasBegun l.config l.fn.spaces l.fn.unstructured l.progress l.spaces l.unstructured (map import_entry l.entries.items);
+  begun : HasBegun l.config l.fn.bounds l.fn.spaces l.fn.unstructured l.progress l.spaces l.unstructured (map import_entry l.entries.items);
 }
 
 abbrev pub decreases-grow : goal.decreases-grow

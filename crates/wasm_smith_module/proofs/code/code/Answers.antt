@@ -1,4 +1,4 @@
-use Rattle.std.proofs.Common.{map, ap, ◌∙◌, sym, arith}
+use Rattle.std.proofs.Common.{map, ap, ◌∙◌, arith}
 use Rattle.std.proofs.lemmas.List.{map_push}
 use Rattle.wasm_smith_definitions.specs.Items.{made_body}
 use Rattle.wasm_smith_types.proofs.GrowLaws.{times_goes_on}

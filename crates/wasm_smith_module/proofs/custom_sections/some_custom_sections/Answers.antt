@@ -1,4 +1,4 @@
-use Rattle.std.proofs.Common.{true, map, ap, ◌∙◌, arith}
+use Rattle.std.proofs.Common.{map, ap, ◌∙◌, arith}
 use Rattle.std.proofs.lemmas.List.{map_push}
 use Rattle.wasm_smith_definitions.specs.Items.{placed_custom}
 use Rattle.wasm_smith_types.proofs.GrowLaws.{grow_ends, grow_step}

@@ -1,15 +1,12 @@
 use Rattle.std.proofs.Common.{arith}
 use Rattle.wasm_encoder_sections.specs.CoreItems.{table_type}
 use Rattle.wasm_smith_definitions.specs.Items.{element_items, expression}
-use Rattle.wasm_smith_module.proofs.ElementLaws.{active_element, nullable_table, table_element}
+use Rattle.wasm_smith_module.proofs.ElementLaws.{active_element, table_element}
 use Rattle.wasm_smith_module.proofs.TrapLaws.{active_drawn}
 use Rattle.wasm_smith_module.proofs.element_segments.draw_active.Goals as goal
 
 pub draw_items-requires-clause-element : goal.draw_items-requires-clause-element
 draw_items-requires-clause-element c = table_element c.args.config.now c.args.spaces.now (table_type c.args.table.now) (c.requires.tables _ _ c.requires.there)
-
-pub draw_items-requires-clause-nullable : goal.draw_items-requires-clause-nullable
-draw_items-requires-clause-nullable c = nullable_table c.args.spaces.now.tables _ (table_type c.args.table.now) c.requires.nullable c.requires.there
 
 pub returns-clause-allowed : goal.returns-clause-allowed
 returns-clause-allowed c =

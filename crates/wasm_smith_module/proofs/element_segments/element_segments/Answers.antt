@@ -16,7 +16,6 @@ grow-preserved c = record {
   same = c.grow.invariant.same;
   rules = rw c.add_element_segment.ensures c.grow.invariant.rules;
   tables = tables_keep_more c.args.config.now c.grow.spaces _ _ c.add_element_segment.ensures c.grow.invariant.tables;
-  nullable = rw c.add_element_segment.ensures c.grow.invariant.nullable;
   functions = rw c.add_element_segment.ensures c.grow.invariant.functions;
   same_tables = rw c.add_element_segment.ensures c.grow.invariant.same_tables;
   taken = omega arith;

@@ -3,7 +3,7 @@ use Rattle.wasm_smith_definitions.specs.Items.{element_segment}
 use Rattle.wasm_smith_definitions.specs.Kinds.{of_element, wanted_elements}
 use Rattle.wasm_smith_definitions.specs.Steps.{TablesKeep}
 use Rattle.wasm_smith_definitions.proofs.StepLaws.{IsGrowing}
-use Rattle.wasm_smith_module.specs.Elements.{AreNullable, IsDrawnElement}
+use Rattle.wasm_smith_module.specs.Elements.{IsDrawnElement}
 use Rattle.wasm_smith_module.proofs.element_segments.element_segments.Given as goal
 use Rattle.wasm_smith_validity.specs.ValidGroups.{AllKeepTypeRules}
 use Rattle.wasm_smith_validity.specs.Spaces.{functions_of}
@@ -14,7 +14,6 @@ invariant-grow l = record {
   same : l.can ≡ (wanted_elements l.config).can l.fn.spaces;
   rules : AllKeepTypeRules l.spaces.types;
   tables : TablesKeep l.config l.spaces;
-  nullable : AreNullable l.spaces.tables;
   functions : functions_of l.spaces ≡ functions_of l.fn.spaces;
   same_tables : l.spaces.tables ≡ l.fn.spaces.tables;
   taken : length l.unstructured ≤ length l.fn.unstructured;

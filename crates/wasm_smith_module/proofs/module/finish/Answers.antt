@@ -8,6 +8,7 @@ use Rattle.wasm_smith_validity.specs.ValidGroups.{AllKeepTypeRules, types_of}
 use Rattle.wasm_smith_module.proofs.MadeLaws.{bodies_are}
 use Rattle.wasm_smith_module.specs.Building.{AreItems}
 use Rattle.wasm_smith_module.specs.Items.{drawn_items}
+use Rattle.wasm_smith_module.specs.TrueToShapes.{AreTypesOf}
 use Rattle.wasm_smith_module.proofs.module.finish.Goals as goal
 
 pub draw_items-requires-clause-few : goal.draw_items-requires-clause-few
@@ -15,6 +16,9 @@ draw_items-requires-clause-few c = omega (arith, c.requires.few, ap length c.typ
 
 pub draw_items-requires-clause-rules : goal.draw_items-requires-clause-rules
 draw_items-requires-clause-rules c = subst AllKeepTypeRules (sym c.types.ensures) c.requires.rules
+
+pub draw_items-requires-clause-types : goal.draw_items-requires-clause-types
+draw_items-requires-clause-types c = subst (AreTypesOf c.args.config) (sym c.types.ensures) c.requires.types
 
 pub returns-clause-finished : goal.returns-clause-finished
 returns-clause-finished c =

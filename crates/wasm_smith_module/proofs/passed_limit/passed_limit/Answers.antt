@@ -1,7 +1,7 @@
 use Rattle.std.proofs.Common.{ap, sym, ◌∙◌, inl}
 use Rattle.std.proofs.lemmas.Option.{IfSome_then}
 use Rattle.wasm_core_types.specs.Limits.{limit}
-use Rattle.wasm_smith_module.proofs.CountLaws.{all_within, count_passed, segment_passed, types_are}
+use Rattle.wasm_smith_module.proofs.CountLaws.{all_within, count_passed, size_passed, types_are}
 use Rattle.wasm_smith_module.proofs.PassedLaws.{none_then}
 use Rattle.wasm_smith_module.proofs.passed_limit.passed_limit.Goals as goal
 use Rattle.wasm_smith_module.specs.Measures.{imported_items}
@@ -18,9 +18,9 @@ returns-in-Some-clause-passed c = inl (λ bodies. count_passed (made_of c.args.i
 
 pub returns-clause-passed : goal.returns-clause-passed
 returns-clause-passed c =
-    IfSome_then c.passed_segment.result c.passed_segment.ensures.passed (λ l p. inl (λ bodies. segment_passed (made_of c.args.items.now) bodies (limit l) p))
+    IfSome_then c.passed_size.result c.passed_size.ensures.passed (λ l p. inl (λ bodies. size_passed (made_of c.args.items.now) bodies (limit l) (p bodies)))
 
 pub returns-clause-within : goal.returns-clause-within
 returns-clause-within c =
-    none_then c.passed_segment.result c.passed_segment.ensures.within
-    (λ segments bodies names short. all_within (made_of c.args.items.now) bodies c.in_default.ensures segments names short)
+    none_then c.passed_size.result c.passed_size.ensures.within
+    (λ sizes bodies short. all_within (made_of c.args.items.now) bodies c.in_default.ensures (sizes bodies short))

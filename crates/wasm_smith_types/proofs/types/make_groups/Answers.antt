@@ -20,16 +20,16 @@ returns-clause-least c = λ le.
 
 pub grow-init : goal.grow-init
 grow-init c = record {
-  few = rw c.new.ensures.items (omega arith);
-  within = rw c.new.ensures.items (omega arith);
-  some = rw c.new-2.ensures.items tt;
-  whole = rw (c.new-2.ensures.items, c.new.ensures.items) refl;
-  candidates = rw c.new-3.ensures.items tt;
+  few = rw c.new-made.ensures.types (omega arith);
+  within = rw c.new-made.ensures.types (omega arith);
+  some = rw c.new-made.ensures.sizes tt;
+  whole = rw (c.new-made.ensures.sizes, c.new-made.ensures.types) refl;
+  candidates = rw c.new-made.ensures.candidates tt;
   done =
-      λ features suits. record { valid = rw c.new-2.ensures.items tt; members = λ index type is. absurd (nothing_at index type (rw c.new.ensures.items at is)) };
-  drawn = λ zero_owed. groups_begin c.args.offers.now c.args.max _ c.args.unstructured.now c.new-2.ensures.items c.new-3.ensures.items;
+      λ features suits. record { valid = rw c.new-made.ensures.sizes tt; members = λ index type is. absurd (nothing_at index type (rw c.new-made.ensures.types at is)) };
+  drawn = λ zero_owed. groups_begin c.args.offers.now c.args.max _ c.args.unstructured.now c.new-made.ensures.sizes c.new-made.ensures.candidates;
   taken = omega arith;
-  fitting = rw c.new-2.ensures.items (c.new-fitting.ensures _);
+  fitting = rw c.new-made.ensures.sizes (c.new-fitting.ensures _);
 }
   where
     nothing_at : (index : ℕ) (type : SubType ℕ) → slice_get [] index ≡ Some type → ⊥

@@ -1,0 +1,10 @@
+use Rattle.std.proofs.Common.{◌≡◌, ◌++◌, drop, map}
+use Rattle.wasm_smith_externs.specs.Wanted.{of_tag}
+use Rattle.wasm_smith_validity.specs.Spaces.{spaces_after_all}
+use Rattle.wasm_smith_externs.proofs.tags.shape_tags.Given as goal
+
+abbrev pub invariant-loop-index : goal.invariant-loop-index
+invariant-loop-index l = record {
+  types : l.own.items ++ drop l.index-index l.types ≡ l.types;
+  known : l.spaces ≡ spaces_after_all l.fn.spaces (map of_tag l.own.items);
+}

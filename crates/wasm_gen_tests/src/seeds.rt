@@ -89,7 +89,7 @@ const ROWS: &str = "
     | 1 1 0 | 01 | none
     // A group of two types.
     | 1 2 0 | 00 | none
-    // What is asked for by a boolean is left out, and configurations out of reach.
+    // Parts that a boolean asks for are left out, and configurations out of reach refused.
     allow_invalid_funcs=yes disallow_traps=yes generate_custom_sections=yes | 1 1 0 | 00 | types functions code
     min_types=1           | 1 1 0 | 00 | none
     export_everything=yes | 1 1 0 | 00 | none

@@ -1,4 +1,4 @@
-//! What can be made at all.
+//! The lists that can be made at all.
 
 ghost use Rattle.std.specs.Prelude.{◌≡◌, [], ℕ, List, Some, map};
 ghost use Rattle.wasm_spec.specs.Types.{SubType};

@@ -1,7 +1,7 @@
 //! Configurations with shapes, in words, with `&` between them: `imports func -> ; / one m f func 0 ; / & exports / / g memory 0..`. In front of each shape
 //! stands what it is for: `module`, `imports` or `exports`.
 
-ghost use Rattle.std.specs.Prelude.{◌≡◌, false};
+ghost use Rattle.std.specs.Prelude.{◌≡◌, IfSome, Some, codes, false};
 ghost use Rattle.wasm_smith_config_rows.specs.Settings.{with_shapes};
 
 use crate::shapes::shape_of;
@@ -13,6 +13,9 @@ use wasm_test_rows::fields::word_and_rest;
 // Sets the shape for a use, if there is such a use.
 fn set_shape(config: &mut Config, purpose: &str, shape: Shape) -> bool
     ensures others { with_shapes config.new config.old ≡ config.old }
+    ensures module { purpose.now ≡ codes "module" → config.new.module_shape ≡ Some shape }
+    ensures imports { purpose.now ≡ codes "imports" → config.new.available_imports ≡ Some shape }
+    ensures exports { purpose.now ≡ codes "exports" → config.new.exports ≡ Some shape }
     ensures unknown { result ≡ false → config.new ≡ config.old }
 {
     match purpose {
@@ -25,7 +28,9 @@ fn set_shape(config: &mut Config, purpose: &str, shape: Shape) -> bool
 }
 
 /// Returns the configuration with the shapes of a field, if there are some.
-pub fn with_shapes(alloc: Global, mut config: Config, field: &str) -> Option<Config> {
+pub fn with_shapes(alloc: Global, mut config: Config, field: &str) -> Option<Config>
+    ensures others { IfSome result (λ it. with_shapes it config ≡ config) }
+{
     if field.trim().is_empty() {
         return Some(config);
     }

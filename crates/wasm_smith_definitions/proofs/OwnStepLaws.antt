@@ -53,7 +53,7 @@ not_empty (x ∷ xs) i lt e = cc
 
 -- ---- items of these types
 
--- What holds in a loop over types that makes an item of each: the items are a step, and of the types so far.
+-- The invariant of a loop over types that makes an item of each: the items are a step, and of the types so far.
 pub record AreMade {A B : Type 0} (c : Config) (entry : A → Entry) (type : A → B) (all : List B) (old now : Spaces) (items : List A) (rest : List B) : Type 0 where
   pub step : IsStep c entry old now items
   pub types : map type items ++ rest ≡ all

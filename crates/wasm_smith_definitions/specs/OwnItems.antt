@@ -81,6 +81,6 @@ pub record KeepsOwnTableType (features : Features) (types : List (SubType ℕ)) 
   pub type : is_table_type features types table ≡ true
   pub filled : table.element_type.nullable ≡ false → has features FunctionReferences ≡ true
 
--- What is drawn for an own table: whether it has an initialiser. One whose elements may be null has it where a bool says so, with garbage collection.
+-- The draw for an own table: true if it has an initialiser. One whose elements may be null has it where a bool says so, with garbage collection.
 abbrev pub initialiser_at : Config → Bool → List ℕ → Bool × List ℕ
 initialiser_at c nullable s = if nullable then bool_if (c.gc_enabled && c.reference_types_enabled) s else (true, s)

@@ -1,4 +1,4 @@
--- What items leave of the bounds on imports.
+-- The bounds on imports that items leave.
 use Rattle.std.proofs.Common.{ℕ, ◌≤◌, List, arith}
 use Rattle.wasm_spec.specs.Types.{ExternalKind, SubType, FuncKind, TableKind, MemoryKind, GlobalKind, TagKind}
 use Rattle.wasm_smith_config.specs.declared.config.Config.{Config}

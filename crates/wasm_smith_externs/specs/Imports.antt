@@ -1,4 +1,4 @@
--- What the step of imports makes: how many imports are wanted, when one can be made, the bounds on them, and that each keeps its rule.
+-- The step of imports: how many imports are wanted, when one can be made, the bounds on them, and that each keeps its rule.
 use Rattle.std.specs.Prelude.{◌≡◌, ◌⊎◌, ℕ, ◌-◌, ◌<◌, ◌≤◌, Bool, false, ⊤, List, [], length, max, if◌then◌else◌}
 use Rattle.std.specs.List.{AllByRecursion, IsDistinct}
 use Rattle.wasm_spec.specs.Syntax.{ImportEntry, Import, CompactItems, CompactNames, imported_by}
@@ -23,7 +23,7 @@ of_import entry = OfImport entry
 abbrev pub import_count : List ImportEntry → ℕ
 import_count entries = length (all_named entries)
 
--- What the first draw says of a first import: true where one is made. Nothing is drawn where no item can be imported.
+-- The first draw of the step: true where a first import is made. Nothing is drawn where no item can be imported.
 abbrev pub asked_imports : Config → ImportBounds → Spaces → List ℕ → Bool × List ℕ
 asked_imports c b k s = if can_import_some c b k then grows_at c.min_imports c.max_imports 0 s else (false, s)
 

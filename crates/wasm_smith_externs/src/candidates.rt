@@ -14,7 +14,7 @@ use wasm_smith_definitions::function_types::function_size;
 use wasm_smith_definitions::index_spaces::IndexSpaces;
 use wasm_smith_unstructured::unstructured::Unstructured;
 
-/// What may still be exported: the functions and tags whose types fit into what is left, and each table, memory and global where something is left.
+/// The items that may still be exported: the functions and tags whose types fit into what is left, and each table, memory and global where something is left.
 #[derive(Debug, Drop)]
 pub struct Candidates {
     functions: Fitting,

@@ -4,9 +4,8 @@ ghost use Rattle.std.specs.Prelude.{◌≡◌, ◌≤◌, ◌<◌, ◌^◌, ◌�
 ghost use Rattle.wasm_smith_definitions.specs.Offered.{HasByteLimits, HasFewTables};
 ghost use Rattle.wasm_smith_externs.specs.Added.{IsImporterFor};
 ghost use Rattle.wasm_smith_externs.specs.Bounds.{AreWithin};
-ghost use Rattle.wasm_smith_externs.specs.Candidates.{can_import_some, type_sizes};
+ghost use Rattle.wasm_smith_externs.specs.Candidates.{can_import_some};
 ghost use Rattle.wasm_smith_externs.specs.Imports.{AreGrownImports, LackImports, asked_imports};
-ghost use Rattle.wasm_smith_externs.specs.Named.{all_named, types_of};
 ghost use Rattle.wasm_smith_shapes.specs.Imports.{import_entry};
 ghost use Rattle.wasm_smith_unstructured.specs.Draws.{IsDrawn};
 
@@ -21,15 +20,6 @@ use wasm_smith_config::error::Error;
 use wasm_smith_definitions::index_spaces::IndexSpaces;
 use wasm_smith_shapes::imports::ImportEntry;
 use wasm_smith_unstructured::unstructured::Unstructured;
-
-/// The imports of a module.
-#[derive(Debug, Drop)]
-pub struct MadeImports {
-    /// Their entries.
-    pub entries: Vec<ImportEntry>,
-    /// The size of all their types together.
-    pub type_size: u32,
-}
 
 // Returns true if another entry is drawn: where an item of some kind can be imported, as long as imports are owed, and then as long as there
 // is room for one and the next bool is true.
@@ -68,14 +58,13 @@ pub fn imports<'a>(
     bounds: ImportBounds,
     duplicates: DuplicateImportsBehavior,
     spaces: &mut IndexSpaces<'a>,
-) -> Result<MadeImports, Error>
+) -> Result<Vec<ImportEntry>, Error>
     requires within { AreWithin config.now bounds }
     requires few { length spaces.old.types ≤ 2 ^ 31 }
     requires ordered { config.now.min_imports ≤ config.now.max_imports }
     requires limits { HasByteLimits config.now }
     requires tables { HasFewTables config.now }
-    ensures grown { IfOk result (λ v. AreGrownImports config.now bounds duplicates spaces.old unstructured.old spaces.new unstructured.new (map import_entry v.entries.items)) }
-    ensures size { IfOk result (λ v. v.type_size ≡ type_sizes spaces.old.types (types_of (all_named (map import_entry v.entries.items)))) }
+    ensures grown { IfOk result (λ v. AreGrownImports config.now bounds duplicates spaces.old unstructured.old spaces.new unstructured.new (map import_entry v.items)) }
     ensures taken { length unstructured.new ≤ length unstructured.old }
     ensures refused { IfErr result (λ e. (e ≡ Error.Memory) ⊎ ((e ≡ Error.IncorrectFormat) × LackImports config.now bounds spaces.old spaces.new)) }
 {
@@ -89,6 +78,5 @@ pub fn imports<'a>(
     if progress.count() < config.min_imports {
         return Err(Error::IncorrectFormat);
     }
-    let type_size = bounds.type_size - progress.size_left();
-    Ok(MadeImports { entries, type_size })
+    Ok(entries)
 }

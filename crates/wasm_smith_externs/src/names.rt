@@ -15,7 +15,7 @@ use wasm_smith_unstructured::unstructured::Unstructured;
 // The most bytes of a name that is drawn.
 const MAX_NAME: usize = 1000;
 
-/// Whether two imports may have the same module name and the same name.
+/// Allows or forbids two imports with the same module name and the same name.
 #[derive(Clone, Copy, Debug, PartialEq, Eq)]
 pub enum DuplicateImportsBehavior {
     /// They may.

@@ -110,11 +110,4 @@ impl Progress {
     {
         self.left
     }
-
-    /// Returns what is left of the size that all types may have together.
-    pub fn size_left(&self) -> u32
-        ensures { result ≡ self.now.size_left }
-    {
-        self.size_left
-    }
 }

@@ -1,4 +1,4 @@
--- What is drawn is what is made.
+-- The module that is made is the one that is drawn.
 use Rattle.std.proofs.Common.{◌≡◌, ℕ, ◌+◌, ◌-◌, Bool, true, false, ◌&&◌, not, List, [], map, length, Option, Some, None, refl, sym, ap, ◌∙◌, subst, arith, if◌then◌else◌}
 use Rattle.std.specs.Option.{option_and_then}
 use Rattle.std.specs.Prelude.{IfSome, nat_lt, option_map, ◌==◌}
@@ -122,7 +122,7 @@ all_zero : (a b d e f g : ℕ) → a + b + d + e + f + g ≡ 0 → AreZero a b d
 all_zero a b d e f g h =
     record { a_is = omega (arith, h); b_is = omega (arith, h); d_is = omega (arith, h); e_is = omega (arith, h); f_is = omega (arith, h); g_is = omega (arith, h) }
 
--- What is made is what bare types and functions have.
+-- The module that is made has bare types and functions.
 record IsBare (m : Made) (left : List ℕ) : Type 0 where
   tables : m.tables ≡ []
   memories : m.memories ≡ []

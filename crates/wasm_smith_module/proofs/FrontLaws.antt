@@ -1,4 +1,4 @@
--- What the steps leave as it was, one after the other.
+-- The parts that the steps leave as they were, one after the other.
 use Rattle.std.proofs.Common.{◌≡◌, ℕ, ◌+◌, ◌≤◌, ◌<◌, ◌^◌, false, List, [], ◌∷◌, ◌++◌, length, max, refl, ap, sym, ◌∙◌, subst, arith, append_assoc}
 use Rattle.wasm_spec.specs.Syntax.{ImportEntry, Table, Global}
 use Rattle.wasm_spec.specs.Types.{ExternalKind, SubType, MemoryType, FuncKind, TableKind, MemoryKind, GlobalKind, TagKind}

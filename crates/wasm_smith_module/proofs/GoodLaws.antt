@@ -1,4 +1,4 @@
--- What a good configuration keeps.
+-- Properties of a good configuration.
 use Rattle.std.proofs.Common.{◌≤◌, ◌^◌, [], arith}
 use Rattle.std.proofs.lemmas.Bool.{ltb-false}
 use Rattle.wasm_smith_config.specs.Config.{IsGood, at_least}

@@ -1,4 +1,4 @@
--- What imports that are drawn leave for items of the module's own, and what those of a shape are.
+-- The bounds that drawn imports leave for items of the module's own, and those of a shape.
 use Rattle.std.proofs.Common.{◌≡◌, ℕ, ◌+◌, ◌-◌, ◌≤◌, ◌^◌, not, List, [], length, max, min, Option, Some, None, is_some, refl, sym, ap, ◌∙◌, subst, arith, if◌then◌else◌}
 use Rattle.std.specs.List.{AllByRecursion, flat_map}
 use Rattle.std.proofs.lemmas.Bool.{ltb-false}

@@ -1,4 +1,4 @@
--- What holds of the module that is made, and why none is made.
+-- Properties of the module that is made, and causes for making none.
 use Rattle.std.proofs.Common.{◌≡◌, ℕ, List, Option, Some, None, Result, Ok, Err, length, sym, ap, ◌∙◌, subst, inl, inr}
 use Rattle.std.specs.List.{AllByRecursion, IsDistinct}
 use Rattle.std.specs.Prelude.{IfOk, IfErr, IfSome, IfNone, MatchOption}

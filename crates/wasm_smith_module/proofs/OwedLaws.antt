@@ -1,4 +1,4 @@
--- What is owed, and why drawing ends.
+-- Items that are owed, and why drawing ends.
 use Rattle.std.proofs.Common.{◌≡◌, ℕ, ◌<◌, ◌≤◌, Bool, true, false, ◌||◌, List, is_some, refl, ◌⊎◌, inl, inr, if◌then◌else◌, arith}
 use Rattle.wasm_spec.specs.Types.{TableType}
 use Rattle.wasm_smith_config.specs.declared.config.Config.{Config}

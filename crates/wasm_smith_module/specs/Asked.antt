@@ -1,4 +1,4 @@
--- What the shapes of a configuration ask of a module. The types of a shape stand behind drawn ones: those of exports last, those of imports before them.
+-- The shapes of a configuration, as a module has them. The types of a shape stand behind drawn ones: those of exports last, those of imports before them.
 use Rattle.std.specs.Prelude.{◌≡◌, ◌⊎◌, ⊤, ℕ, ◌+◌, ◌-◌, ◌^◌, Bool, true, not, List, [], ◌++◌, length, Option, Some, None, IfSome, codes, is_some}
 use Rattle.std.specs.List.{AllByRecursion, list_any}
 use Rattle.wasm_spec.specs.Features.{Features, has, MultiMemory, ReferenceTypes}

@@ -1,4 +1,4 @@
-//! What several steps share: choices, and lists.
+//! Choices and lists, as several steps make them.
 
 ghost use Rattle.std.specs.Prelude.{◌≡◌, ◌≤◌, ◌<◌, ◌+◌, ◌++◌, ◌∷◌, ◌||◌, [], length, nat_lt, IfOk};
 ghost use Rattle.wasm_core_types.specs.CoreTypes.{val_type};

@@ -80,5 +80,5 @@ pub fn draw_imports(
     }
     let bounds = ImportBounds::beside(config, spaces.types(), own);
     let drawn = imports(alloc, unstructured, config, bounds, duplicates, spaces)?;
-    Ok(drawn.entries)
+    Ok(drawn)
 }

@@ -44,8 +44,8 @@ fn first_passed(measures: &[(Limit, u64)]) -> Option<Limit>
     None
 }
 
-// Returns a limit that a count of the module, or the size of the types of its imports and exports, passes. These are the spaces of
-// what it imports.
+// Returns a limit that a count of the module, or the size of the types of its imports and exports, passes. The spaces
+// are those of its imports alone.
 fn passed_count(spaces: &IndexSpaces<'_>, items: &ModuleItems<'_>) -> Option<Limit>
     requires whole { total items.now.sizes.now ≡ length items.now.types.now }
     requires exact { spaces.now ≡ with_items (spaces_of_types (types_of (made_of items.now).groups)) (imported_items (made_of items.now)) }

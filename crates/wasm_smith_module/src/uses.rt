@@ -31,7 +31,7 @@ use wasm_smith_externs::start::start;
 use wasm_smith_types::value_types::Offers;
 use wasm_smith_unstructured::unstructured::Unstructured;
 
-/// What a module does with its items. Its exports are kept by the index spaces.
+/// The uses that a module makes of its items. Its exports are kept by the index spaces.
 #[derive(Debug, Drop)]
 pub struct Uses {
     /// The function that the module starts with.

@@ -39,6 +39,6 @@ pub struct ModuleItems<'a> {
     pub bodies: &'a [Code],
     /// The custom sections.
     pub customs: &'a [CustomSection],
-    /// Whether the number of data segments is stated before the bodies, where there are some.
+    /// True if the number of data segments is stated before the bodies, where there are some.
     pub data_count: bool,
 }

@@ -1,4 +1,4 @@
--- What is asked of a shape depends on the flags of features alone.
+-- The check of a shape depends on the flags of features alone.
 use Rattle.std.proofs.Common.{◌≡◌, ℕ, List, [], ◌∷◌, refl, sym, ap, ◌∙◌}
 use Rattle.std.specs.Prelude.{◌&&◌, ◌||◌, Some}
 use Rattle.wasm_spec.specs.Features.{Features, FunctionReferences, has}

@@ -1,4 +1,4 @@
--- What all types from an index on have, as far as a loop has come.
+-- A property of all types from an index on, as far as a loop has come.
 use Rattle.std.proofs.Common.{◌≡◌, ◌⊎◌, ℕ, zero, suc, ◌+◌, ◌≤◌, ◌<◌, List, [], ◌∷◌, length, map, get_or, Some, slice_get, inl, inr, refl, sym, ap, ◌∙◌, arith, subst}
 use Rattle.std.proofs.lemmas.Option.{slice_get_within}
 use Rattle.wasm_core_types.specs.SubTypes.{sub_type}

@@ -1,4 +1,4 @@
--- What decides on further items of a module, of its index spaces; and the rules on items by their parts, as they are checked.
+-- The parts of a module's index spaces that decide on further items; and the rules on items by their parts, as they are checked.
 use Rattle.std.specs.Prelude.{◌≡◌, ℕ, Bool, true, not, ◌&&◌, ◌||◌, nat_eq, nat_le, length, map, Option, Some, None}
 use Rattle.wasm_core_types.specs.SubTypes.{sub_type}
 use Rattle.wasm_spec.specs.Features.{Features, has, FunctionReferences}

@@ -1,4 +1,4 @@
-//! What a shape has, as flat lists.
+//! The parts of a shape as flat lists.
 
 ghost use Rattle.std.specs.List.{flat_map};
 ghost use Rattle.std.specs.Prelude.{◌≡◌, ◌↔◌, ◌≤◌, ◌++◌, IfOk, IsTrue, length, map};

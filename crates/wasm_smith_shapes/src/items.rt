@@ -66,16 +66,16 @@ fn is_funcref(reference: RefType) -> bool
         )
 }
 
-/// What decides on further items of a module: its types, and whether it has a table and a memory.
+/// The parts of a module that decide on further items: its types, and if it has a table and a memory.
 #[derive(Clone, Copy, Debug)]
 pub struct Items<'a> {
     /// The features under which the module is validated.
     pub features: WasmFeatures,
     /// Its types.
     pub types: &'a [SubType],
-    /// Whether it has a table.
+    /// True if it has a table.
     pub has_table: bool,
-    /// Whether it has a memory.
+    /// True if it has a memory.
     pub has_memory: bool,
 }
 

@@ -5,7 +5,7 @@ use std::marker::Model;
 use wasm_core_types::types::SubType;
 use wasm_encoder_sections::entity_type::EntityType;
 
-/// What a shape is for.
+/// The use of a shape.
 #[derive(Clone, Copy, Debug, PartialEq, Eq)]
 pub enum ShapeUse {
     /// A module has its types, imports and exports.
@@ -16,7 +16,7 @@ pub enum ShapeUse {
     Exports,
 }
 
-/// What a shape exports.
+/// An export of a shape.
 #[derive(Debug, Drop)]
 pub struct ShapeExport {
     /// Its name.

@@ -362,7 +362,7 @@ pub const COUNTED: &str = "
     all | module | 2 | func -> ; / one m f func 1 ; / f func 0 | imports
 ";
 
-/// What a shape is checked for.
+/// The features and the use that a shape is checked for.
 #[derive(Clone, Copy)]
 pub struct Asked {
     features: WasmFeatures,

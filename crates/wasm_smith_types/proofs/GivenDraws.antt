@@ -1,4 +1,4 @@
--- What is drawn beside types that are given.
+-- Draws beside types that are given.
 use Rattle.std.proofs.Common.{◌≡◌, ℕ, ◌+◌, ◌-◌, ◌<◌, true, false, List, length, map, IfSome}
 use Rattle.wasm_spec.specs.Types.{SubType, RecGroup, Single}
 use Rattle.wasm_smith_config.specs.declared.config.Config.{Config}

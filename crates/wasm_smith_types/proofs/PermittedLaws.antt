@@ -1,4 +1,4 @@
--- What is drawn of types is permitted.
+-- Types that are drawn are permitted.
 use Rattle.std.proofs.Common.{◌≡◌, ℕ, ◌-◌, ◌≤◌, ◌<◌, Bool, true, false, ◌&&◌, ◌||◌, cond, List, [], ◌∷◌, length, Option, Some, None, refl, inl, inr, arith, not}
 use Rattle.std.proofs.lemmas.Bool.{le-leb, ltb-true, not-false, and_parts, and_from}
 use Rattle.std.specs.List.{AllByRecursion, flat_map}

@@ -1,4 +1,4 @@
--- What the types draw from the bytes that are left: what is made, and the bytes that are left then. References go to types with indexes below bound.
+-- Draws of types from the bytes that are left: the type, and the bytes that are left then. References go to types with indexes below bound.
 use Rattle.std.specs.Prelude.{ℕ, zero, suc, ◌+◌, ◌-◌, ◌++◌, [], ◌∷◌, ◌||◌, nat_le, Bool, true, false, ◌&&◌, List, length, Option, Some, None, nat_lt, ◌==◌, if◌then◌else◌, not}
 use Rattle.std.specs.List.{list_any}
 use Rattle.wasm_spec.specs.Types.{AbstractHeapType, Func, HeapType, Abstract, Concrete, ValType, I32, Ref, StorageType, I8, I16, Val, FieldType, FuncType, CompositeType, FuncComposite, StructComposite, ArrayComposite, ContComposite, SubType}

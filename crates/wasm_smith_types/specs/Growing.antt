@@ -2,7 +2,7 @@
 use Rattle.std.specs.Prelude.{◌≡◌, ⊤, ℕ, zero, suc, ◌-◌, Bool, true, false, List, [], ◌∷◌, ◌++◌, nat_lt, Result, Ok, Err, if◌then◌else◌}
 use Rattle.wasm_smith_unstructured.specs.Draws.{bool_at}
 
--- What a call that allocates returned, seen by view, and the bytes that it left are the pair that is drawn, unless memory runs out.
+-- The value that a call which allocates returned, seen by view, and the bytes that it left are the pair that is drawn, unless memory runs out.
 abbrev pub Draws : {X Y E : Type 0} → (X → Y) → List ℕ → Result X E → Y × List ℕ → Type 0
 Draws view left (Ok x) drawn = drawn ≡ (view x, left)
 Draws view left (Err e) drawn = ⊤

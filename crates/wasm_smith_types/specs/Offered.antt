@@ -1,4 +1,4 @@
--- What is offered, as the code has it, as it is in the specification.
+-- The offers of the code, as they are in the specification.
 use Rattle.wasm_core_types.specs.CoreTypes.{val_type}
 use Rattle.wasm_smith_types.specs.Drawing as spec
 use Rattle.wasm_smith_types.specs.declared.value_types.Kind.{Kind}

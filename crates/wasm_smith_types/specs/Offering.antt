@@ -1,4 +1,4 @@
--- What a configuration offers for types.
+-- The offers of a configuration for types.
 use Rattle.std.specs.Prelude.{◌≡◌, ◌+◌, ℕ, Bool, List, [], ◌∷◌, ◌++◌, map, Option, if◌then◌else◌, ◌&&◌}
 use Rattle.wasm_spec.specs.Types.{AbstractHeapType, Func, Extern, Any, Eq, I31, Struct, Array, None, NoFunc, NoExtern, Exn, NoExn, Cont, NoCont, I32, I64, F32, F64, V128, SubType, RecGroup, Single}
 use Rattle.wasm_smith_config.specs.declared.config.Config.{Config}

@@ -1,4 +1,4 @@
--- What may be drawn of types under features: they allow it, its references are below a bound, and it is small.
+-- Types that may be drawn under features: they allow them, their references are below a bound, and they are small.
 use Rattle.std.specs.Prelude.{◌≡◌, ◌<◌, ◌≤◌, ◌⊎◌, ℕ, true, false}
 use Rattle.std.specs.List.{AllByRecursion}
 use Rattle.wasm_spec.specs.Features.{Features, ReferenceTypes, MultiValue, FunctionReferences, Gc, GcTypes, has}
@@ -29,7 +29,7 @@ abbrev pub SuitsKind : Features → Kind → Type 0
 SuitsKind features (NumberOrVector type) = (bound : ℕ) → IsPermittedValue features bound type
 SuitsKind features Reference = has features ReferenceTypes ≡ true
 
--- What is offered for values is allowed under the features.
+-- The offers for values are allowed under the features.
 pub record SuitsValues (features : Features) (o : Offers) : Type 0 where
   pub kinds : AllByRecursion (SuitsKind features) o.kinds
   pub heaps : AllByRecursion (λ heap. is_allowed_abstract features true heap ≡ true) o.heaps

@@ -1,13 +1,13 @@
--- What is drawn from the bytes that are left: the value, and the bytes that are left then.
+-- Draws from the bytes that are left: the value, and the bytes that are left then.
 use Rattle.std.specs.Prelude.{◌≡◌, ℕ, zero, suc, ◌+◌, ◌-◌, ◌*◌, ◌%◌, ◌^◌, List, [], ◌∷◌, length, take, drop, min, Bool, false, Option, Some, None, Result, Ok, Err, slice_get, nat_lt, nat_le, ◌==◌, if◌then◌else◌}
 use Rattle.std.specs.Int.Digits.{number_from_digits}
 use Rattle.std.specs.Str.Lossy.{utf8_valid_len}
 
--- What a call returned, seen by view, and the bytes that it left are the pair that is drawn.
+-- The value that a call returned, seen by view, and the bytes that it left are the pair that is drawn.
 abbrev pub IsDrawn : {X Y : Type 0} → (X → Y) → X → List ℕ → Y × List ℕ → Type 0
 IsDrawn view x left drawn = drawn ≡ (view x, left)
 
--- What a call gave, seen by view.
+-- The value of a call that returned one, seen by view.
 abbrev pub given : {X Y E : Type 0} → (X → Y) → Result X E → Option Y
 given view (Ok x) = Some (view x)
 given view (Err e) = None

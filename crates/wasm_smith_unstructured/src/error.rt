@@ -19,7 +19,7 @@ pub enum Error {
     /// Fewer items than the configuration's minimum can be made.
     #[error("incorrect format")]
     IncorrectFormat,
-    /// A choice was to be made where there is nothing to choose.
+    /// There is nothing to choose from: in a module, no value for a table or a global that a shape asks for.
     #[error("nothing to choose from")]
     EmptyChoose,
     /// Fewer bytes are left than are asked for.
@@ -28,7 +28,7 @@ pub enum Error {
     /// The configuration has a value that is not allowed in this field.
     #[error("bad configuration: {0}")]
     BadConfig(&'static str),
-    /// The shape that is asked for has this part, which cannot be made.
+    /// No module has what the shapes ask for: `groups`, `imports` or `exports` of one shape, or two shapes `together`.
     #[error("bad shape: {0}")]
     BadShape(&'static str),
     /// The types of the module's imports and exports are too large together.

@@ -1,4 +1,4 @@
--- What the test of subtyping by index asks of types. It is less than the rules on types ask.
+-- The part of the rules on types that the test of subtyping by index asks for.
 use Rattle.std.specs.Prelude.{◌≡◌, ◌≤◌, ℕ, List, Some, slice_get}
 use Rattle.std.specs.List.{AllByRecursion}
 use Rattle.wasm_spec.specs.Subtyping.{IsOfKind, abstract_of}

@@ -1,4 +1,4 @@
--- Whether the steps of imports and of tags ask for a first item, by the function types that are kept.
+-- If the steps of imports and of tags ask for a first item, by the function types that are kept.
 use Rattle.std.proofs.Common.{◌≡◌, ℕ, zero, suc, Bool, true, false, not, cond, List, [], ◌∷◌, length, map, refl, sym, ◌∙◌, inl, inr, arith}
 use Rattle.std.specs.Prelude.{◌==◌, ◌||◌, nat_lt}
 use Rattle.std.specs.List.{list_any}

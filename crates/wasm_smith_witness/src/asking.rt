@@ -1,4 +1,4 @@
-//! Whether the steps of imports and of tags draw a bool for a first item, where no item is owed.
+//! Checks if the steps of imports and of tags draw a bool for a first item, where no item is owed.
 
 ghost use Rattle.std.specs.Prelude.{◌≡◌};
 ghost use Rattle.wasm_smith_witness.specs.Functions.{can_import, has_tag_type, import_is_asked, tag_is_asked};

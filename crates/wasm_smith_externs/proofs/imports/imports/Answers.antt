@@ -68,9 +68,3 @@ returns-then-count-config-clause-refused c =
       lacking config bounds c.args.duplicates c.args.spaces.now c.grow.spaces c.grow.progress (map import_entry c.grow.entries.items) c.requires.ordered c.grow.invariant.made owed
           (rw (same, within) at (c.has_another.ensures.ended c.grow-test.false (rw same owed))),
     )
-
-pub overflow_sub-type_size : goal.overflow_sub-type_size
-overflow_sub-type_size c = let made = c.grow.invariant.made in let left = c.size_left.ensures in omega (arith, made.size, made.added.size, left)
-
-pub returns-clause-size : goal.returns-clause-size
-returns-clause-size c = let made = c.grow.invariant.made in let left = c.size_left.ensures in omega (arith, made.size, made.added.size, left)

@@ -1,5 +1,5 @@
--- What a key takes, kind of field by kind of field.
-use Rattle.std.proofs.Common.{◌≡◌, ℕ, ◌++◌, ◌||◌, Bool, true, false, cond, map, Bor, List, [], ◌∷◌, Option, Some, None, refl, sym, ap, ◌∙◌, inl, inr}
+-- The values that the field of a key takes, kind of field by kind of field.
+use Rattle.std.proofs.Common.{◌≡◌, ℕ, ◌++◌, ◌||◌, Bool, cond, map, Bor, List, [], ◌∷◌, Option, Some, None, refl, sym, ap, ◌∙◌, inl, inr}
 use Rattle.std.specs.List.{find, list_any}
 use Rattle.std.specs.Option.{option_map}
 use Rattle.std.specs.Str.{bytes_eq}
@@ -14,12 +14,12 @@ unfolding is_in
 among key [] = refl
 among key (name ∷ all) = ap (λ rest. bytes_eq name.now key || rest) (among key all)
 
--- what a test says of names that are lent, said of the names
+-- the answer of a test on names that are lent, for the names
 pub told : (key : List ℕ) (lent : List (Bor (List ℕ))) (all : List (List ℕ)) (result answer : Bool)
     → result ≡ is_in key (map (λ name. name.now) lent) → map (λ name. name.now) lent ≡ all → result ≡ answer → is_in key all ≡ answer
 told key lent all result answer is same answered = ap (is_in key) (sym same) ∙ sym is ∙ answered
 
--- what the first of these rows says that has the key
+-- the first of these rows that has the key
 abbrev taken_by : List ℕ → List (List ℕ × Takes) → Option Takes
 taken_by key rows = option_map (λ entry. entry.1) (find (λ entry. bytes_eq entry.0 key) rows)
 
@@ -44,7 +44,7 @@ last_names key what (name ∷ all) =
       | inr other ↦ rw other (last_names key what all)
     ]
 
--- what is taken by a key that is among names of these kinds
+-- the values for a key that is among names of these kinds
 abbrev pub taken_among : Bool → Bool → Bool → Bool → Bool → Bool → Option Takes
 taken_among switch count size wide_size kind weight =
     cond switch (Some Boolean) (cond count (Some (NumberTo (largest 32))) (cond size (Some (NumberTo (largest 64)))

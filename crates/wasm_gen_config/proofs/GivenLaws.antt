@@ -1,5 +1,5 @@
--- What a table gives a field, once what its key holds is known.
-use Rattle.std.proofs.Common.{◌≡◌, ℕ, ◌≤◌, List, Option, Some, None, option_map, unwrap_or, Bor, refl, sym, ap, ◌∙◌}
+-- The value that a table gives a field, once its key was looked up.
+use Rattle.std.proofs.Common.{◌≡◌, ℕ, List, Option, Some, None, option_map, unwrap_or, Bor, sym, ap, ◌∙◌}
 use Rattle.toml.specs.Data.{Data, Members, get_member}
 use Rattle.toml.specs.View.{view}
 use Rattle.toml.specs.declared.value.Value.{Value}

@@ -16,7 +16,7 @@ pub record Field (V : Type 0) : Type 0 where
 abbrev pub field : {V : Type 0} → List ℕ → (Config → V) → Field V
 field name value = record { name = name; value = value }
 
--- what is on or off
+-- the switches
 abbrev pub switches : List (Field Bool)
 switches =
     field (codes "allow_floats") (λ c. c.allow_floats) ∷
@@ -101,20 +101,20 @@ largest bits = 2 ^ bits - 1
 abbrev pub names : {V : Type 0} → List (Field V) → List (List ℕ)
 names fields = map (λ f. f.name) fields
 
--- whether a key is among names
+-- true if a key is among names
 unfoldable pub is_in : List ℕ → List (List ℕ) → Bool
 is_in key all = list_any (λ name. bytes_eq name key) all
 
--- names, each beside what a field of this name takes
+-- names, each beside the values that a field of this name takes
 abbrev pub each_takes : Takes → List (List ℕ) → List (List ℕ × Takes)
 each_takes what all = map (λ name. (name, what)) all
 
--- each name that a key may be, beside what its field takes
+-- each name that a key may be, beside the values that its field takes
 unfoldable pub known : List (List ℕ × Takes)
 known =
     each_takes Boolean (names switches) ++ (each_takes (NumberTo (largest 32)) (names counts) ++ (each_takes (NumberTo (largest 64)) (names sizes) ++
     (each_takes (NumberTo (largest 128)) (names wide_sizes) ++ (each_takes Kinds (names kinds) ++ each_takes Weights (names weights)))))
 
--- what the field of a key takes, if there is one
+-- the values that the field of a key takes, if there is one
 unfoldable pub takes : List ℕ → Option Takes
 takes key = option_map (λ entry. entry.1) (find (λ entry. bytes_eq entry.0 key) known)

@@ -24,7 +24,7 @@ with_on t c = record c {
   tail_call_enabled = given as_bool t (codes "tail_call_enabled") c.tail_call_enabled;
 }
 
--- with its switches that are off by default
+-- with its switches that are off by default, but for those on sizes
 unfoldable pub with_off : Members → Config → Config
 with_off t c = record c {
   allow_invalid_funcs = given as_bool t (codes "allow_invalid_funcs") c.allow_invalid_funcs;
@@ -34,9 +34,7 @@ with_off t c = record c {
   disallow_traps = given as_bool t (codes "disallow_traps") c.disallow_traps;
   export_everything = given as_bool t (codes "export_everything") c.export_everything;
   generate_custom_sections = given as_bool t (codes "generate_custom_sections") c.generate_custom_sections;
-  memory_max_size_required = given as_bool t (codes "memory_max_size_required") c.memory_max_size_required;
   stack_switching_enabled = given as_bool t (codes "stack_switching_enabled") c.stack_switching_enabled;
-  table_max_size_required = given as_bool t (codes "table_max_size_required") c.table_max_size_required;
   threads_enabled = given as_bool t (codes "threads_enabled") c.threads_enabled;
   wide_arithmetic_enabled = given as_bool t (codes "wide_arithmetic_enabled") c.wide_arithmetic_enabled;
 }
@@ -78,6 +76,8 @@ with_maximums t c = record c {
 -- with all else that it has
 unfoldable pub with_others : Members → Config → Config
 with_others t c = record c {
+  memory_max_size_required = given as_bool t (codes "memory_max_size_required") c.memory_max_size_required;
+  table_max_size_required = given as_bool t (codes "table_max_size_required") c.table_max_size_required;
   max_table_elements = given (number_to (largest 64)) t (codes "max_table_elements") c.max_table_elements;
   max_memory32_bytes = given (number_to (largest 64)) t (codes "max_memory32_bytes") c.max_memory32_bytes;
   max_memory64_bytes = given (number_to (largest 128)) t (codes "max_memory64_bytes") c.max_memory64_bytes;

@@ -1,5 +1,5 @@
--- What comes of a text that is read as a configuration.
-use Rattle.std.specs.Prelude.{◌≡◌, ℕ, List, Option, Some, None, IsUtf8, string_bytes}
+-- Outcomes of reading a text as a configuration.
+use Rattle.std.specs.Prelude.{◌≡◌, ℕ, List, Option, Some, None, IsUtf8, string_bytes, ⊤}
 use Rattle.toml.specs.Data.{Members}
 use Rattle.toml.specs.Errors.{IsMemory, IsWithin, IsBlank}
 use Rattle.toml.specs.Parse.{parse_document}
@@ -34,3 +34,9 @@ abbrev pub IsCauseIn : List ℕ → ConfigError → Type 0
 IsCauseIn text (Text cause) = (IsUtf8 text → parse_document text ≡ None) × IsWithin text cause × ¬ IsMemory cause
 IsCauseIn text (Key key takes) = HasBadKey text (string_bytes key) takes
 IsCauseIn text Memory = ¬ IsBlank text
+
+-- the error of a bad key: it has this key, unless memory ran out
+abbrev pub Owns : BadKey → ConfigError → Type 0
+Owns bad (Text cause) = ⊥
+Owns bad (Key key takes) = (string_bytes key, takes) ≡ named bad
+Owns bad Memory = ⊤

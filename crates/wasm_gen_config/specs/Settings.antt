@@ -1,5 +1,5 @@
--- The configuration that a table gives, and the first of its keys that is bad.
-use Rattle.std.specs.Prelude.{◌≡◌, ℕ, ℤ, pos, negsuc, Bool, true, false, not, ◌||◌, if◌then◌else◌, List, Option, Some, None, is_some, is_none, unwrap_or, nat_le}
+-- The configuration that a table gives, and the first of its keys that is bad: unknown, or with a wrong value.
+use Rattle.std.specs.Prelude.{◌≡◌, ℕ, ℤ, pos, negsuc, Bool, false, not, ◌||◌, if◌then◌else◌, List, Option, Some, None, is_some, is_none, unwrap_or, nat_le}
 use Rattle.std.specs.List.{AllByRecursion}
 use Rattle.std.specs.Option.{option_and_then}
 use Rattle.toml.specs.Data.{Data, Members, no_members, member, get_member, as_bool, as_integer, as_str}
@@ -34,15 +34,15 @@ kinds_in d = option_and_then kinds_named (as_str d)
 abbrev pub weights_in : Data → Option MemoryOffsetChoices
 weights_in d = option_and_then choices_at (as_str d)
 
--- what the key holds, and the default where the table has no such key (or one that its field doesn't take, which is a bad key)
+-- takes the value that the key holds, and the default where there is no such key (or its value is none that can be read, which is a bad key)
 unfoldable pub given : {V : Type 0} → (Data → Option V) → Members → List ℕ → V → V
 given read t key default = unwrap_or (option_and_then read (get_member key t)) default
 
--- each of these fields has what its key holds in a table, and where the table has no such key, the default's value
+-- each of these fields has the value that its key holds in the table, and where the table has no such key, its value in the default
 abbrev pub AreGiven : {V : Type 0} → (Data → Option V) → List (Field V) → Members → Config → Config → Type 0
 AreGiven read fields t default c = AllByRecursion (λ f. f.value c ≡ given read t f.name (f.value default)) fields
 
--- a configuration that a table gives over the default one, by the keys' names; the shapes can't be given
+-- a configuration that a table gives over the default one; the shapes can't be given
 pub record IsGiven (t : Members) (c : Config) : Type 0 where
   pub default : Config
   pub is_default : IsDefault default
@@ -56,22 +56,23 @@ pub record IsGiven (t : Members) (c : Config) : Type 0 where
   pub no_available_imports : c.available_imports ≡ None
   pub no_exports : c.exports ≡ None
 
--- whether a value is one that is taken
+-- true if a value is one that is taken
 abbrev pub is_taken : Takes → Data → Bool
 is_taken Boolean d = is_some (as_bool d)
 is_taken (NumberTo most) d = is_some (number_to most d)
 is_taken Kinds d = is_some (kinds_in d)
 is_taken Weights d = is_some (weights_in d)
 
--- whether no field has this name
-abbrev pub is_unknown : List ℕ → Bool
-is_unknown key = is_none (takes key)
-
--- whether a field takes something else than this value
+-- true if a field is there, and takes something else than the value
 abbrev pub takes_other : Option Takes → Data → Bool
 takes_other None d = false
 takes_other (Some what) d = not (is_taken what d)
 
+-- true if no field has this name
+abbrev pub is_unknown : List ℕ → Bool
+is_unknown key = is_none (takes key)
+
+-- true if the field of this name takes something else than the value
 abbrev pub is_wrong : List ℕ → Data → Bool
 is_wrong key d = takes_other (takes key) d
 

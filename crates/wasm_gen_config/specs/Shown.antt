@@ -6,7 +6,7 @@ use Rattle.wasm_gen_config.specs.declared.bad_key.Takes.TheVariants.{Boolean, Nu
 use Rattle.wasm_gen_config.specs.declared.config_error.ConfigError.{ConfigError}
 use Rattle.wasm_gen_config.specs.declared.config_error.ConfigError.TheVariants.{Text, Key, Memory}
 
--- what is taken, in words
+-- words for the values that are taken
 abbrev pub takes_text : Takes → List ℕ
 takes_text Boolean = codes "true or false"
 takes_text (NumberTo most) = codes "a number from 0 to " ++ decimal most

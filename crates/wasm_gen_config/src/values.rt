@@ -47,6 +47,7 @@ fn weights(value: &Value) -> Option<MemoryOffsetChoices>
     value.as_str()?.parse().ok()
 }
 
+// Returns the value at the key.
 fn at_key<'a>(table: &'a Table, key: &str) -> Option<&'a Value>
     ensures { option_map (λ value. view value.now) result ≡ get_member key.now (table_view table.now) }
 {
@@ -123,34 +124,72 @@ pub(crate) fn set_on(config: &mut Config, table: &Table)
     config.allow_start_export = switch(table, "allow_start_export", config.allow_start_export);
     config.bulk_memory_enabled = switch(table, "bulk_memory_enabled", config.bulk_memory_enabled);
     config.exceptions_enabled = switch(table, "exceptions_enabled", config.exceptions_enabled);
-    config.extended_const_enabled = switch(table, "extended_const_enabled", config.extended_const_enabled);
+    config.extended_const_enabled = switch(
+        table,
+        "extended_const_enabled",
+        config.extended_const_enabled,
+    );
     config.gc_enabled = switch(table, "gc_enabled", config.gc_enabled);
     config.memory64_enabled = switch(table, "memory64_enabled", config.memory64_enabled);
     config.multi_value_enabled = switch(table, "multi_value_enabled", config.multi_value_enabled);
-    config.reference_types_enabled = switch(table, "reference_types_enabled", config.reference_types_enabled);
-    config.relaxed_simd_enabled = switch(table, "relaxed_simd_enabled", config.relaxed_simd_enabled);
-    config.saturating_float_to_int_enabled = switch(table, "saturating_float_to_int_enabled", config.saturating_float_to_int_enabled);
-    config.sign_extension_ops_enabled = switch(table, "sign_extension_ops_enabled", config.sign_extension_ops_enabled);
+    config.reference_types_enabled = switch(
+        table,
+        "reference_types_enabled",
+        config.reference_types_enabled,
+    );
+    config.relaxed_simd_enabled = switch(
+        table,
+        "relaxed_simd_enabled",
+        config.relaxed_simd_enabled,
+    );
+    config.saturating_float_to_int_enabled = switch(
+        table,
+        "saturating_float_to_int_enabled",
+        config.saturating_float_to_int_enabled,
+    );
+    config.sign_extension_ops_enabled = switch(
+        table,
+        "sign_extension_ops_enabled",
+        config.sign_extension_ops_enabled,
+    );
     config.simd_enabled = switch(table, "simd_enabled", config.simd_enabled);
     config.tail_call_enabled = switch(table, "tail_call_enabled", config.tail_call_enabled);
 }
 
-// Sets the switches that are off by default.
+// Sets the switches that are off by default, but for those on sizes.
 pub(crate) fn set_off(config: &mut Config, table: &Table)
     ensures { config.new ≡ with_off (table_view table.now) config.old }
 {
     config.allow_invalid_funcs = switch(table, "allow_invalid_funcs", config.allow_invalid_funcs);
     config.canonicalize_nans = switch(table, "canonicalize_nans", config.canonicalize_nans);
-    config.compact_imports_enabled = switch(table, "compact_imports_enabled", config.compact_imports_enabled);
-    config.custom_page_sizes_enabled = switch(table, "custom_page_sizes_enabled", config.custom_page_sizes_enabled);
+    config.compact_imports_enabled = switch(
+        table,
+        "compact_imports_enabled",
+        config.compact_imports_enabled,
+    );
+    config.custom_page_sizes_enabled = switch(
+        table,
+        "custom_page_sizes_enabled",
+        config.custom_page_sizes_enabled,
+    );
     config.disallow_traps = switch(table, "disallow_traps", config.disallow_traps);
     config.export_everything = switch(table, "export_everything", config.export_everything);
-    config.generate_custom_sections = switch(table, "generate_custom_sections", config.generate_custom_sections);
-    config.memory_max_size_required = switch(table, "memory_max_size_required", config.memory_max_size_required);
-    config.stack_switching_enabled = switch(table, "stack_switching_enabled", config.stack_switching_enabled);
-    config.table_max_size_required = switch(table, "table_max_size_required", config.table_max_size_required);
+    config.generate_custom_sections = switch(
+        table,
+        "generate_custom_sections",
+        config.generate_custom_sections,
+    );
+    config.stack_switching_enabled = switch(
+        table,
+        "stack_switching_enabled",
+        config.stack_switching_enabled,
+    );
     config.threads_enabled = switch(table, "threads_enabled", config.threads_enabled);
-    config.wide_arithmetic_enabled = switch(table, "wide_arithmetic_enabled", config.wide_arithmetic_enabled);
+    config.wide_arithmetic_enabled = switch(
+        table,
+        "wide_arithmetic_enabled",
+        config.wide_arithmetic_enabled,
+    );
 }
 
 // Sets the minimums.
@@ -193,9 +232,27 @@ pub(crate) fn set_maximums(config: &mut Config, table: &Table)
 pub(crate) fn set_others(config: &mut Config, table: &Table)
     ensures { config.new ≡ with_others (table_view table.now) config.old }
 {
+    config.memory_max_size_required = switch(
+        table,
+        "memory_max_size_required",
+        config.memory_max_size_required,
+    );
+    config.table_max_size_required = switch(
+        table,
+        "table_max_size_required",
+        config.table_max_size_required,
+    );
     config.max_table_elements = size(table, "max_table_elements", config.max_table_elements);
     config.max_memory32_bytes = size(table, "max_memory32_bytes", config.max_memory32_bytes);
     config.max_memory64_bytes = wide_size(table, "max_memory64_bytes", config.max_memory64_bytes);
-    config.allowed_instructions = kinds_at(table, "allowed_instructions", config.allowed_instructions);
-    config.memory_offset_choices = weights_at(table, "memory_offset_choices", config.memory_offset_choices);
+    config.allowed_instructions = kinds_at(
+        table,
+        "allowed_instructions",
+        config.allowed_instructions,
+    );
+    config.memory_offset_choices = weights_at(
+        table,
+        "memory_offset_choices",
+        config.memory_offset_choices,
+    );
 }

@@ -1,6 +1,5 @@
-use Rattle.std.proofs.Common.{◌≡◌, ℕ, Bool, true, false, refl, sym, ap, ◌∙◌, List, Some, Bor, map}
-use Rattle.wasm_gen_config.specs.Fields.{switches, counts, sizes, wide_sizes, kinds, weights, names, is_in, largest, takes}
-use Rattle.wasm_gen_config.specs.declared.bad_key.Takes.TheVariants.{NumberTo}
+use Rattle.std.proofs.Common.{◌≡◌, true, false, refl, sym, ◌∙◌}
+use Rattle.wasm_gen_config.specs.Fields.{switches, counts, sizes, wide_sizes, kinds, weights, names, is_in}
 use Rattle.wasm_gen_config.proofs.FieldLaws.{told, takes_among}
 use Rattle.wasm_gen_config.proofs.fields.takes.Goals as goal
 

@@ -1,4 +1,3 @@
-use Rattle.std.proofs.Common.{◌≡◌, Some, None, unwrap_or}
 use Rattle.wasm_gen_config.specs.Settings.{kinds_in}
 use Rattle.toml.specs.View.{table_view, view}
 use Rattle.wasm_gen_config.proofs.GivenLaws.{at_found, at_none, given_some, given_none}

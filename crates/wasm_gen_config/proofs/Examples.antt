@@ -1,15 +1,19 @@
 -- Some keys, values and texts.
-use Rattle.std.proofs.Common.{◌≡◌, true, false, pos, negsuc, Some, None, codes, refl}
-use Rattle.std.specs.Option.{option_map}
-use Rattle.std.specs.Option.{option_and_then}
-use Rattle.toml.specs.Data.{as_bool, boolean, integer, string, no_members}
+use Rattle.std.proofs.Common.{◌≡◌, true, false, pos, negsuc, Some, None, length, codes, refl}
+use Rattle.std.specs.Option.{option_map, option_and_then}
+use Rattle.toml.specs.Data.{as_bool, integer, string}
 use Rattle.toml.specs.Parse.{parse_document}
 use Rattle.toml.proofs.OnLiterals.{toml_on_literals}
 use Rattle.wasm_smith_config.specs.Instructions.{kinds_named, kind_named, is_name}
 use Rattle.wasm_smith_config.specs.Offsets.{choices_at, number_at}
-use Rattle.wasm_gen_config.specs.Fields.{is_in, known, largest, takes}
+use Rattle.wasm_gen_config.specs.Fields.{known, largest, takes}
 use Rattle.wasm_gen_config.specs.Settings.{first_bad, given, is_unknown, is_wrong, number_to}
-use Rattle.wasm_gen_config.specs.declared.bad_key.Takes.TheVariants.{Boolean, NumberTo, Kinds, Weights}
+use Rattle.wasm_gen_config.specs.declared.bad_key.Takes.TheVariants.{Boolean, NumberTo}
+
+-- (all but the three shapes)
+each_field : length known ≡ 55
+unfolding known
+each_field = refl
 
 a_switch : takes (codes "gc_enabled") ≡ Some Boolean
 unfolding takes known

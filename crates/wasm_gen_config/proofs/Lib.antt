@@ -1,0 +1,5 @@
+mod BadLaws
+mod Examples
+mod FieldLaws
+mod GivenLaws
+mod TableLaws

@@ -1,6 +1,8 @@
-//! Tests of sessions on worked modules, and on modules that the encoder makes, through public calls alone.
+//! Tests of sessions on worked modules and on modules that the encoder makes, and of configurations from texts, through public calls alone.
 #![tactic(auto)]
 
+#[cfg(test)]
+mod config_files;
 #[cfg(test)]
 mod custom_sections;
 #[cfg(test)]

@@ -2,6 +2,7 @@
 
 ghost use Rattle.std.specs.Prelude.{◌≡◌};
 
+use wasm_gen::config_error::ConfigError;
 use wasm_gen::error::{GenerateError, RunError};
 use wasm_gen::status::{Outcome, status_of};
 
@@ -32,6 +33,21 @@ pub fn tell_refusal<R: Eprint>(rt: &R, e: GenerateError) -> u8
 {
     let _ = eprintln!(rt; "wasm_gen: {e}");
     status_of(&[Outcome::Refused])
+}
+
+/// Tells that a configuration is bad, and what is wrong with it where that is asked for, and gives the status of a fault.
+pub fn tell_of_config<R: Eprint>(rt: &R, cause: &ConfigError, explain: bool) -> u8
+    ensures { result ≡ 2 }
+{
+    let _ = eprintln!(rt; "wasm_gen: bad configuration");
+    if explain {
+        // A cause in the text ends its line.
+        let _ = match cause {
+            ConfigError::Text(_) => eprint!(rt; "{cause}"),
+            _ => eprintln!(rt; "{cause}"),
+        };
+    }
+    status_of(&[Outcome::Fault])
 }
 
 /// Does the same for the words of the command line, by a whole text.

@@ -34,7 +34,7 @@ fn run<R: Env + Files + Print + Eprint + AllocGlobal>(rt: &R) -> u8 {
 // Does what is asked for, and gives the status.
 fn run_command<R: Files + Print + Eprint + AllocGlobal>(rt: &R, asked: &Asked<'_>) -> u8 {
     match asked {
-        Asked::Generate(name) => generate::generate_from_file(rt, name),
+        Asked::Generate(files) => generate::generate_from_files(rt, *files),
         Asked::Check(names) => check::check_files(rt, names.as_slice()),
         Asked::Help(text) => show(rt, text.as_str()),
     }

@@ -1,5 +1,5 @@
 -- The meaning of words.
-use Rattle.std.specs.Prelude.{◌≡◌, ◌≢◌, ◌⊎◌, ⊤, List, [], Option, Some, None, codes, map, option_and_then, unwrap_or, if◌then◌else◌}
+use Rattle.std.specs.Prelude.{◌≡◌, ◌≢◌, ◌⊎◌, ⊤, Bool, false, option_map, List, [], Option, Some, None, codes, map, option_and_then, unwrap_or, if◌then◌else◌}
 use Rattle.std.specs.Str.{bytes_eq}
 use Rattle.clap.specs.Words.{IsAmong, Row, Text, all_of, fault_of, first_of, subcommand_of}
 use Rattle.clap.specs.declared.error.kind.ErrorKind.TheVariants as kind
@@ -17,13 +17,21 @@ found_for command find_in met = option_and_then (λ it. if bytes_eq it.0 command
 abbrev pub seed_of : Option (Text × List Row) → Option Text
 seed_of = found_for (codes "generate") (first_of (codes "SEED"))
 
+-- the file that its configuration is in, where one is named
+abbrev pub config_of : Option (Text × List Row) → Option Text
+config_of = found_for (codes "generate") (first_of (codes "config"))
+
+-- true if more is to be told of a bad configuration
+abbrev pub explains : Option (Text × List Row) → Bool
+explains met = unwrap_or (option_map (bytes_eq (codes "true")) (found_for (codes "generate") (first_of (codes "explain")) met)) false
+
 -- the files that are to be validated
 abbrev pub files_of : Option (Text × List Row) → List Text
 files_of met = unwrap_or (found_for (codes "check") (all_of (codes "FILE")) met) []
 
 -- what is asked for by the command that the words name, with what is found for it
 abbrev pub Asks : Option (Text × List Row) → Asked → Type 0
-Asks met (Generate name) = seed_of met ≡ Some name.now
+Asks met (Generate asked) = (seed_of met ≡ Some asked.seed.now) × (config_of met ≡ option_map (λ name. name.now) asked.config) × (explains met ≡ asked.explain)
 Asks met (Check names) = (seed_of met ≡ None) × (map (λ name. name.now) names.items ≡ files_of met)
 Asks met (Help text) = ⊥
 

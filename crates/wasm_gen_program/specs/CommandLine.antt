@@ -2,7 +2,7 @@
 use Rattle.std.specs.Prelude.{true, Some, codes}
 use Rattle.clap.specs.Lexer.{usize_max}
 use Rattle.clap.specs.Words.{App, Rule, new_app, new_rule, with_rule, with_subcommand}
-use Rattle.clap.specs.declared.builder.action.ArgAction.TheVariants.{Append}
+use Rattle.clap.specs.declared.builder.action.ArgAction.TheVariants.{Append, SetTrue}
 
 -- the files that `check` validates, of which there is one at least
 abbrev pub files : Rule
@@ -16,11 +16,19 @@ files = record (new_rule (codes "FILE")) {
 abbrev pub seed : Rule
 seed = record (new_rule (codes "SEED")) { required = true }
 
+-- the file that `generate` takes its configuration from
+abbrev pub config : Rule
+config = record (new_rule (codes "config")) { long = Some (codes "config"); value_names = 1 }
+
+-- the flag by which `generate` tells more of a bad configuration
+abbrev pub explain : Rule
+explain = record (new_rule (codes "explain")) { long = Some (codes "explain"); action = Some SetTrue }
+
 abbrev pub check : App
 check = with_rule (new_app (codes "check")) files
 
 abbrev pub generate : App
-generate = with_rule (new_app (codes "generate")) seed
+generate = with_rule (with_rule (with_rule (new_app (codes "generate")) config) explain) seed
 
 -- the program, which asks for one of its commands and shows help where there are no words, before these are added
 abbrev pub alone : App

@@ -4,6 +4,7 @@ pub mod CommandLine
 pub mod Device
 pub mod Input
 pub mod Inputs
+pub mod ReadConfig
 pub mod Run
 pub mod RunGenerate
 pub mod Transfer

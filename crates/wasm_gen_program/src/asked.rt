@@ -1,20 +1,31 @@
 //! The meaning of a command line.
 
-ghost use Rattle.std.specs.Prelude.{◌≡◌, ◌≢◌, ◌⊎◌, IfOk, IfErr, Err, map, option_map};
+ghost use Rattle.std.specs.Prelude.{◌≡◌, ◌≢◌, ◌⊎◌, IfOk, IfErr, MatchOption, Err, None, codes, map, option_map};
 ghost use Rattle.std.specs.String.{string_bytes};
-ghost use Rattle.clap.specs.Words.{kind_of, subcommand_rows_of};
-ghost use Rattle.wasm_gen_program.specs.Asked.{AreRefused, AskFor, Asks, IsHelp, files_of, seed_of};
+ghost use Rattle.clap.specs.Words.{first_of, kind_of, subcommand_rows_of};
+ghost use Rattle.wasm_gen_program.specs.Asked.{AreRefused, AskFor, Asks, IsHelp, files_of, found_for, seed_of};
 
 use crate::command::matches_of;
 use clap::error::ErrorKind;
 use clap::{ArgMatches, Error};
 use std::alloc::{AllocError, Global};
 
+/// The files of the command that makes a module.
+#[derive(Clone, Copy, Debug)]
+pub struct Generate<'a> {
+    /// The name of the file that the seed is in.
+    pub seed: &'a str,
+    /// The name of the file that the configuration is in, where it isn't the default one.
+    pub config: Option<&'a str>,
+    /// True if more is to be told of a bad configuration.
+    pub explain: bool,
+}
+
 /// A command of the program.
 #[derive(Debug, Drop)]
 pub enum Asked<'a> {
-    /// To make the module of the seed in the file of this name.
-    Generate(&'a str),
+    /// To make a module.
+    Generate(Generate<'a>),
     /// To validate the files of these names.
     Check(Vec<&'a str>),
     /// To show this text.
@@ -40,11 +51,28 @@ impl From<AllocError> for WordsError {
     }
 }
 
-// Returns the file that the seed is in, where a module is to be made.
-fn seed_name<'a>(matches: &ArgMatches<'a>) -> Option<&'a str>
-    ensures { option_map (λ name. name.now) result ≡ seed_of (subcommand_rows_of matches.now) }
+// Returns the value of an argument of `generate`, where a module is to be made.
+fn generate_value<'a>(matches: &ArgMatches<'a>, id: &str) -> Option<&'a str>
+    ensures { option_map (λ name. name.now) result ≡ found_for (codes "generate") (first_of id.now) (subcommand_rows_of matches.now) }
 {
-    matches.subcommand_matches("generate")?.get_str("SEED")
+    matches.subcommand_matches("generate")?.get_str(id)
+}
+
+// Returns the files of the command that makes a module, where one is to be made.
+fn generate_files<'a>(matches: &ArgMatches<'a>) -> Option<Generate<'a>>
+    ensures { MatchOption result (seed_of (subcommand_rows_of matches.now) ≡ None) (λ asked. Asks (subcommand_rows_of matches.now) (Asked.Generate asked)) }
+{
+    let seed = generate_value(matches, "SEED")?;
+    let config = generate_value(matches, "config");
+    let explain = match generate_value(matches, "explain") {
+        Some(text) => "true" == text,
+        None => false,
+    };
+    Some(Generate {
+        seed,
+        config,
+        explain,
+    })
 }
 
 // Returns the files that are to be validated.
@@ -65,8 +93,8 @@ fn asked_by<'a>(alloc: Global, matches: &ArgMatches<'a>) -> Result<Asked<'a>, Wo
     ensures asked { IfOk result (Asks (subcommand_rows_of matches.now)) }
     ensures memory { IfErr result (λ e. e ≡ WordsError.Memory) }
 {
-    match seed_name(matches) {
-        Some(name) => Ok(Asked::Generate(name)),
+    match generate_files(matches) {
+        Some(files) => Ok(Asked::Generate(files)),
         None => Ok(Asked::Check(file_names(alloc, matches)?)),
     }
 }

@@ -30,6 +30,28 @@ fn seed<'a>(alloc: Global) -> Arg<'a>
         .required(true)
 }
 
+// Returns the file that `generate` takes its configuration from.
+fn config<'a>(alloc: Global) -> Arg<'a>
+    ensures rule { rule_of result ≡ line.config }
+    ensures own { result.global ≡ false }
+{
+    Arg::new(alloc, "config")
+        .long("config")
+        .value_name("FILE")
+        .help("A file with a configuration in TOML")
+}
+
+// Returns the flag by which `generate` tells more of a bad configuration.
+fn explain<'a>(alloc: Global) -> Arg<'a>
+    ensures rule { rule_of result ≡ line.explain }
+    ensures own { result.global ≡ false }
+{
+    Arg::new(alloc, "explain")
+        .long("explain")
+        .help("Says what is wrong with a bad configuration")
+        .action(ArgAction::SetTrue)
+}
+
 // Returns the command that validates modules.
 fn check<'a>(alloc: Global) -> Result<Command<'a>, AllocError>
     ensures { IfOk result (λ c. app_of c ≡ line.check) }
@@ -45,6 +67,8 @@ fn generate<'a>(alloc: Global) -> Result<Command<'a>, AllocError>
 {
     Command::new(alloc, "generate")
         .about("Generates the module of a seed and writes it to standard output")
+        .arg(config(alloc))?
+        .arg(explain(alloc))?
         .arg(seed(alloc))
 }
 

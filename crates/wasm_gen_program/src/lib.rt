@@ -5,6 +5,7 @@ pub mod arguments;
 pub mod asked;
 pub mod check_inputs;
 pub mod command;
+pub mod config_file;
 pub mod device;
 pub mod error;
 pub mod run;

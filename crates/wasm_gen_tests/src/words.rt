@@ -3,7 +3,7 @@
 use clap::{ArgMatches, Error};
 use std::alloc::{AllocError, Global};
 use std::test::Fail;
-use wasm_gen_program::asked::{Asked, WordsError, read_words};
+use wasm_gen_program::asked::{Asked, Generate, WordsError, read_words};
 use wasm_gen_program::command::matches_of;
 use wasm_test_rows::fields::three_fields;
 use wasm_test_rows::rows::check_rows;
@@ -18,20 +18,29 @@ const ROWS: &str = "
     refusal  | judge          | InvalidSubcommand 2
     refusal  | check          | MissingRequiredArgument 2
     refusal  | check --fast a | UnknownArgument 2
-    // The files that they name, all of them in turn.
+    // The files that they name, all of them in turn; the seed, the configuration, and if more is to be told of that.
     check    | check a        | a
     check    | check b a b    | b a b
-    generate | generate a     | a
+    generate | generate a     | a - -
+    generate | generate --config c a           | a c -
+    generate | generate --config=c a           | a c -
+    generate | generate a --config c           | a c -
+    generate | generate --explain --config c a | a c explain
+    generate | generate --explain a            | a - explain
     // A part of the help that they ask for, and the beginning of what is wrong with them.
     help     | --help         | Usage: wasm_gen <COMMAND>
     help     | help           | Usage: wasm_gen <COMMAND>
     help     | help check     | Usage: wasm_gen check <FILE>...
     help     | check a --help | Usage: wasm_gen check <FILE>...
+    help     | help generate  | Usage: wasm_gen generate [OPTIONS] <SEED>
     wrong    |                | Makes and validates WebAssembly modules
     wrong    | judge          | error: unrecognized subcommand 'judge'
     wrong    | help judge     | error: unrecognized subcommand 'judge'
     wrong    | generate       | error: the following required arguments were not provided:
     wrong    | generate a b   | error: unexpected argument 'b' found
+    wrong    | generate --config c              | error: the following required arguments were not provided:
+    wrong    | generate a --config              | error: a value is required for '--config <FILE>' but none was supplied
+    wrong    | generate --config c --config d a | error: the argument '--config <FILE>' cannot be used multiple times
 ";
 
 // Returns the words of a command line.
@@ -75,11 +84,20 @@ fn are(names: &[&str], files: &str) -> bool {
     left.next().is_none()
 }
 
+// Checks that these are the files, with `-` for each part that isn't there.
+fn are_files(files: &Generate<'_>, expected: &str) -> bool {
+    let explain = if files.explain { "explain" } else { "-" };
+    are(
+        &[files.seed, files.config.unwrap_or("-"), explain],
+        expected,
+    )
+}
+
 // Checks that this is what is asked for.
 fn is_asked(asked: &Result<Asked<'_>, WordsError>, way: &str, expected: &str) -> bool {
     match asked {
         Ok(Asked::Check(names)) => way == "check" && are(names.as_slice(), expected),
-        Ok(Asked::Generate(name)) => way == "generate" && *name == expected,
+        Ok(Asked::Generate(files)) => way == "generate" && are_files(files, expected),
         Ok(Asked::Help(text)) => way == "help" && text.contains(expected),
         Err(WordsError::Wrong(text)) => way == "wrong" && text.starts_with(expected),
         Err(WordsError::Memory) => false,
@@ -104,5 +122,5 @@ fn holds(alloc: Global, row: &str) -> Option<bool> {
 
 #[test]
 fn words_ask_for_this(rt: HostRuntime) -> Result<(), Fail> {
-    Ok(check_rows(rt.alloc(), ROWS, 19, holds)?)
+    Ok(check_rows(rt.alloc(), ROWS, 28, holds)?)
 }

@@ -14,11 +14,11 @@ use wasm_test_rows::values::bytes_of;
 // A text, in which \n, \t and \xHH stand for bytes, and its outcome: the settings over the default, a part of the configuration as it is shown, the line of a bad
 // key, or that the text is bad.
 pub const TEXTS: &str = "
-    // Every key right, at another value than its default.
+    // Texts that two keys read.
     allowed_instructions = \"Numeric\" | shows allowed_instructions: InstructionKinds { bits: 3 }
     allowed_instructions = \"NumericInt,vector_non_float,CONTROL\" | shows allowed_instructions: InstructionKinds { bits: 1029 }
     memory_offset_choices = \"1,2,3\"  | shows memory_offset_choices: MemoryOffsetChoices(1, 2, 3)
-    // Each key at its default, and none.
+    // No key.
                             | ok
     \\n                      | ok
     # nothing but a comment | ok
@@ -36,27 +36,27 @@ pub const TEXTS: &str = "
     max_types = -0       | ok max_types=0
     // Bounds of numbers.
     max_types = 4294967295                    | ok max_types=4294967295
-    max_types = 4294967296                    | key max_types takes a number from 0 to 4294967295
-    max_types = -1                            | key max_types takes a number from 0 to 4294967295
+    max_types = 4294967296                    | key max_types takes a whole number from 0 to 4294967295
+    max_types = -1                            | key max_types takes a whole number from 0 to 4294967295
     max_types = 0                             | ok max_types=0
     max_table_elements = 0                    | ok max_table_elements=0
     max_table_elements = 4294967296           | ok max_table_elements=4294967296
     max_table_elements = 9223372036854775807  | ok max_table_elements=9223372036854775807
     max_table_elements = 9223372036854775808  | text
-    max_table_elements = -1                   | key max_table_elements takes a number from 0 to 18446744073709551615
-    max_table_elements = -9223372036854775808 | key max_table_elements takes a number from 0 to 18446744073709551615
+    max_table_elements = -1                   | key max_table_elements takes a whole number from 0 to 9223372036854775807
+    max_table_elements = -9223372036854775808 | key max_table_elements takes a whole number from 0 to 9223372036854775807
     max_memory32_bytes = 0                    | ok max_memory32_bytes=0
     max_memory32_bytes = 4294967296           | ok max_memory32_bytes=4294967296
     max_memory32_bytes = 9223372036854775807  | ok max_memory32_bytes=9223372036854775807
     max_memory32_bytes = 9223372036854775808  | text
-    max_memory32_bytes = -1                   | key max_memory32_bytes takes a number from 0 to 18446744073709551615
-    max_memory32_bytes = -9223372036854775808 | key max_memory32_bytes takes a number from 0 to 18446744073709551615
+    max_memory32_bytes = -1                   | key max_memory32_bytes takes a whole number from 0 to 9223372036854775807
+    max_memory32_bytes = -9223372036854775808 | key max_memory32_bytes takes a whole number from 0 to 9223372036854775807
     max_memory64_bytes = 0                    | ok max_memory64_bytes=0
     max_memory64_bytes = 4294967296           | ok max_memory64_bytes=4294967296
     max_memory64_bytes = 9223372036854775807  | ok max_memory64_bytes=9223372036854775807
     max_memory64_bytes = 9223372036854775808  | text
-    max_memory64_bytes = -1                   | key max_memory64_bytes takes a number from 0 to 340282366920938463463374607431768211455
-    max_memory64_bytes = -9223372036854775808 | key max_memory64_bytes takes a number from 0 to 340282366920938463463374607431768211455
+    max_memory64_bytes = -1                   | key max_memory64_bytes takes a whole number from 0 to 9223372036854775807
+    max_memory64_bytes = -9223372036854775808 | key max_memory64_bytes takes a whole number from 0 to 9223372036854775807
     // Values of another type.
     gc_enabled = 0                     | key gc_enabled takes true or false
     gc_enabled = \"true\"                | key gc_enabled takes true or false
@@ -66,62 +66,62 @@ pub const TEXTS: &str = "
     gc_enabled = [true]                | key gc_enabled takes true or false
     gc_enabled = {}                    | key gc_enabled takes true or false
     gc_enabled = 1979-05-27            | key gc_enabled takes true or false
-    max_types = true                   | key max_types takes a number from 0 to 4294967295
-    max_types = \"3\"                    | key max_types takes a number from 0 to 4294967295
-    max_types = 3.0                    | key max_types takes a number from 0 to 4294967295
-    max_types = inf                    | key max_types takes a number from 0 to 4294967295
-    max_types = nan                    | key max_types takes a number from 0 to 4294967295
-    max_types = [3]                    | key max_types takes a number from 0 to 4294967295
-    max_types = {}                     | key max_types takes a number from 0 to 4294967295
-    max_types = { n = 3 }              | key max_types takes a number from 0 to 4294967295
-    max_types = 1979-05-27T07:32:00Z   | key max_types takes a number from 0 to 4294967295
-    max_types = 07:32:00               | key max_types takes a number from 0 to 4294967295
-    max_table_elements = true          | key max_table_elements takes a number from 0 to 18446744073709551615
-    max_memory32_bytes = true          | key max_memory32_bytes takes a number from 0 to 18446744073709551615
-    max_memory64_bytes = true          | key max_memory64_bytes takes a number from 0 to 340282366920938463463374607431768211455
-    allowed_instructions = 0           | key allowed_instructions takes names of kinds, parted by commas
-    allowed_instructions = true        | key allowed_instructions takes names of kinds, parted by commas
-    allowed_instructions = [\"Numeric\"] | key allowed_instructions takes names of kinds, parted by commas
-    allowed_instructions = {}          | key allowed_instructions takes names of kinds, parted by commas
-    memory_offset_choices = 0          | key memory_offset_choices takes three numbers, parted by commas
-    memory_offset_choices = [90, 9, 1] | key memory_offset_choices takes three numbers, parted by commas
-    memory_offset_choices = {}         | key memory_offset_choices takes three numbers, parted by commas
-    memory_offset_choices = 90.9       | key memory_offset_choices takes three numbers, parted by commas
+    max_types = true                   | key max_types takes a whole number from 0 to 4294967295
+    max_types = \"3\"                    | key max_types takes a whole number from 0 to 4294967295
+    max_types = 3.0                    | key max_types takes a whole number from 0 to 4294967295
+    max_types = inf                    | key max_types takes a whole number from 0 to 4294967295
+    max_types = nan                    | key max_types takes a whole number from 0 to 4294967295
+    max_types = [3]                    | key max_types takes a whole number from 0 to 4294967295
+    max_types = {}                     | key max_types takes a whole number from 0 to 4294967295
+    max_types = { n = 3 }              | key max_types takes a whole number from 0 to 4294967295
+    max_types = 1979-05-27T07:32:00Z   | key max_types takes a whole number from 0 to 4294967295
+    max_types = 07:32:00               | key max_types takes a whole number from 0 to 4294967295
+    max_table_elements = true          | key max_table_elements takes a whole number from 0 to 9223372036854775807
+    max_memory32_bytes = true          | key max_memory32_bytes takes a whole number from 0 to 9223372036854775807
+    max_memory64_bytes = true          | key max_memory64_bytes takes a whole number from 0 to 9223372036854775807
+    allowed_instructions = 0           | key allowed_instructions takes a string of names of kinds, separated by commas without blanks, such as \"Numeric,Control\"
+    allowed_instructions = true        | key allowed_instructions takes a string of names of kinds, separated by commas without blanks, such as \"Numeric,Control\"
+    allowed_instructions = [\"Numeric\"] | key allowed_instructions takes a string of names of kinds, separated by commas without blanks, such as \"Numeric,Control\"
+    allowed_instructions = {}          | key allowed_instructions takes a string of names of kinds, separated by commas without blanks, such as \"Numeric,Control\"
+    memory_offset_choices = 0          | key memory_offset_choices takes a string of three numbers from 0 to 4294967295, separated by commas without blanks, such as \"90,9,1\"
+    memory_offset_choices = [90, 9, 1] | key memory_offset_choices takes a string of three numbers from 0 to 4294967295, separated by commas without blanks, such as \"90,9,1\"
+    memory_offset_choices = {}         | key memory_offset_choices takes a string of three numbers from 0 to 4294967295, separated by commas without blanks, such as \"90,9,1\"
+    memory_offset_choices = 90.9       | key memory_offset_choices takes a string of three numbers from 0 to 4294967295, separated by commas without blanks, such as \"90,9,1\"
     // Texts that these two fields do not read.
-    allowed_instructions = \"\"                         | key allowed_instructions takes names of kinds, parted by commas
-    allowed_instructions = \",\"                        | key allowed_instructions takes names of kinds, parted by commas
-    allowed_instructions = \"Numeric,\"                 | key allowed_instructions takes names of kinds, parted by commas
-    allowed_instructions = \",Numeric\"                 | key allowed_instructions takes names of kinds, parted by commas
-    allowed_instructions = \"Numeric,,Vector\"          | key allowed_instructions takes names of kinds, parted by commas
-    allowed_instructions = \"Numeric, Vector\"          | key allowed_instructions takes names of kinds, parted by commas
-    allowed_instructions = \" Numeric\"                 | key allowed_instructions takes names of kinds, parted by commas
-    allowed_instructions = \"Numeric \"                 | key allowed_instructions takes names of kinds, parted by commas
-    allowed_instructions = \"Numeric;Vector\"           | key allowed_instructions takes names of kinds, parted by commas
-    allowed_instructions = \"Float\"                    | key allowed_instructions takes names of kinds, parted by commas
-    allowed_instructions = \"numeric_nonfloat\"         | key allowed_instructions takes names of kinds, parted by commas
-    allowed_instructions = \"+Numeric\"                 | key allowed_instructions takes names of kinds, parted by commas
-    allowed_instructions = \"NumericIntt\"              | key allowed_instructions takes names of kinds, parted by commas
-    allowed_instructions = \"Numeri\"                   | key allowed_instructions takes names of kinds, parted by commas
-    memory_offset_choices = \"\"                        | key memory_offset_choices takes three numbers, parted by commas
-    memory_offset_choices = \"90\"                      | key memory_offset_choices takes three numbers, parted by commas
-    memory_offset_choices = \"90,9\"                    | key memory_offset_choices takes three numbers, parted by commas
-    memory_offset_choices = \"90,9,\"                   | key memory_offset_choices takes three numbers, parted by commas
-    memory_offset_choices = \"90,,1\"                   | key memory_offset_choices takes three numbers, parted by commas
-    memory_offset_choices = \",9,1\"                    | key memory_offset_choices takes three numbers, parted by commas
-    memory_offset_choices = \"90,9,1,\"                 | key memory_offset_choices takes three numbers, parted by commas
-    memory_offset_choices = \"90,9,1,0\"                | key memory_offset_choices takes three numbers, parted by commas
-    memory_offset_choices = \"90, 9, 1\"                | key memory_offset_choices takes three numbers, parted by commas
-    memory_offset_choices = \" 90,9,1\"                 | key memory_offset_choices takes three numbers, parted by commas
-    memory_offset_choices = \"90,9,1 \"                 | key memory_offset_choices takes three numbers, parted by commas
-    memory_offset_choices = \"+90,9,1\"                 | key memory_offset_choices takes three numbers, parted by commas
-    memory_offset_choices = \"90,-9,1\"                 | key memory_offset_choices takes three numbers, parted by commas
-    memory_offset_choices = \"90,9,1.0\"                | key memory_offset_choices takes three numbers, parted by commas
-    memory_offset_choices = \"90;9;1\"                  | key memory_offset_choices takes three numbers, parted by commas
-    memory_offset_choices = \"4294967296,0,0\"          | key memory_offset_choices takes three numbers, parted by commas
-    memory_offset_choices = \"0,0,4294967296\"          | key memory_offset_choices takes three numbers, parted by commas
-    memory_offset_choices = \"0x1,2,3\"                 | key memory_offset_choices takes three numbers, parted by commas
-    memory_offset_choices = \"1_0,2,3\"                 | key memory_offset_choices takes three numbers, parted by commas
-    memory_offset_choices = \"a,b,c\"                   | key memory_offset_choices takes three numbers, parted by commas
+    allowed_instructions = \"\"                         | key allowed_instructions takes a string of names of kinds, separated by commas without blanks, such as \"Numeric,Control\"
+    allowed_instructions = \",\"                        | key allowed_instructions takes a string of names of kinds, separated by commas without blanks, such as \"Numeric,Control\"
+    allowed_instructions = \"Numeric,\"                 | key allowed_instructions takes a string of names of kinds, separated by commas without blanks, such as \"Numeric,Control\"
+    allowed_instructions = \",Numeric\"                 | key allowed_instructions takes a string of names of kinds, separated by commas without blanks, such as \"Numeric,Control\"
+    allowed_instructions = \"Numeric,,Vector\"          | key allowed_instructions takes a string of names of kinds, separated by commas without blanks, such as \"Numeric,Control\"
+    allowed_instructions = \"Numeric, Vector\"          | key allowed_instructions takes a string of names of kinds, separated by commas without blanks, such as \"Numeric,Control\"
+    allowed_instructions = \" Numeric\"                 | key allowed_instructions takes a string of names of kinds, separated by commas without blanks, such as \"Numeric,Control\"
+    allowed_instructions = \"Numeric \"                 | key allowed_instructions takes a string of names of kinds, separated by commas without blanks, such as \"Numeric,Control\"
+    allowed_instructions = \"Numeric;Vector\"           | key allowed_instructions takes a string of names of kinds, separated by commas without blanks, such as \"Numeric,Control\"
+    allowed_instructions = \"Float\"                    | key allowed_instructions takes a string of names of kinds, separated by commas without blanks, such as \"Numeric,Control\"
+    allowed_instructions = \"numeric_nonfloat\"         | key allowed_instructions takes a string of names of kinds, separated by commas without blanks, such as \"Numeric,Control\"
+    allowed_instructions = \"+Numeric\"                 | key allowed_instructions takes a string of names of kinds, separated by commas without blanks, such as \"Numeric,Control\"
+    allowed_instructions = \"NumericIntt\"              | key allowed_instructions takes a string of names of kinds, separated by commas without blanks, such as \"Numeric,Control\"
+    allowed_instructions = \"Numeri\"                   | key allowed_instructions takes a string of names of kinds, separated by commas without blanks, such as \"Numeric,Control\"
+    memory_offset_choices = \"\"                        | key memory_offset_choices takes a string of three numbers from 0 to 4294967295, separated by commas without blanks, such as \"90,9,1\"
+    memory_offset_choices = \"90\"                      | key memory_offset_choices takes a string of three numbers from 0 to 4294967295, separated by commas without blanks, such as \"90,9,1\"
+    memory_offset_choices = \"90,9\"                    | key memory_offset_choices takes a string of three numbers from 0 to 4294967295, separated by commas without blanks, such as \"90,9,1\"
+    memory_offset_choices = \"90,9,\"                   | key memory_offset_choices takes a string of three numbers from 0 to 4294967295, separated by commas without blanks, such as \"90,9,1\"
+    memory_offset_choices = \"90,,1\"                   | key memory_offset_choices takes a string of three numbers from 0 to 4294967295, separated by commas without blanks, such as \"90,9,1\"
+    memory_offset_choices = \",9,1\"                    | key memory_offset_choices takes a string of three numbers from 0 to 4294967295, separated by commas without blanks, such as \"90,9,1\"
+    memory_offset_choices = \"90,9,1,\"                 | key memory_offset_choices takes a string of three numbers from 0 to 4294967295, separated by commas without blanks, such as \"90,9,1\"
+    memory_offset_choices = \"90,9,1,0\"                | key memory_offset_choices takes a string of three numbers from 0 to 4294967295, separated by commas without blanks, such as \"90,9,1\"
+    memory_offset_choices = \"90, 9, 1\"                | key memory_offset_choices takes a string of three numbers from 0 to 4294967295, separated by commas without blanks, such as \"90,9,1\"
+    memory_offset_choices = \" 90,9,1\"                 | key memory_offset_choices takes a string of three numbers from 0 to 4294967295, separated by commas without blanks, such as \"90,9,1\"
+    memory_offset_choices = \"90,9,1 \"                 | key memory_offset_choices takes a string of three numbers from 0 to 4294967295, separated by commas without blanks, such as \"90,9,1\"
+    memory_offset_choices = \"+90,9,1\"                 | key memory_offset_choices takes a string of three numbers from 0 to 4294967295, separated by commas without blanks, such as \"90,9,1\"
+    memory_offset_choices = \"90,-9,1\"                 | key memory_offset_choices takes a string of three numbers from 0 to 4294967295, separated by commas without blanks, such as \"90,9,1\"
+    memory_offset_choices = \"90,9,1.0\"                | key memory_offset_choices takes a string of three numbers from 0 to 4294967295, separated by commas without blanks, such as \"90,9,1\"
+    memory_offset_choices = \"90;9;1\"                  | key memory_offset_choices takes a string of three numbers from 0 to 4294967295, separated by commas without blanks, such as \"90,9,1\"
+    memory_offset_choices = \"4294967296,0,0\"          | key memory_offset_choices takes a string of three numbers from 0 to 4294967295, separated by commas without blanks, such as \"90,9,1\"
+    memory_offset_choices = \"0,0,4294967296\"          | key memory_offset_choices takes a string of three numbers from 0 to 4294967295, separated by commas without blanks, such as \"90,9,1\"
+    memory_offset_choices = \"0x1,2,3\"                 | key memory_offset_choices takes a string of three numbers from 0 to 4294967295, separated by commas without blanks, such as \"90,9,1\"
+    memory_offset_choices = \"1_0,2,3\"                 | key memory_offset_choices takes a string of three numbers from 0 to 4294967295, separated by commas without blanks, such as \"90,9,1\"
+    memory_offset_choices = \"a,b,c\"                   | key memory_offset_choices takes a string of three numbers from 0 to 4294967295, separated by commas without blanks, such as \"90,9,1\"
     memory_offset_choices = \"0,0,0\"                   | shows memory_offset_choices: MemoryOffsetChoices(0, 0, 0)
     memory_offset_choices = \"4294967295,0,4294967295\" | shows memory_offset_choices: MemoryOffsetChoices(4294967295, 0, 4294967295)
     memory_offset_choices = \"007,08,0\"                | shows memory_offset_choices: MemoryOffsetChoices(7, 8, 0)
@@ -145,16 +145,16 @@ pub const TEXTS: &str = "
     module_shape = true     | key module_shape isn't a field
     exports = \"e\"           | key exports isn't a field
     [config]\\nmax_types = 7 | key config isn't a field
-    [max_types]             | key max_types takes a number from 0 to 4294967295
-    [[max_types]]           | key max_types takes a number from 0 to 4294967295
-    max_types.a = 7         | key max_types takes a number from 0 to 4294967295
+    [max_types]             | key max_types takes a whole number from 0 to 4294967295
+    [[max_types]]           | key max_types takes a whole number from 0 to 4294967295
+    max_types.a = 7         | key max_types takes a whole number from 0 to 4294967295
     max.types = 7           | key max isn't a field
     // Several bad keys: the first in the order of their bytes is named.
-    shape = 1\\nmax_types = true                           | key max_types takes a number from 0 to 4294967295
+    shape = 1\\nmax_types = true                           | key max_types takes a whole number from 0 to 4294967295
     zebra = 1\\nabacus = 1                                 | key abacus isn't a field
     gc_enabled = 1\\nallow_floats = 1                      | key allow_floats takes true or false
     Zebra = 1\\nabacus = 1                                 | key Zebra isn't a field
-    max_types = 7\\nmax_tags = -1\\nmax_table_elements = -1 | key max_table_elements takes a number from 0 to 18446744073709551615
+    max_types = 7\\nmax_tags = -1\\nmax_table_elements = -1 | key max_table_elements takes a whole number from 0 to 9223372036854775807
     gc_enabled = true\\nx = 1                              | key x isn't a field
     // No TOML.
     max_types                        | text
@@ -184,7 +184,7 @@ pub const TEXTS: &str = "
 // The number of rows.
 pub const COUNT: usize = 154;
 
-// A number, its largest value and the values around it, and the largest value of its type.
+// A number, and the bound that is shown for it.
 const NUMBERS: &str = "
     min_types | 4294967295
     max_types | 4294967295
@@ -210,9 +210,9 @@ const NUMBERS: &str = "
     max_memories | 4294967295
     max_instructions | 4294967295
     max_type_size | 4294967295
-    max_table_elements | 18446744073709551615
-    max_memory32_bytes | 18446744073709551615
-    max_memory64_bytes | 340282366920938463463374607431768211455
+    max_table_elements | 9223372036854775807
+    max_memory32_bytes | 9223372036854775807
+    max_memory64_bytes | 9223372036854775807
 ";
 
 const SWITCHES: &str = "
@@ -242,6 +242,149 @@ const SWITCHES: &str = "
     tail_call_enabled
     threads_enabled
     wide_arithmetic_enabled
+";
+
+// The file `data/config.toml`.
+const DEFAULTS: &str = "
+# A configuration of the generator: every key at its default, but for one that TOML can't write and that stands in a comment. A key that is left out keeps its default, so that an empty
+# file is the default configuration. A key that isn't listed here is refused, and so is a value of another type, a number
+# that is negative, and one that is larger than its field holds. The order of the keys doesn't matter.
+
+# --- How many items a module has ---
+#
+# A minimum and a maximum bound the items of a kind, imported ones counted. Where a minimum can't be met, no module is made.
+# Each is a number from 0 to 4294967295, but a maximum above 2147483648 is refused when the configuration is checked, and
+# so is a minimum above its maximum.
+
+# Types that the module defines.
+min_types = 0
+max_types = 100
+
+# Imports.
+min_imports = 0
+max_imports = 100
+
+# Tags of exceptions.
+min_tags = 0
+max_tags = 100
+
+# Functions.
+min_funcs = 0
+max_funcs = 100
+
+# Globals.
+min_globals = 0
+max_globals = 100
+
+# Exports.
+min_exports = 0
+max_exports = 100
+
+# Element segments, and the elements of one of them.
+min_element_segments = 0
+max_element_segments = 100
+min_elements = 0
+max_elements = 100
+
+# Data segments.
+min_data_segments = 0
+max_data_segments = 100
+
+# Tables.
+min_tables = 0
+max_tables = 1
+
+# Memories.
+min_memories = 0
+max_memories = 1
+
+# --- Sizes ---
+
+# What the types of all imports and exports come to: each counts 1, and that of a function or a tag its parameters and
+# results besides.
+max_type_size = 1000
+
+# The most elements that a table may declare: from 0 to 9223372036854775807, the largest integer of TOML.
+max_table_elements = 1000000
+
+# The most bytes that a memory may declare, with 32-bit addresses (at most 4294967296) and with 64-bit ones. The default of the second is
+# 18446744073709551616, which no integer of TOML is: to keep it, leave the key out.
+max_memory32_bytes = 4294967296
+# max_memory64_bytes = 18446744073709551616
+
+# Gives each table and each memory a maximum size.
+table_max_size_required = false
+memory_max_size_required = false
+
+# --- Features that the module may need ---
+
+# Passive and declared segments, and a count of data segments.
+bulk_memory_enabled = true
+# Groups of imports that share a module name or a type.
+compact_imports_enabled = false
+# Pages of another size than 65,536 bytes.
+custom_page_sizes_enabled = false
+# Tags, and references to exceptions.
+exceptions_enabled = true
+# Constant expressions that add, subtract and multiply.
+extended_const_enabled = true
+# Structures, arrays, recursive groups and subtypes, and references to defined types. It needs reference types.
+gc_enabled = true
+# Memories and tables with 64-bit addresses.
+memory64_enabled = true
+# Functions with several results.
+multi_value_enabled = true
+# References as values, and several tables.
+reference_types_enabled = true
+# Vector operators whose results are left open. It needs vectors.
+relaxed_simd_enabled = true
+# Conversions of floats to integers that saturate.
+saturating_float_to_int_enabled = true
+# Operators that extend the sign of an integer.
+sign_extension_ops_enabled = true
+# Vectors of 128 bits.
+simd_enabled = true
+# Continuations.
+stack_switching_enabled = false
+# Calls that take the place of a return.
+tail_call_enabled = true
+# Memories that threads share.
+threads_enabled = false
+# Operators on integers of 128 bits.
+wide_arithmetic_enabled = false
+
+# --- What else the module has ---
+
+# The types of floats, and constants of them.
+allow_floats = true
+# A start function.
+allow_start_export = true
+# Exports of everything that can be exported.
+export_everything = false
+# Custom sections between the others.
+generate_custom_sections = false
+# No trap when the module is instantiated: active segments lie within the minimum size of their table or memory.
+disallow_traps = false
+# Function bodies of arbitrary bytes, which are not valid as a rule.
+allow_invalid_funcs = false
+
+# --- For those who make function bodies: these steer nothing in the generator itself ---
+
+# Operators of a function body.
+max_instructions = 100
+
+# The kinds of instructions, separated by commas, with no blanks between: NumericInt, Numeric, VectorInt, Vector, Reference,
+# Parametric, Variable, Table, MemoryInt, Memory, Control and Aggregate. Numeric, Vector and Memory contain the kind whose
+# instructions need no floats, which has a second name: numeric_non_float, vector_non_float and memory_non_float. Capitals
+# don't matter.
+allowed_instructions = \"Numeric,Vector,Reference,Parametric,Variable,Table,Memory,Control,Aggregate\"
+
+# Weights of the offsets of memory accesses: within the memory's minimum size, past it and within the largest size that it
+# may have, and any others. Three numbers from 0 to 4294967295, separated by commas, with no blanks and no signs.
+memory_offset_choices = \"90,9,1\"
+
+# Turns each NaN that a body computes into one form.
+canonicalize_nans = false
 ";
 
 // Adds what stands behind a backslash, with what follows it.
@@ -320,7 +463,7 @@ fn sets(alloc: Global, name: &str, value: &str, expected: &str) -> Option<bool> 
 
 fn takes_numbers(alloc: Global, row: &str) -> Option<bool> {
     let (name, most) = two_fields(row)?;
-    let bad = format!(in alloc; "key {name} takes a number from 0 to {most}").ok()?;
+    let bad = format!(in alloc; "key {name} takes a whole number from 0 to {most}").ok()?;
     let none = format!(in alloc; "ok {name}=0").ok()?;
     let many = format!(in alloc; "ok {name}=4294967295").ok()?;
     let past = if most.len() > 10 {
@@ -358,4 +501,24 @@ fn takes_booleans(alloc: Global, row: &str) -> Option<bool> {
 #[test]
 fn switches_are_booleans(rt: HostRuntime) -> Result<(), Fail> {
     Ok(check_rows(rt.alloc(), SWITCHES, 26, takes_booleans)?)
+}
+
+// Checks that the file gives each field a value of its own, or names it in a comment.
+fn is_given(_alloc: Global, row: &str) -> Option<bool> {
+    let name = row.split('|').next()?.trim();
+    Some(
+        DEFAULTS.lines().any(|line| {
+            let line = line.strip_prefix("# ").unwrap_or(line);
+            line.strip_prefix(name)
+                .is_some_and(|rest| rest.starts_with(" = "))
+        }),
+    )
+}
+
+#[test]
+fn the_file_has_each_default(rt: HostRuntime) -> Result<(), Fail> {
+    let alloc = rt.alloc();
+    assert!(rt; gives(alloc, DEFAULTS.as_bytes(), "ok") == Some(true));
+    check_rows(alloc, SWITCHES, 26, is_given)?;
+    Ok(check_rows(alloc, NUMBERS, 27, is_given)?)
 }

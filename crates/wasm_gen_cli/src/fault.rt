@@ -50,7 +50,7 @@ pub fn tell_of_config<R: Eprint>(rt: &R, cause: &ConfigError, explain: bool) -> 
     status_of(&[Outcome::Fault])
 }
 
-/// Does the same for the words of the command line, by a whole text.
+/// Tells what is wrong with the words of the command line, by a whole text, and gives the status of a fault.
 pub fn tell_of_words<R: Eprint>(rt: &R, text: &str) -> u8
     ensures { result ≡ 2 }
 {

@@ -30,7 +30,7 @@ pub fn generate_from_files<R: Files + Print + Eprint + AllocGlobal>(
     }
 }
 
-// Reads the configuration. Where there is none, that is told, and the error is the status.
+// Reads the configuration, which is the default one where no file is named. Where it can't be read or is bad, that is told, and the error is the status.
 fn config_of<R: Files + Eprint + AllocGlobal>(rt: &R, files: Generate<'_>) -> Result<Config, u8>
     ensures { IfErr result (λ status. status ≡ 2) }
 {

@@ -6,6 +6,9 @@ ghost use Rattle.wasm_gen_config.specs.Shown.{key_line, takes_text};
 use std::error::Error;
 use std::fmt;
 
+// The largest integer of TOML.
+const MAX_INTEGER: u128 = (1 << 63) - 1;
+
 /// The values that a field takes.
 #[derive(Clone, Copy, Debug, PartialEq, Eq)]
 pub enum Takes {
@@ -13,9 +16,9 @@ pub enum Takes {
     Boolean,
     /// Whole numbers from 0 to this one.
     NumberTo(u128),
-    /// Texts that name kinds of instructions, parted by commas.
+    /// Strings that name kinds of instructions, separated by commas.
     Kinds,
-    /// Texts of three numbers, parted by commas.
+    /// Strings of three numbers, separated by commas.
     Weights,
 }
 
@@ -25,9 +28,17 @@ impl fmt::Display for Takes {
     fn fmt<W: fmt::Write>(&self, f: &mut fmt::Formatter<W>) -> fmt::Result {
         match self {
             Takes::Boolean => f.write_str("true or false"),
-            Takes::NumberTo(most) => write!(f, "a number from 0 to {most}"),
-            Takes::Kinds => f.write_str("names of kinds, parted by commas"),
-            Takes::Weights => f.write_str("three numbers, parted by commas"),
+            Takes::NumberTo(most) => {
+                // A TOML integer ends there.
+                let most = (*most).min(MAX_INTEGER);
+                write!(f, "a whole number from 0 to {most}")
+            },
+            Takes::Kinds => f.write_str(
+                "a string of names of kinds, separated by commas without blanks, such as \"Numeric,Control\"",
+            ),
+            Takes::Weights => f.write_str(
+                "a string of three numbers from 0 to 4294967295, separated by commas without blanks, such as \"90,9,1\"",
+            ),
         }
     }
 }

@@ -10,7 +10,7 @@ use toml::de;
 /// The reason why a text gives no configuration.
 #[derive(Debug, Drop)]
 pub enum ConfigError {
-    /// The text isn't TOML, or no UTF-8. The cause is shown with the line and the column, and ends its line.
+    /// The text isn't TOML in UTF-8. The cause is shown with the line and the column, and ends its line.
     Text(de::Error),
     /// A key is no field's name, or has a value that its field doesn't take. It is shown as a `BadKey` is.
     Key {

@@ -14,12 +14,12 @@ use std::alloc::Global;
 use toml::{Table, Value};
 use wasm_smith_config::config::Config;
 
-/// Returns the configuration that a table gives: each key is the name of a field, and fields without a key are as by default. The shapes can't be given.
+/// Returns the configuration that a table gives: each key is the name of a field, and fields without a key keep their defaults. The shapes can't be given.
 ///
-/// A switch takes a boolean, a number an integer that its type holds, `allowed_instructions` and `memory_offset_choices` a string that their types read.
+/// A switch takes a boolean, and a number takes an integer that its type holds; `allowed_instructions` and `memory_offset_choices` take strings that their types read.
 ///
 /// # Errors
-/// `BadKey` alone, with the first key in the table's order that is no such name, or has a value that its field doesn't take.
+/// `BadKey` alone, with the first key in the table's order, that of the keys' bytes, that is no such name, or has a value that its field doesn't take.
 pub fn config_from_table(table: &Table) -> Result<Config, BadKey<'_>>
     ensures given { IfOk result (IsGiven (table_view table.now)) }
     ensures good { OnOk result (settings.first_bad (table_view table.now) ≡ None) }
@@ -63,7 +63,7 @@ fn is_bad(takes: Option<Takes>, value: &Value) -> bool
 /// Returns the configuration that a TOML text gives, by its table.
 ///
 /// # Errors
-/// `Text` where the bytes are no UTF-8 or no TOML, `Key` where the table has a bad key, and `Memory` where memory runs out, never over blank text.
+/// `Text` where the bytes aren't TOML in UTF-8, or nest too deep, `Key` where the table has a bad key, and `Memory` where memory runs out, never over blank text.
 pub fn config_from_text(alloc: Global, text: &[u8]) -> Result<Config, ConfigError>
     ensures given { IfOk result (IsGivenByText text.now) }
     ensures refused { IfErr result (IsCauseIn text.now) }

@@ -9,7 +9,7 @@ const TEXTS: &str = "
     max_types = 7\\ngc_enabled = false   | ok max_types=7 gc_enabled=no
     allowed_instructions = \"Numeric\" | shows allowed_instructions: InstructionKinds { bits: 3 }
     shape = 1                          | key shape isn't a field
-    max_types = -1                     | key max_types takes a number from 0 to 4294967295
+    max_types = -1                     | key max_types takes a whole number from 0 to 4294967295
     max_types =                        | text
     \\xFF                               | text
 ";

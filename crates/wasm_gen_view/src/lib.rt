@@ -1,0 +1,5 @@
+//! Views of modules: what a module has, with each type named by its group and its place there, so that modules with equal index spaces have equal views.
+#![tactic(auto)]
+
+pub mod types;
+pub mod view;

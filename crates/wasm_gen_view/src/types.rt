@@ -4,16 +4,16 @@
 #[derive(Clone, Copy, Debug, PartialEq, Eq, PartialOrd, Ord)]
 pub struct TypePlace {
     /// The number of the group.
-    pub group: u32,
+    pub group: usize,
     /// The place in the group.
-    pub place: u32,
+    pub place: usize,
 }
 
 /// A reference to a defined type.
 #[derive(Clone, Copy, Debug, PartialEq, Eq, PartialOrd, Ord)]
 pub enum TypeReference {
     /// A type of the group that the reference stands in, by its place. It stands in groups alone.
-    Own(u32),
+    Own(usize),
     /// A type of another group, or where the reference stands in no group any type.
     Other(TypePlace),
 }

@@ -1,7 +1,7 @@
 //! Types of a view, which name each other by group and place.
 
 /// A type by the number of its group, counted over distinct groups, and its place there.
-#[derive(Clone, Copy, Debug, PartialEq, Eq, PartialOrd, Ord)]
+#[derive(Clone, Copy, Debug, PartialEq, Eq, Hash)]
 pub struct TypePlace {
     /// The number of the group.
     pub group: usize,
@@ -10,7 +10,7 @@ pub struct TypePlace {
 }
 
 /// A reference to a defined type.
-#[derive(Clone, Copy, Debug, PartialEq, Eq, PartialOrd, Ord)]
+#[derive(Clone, Copy, Debug, PartialEq, Eq, Hash)]
 pub enum TypeReference {
     /// A type of the group that the reference stands in, by its place. It stands in groups alone.
     Own(usize),
@@ -19,7 +19,7 @@ pub enum TypeReference {
 }
 
 /// A heap type.
-#[derive(Clone, Copy, Debug, PartialEq, Eq, PartialOrd, Ord)]
+#[derive(Clone, Copy, Debug, PartialEq, Eq, Hash)]
 pub enum HeapType {
     /// All functions.
     Func,
@@ -54,7 +54,7 @@ pub enum HeapType {
 }
 
 /// A reference type.
-#[derive(Clone, Copy, Debug, PartialEq, Eq, PartialOrd, Ord)]
+#[derive(Clone, Copy, Debug, PartialEq, Eq, Hash)]
 pub struct RefType {
     /// True if the reference may be null.
     pub nullable: bool,
@@ -63,7 +63,7 @@ pub struct RefType {
 }
 
 /// The type of a value.
-#[derive(Clone, Copy, Debug, PartialEq, Eq, PartialOrd, Ord)]
+#[derive(Clone, Copy, Debug, PartialEq, Eq, Hash)]
 pub enum ValType {
     /// Integers of 32 bits.
     I32,
@@ -80,7 +80,7 @@ pub enum ValType {
 }
 
 /// The type of the contents of a field.
-#[derive(Clone, Copy, Debug, PartialEq, Eq, PartialOrd, Ord)]
+#[derive(Clone, Copy, Debug, PartialEq, Eq, Hash)]
 pub enum StorageType {
     /// Packed integers of 8 bits.
     I8,
@@ -91,7 +91,7 @@ pub enum StorageType {
 }
 
 /// A field of a structure, or the elements of an array.
-#[derive(Clone, Copy, Debug, PartialEq, Eq, PartialOrd, Ord)]
+#[derive(Clone, Copy, Debug, PartialEq, Eq, Hash)]
 pub struct FieldType {
     /// The type of its contents.
     pub element_type: StorageType,
@@ -100,7 +100,7 @@ pub struct FieldType {
 }
 
 /// A function type.
-#[derive(Debug, PartialEq, Eq, PartialOrd, Ord, Drop)]
+#[derive(Debug, PartialEq, Eq, Hash, Drop)]
 pub struct FuncType {
     /// The types of the parameters.
     pub params: Vec<ValType>,
@@ -109,7 +109,7 @@ pub struct FuncType {
 }
 
 /// A composite type.
-#[derive(Debug, PartialEq, Eq, PartialOrd, Ord, Drop)]
+#[derive(Debug, PartialEq, Eq, Hash, Drop)]
 pub enum CompositeType {
     /// Functions.
     Func(FuncType),
@@ -122,7 +122,7 @@ pub enum CompositeType {
 }
 
 /// A sub type: a member of a group.
-#[derive(Debug, PartialEq, Eq, PartialOrd, Ord, Drop)]
+#[derive(Debug, PartialEq, Eq, Hash, Drop)]
 pub struct SubType {
     /// True if no type may have it as its supertype.
     pub is_final: bool,

@@ -1,2 +1,3 @@
 pub mod EqualityLaws
 pub mod GroupLaws
+pub mod NumberLaws

@@ -1,3 +1,4 @@
 pub mod Numbers
+pub mod TypeNumbers
 pub mod Types
 pub mod Views

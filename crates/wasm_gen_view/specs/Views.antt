@@ -1,7 +1,8 @@
 -- Views of index spaces: types are named by the number of their group, over distinct groups in the order of their first types, and their place there. Groups
 -- are one where they are equal once rolled up (Core Specification 3.0, Validation, Conventions, "Rolling and Unrolling"), so views don't depend on type indexes.
-use Rattle.std.specs.Prelude.{◌≡◌, ◌⊎◌, ⊤, ℕ, ◌<◌, List, [], ◌∷◌, ◌++◌, false, length, map, get_or, slice_get, Option, Some, None, option_map}
+use Rattle.std.specs.Prelude.{◌≡◌, ◌⊎◌, ⊤, ℕ, ◌<◌, List, [], ◌∷◌, ◌++◌, false, length, map, slice_get, Option, Some, None, option_map}
 use Rattle.std.specs.List.{AllByRecursion, flat_map}
+use Rattle.std.specs.Option.{unwrap_or}
 use Rattle.std.specs.String.{string_bytes}
 use Rattle.wasm_spec.specs.Syntax.{Export as WrittenExport}
 use Rattle.wasm_spec.specs.Trees.{DefType, GroupTree, TreeReference, opened, no_type, type_at}
@@ -59,7 +60,7 @@ AreFirst before (type ∷ types) all =
 
 -- the tree of a number; past the last one without types
 abbrev pub tree_at : List GroupTree → ℕ → GroupTree
-tree_at groups number = get_or groups number no_type.tree
+tree_at groups number = unwrap_or (slice_get groups number) no_type.tree
 
 -- the type at a place
 abbrev pub type_in : List GroupTree → TypePlace → DefType
@@ -101,9 +102,9 @@ export_in groups export = record { name = string_bytes export.name; item = Some 
 -- ---- views
 
 -- a reference in a group goes to one of so many groups, or to its own
-abbrev pub IsNumbered : ℕ → TypeReference → Type 0
-IsNumbered count (Own place) = ⊤
-IsNumbered count (Other place) = place.group < count
+abbrev pub IsWithin : ℕ → TypeReference → Type 0
+IsWithin count (Own place) = ⊤
+IsWithin count (Other place) = place.group < count
 
 -- a reference outside of groups goes to one of so many
 abbrev pub IsOutside : ℕ → TypeReference → Type 0
@@ -112,7 +113,7 @@ IsOutside count (Other place) = place.group < count
 
 -- all references of a view go to its groups
 pub record AreNumbered (count : ℕ) (v : View) : Type 0 where
-  pub groups : AllByRecursion (λ group. AllByRecursion (IsNumbered count) (subs_refs (map sub_type group.items))) v.groups.items
+  pub groups : AllByRecursion (λ group. AllByRecursion (IsWithin count) (subs_refs (map sub_type group.items))) v.groups.items
   pub types : AllByRecursion (λ place. place.group < count) v.types.items
   pub functions : AllByRecursion (λ place. place.group < count) v.functions.items
   pub tables : AllByRecursion (IsOutside count) (flat_map (λ type. table_refs (table_type type)) v.tables.items)

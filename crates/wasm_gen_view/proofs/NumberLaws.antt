@@ -107,7 +107,7 @@ module _ (types : List DefType) (all : List GroupTree) (groups : List (List (spe
   count : length places ≡ length types
   count = sym (length-map places (type_in all)) ∙ ap length it.types
 
-  meant_at : (found : Option TypePlace) (index : ℕ) → slice_get places index ≡ found → tree_reference all (reference_to found (index - length places)) ≡ reference_of types index
+  meant_at : (found : Option TypePlace) (index : ℕ) → slice_get places index ≡ found → tree_reference all (reference_to None found (index - length places)) ≡ reference_of types index
   meant_at (Some place) index at =
       let there : slice_get types index ≡ Some (type_in all place) = ap (λ ts. slice_get ts index) (sym it.types) ∙ slice_get-map (type_in all) places index ∙ ap (option_map (type_in all)) at in
       ap (λ t. trees.reference_to t (index - length types)) (sym there)
@@ -125,7 +125,7 @@ module _ (types : List DefType) (all : List GroupTree) (groups : List (List (spe
   rolled : roll (opened tree) ≡ tree
   rolled = ap roll (opened-roll (subs_map (reference_of types) (members group)))
 
-  within_at : (found : Option TypePlace) (index : ℕ) → slice_get places index ≡ found → IsWithin (length all) (reference_to found (index - length places))
+  within_at : (found : Option TypePlace) (index : ℕ) → slice_get places index ≡ found → IsWithin (length all) (reference_to None found (index - length places))
   within_at (Some place) index at = all_get (λ (p : TypePlace). p.group < length all) places it.inside index place at
   within_at None index at = tt
 

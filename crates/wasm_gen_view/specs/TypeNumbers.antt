@@ -9,13 +9,18 @@ use Rattle.wasm_gen_view.specs.declared.types.TypePlace.{TypePlace}
 use Rattle.wasm_gen_view.specs.declared.types.TypeReference.{TypeReference}
 use Rattle.wasm_gen_view.specs.declared.types.TypeReference.TheVariants.{Own, Other}
 
--- a type index, where the types before it have these places: one of them, or its own group's type behind them
-abbrev pub reference_to : Option TypePlace → ℕ → TypeReference
-reference_to (Some place) own = Other place
-reference_to None own = Own own
+-- A type index, where the types before it have these places: one of them. Behind them it is a type of its own group; outside of groups it is no type, and goes
+-- past the groups, whose number is given then.
+abbrev pub reference_to : Option ℕ → Option TypePlace → ℕ → TypeReference
+reference_to outside (Some place) own = Other place
+reference_to None None own = Own own
+reference_to (Some count) None own = Other (record { group = count; place = 0 })
+
+abbrev pub reference_by : Option ℕ → List TypePlace → ℕ → TypeReference
+reference_by outside places index = reference_to outside (slice_get places index) (index - length places)
 
 abbrev pub numbered_reference : List TypePlace → ℕ → TypeReference
-numbered_reference places index = reference_to (slice_get places index) (index - length places)
+numbered_reference places index = reference_by None places index
 
 -- the places of a group of this number, from this one on, as many as there are items
 abbrev pub places_from : {X : Type 0} → ℕ → ℕ → List X → List TypePlace

@@ -1,6 +1,6 @@
 //! Distinct groups by their numbers.
 
-ghost use Rattle.std.specs.Prelude.{◌≡◌, [], IfOk, map};
+ghost use Rattle.std.specs.Prelude.{◌≡◌, [], IfOk, length, map};
 ghost use Rattle.wasm_gen_view.specs.Numbers.{IsNumbered, group_types};
 
 use crate::types::SubType;
@@ -76,6 +76,13 @@ impl Groups {
     {
         let (number, _) = self.set.insert_full(group)?;
         Ok(number)
+    }
+
+    /// Returns the number of groups.
+    pub(crate) fn len(&self) -> usize
+        ensures { result ≡ length self.now }
+    {
+        self.set.len()
     }
 
     /// Returns the groups in order.

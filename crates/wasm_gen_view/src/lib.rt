@@ -3,5 +3,7 @@
 
 mod groups;
 mod laws;
+mod references;
+mod type_numbers;
 pub mod types;
 pub mod view;

@@ -1,2 +1,5 @@
+pub mod ItemText
+pub mod Text
+pub mod TypeText
 pub mod Types
 pub mod Views

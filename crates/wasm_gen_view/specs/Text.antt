@@ -24,7 +24,7 @@ item_lines word text xs = numbered (item_line word text) 0 xs
 abbrev pub type_line : ℕ → ℕ → SubType → List ℕ
 type_line group place type = codes "type " ++ decimal group ++ codes "." ++ decimal place ++ codes " " ++ sub_text type ++ codes "\n"
 
--- the lines of a group
+-- the lines of a group's types
 abbrev pub group_lines : ℕ → List SubType → List ℕ
 group_lines group types = numbered (type_line group) 0 types
 
@@ -32,14 +32,19 @@ group_lines group types = numbered (type_line group) 0 types
 abbrev pub export_line : Export → List ℕ
 export_line export = codes "export " ++ name_text (string_bytes export.name) ++ codes " " ++ item_text export.item ++ codes "\n"
 
+-- the lines of tables, memories, globals, tags and element segments
+abbrev pub resources_text : View → List ℕ
+resources_text v =
+    item_lines (codes "table") table_text v.tables.items
+    ++ item_lines (codes "memory") memory_text v.memories.items
+    ++ item_lines (codes "global") global_text v.globals.items
+    ++ item_lines (codes "tag") place_text v.tags.items
+    ++ item_lines (codes "element") ref_text v.elements.items
+
 abbrev pub view_text : View → List ℕ
 view_text v =
     numbered (λ group types. group_lines group types.items) 0 v.groups.items
     ++ item_lines (codes "index") place_text v.types.items
     ++ item_lines (codes "function") place_text v.functions.items
-    ++ item_lines (codes "table") table_text v.tables.items
-    ++ item_lines (codes "memory") memory_text v.memories.items
-    ++ item_lines (codes "global") global_text v.globals.items
-    ++ item_lines (codes "tag") place_text v.tags.items
-    ++ item_lines (codes "element") ref_text v.elements.items
+    ++ resources_text v
     ++ flat_map export_line v.exports.items

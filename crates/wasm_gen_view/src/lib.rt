@@ -5,6 +5,7 @@ mod item_text;
 mod lines;
 mod name_text;
 mod put;
+pub mod text;
 mod type_text;
 pub mod types;
 pub mod view;

@@ -7,7 +7,7 @@ use Rattle.wasm_gen_view.specs.declared.types.SubType.{SubType}
 use Rattle.wasm_gen_view.specs.declared.view.Export.{Export}
 use Rattle.wasm_gen_view.specs.declared.view.View.{View}
 
--- the texts of some items, each with its number, counted from one
+-- the texts of items, each with its number; the first has this one
 abbrev pub numbered : {A : Type 0} → (ℕ → A → List ℕ) → ℕ → List A → List ℕ
 numbered text number [] = []
 numbered text number (x ∷ xs) = text number x ++ numbered text (number + 1) xs

@@ -1,3 +1,4 @@
 pub mod EqualityLaws
 pub mod GroupLaws
 pub mod NumberLaws
+pub mod Numbering

@@ -2,8 +2,14 @@
 #![tactic(auto)]
 
 mod groups;
+mod item_text;
 mod laws;
+mod lines;
+mod name_text;
+mod put;
 mod references;
+pub mod text;
 mod type_numbers;
+mod type_text;
 pub mod types;
 pub mod view;

@@ -1,11 +1,11 @@
 -- One more group is numbered.
-use Rattle.std.proofs.Common.{◌≡◌, ◌⊎◌, inl, inr, ℕ, zero, suc, ◌+◌, ◌-◌, ◌<◌, List, [], ◌∷◌, ◌++◌, map, length, slice_get, Option, Some, None, option_map, refl, sym, ap, subst, ◌∙◌, arith, length-append}
-use Rattle.std.proofs.lemmas.List.{length-map, map-append}
+use Rattle.std.proofs.Common.{◌≡◌, ◌⊎◌, inl, inr, ℕ, zero, suc, ◌+◌, ◌-◌, ◌<◌, List, [], ◌∷◌, ◌++◌, map, drop, length, slice_get, Option, Some, None, option_map, refl, sym, ap, subst, ◌∙◌, arith, length-append}
+use Rattle.std.proofs.lemmas.List.{append-nil, length-map, map-append}
 use Rattle.std.proofs.lemmas.Option.{slice_get-map, slice_get_within}
 use Rattle.std.specs.List.{AllByRecursion}
 use Rattle.std.specs.Option.{unwrap_or}
 use Rattle.wasm_spec.specs.Syntax.{members}
-use Rattle.wasm_spec.specs.Trees.{DefType, GroupTree, TreeReference, joined, no_type, opened, places_of, reference_of, roll, tree_of}
+use Rattle.wasm_spec.specs.Trees.{DefType, GroupTree, TreeReference, joined, no_type, opened, places_of, reference_of, roll, tree_of, types_after}
 use Rattle.wasm_spec.specs.Trees as trees
 use Rattle.wasm_spec.specs.TypeReferences.{subs_map, subs_refs}
 use Rattle.wasm_spec.specs.Types as spec
@@ -256,3 +256,36 @@ module _ (types : List DefType) (all : List GroupTree) (groups : List (List (spe
   pub one_more : (number : ℕ) (new : List (List (spec.SubType TypeReference))) → IsNumbered numbered groups number new → Next number new
   one_more number new (inl (at, same)) = subst (Next number) (sym same) (there number at)
   one_more number new (inr (none, is, same)) = subst (Next number) (sym same) (behind none number is)
+
+-- the same for a group that is written as these types, which may be none
+same_places : {X Y : Type 0} (f : X → Y) (number place : ℕ) (xs : List X) → places_from number place (map f xs) ≡ places_from number place xs
+same_places f number place [] = refl
+same_places f number place (x ∷ xs) = rw (same_places f number (suc place) xs)
+
+pub group_added : {X : Type 0} (f : X → spec.SubType ℕ) (xs : List X) (groups new : List (List (spec.SubType TypeReference))) (places : List TypePlace) (number : ℕ) → 0 < length xs
+    → IsNumbered (subs_map (numbered_reference places) (map f xs)) groups number new
+    → (before : List DefType) (group : spec.RecGroup ℕ) → members group ≡ map f xs → (trees : List GroupTree) → AreNumbersOf before trees groups places
+    → (all : List GroupTree) × AreNumbersOf (types_after before group) all new (places ++ places_from number 0 xs)
+group_added f [] groups new places number some it before group is trees h = absurd (omega (arith, some))
+group_added f (x ∷ xs) groups new places number some it before group is trees h =
+    let next = one_more before trees groups places h group (f x) (map f xs) is number new (subst (λ ms. IsNumbered (subs_map (numbered_reference places) ms) groups number new) (sym is) it) in
+    subst (λ ps. (all : List GroupTree) × AreNumbersOf (types_after before group) all new (places ++ ps)) (ap (places_from number 0) is ∙ same_places f number 0 (x ∷ xs)) next
+
+pub none_added : {X : Type 0} (f : X → spec.SubType ℕ) (xs : List X) (groups : List (List (spec.SubType TypeReference))) (places : List TypePlace) → length xs ≡ 0
+    → (before : List DefType) (group : spec.RecGroup ℕ) → members group ≡ map f xs → (trees : List GroupTree) → AreNumbersOf before trees groups places
+    → (all : List GroupTree) × AreNumbersOf (types_after before group) all groups places
+none_added f [] groups places none before group is trees h =
+    let same : types_after before group ≡ before = ap (λ ms. before ++ places_of (tree_of before group) 0 ms) is ∙ append-nil before in
+    (trees, subst (λ ts. AreNumbersOf ts trees groups places) (sym same) h)
+none_added f (x ∷ xs) groups places none before group is trees h = absurd (omega (arith, none))
+
+-- ---- the loop over places
+
+step : {X : Type 0} (number at place : ℕ) (xs : List X) → place < length xs → places_from number at (drop place xs) ≡ record { group = number; place = at } ∷ places_from number (suc at) (drop (suc place) xs)
+step number at place [] lt = absurd (omega (arith, lt))
+step number at zero (x ∷ xs) lt = refl
+step number at (suc place) (x ∷ xs) lt = step number at place xs (omega (arith, lt))
+
+pub places_step : {X : Type 0} (number place : ℕ) (xs : List X) → place < length xs
+    → places_from number place (drop place xs) ≡ record { group = number; place = place } ∷ places_from number (place + 1) (drop (place + 1) xs)
+places_step number place xs lt = let next : place + 1 ≡ suc place = omega arith in rw next (step number place place xs lt)

@@ -67,7 +67,8 @@ impl TypeNumbers {
         };
         let group = references.sub_types(alloc, types)?;
         let number = self.groups.number(group)?;
-        push_places(&mut self.places, number, types)
+        push_places(&mut self.places, number, types)?;
+        Ok(())
     }
 
     /// Returns the references of items, which stand outside of groups.

@@ -1,4 +1,7 @@
+pub mod ItemReferences
 pub mod ItemText
+pub mod MadeItems
+pub mod MadeSpaces
 pub mod Numbers
 pub mod Text
 pub mod TypeNumbers

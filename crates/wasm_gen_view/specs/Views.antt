@@ -1,6 +1,6 @@
 -- Views of index spaces: types are named by the number of their group, over distinct groups in the order of their first types, and their place there. Groups
 -- are one where they are equal once rolled up (Core Specification 3.0, Validation, Conventions, "Rolling and Unrolling"), so views don't depend on type indexes.
-use Rattle.std.specs.Prelude.{◌≡◌, ◌⊎◌, ⊤, ℕ, ◌<◌, List, [], ◌∷◌, ◌++◌, false, length, map, slice_get, Option, Some, None, option_map}
+use Rattle.std.specs.Prelude.{◌≡◌, ◌⊎◌, ⊤, ℕ, ◌<◌, List, [], ◌∷◌, ◌++◌, false, true, is_some, length, map, slice_get, Option, Some, None, option_map}
 use Rattle.std.specs.List.{AllByRecursion, flat_map}
 use Rattle.std.specs.Option.{unwrap_or}
 use Rattle.std.specs.String.{string_bytes}
@@ -122,6 +122,18 @@ pub record AreNumbered (count : ℕ) (v : View) : Type 0 where
   pub elements : AllByRecursion (IsOutside count) (flat_map (λ type. ref_refs (ref_type type)) v.elements.items)
   pub exports : AllByRecursion (IsOutside count) (flat_map (λ export. external_refs (item_type export.item)) v.exports.items)
 
+-- each type index of an item names a type
+pub record HasTypes (s : Spaces) : Type 0 where
+  pub functions : AllByRecursion (λ index. index < length s.types) s.functions
+  pub tables : AllByRecursion (λ index. index < length s.types) (flat_map table_refs s.tables)
+  pub globals : AllByRecursion (λ index. index < length s.types) (flat_map global_refs s.globals)
+  pub tags : AllByRecursion (λ index. index < length s.types) s.tags
+  pub elements : AllByRecursion (λ index. index < length s.types) (flat_map ref_refs s.elements)
+
+-- each export names an item
+abbrev pub HasItems : Spaces → Type 0
+HasItems s = AllByRecursion (λ export. is_some (item_in s export.kind export.index) ≡ true) s.exports
+
 -- It is the view of these index spaces: its groups are the distinct ones, and each of its items stands for that of the spaces.
 pub record IsViewOf (s : Spaces) (v : View) : Type 0 where
   pub trees : List GroupTree
@@ -135,4 +147,4 @@ pub record IsViewOf (s : Spaces) (v : View) : Type 0 where
   pub tags : map (type_in trees) v.tags.items ≡ map (type_at s.types) s.tags
   pub elements : map (λ type. ref_map (type_of trees) (ref_type type)) v.elements.items ≡ map (ref_map (type_at s.types)) s.elements
   pub exports : map (export_in trees) v.exports.items ≡ map (exported s) s.exports
-  pub numbered : AreNumbered (length trees) v
+  pub numbered : HasTypes s → AreNumbered (length trees) v

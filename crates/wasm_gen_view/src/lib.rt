@@ -1,10 +1,14 @@
 //! Views of modules: what a module has, with each type named by its group and its place there, so that modules with equal index spaces have equal views.
 #![tactic(auto)]
 
+mod among;
 mod groups;
+mod imported;
 mod item_text;
+mod item_types;
 mod laws;
 mod lines;
+mod made_items;
 mod name_text;
 mod put;
 mod references;

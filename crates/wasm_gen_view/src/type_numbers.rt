@@ -71,6 +71,20 @@ impl TypeNumbers {
         Ok(())
     }
 
+    /// Returns the place of each type.
+    pub(crate) fn places(&self) -> &[TypePlace]
+        ensures { result.now ≡ self.now.places.items }
+    {
+        &self.places
+    }
+
+    /// Returns the number of groups.
+    pub(crate) fn group_count(&self) -> usize
+        ensures { result ≡ length self.now.groups }
+    {
+        self.groups.len()
+    }
+
     /// Returns the references of items, which stand outside of groups.
     pub(crate) fn references(&self) -> References<'_>
         ensures places { result.places.now ≡ self.now.places.items }

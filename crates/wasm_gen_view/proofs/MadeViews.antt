@@ -1,10 +1,12 @@
 -- The view of a made module.
-use Rattle.std.proofs.Common.{◌≡◌, ℕ, ◌-◌, ◌<◌, List, [], ◌∷◌, map, length, slice_get, Option, Some, None, option_map, is_some, true, refl, sym, ap, subst, ◌∙◌, arith, flat_map}
+use Rattle.std.proofs.Common.{◌≡◌, ℕ, zero, suc, ◌-◌, ◌<◌, List, [], ◌∷◌, ◌++◌, map, length, slice_get, Option, Some, None, option_map, is_some, true, refl, sym, ap, subst, ◌∙◌, arith, flat_map}
 use Rattle.std.proofs.lemmas.List.{length-map}
 use Rattle.std.proofs.lemmas.Option.{slice_get-map, slice_get_within}
+use Rattle.std.specs.Global.{Vec}
 use Rattle.std.specs.List.{AllByRecursion}
 use Rattle.std.specs.Option.{unwrap_or}
 use Rattle.wasm_spec.proofs.GroupTrees.{all_each}
+use Rattle.wasm_spec.proofs.TypeMaps.{map-map}
 use Rattle.wasm_spec.proofs.Places.{all_by_place, all_get, get_either, get_some}
 use Rattle.wasm_spec.specs.Syntax.{Export as WrittenExport}
 use Rattle.wasm_spec.specs.Trees.{DefType, GroupTree, no_type, opened, type_at}
@@ -18,6 +20,7 @@ use Rattle.wasm_gen_view.specs.TypeNumbers.{AreNumbersOf, reference_by, referenc
 use Rattle.wasm_gen_view.specs.Types.{ref_type, sub_type}
 use Rattle.wasm_gen_view.specs.Views.{AreNumbered, HasItems, HasTypes, IsOutside, IsViewOf, IsWithin, Named, export_in, exported, global_type, item_in, item_type, memory_type, table_type, tree_at, tree_reference, type_in, type_of}
 use Rattle.wasm_gen_view.specs.declared.made_items.MadeItems.{MadeItems}
+use Rattle.wasm_gen_view.specs.declared.types.SubType.{SubType}
 use Rattle.wasm_gen_view.specs.declared.types.TypePlace.{TypePlace}
 use Rattle.wasm_gen_view.specs.declared.types.TypeReference.{TypeReference}
 use Rattle.wasm_gen_view.specs.declared.types.TypeReference.TheVariants.{Own, Other}
@@ -152,3 +155,93 @@ module _ (s : Spaces) (all : List GroupTree) (groups : List (List (spec.SubType 
 
       pub elements_outside : AreOutside (flat_map (λ type. ref_refs (ref_type type)) items.elements.items)
       elements_outside = subst AreOutside (sym (lists_refs refer (ref_map refer) ref_refs ref_refs (ref_refs_are refer) ref_type items.elements.items s.elements are.elements)) (all_outside (flat_map ref_refs s.elements) has.elements)
+
+      option_outside : {X : Type 0} (own : X → spec.ExternalType TypeReference) (found : Option X) (item : spec.ExternalType TypeReference) → option_map own found ≡ Some item
+          → ((x : X) → found ≡ Some x → AreOutside (external_refs (own x))) → AreOutside (external_refs item)
+      option_outside own None item e h = absurd cc
+      option_outside own (Some x) item e h = let is : own x ≡ item = cc in subst (λ t. AreOutside (external_refs t)) is (h x refl)
+
+      append_outside : (xs ys : List TypeReference) → AreOutside (xs ++ ys) → AreOutside xs × AreOutside ys
+      append_outside [] ys h = (tt, h)
+      append_outside (x ∷ xs) ys h = let (a, b) = append_outside xs ys h.1 in ((h.0, a), b)
+
+      one_of : {X : Type 0} (p : X → List TypeReference) (xs : List X) → AreOutside (flat_map p xs) → (index : ℕ) (x : X) → slice_get xs index ≡ Some x → AreOutside (p x)
+      one_of p [] h index x e = absurd cc
+      one_of p (y ∷ xs) h zero x e = let one : y ≡ x = cc in subst (λ z. AreOutside (p z)) one (append_outside (p y) (flat_map p xs) h).0
+      one_of p (y ∷ xs) h (suc index) x e = one_of p xs (append_outside (p y) (flat_map p xs) h).1 index x e
+
+      item_outside : (kind : spec.ExternalKind) (index : ℕ) (item : spec.ExternalType TypeReference) → item_among items kind index ≡ Some item → AreOutside (external_refs item)
+      item_outside spec.FuncKind index item e = option_outside (λ (p : TypePlace). spec.FuncExternal (Other p)) (slice_get items.functions.items index) item e
+          (λ p at. (all_get (λ (p : TypePlace). p.group < length all) items.functions.items functions_placed index p at, tt))
+      item_outside spec.TableKind index item e = option_outside (λ t. spec.TableExternal (table_type t)) (slice_get items.tables.items index) item e
+          (λ t at. one_of (λ type. table_refs (table_type type)) items.tables.items tables_outside index t at)
+      item_outside spec.MemoryKind index item e = option_outside (λ t. spec.MemoryExternal (memory_type t)) (slice_get items.memories.items index) item e (λ t at. tt)
+      item_outside spec.GlobalKind index item e = option_outside (λ t. spec.GlobalExternal (global_type t)) (slice_get items.globals.items index) item e
+          (λ t at. one_of (λ type. global_refs (global_type type)) items.globals.items globals_outside index t at)
+      item_outside spec.TagKind index item e = option_outside (λ (p : TypePlace). spec.TagExternal (Other p)) (slice_get items.tags.items index) item e
+          (λ p at. (all_get (λ (p : TypePlace). p.group < length all) items.tags.items tags_placed index p at, tt))
+
+      abbrev pub IsNamedOutside : Named TypeReference → Type 0
+      IsNamedOutside n = (item : spec.ExternalType TypeReference) → n.item ≡ Some item → AreOutside (external_refs item)
+
+      with_outside : (name : List ℕ) (found : Option (spec.ExternalType TypeReference)) → ((item : spec.ExternalType TypeReference) → found ≡ Some item → AreOutside (external_refs item))
+          → (others : List (Named TypeReference)) → AllByRecursion IsNamedOutside others → AllByRecursion IsNamedOutside (with_item name found others)
+      with_outside name None h others k = k
+      with_outside name (Some item) h others k = (h, k)
+
+      among_outside : (exports : List WrittenExport) → AllByRecursion IsNamedOutside (exports_among items exports)
+      among_outside [] = tt
+      among_outside (e ∷ es) = with_outside e.name (item_among items e.kind e.index) (item_outside e.kind e.index) (exports_among items es) (among_outside es)
+
+      joined_outside : (xs ys : List TypeReference) → AreOutside xs → AreOutside ys → AreOutside (xs ++ ys)
+      joined_outside [] ys h k = k
+      joined_outside (x ∷ xs) ys h k = (h.0, joined_outside xs ys h.1 k)
+
+      each_outside : (exports : List Export) → AllByRecursion (λ e. IsNamedOutside (shown e)) exports → AreOutside (flat_map (λ export. external_refs (item_type export.item)) exports)
+      each_outside [] h = tt
+      each_outside (e ∷ es) h = joined_outside (external_refs (item_type e.item)) (flat_map (λ export. external_refs (item_type export.item)) es) (h.0 (item_type e.item) refl) (each_outside es h.1)
+
+      pub exports_outside : (exports : List Export) → map shown exports ≡ exports_among items s.exports → AreOutside (flat_map (λ export. external_refs (item_type export.item)) exports)
+      exports_outside exports e = each_outside exports (all_unmapped IsNamedOutside shown exports (subst (AllByRecursion IsNamedOutside) (sym e) (among_outside s.exports)))
+
+    -- ---- the view
+
+    groups_meant : (kept : List (Vec SubType)) → map group_types kept ≡ groups → map (λ (group : Vec SubType). subs_map (tree_reference all) (map sub_type group.items)) kept ≡ map opened all
+    groups_meant kept e = sym (map-map (subs_map (tree_reference all)) group_types (λ (group : Vec SubType). subs_map (tree_reference all) (map sub_type group.items)) (λ x. refl) kept) ∙ ap (map (subs_map (tree_reference all))) e ∙ it.groups
+
+    groups_within : (kept : List (Vec SubType)) → map group_types kept ≡ groups → AllByRecursion (λ (group : Vec SubType). AllByRecursion (IsWithin (length all)) (subs_refs (map sub_type group.items))) kept
+    groups_within kept e = all_unmapped (λ g. AllByRecursion (IsWithin (length all)) (subs_refs g)) group_types kept (subst (AllByRecursion (λ g. AllByRecursion (IsWithin (length all)) (subs_refs g))) (sym e) it.within)
+
+    pub view_is : (v : View) → map group_types v.groups.items ≡ groups → v.types.items ≡ places → v.functions ≡ items.functions → v.tables ≡ items.tables → v.memories ≡ items.memories
+        → v.globals ≡ items.globals → v.tags ≡ items.tags → v.elements ≡ items.elements → map shown v.exports.items ≡ exports_among items s.exports → HasItems s → IsViewOf s v
+    view_is v kept types functions tables memories globals tags elements exports has = record {
+      trees = all;
+      first = it.first;
+      groups = groups_meant v.groups.items kept;
+      types = ap (map (type_in all)) types ∙ it.types;
+      functions = ap (λ l. map (type_in all) l.items) functions
+          ∙ lists_twice (type_of all) refer (type_at s.types) meant (λ (p : TypePlace). Other p) (type_in all) (λ p. refl) items.functions.items s.functions are.functions;
+      tables = ap (λ l. map (λ type. table_map (type_of all) (table_type type)) l.items) tables
+          ∙ lists_twice (table_map (type_of all)) (table_map refer) (table_map (type_at s.types)) (table_twice (type_of all) refer (type_at s.types) meant) table_type
+              (λ type. table_map (type_of all) (table_type type)) (λ t. refl) items.tables.items s.tables are.tables;
+      memories = ap (λ l. map memory_type l.items) memories ∙ are.memories;
+      globals = ap (λ l. map (λ type. global_map (type_of all) (global_type type)) l.items) globals
+          ∙ lists_twice (global_map (type_of all)) (global_map refer) (global_map (type_at s.types)) (global_twice (type_of all) refer (type_at s.types) meant) global_type
+              (λ type. global_map (type_of all) (global_type type)) (λ t. refl) items.globals.items s.globals are.globals;
+      tags = ap (λ l. map (type_in all) l.items) tags
+          ∙ lists_twice (type_of all) refer (type_at s.types) meant (λ (p : TypePlace). Other p) (type_in all) (λ p. refl) items.tags.items s.tags are.tags;
+      elements = ap (λ l. map (λ type. ref_map (type_of all) (ref_type type)) l.items) elements
+          ∙ lists_twice (ref_map (type_of all)) (ref_map refer) (ref_map (type_at s.types)) (ref_twice (type_of all) refer (type_at s.types) meant) ref_type
+              (λ type. ref_map (type_of all) (ref_type type)) (λ t. refl) items.elements.items s.elements are.elements;
+      exports = exports_are has v.exports.items exports;
+      numbered = λ known. record {
+        groups = groups_within v.groups.items kept;
+        types = subst (AllByRecursion (λ (p : TypePlace). p.group < length all)) (sym types) it.inside;
+        functions = subst (λ l. AllByRecursion (λ (p : TypePlace). p.group < length all) l.items) (sym functions) (functions_placed known);
+        tables = subst (λ l. AllByRecursion (IsOutside (length all)) (flat_map (λ type. table_refs (table_type type)) l.items)) (sym tables) (tables_outside known);
+        globals = subst (λ l. AllByRecursion (IsOutside (length all)) (flat_map (λ type. global_refs (global_type type)) l.items)) (sym globals) (globals_outside known);
+        tags = subst (λ l. AllByRecursion (λ (p : TypePlace). p.group < length all) l.items) (sym tags) (tags_placed known);
+        elements = subst (λ l. AllByRecursion (IsOutside (length all)) (flat_map (λ type. ref_refs (ref_type type)) l.items)) (sym elements) (elements_outside known);
+        exports = exports_outside known v.exports.items exports;
+      };
+    }

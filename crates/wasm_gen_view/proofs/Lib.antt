@@ -5,3 +5,5 @@ pub mod MadeTypes
 pub mod MadeViews
 pub mod NumberLaws
 pub mod Numbering
+pub mod SameTrees
+pub mod SameViews

@@ -223,16 +223,16 @@ module _ (s : Spaces) (all : List GroupTree) (groups : List (List (spec.SubType 
           ∙ lists_twice (type_of all) refer (type_at s.types) meant (λ (p : TypePlace). Other p) (type_in all) (λ p. refl) items.functions.items s.functions are.functions;
       tables = ap (λ l. map (λ type. table_map (type_of all) (table_type type)) l.items) tables
           ∙ lists_twice (table_map (type_of all)) (table_map refer) (table_map (type_at s.types)) (table_twice (type_of all) refer (type_at s.types) meant) table_type
-              (λ type. table_map (type_of all) (table_type type)) (λ t. refl) items.tables.items s.tables are.tables;
+          (λ type. table_map (type_of all) (table_type type)) (λ t. refl) items.tables.items s.tables are.tables;
       memories = ap (λ l. map memory_type l.items) memories ∙ are.memories;
       globals = ap (λ l. map (λ type. global_map (type_of all) (global_type type)) l.items) globals
           ∙ lists_twice (global_map (type_of all)) (global_map refer) (global_map (type_at s.types)) (global_twice (type_of all) refer (type_at s.types) meant) global_type
-              (λ type. global_map (type_of all) (global_type type)) (λ t. refl) items.globals.items s.globals are.globals;
+          (λ type. global_map (type_of all) (global_type type)) (λ t. refl) items.globals.items s.globals are.globals;
       tags = ap (λ l. map (type_in all) l.items) tags
           ∙ lists_twice (type_of all) refer (type_at s.types) meant (λ (p : TypePlace). Other p) (type_in all) (λ p. refl) items.tags.items s.tags are.tags;
       elements = ap (λ l. map (λ type. ref_map (type_of all) (ref_type type)) l.items) elements
           ∙ lists_twice (ref_map (type_of all)) (ref_map refer) (ref_map (type_at s.types)) (ref_twice (type_of all) refer (type_at s.types) meant) ref_type
-              (λ type. ref_map (type_of all) (ref_type type)) (λ t. refl) items.elements.items s.elements are.elements;
+          (λ type. ref_map (type_of all) (ref_type type)) (λ t. refl) items.elements.items s.elements are.elements;
       exports = exports_are has v.exports.items exports;
       numbered = λ known. record {
         groups = groups_within v.groups.items kept;

@@ -24,12 +24,12 @@ use Rattle.wasm_gen_view.specs.declared.types.TypeReference.TheVariants.{Own, Ot
 get_one : {X : Type 0} (xs : List X) (x : X) → slice_get (xs ++ x ∷ []) (length xs) ≡ Some x
 get_one xs x = let e : length xs + 0 ≡ length xs = omega arith in subst (λ n. slice_get (xs ++ x ∷ []) n ≡ Some x) e (get_right xs (x ∷ []) 0)
 
-all_append : {X : Type 0} (P : X → Type 0) (xs ys : List X) → AllByRecursion P xs → AllByRecursion P ys → AllByRecursion P (xs ++ ys)
+pub all_append : {X : Type 0} (P : X → Type 0) (xs ys : List X) → AllByRecursion P xs → AllByRecursion P ys → AllByRecursion P (xs ++ ys)
 all_append P [] ys h k = k
 all_append P (x ∷ xs) ys h k = (h.0, all_append P xs ys h.1 k)
 
 -- items that f takes to one item are one, where they have P
-maps_back : {X Y : Type 0} (P : X → Type 0) (f : X → Y) → ((a b : X) → P a → P b → f a ≡ f b → a ≡ b) → (xs ys : List X) → AllByRecursion P xs → AllByRecursion P ys
+pub maps_back : {X Y : Type 0} (P : X → Type 0) (f : X → Y) → ((a b : X) → P a → P b → f a ≡ f b → a ≡ b) → (xs ys : List X) → AllByRecursion P xs → AllByRecursion P ys
     → map f xs ≡ map f ys → xs ≡ ys
 maps_back P f one [] [] h k e = refl
 maps_back P f one [] (y ∷ ys) h k e = cc
@@ -40,7 +40,7 @@ maps_back P f one (x ∷ xs) (y ∷ ys) h k e =
     rw (one x y h.0 k.0 head, maps_back P f one xs ys h.1 k.1 tail)
 
 -- so are groups, where all their references have P
-subs_back : {R S : Type 0} (d : R) (P : R → Type 0) (f : R → S) → ((a b : R) → P a → P b → f a ≡ f b → a ≡ b) → (xs ys : List (spec.SubType R))
+pub subs_back : {R S : Type 0} (d : R) (P : R → Type 0) (f : R → S) → ((a b : R) → P a → P b → f a ≡ f b → a ≡ b) → (xs ys : List (spec.SubType R))
     → AllByRecursion P (subs_refs xs) → AllByRecursion P (subs_refs ys) → subs_map f xs ≡ subs_map f ys → xs ≡ ys
 subs_back d P f one xs ys h k e =
     same_subs d xs ys (sym (subs_map-subs_map (λ _. tt {0}) f xs) ∙ ap (subs_map (λ _. tt {0})) e ∙ subs_map-subs_map (λ _. tt {0}) f ys)
@@ -80,7 +80,7 @@ reference_kept all more (Own place) h = refl
 reference_kept all more (Other place) h = ap (λ t. trees.Other t place.place) (tree_kept all more place.group h)
 
 -- references to distinct trees are told apart
-references_back : (all : List GroupTree) → ((i j : ℕ) (tree : GroupTree) → slice_get all i ≡ Some tree → slice_get all j ≡ Some tree → i ≡ j)
+pub references_back : (all : List GroupTree) → ((i j : ℕ) (tree : GroupTree) → slice_get all i ≡ Some tree → slice_get all j ≡ Some tree → i ≡ j)
     → (a b : TypeReference) → IsWithin (length all) a → IsWithin (length all) b → tree_reference all a ≡ tree_reference all b → a ≡ b
 references_back all distinct (Own p) (Own q) h k e = cc
 references_back all distinct (Own p) (Other q) h k e = cc

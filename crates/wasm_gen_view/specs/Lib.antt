@@ -3,6 +3,7 @@ pub mod ItemText
 pub mod MadeItems
 pub mod MadeSpaces
 pub mod Numbers
+pub mod SameViews
 pub mod Text
 pub mod TypeNumbers
 pub mod TypeText

@@ -3,7 +3,10 @@
 ghost use Rattle.std.specs.Prelude.{◌≡◌, ◌∷◌, ◌++◌, ℕ, List, map};
 ghost use Rattle.std.specs.Bool.{Decides};
 ghost use Rattle.wasm_spec.specs.Syntax.{members};
-ghost use Rattle.wasm_spec.specs.Trees.{DefType, GroupTree, types_after};
+ghost use Rattle.wasm_spec.specs.Trees.{DefType, GroupTree, section_types, types_after};
+ghost use Rattle.wasm_validity.specs.IndexSpaces.{Spaces};
+ghost use Rattle.wasm_gen_view.specs.SameViews.{as_trees, viewed};
+ghost use Rattle.wasm_gen_view.specs.Views.{HasTypes, IsViewOf};
 ghost use Rattle.wasm_spec.specs.TypeReferences.{subs_map};
 ghost use Rattle.wasm_spec.specs.Types as spec;
 ghost use Rattle.wasm_gen_view.specs.Numbers.{IsNumbered};
@@ -14,6 +17,7 @@ use crate::types::{
     CompositeType, FieldType, FuncType, HeapType, RefType, StorageType, SubType, TypePlace,
     TypeReference, ValType,
 };
+use crate::view::View;
 
 /// `==` decides if two types are one type of the specification.
 pub fn equal_types()
@@ -35,4 +39,11 @@ pub fn one_more_group()
         → (group : spec.RecGroup ℕ) (m : spec.SubType ℕ) (ms : List (spec.SubType ℕ)) → members group ≡ m ∷ ms → (number : ℕ) (new : List (List (spec.SubType TypeReference)))
         → IsNumbered (subs_map (numbered_reference places) (members group)) groups number new
         → (trees : List GroupTree) × AreNumbersOf (types_after types group) trees new (places ++ places_from number 0 (members group)) }
+{}
+
+/// Two views are equal exactly where the index spaces are equal as trees: with defined types in place of type indexes.
+pub fn equal_views()
+    ensures views { (s t : Spaces) (v w : View) → IsViewOf s v → IsViewOf t w → HasTypes s → HasTypes t → as_trees s ≡ as_trees t → viewed v ≡ viewed w }
+    ensures spaces { (s t : Spaces) (groups others : List (spec.RecGroup ℕ)) (v w : View) → s.types ≡ section_types groups → t.types ≡ section_types others
+        → IsViewOf s v → IsViewOf t w → HasTypes s → viewed v ≡ viewed w → as_trees s ≡ as_trees t }
 {}

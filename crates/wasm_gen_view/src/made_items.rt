@@ -120,12 +120,13 @@ pub(crate) fn made_items(
     ensures { IfOk result (AreItems (refer numbers.now) (made_spaces made.now.made)) }
 {
     let imported = imported_items(alloc, numbers, made.imports())?;
+    let shown: &[Item] = &imported;
     Ok(MadeItems {
-        functions: functions(alloc, numbers, &imported, made.funcs())?,
-        tables: tables(alloc, numbers, &imported, made.tables())?,
-        memories: memories(alloc, &imported, made.memories())?,
-        globals: globals(alloc, numbers, &imported, made.globals())?,
-        tags: tags(alloc, numbers, &imported, made.tags())?,
+        functions: functions(alloc, numbers, shown, made.funcs())?,
+        tables: tables(alloc, numbers, shown, made.tables())?,
+        memories: memories(alloc, shown, made.memories())?,
+        globals: globals(alloc, numbers, shown, made.globals())?,
+        tags: tags(alloc, numbers, shown, made.tags())?,
         elements: elements(alloc, numbers, made.elems())?,
     })
 }

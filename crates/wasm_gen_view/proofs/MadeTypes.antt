@@ -63,7 +63,7 @@ all_so_far groups numbered places more sizes i past far = by far.rest refl
 pub one_so_far : (groups : List (spec.RecGroup ℕ)) (old new : List (List (spec.SubType TypeReference))) (old_places new_places : List TypePlace) (types own : List code.SubType) (sizes : List ℕ) (i start size end : ℕ)
     → i < length sizes → size ≡ get_or sizes i 0 → end ≡ start + size → own ≡ take (end - start) (drop start types)
     → ((before : List DefType) (group : spec.RecGroup ℕ) → members group ≡ map sub_type own → (trees : List GroupTree) → AreNumbersOf before trees old old_places
-        → (all : List GroupTree) × AreNumbersOf (types_after before group) all new new_places)
+    → (all : List GroupTree) × AreNumbersOf (types_after before group) all new new_places)
     → AreSoFar groups old old_places (map sub_type (drop start types)) (drop i sizes) → AreSoFar groups new new_places (map sub_type (drop end types)) (drop (i + 1) sizes)
 one_so_far groups old new old_places new_places types own sizes i start size end lt is ends owns add far = by far.rest refl
   where
@@ -82,10 +82,10 @@ one_so_far groups old new old_places new_places types own sizes i start size end
         let front : map sub_type (drop start types) ≡ members g ++ flat_map members gs = far.types ∙ ap (flat_map members) (sym e) in
         let group : members g ≡ map sub_type own =
         sym (take_front (members g) (flat_map members gs)) ∙ sym (λ j. take (first j) (front j)) ∙ map_take sub_type size (drop start types) ∙ ap (λ n. map sub_type (take n (drop start types))) (sym left)
-            ∙ ap (map sub_type) (sym owns) in
+        ∙ ap (map sub_type) (sym owns) in
         let behind : map sub_type (drop end types) ≡ flat_map members gs =
         ap (λ n. map sub_type (drop n types)) ends ∙ ap (map sub_type) (sym (drop_twice size start types)) ∙ sym (map_drop sub_type size (drop start types)) ∙ (λ j. drop (first j) (front j))
-            ∙ drop_front (members g) (flat_map members gs) in
+        ∙ drop_front (members g) (flat_map members gs) in
         let next = add far.before g group far.trees far.are in
         record {
           before = types_after far.before g;

@@ -7,7 +7,7 @@ use Rattle.std.specs.List.{AllByRecursion}
 use Rattle.std.specs.Option.{unwrap_or}
 use Rattle.wasm_spec.proofs.GroupTrees.{all_each}
 use Rattle.wasm_spec.proofs.TypeMaps.{map-map}
-use Rattle.wasm_spec.proofs.Places.{all_by_place, all_get, get_either, get_some}
+use Rattle.wasm_spec.proofs.Places.{all_get, get_some}
 use Rattle.wasm_spec.specs.Syntax.{Export as WrittenExport}
 use Rattle.wasm_spec.specs.Trees.{DefType, GroupTree, no_type, opened, type_at}
 use Rattle.wasm_spec.specs.TypeReferences.{external_map, external_refs, global_map, global_refs, ref_map, ref_refs, subs_map, subs_refs, table_map, table_refs}
@@ -18,12 +18,12 @@ use Rattle.wasm_gen_view.specs.MadeItems.{AreItems, exported_by, exports_among, 
 use Rattle.wasm_gen_view.specs.Numbers.{group_types}
 use Rattle.wasm_gen_view.specs.TypeNumbers.{AreNumbersOf, reference_by, reference_to}
 use Rattle.wasm_gen_view.specs.Types.{ref_type, sub_type}
-use Rattle.wasm_gen_view.specs.Views.{AreNumbered, HasItems, HasTypes, IsOutside, IsViewOf, IsWithin, Named, export_in, exported, global_type, item_in, item_type, memory_type, table_type, tree_at, tree_reference, type_in, type_of}
+use Rattle.wasm_gen_view.specs.Views.{HasItems, HasTypes, IsOutside, IsViewOf, IsWithin, Named, export_in, exported, global_type, item_in, item_type, memory_type, table_type, tree_reference, type_in, type_of}
 use Rattle.wasm_gen_view.specs.declared.made_items.MadeItems.{MadeItems}
 use Rattle.wasm_gen_view.specs.declared.types.SubType.{SubType}
 use Rattle.wasm_gen_view.specs.declared.types.TypePlace.{TypePlace}
 use Rattle.wasm_gen_view.specs.declared.types.TypeReference.{TypeReference}
-use Rattle.wasm_gen_view.specs.declared.types.TypeReference.TheVariants.{Own, Other}
+use Rattle.wasm_gen_view.specs.declared.types.TypeReference.TheVariants.{Other}
 use Rattle.wasm_gen_view.specs.declared.view.Export.{Export}
 use Rattle.wasm_gen_view.specs.declared.view.View.{View}
 
@@ -223,16 +223,16 @@ module _ (s : Spaces) (all : List GroupTree) (groups : List (List (spec.SubType 
           ∙ lists_twice (type_of all) refer (type_at s.types) meant (λ (p : TypePlace). Other p) (type_in all) (λ p. refl) items.functions.items s.functions are.functions;
       tables = ap (λ l. map (λ type. table_map (type_of all) (table_type type)) l.items) tables
           ∙ lists_twice (table_map (type_of all)) (table_map refer) (table_map (type_at s.types)) (table_twice (type_of all) refer (type_at s.types) meant) table_type
-              (λ type. table_map (type_of all) (table_type type)) (λ t. refl) items.tables.items s.tables are.tables;
+          (λ type. table_map (type_of all) (table_type type)) (λ t. refl) items.tables.items s.tables are.tables;
       memories = ap (λ l. map memory_type l.items) memories ∙ are.memories;
       globals = ap (λ l. map (λ type. global_map (type_of all) (global_type type)) l.items) globals
           ∙ lists_twice (global_map (type_of all)) (global_map refer) (global_map (type_at s.types)) (global_twice (type_of all) refer (type_at s.types) meant) global_type
-              (λ type. global_map (type_of all) (global_type type)) (λ t. refl) items.globals.items s.globals are.globals;
+          (λ type. global_map (type_of all) (global_type type)) (λ t. refl) items.globals.items s.globals are.globals;
       tags = ap (λ l. map (type_in all) l.items) tags
           ∙ lists_twice (type_of all) refer (type_at s.types) meant (λ (p : TypePlace). Other p) (type_in all) (λ p. refl) items.tags.items s.tags are.tags;
       elements = ap (λ l. map (λ type. ref_map (type_of all) (ref_type type)) l.items) elements
           ∙ lists_twice (ref_map (type_of all)) (ref_map refer) (ref_map (type_at s.types)) (ref_twice (type_of all) refer (type_at s.types) meant) ref_type
-              (λ type. ref_map (type_of all) (ref_type type)) (λ t. refl) items.elements.items s.elements are.elements;
+          (λ type. ref_map (type_of all) (ref_type type)) (λ t. refl) items.elements.items s.elements are.elements;
       exports = exports_are has v.exports.items exports;
       numbered = λ known. record {
         groups = groups_within v.groups.items kept;

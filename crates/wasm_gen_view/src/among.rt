@@ -11,7 +11,10 @@ use std::alloc;
 use std::alloc::AllocError;
 
 /// Returns the types of the functions among these items.
-pub(crate) fn functions_among(alloc: alloc::Global, items: &[Item]) -> Result<Vec<TypePlace>, AllocError>
+pub(crate) fn functions_among(
+    alloc: alloc::Global,
+    items: &[Item],
+) -> Result<Vec<TypePlace>, AllocError>
     ensures { IfOk result (λ functions. map (λ place. Other place) functions.items ≡ functions_among (map item_type items.now)) }
 {
     let mut functions = Vec::new(alloc);
@@ -24,7 +27,10 @@ pub(crate) fn functions_among(alloc: alloc::Global, items: &[Item]) -> Result<Ve
 }
 
 /// Returns the tables among these items.
-pub(crate) fn tables_among(alloc: alloc::Global, items: &[Item]) -> Result<Vec<TableType>, AllocError>
+pub(crate) fn tables_among(
+    alloc: alloc::Global,
+    items: &[Item],
+) -> Result<Vec<TableType>, AllocError>
     ensures { IfOk result (λ tables. map table_type tables.items ≡ tables_among (map item_type items.now)) }
 {
     let mut tables = Vec::new(alloc);
@@ -37,7 +43,10 @@ pub(crate) fn tables_among(alloc: alloc::Global, items: &[Item]) -> Result<Vec<T
 }
 
 /// Returns the memories among these items.
-pub(crate) fn memories_among(alloc: alloc::Global, items: &[Item]) -> Result<Vec<MemoryType>, AllocError>
+pub(crate) fn memories_among(
+    alloc: alloc::Global,
+    items: &[Item],
+) -> Result<Vec<MemoryType>, AllocError>
     ensures { IfOk result (λ memories. map memory_type memories.items ≡ memories_among (map item_type items.now)) }
 {
     let mut memories = Vec::new(alloc);
@@ -50,7 +59,10 @@ pub(crate) fn memories_among(alloc: alloc::Global, items: &[Item]) -> Result<Vec
 }
 
 /// Returns the globals among these items.
-pub(crate) fn globals_among(alloc: alloc::Global, items: &[Item]) -> Result<Vec<GlobalType>, AllocError>
+pub(crate) fn globals_among(
+    alloc: alloc::Global,
+    items: &[Item],
+) -> Result<Vec<GlobalType>, AllocError>
     ensures { IfOk result (λ globals. map global_type globals.items ≡ globals_among (map item_type items.now)) }
 {
     let mut globals = Vec::new(alloc);

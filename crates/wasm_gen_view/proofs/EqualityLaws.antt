@@ -1,8 +1,7 @@
 -- Equality of the code's types decides if they are one type of the specification.
-use Rattle.std.specs.Prelude.{◌≡◌, ◌&&◌, Bool, List, [], ◌∷◌, map, refl, Option, Some, None}
+use Rattle.std.specs.Prelude.{◌≡◌, ◌&&◌, Bool, List, [], ◌∷◌, map, refl}
 use Rattle.std.specs.Bool.{Decides}
 use Rattle.std.specs.Cmp.Lexicographic.{pointwise}
-use Rattle.std.specs.Option.{option_to_list}
 use Rattle.std.proofs.Common.{rules, ap}
 use Rattle.std.proofs.lemmas.Bool.Decides.{Decides-like, Decides-and}
 use Rattle.std.specs.contracts.prelude.BoolPartialEq.TheImpl as flags

@@ -1,8 +1,8 @@
 -- Items with their references replaced twice, and the references that they have then.
-use Rattle.std.proofs.Common.{◌≡◌, ℕ, List, [], ◌∷◌, ◌++◌, map, refl, ap, sym, ◌∙◌, flat_map}
+use Rattle.std.proofs.Common.{◌≡◌, List, [], ◌∷◌, ◌++◌, map, refl, ap, sym, ◌∙◌, flat_map}
 use Rattle.std.proofs.lemmas.List.{map-append}
 use Rattle.wasm_spec.proofs.TypeMaps.{map-map}
-use Rattle.wasm_spec.specs.TypeReferences.{heap_map, ref_map, val_map, table_map, global_map, external_map, heap_refs, ref_refs, val_refs, table_refs, global_refs, external_refs}
+use Rattle.wasm_spec.specs.TypeReferences.{heap_map, ref_map, val_map, table_map, global_map, external_map, heap_refs, ref_refs, val_refs, table_refs, global_refs}
 use Rattle.wasm_spec.specs.Types.{HeapType, Abstract, Concrete, RefType, ValType, I32, I64, F32, F64, V128, Ref, TableType, GlobalType, ExternalType, FuncExternal, TableExternal, MemoryExternal, GlobalExternal, TagExternal}
 use Rattle.wasm_gen_view.specs.MadeSpaces.{functions_among, globals_among, memories_among, tables_among, tags_among}
 

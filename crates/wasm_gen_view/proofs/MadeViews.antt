@@ -7,7 +7,7 @@ use Rattle.std.specs.List.{AllByRecursion}
 use Rattle.std.specs.Option.{unwrap_or}
 use Rattle.wasm_spec.proofs.GroupTrees.{all_each}
 use Rattle.wasm_spec.proofs.TypeMaps.{map-map}
-use Rattle.wasm_spec.proofs.Places.{all_by_place, all_get, get_either, get_some}
+use Rattle.wasm_spec.proofs.Places.{all_get, get_some}
 use Rattle.wasm_spec.specs.Syntax.{Export as WrittenExport}
 use Rattle.wasm_spec.specs.Trees.{DefType, GroupTree, no_type, opened, type_at}
 use Rattle.wasm_spec.specs.TypeReferences.{external_map, external_refs, global_map, global_refs, ref_map, ref_refs, subs_map, subs_refs, table_map, table_refs}
@@ -18,12 +18,12 @@ use Rattle.wasm_gen_view.specs.MadeItems.{AreItems, exported_by, exports_among, 
 use Rattle.wasm_gen_view.specs.Numbers.{group_types}
 use Rattle.wasm_gen_view.specs.TypeNumbers.{AreNumbersOf, reference_by, reference_to}
 use Rattle.wasm_gen_view.specs.Types.{ref_type, sub_type}
-use Rattle.wasm_gen_view.specs.Views.{AreNumbered, HasItems, HasTypes, IsOutside, IsViewOf, IsWithin, Named, export_in, exported, global_type, item_in, item_type, memory_type, table_type, tree_at, tree_reference, type_in, type_of}
+use Rattle.wasm_gen_view.specs.Views.{HasItems, HasTypes, IsOutside, IsViewOf, IsWithin, Named, export_in, exported, global_type, item_in, item_type, memory_type, table_type, tree_reference, type_in, type_of}
 use Rattle.wasm_gen_view.specs.declared.made_items.MadeItems.{MadeItems}
 use Rattle.wasm_gen_view.specs.declared.types.SubType.{SubType}
 use Rattle.wasm_gen_view.specs.declared.types.TypePlace.{TypePlace}
 use Rattle.wasm_gen_view.specs.declared.types.TypeReference.{TypeReference}
-use Rattle.wasm_gen_view.specs.declared.types.TypeReference.TheVariants.{Own, Other}
+use Rattle.wasm_gen_view.specs.declared.types.TypeReference.TheVariants.{Other}
 use Rattle.wasm_gen_view.specs.declared.view.Export.{Export}
 use Rattle.wasm_gen_view.specs.declared.view.View.{View}
 

@@ -10,7 +10,7 @@ use Rattle.wasm_spec.specs.Trees as trees
 use Rattle.wasm_spec.specs.TypeReferences.{subs_map, subs_refs}
 use Rattle.wasm_spec.specs.Types as spec
 use Rattle.wasm_spec.proofs.GroupTrees.{all_each, opened-roll}
-use Rattle.wasm_spec.proofs.Places.{all_by_place, all_get, get_cases, get_left, get_right, get_some}
+use Rattle.wasm_spec.proofs.Places.{all_get, get_cases, get_left, get_right, get_some}
 use Rattle.wasm_spec.proofs.TypeMaps.{same_subs, subs_map-subs_map, subs_map_agree, subs_refs-map}
 use Rattle.wasm_gen_view.specs.Numbers.{IsNumbered}
 use Rattle.wasm_gen_view.specs.TypeNumbers.{AreNumbersOf, numbered_reference, places_from, reference_to}

@@ -5,11 +5,12 @@ ghost use Rattle.wasm_core_types.specs.SubTypes as written;
 ghost use Rattle.wasm_spec.specs.Syntax.{members};
 ghost use Rattle.wasm_spec.specs.Trees.{DefType, GroupTree, types_after};
 ghost use Rattle.wasm_spec.specs.Types as spec;
+ghost use Rattle.wasm_gen_view.specs.Numbers.{group_types};
 ghost use Rattle.wasm_gen_view.specs.TypeNumbers.{AreNumbersOf, places_from};
 
 use crate::groups::{GroupHasher, Groups};
 use crate::references::References;
-use crate::types::TypePlace;
+use crate::types::{SubType, TypePlace};
 use std::alloc::{AllocError, Global};
 use wasm_core_types::types;
 
@@ -94,5 +95,19 @@ impl TypeNumbers {
             places: &self.places,
             outside: Some(self.groups.len()),
         }
+    }
+
+    /// Returns the types of each group, and the place of each type.
+    ///
+    /// # Errors
+    /// Where memory runs out.
+    pub(crate) fn into_lists(
+        self,
+        alloc: Global,
+    ) -> Result<(Vec<Vec<SubType>>, Vec<TypePlace>), AllocError>
+        ensures groups { IfOk result (λ lists. map group_types lists.0.items ≡ self.groups) }
+        ensures places { IfOk result (λ lists. lists.1.items ≡ self.places.items) }
+    {
+        Ok((self.groups.into_list(alloc)?, self.places))
     }
 }

@@ -1,4 +1,4 @@
-use Rattle.std.proofs.Common.{◌<◌, ◌≤◌, ◌+◌, length, drop, map, slice_index_or, refl, arith}
+use Rattle.std.proofs.Common.{◌<◌, ◌+◌, length, drop, map, slice_index_or, refl, arith}
 use Rattle.std.proofs.lemmas.List.Sums.{sum_by-drop_more}
 use Rattle.wasm_core_types.specs.SubTypes.{sub_type}
 use Rattle.wasm_gen_view.proofs.MadeTypes.{all_so_far, one_so_far}

@@ -1,4 +1,4 @@
-use Rattle.std.proofs.Common.{◌≡◌, ◌++◌, ◌+◌, [], ◌∷◌, drop, refl, ap, sym, ◌∙◌, append_assoc}
+use Rattle.std.proofs.Common.{◌++◌, ◌+◌, [], ◌∷◌, drop, refl, ap, sym, ◌∙◌, append_assoc}
 use Rattle.wasm_gen_view.specs.TypeNumbers.{places_from}
 use Rattle.wasm_gen_view.proofs.NumberLaws.{places_step}
 use Rattle.wasm_gen_view.proofs.type_numbers.push_places.Goals as goal

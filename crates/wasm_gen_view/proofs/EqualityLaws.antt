@@ -36,7 +36,7 @@ lists_decide E view items (x ∷ xs) [] = (λ p. cc, λ p. cc)
 lists_decide E view items (x ∷ xs) (y ∷ ys) =
     Decides-like (E x y && pointwise E xs ys) (λ p. cc (p.0, p.1)) (λ p. (cc, cc)) (Decides-and (E x y) (pointwise E xs ys) (items x y) (lists_decide E view items xs ys))
 
-flags_decide : (a b : Bool) → Decides (flags.ghosts.eq a b) (a ≡ b)
+pub flags_decide : (a b : Bool) → Decides (flags.ghosts.eq a b) (a ≡ b)
 flags_decide a b = search rules
 
 references_decide : (a b : TypeReference) → Decides (references.ghosts.eq a b) (a ≡ b)

@@ -1,3 +1,4 @@
+pub mod EqualValues
 pub mod EqualityLaws
 pub mod GroupLaws
 pub mod ItemMaps

@@ -2,11 +2,12 @@
 
 ghost use Rattle.std.specs.Prelude.{◌≡◌, ◌∷◌, ◌++◌, ℕ, List, map};
 ghost use Rattle.std.specs.Bool.{Decides};
+ghost use Rattle.std.specs.Cmp.{IsEquivalence};
 ghost use Rattle.wasm_spec.specs.Syntax.{members};
 ghost use Rattle.wasm_spec.specs.Trees.{DefType, GroupTree, section_types, types_after};
 ghost use Rattle.wasm_validity.specs.IndexSpaces.{Spaces};
-ghost use Rattle.wasm_gen_view.specs.SameViews.{as_trees, viewed};
-ghost use Rattle.wasm_gen_view.specs.Views.{HasTypes, IsViewOf};
+ghost use Rattle.wasm_gen_view.specs.SameViews.{as_trees, named_item, viewed};
+ghost use Rattle.wasm_gen_view.specs.Views.{HasTypes, IsViewOf, global_type, item_type, memory_type, table_type};
 ghost use Rattle.wasm_spec.specs.TypeReferences.{subs_map};
 ghost use Rattle.wasm_spec.specs.Types as spec;
 ghost use Rattle.wasm_gen_view.specs.Numbers.{IsNumbered};
@@ -17,7 +18,7 @@ use crate::types::{
     CompositeType, FieldType, FuncType, HeapType, RefType, StorageType, SubType, TypePlace,
     TypeReference, ValType,
 };
-use crate::view::View;
+use crate::view::{Export, GlobalType, Item, MemoryType, TableType, View};
 
 /// `==` decides if two types are one type of the specification.
 pub fn equal_types()
@@ -41,9 +42,19 @@ pub fn one_more_group()
         → (trees : List GroupTree) × AreNumbersOf (types_after types group) trees new (places ++ places_from number 0 (members group)) }
 {}
 
-/// Two views are equal exactly where the index spaces are equal as trees: with defined types in place of type indexes.
+/// `==` decides if two items or two views have equal values.
+pub fn equal_values()
+    ensures tables { (a b : TableType) → Decides (⟦<TableType as PartialEq>⟧.eq a b) (table_type a ≡ table_type b) }
+    ensures memories { (a b : MemoryType) → Decides (⟦<MemoryType as PartialEq>⟧.eq a b) (memory_type a ≡ memory_type b) }
+    ensures globals { (a b : GlobalType) → Decides (⟦<GlobalType as PartialEq>⟧.eq a b) (global_type a ≡ global_type b) }
+    ensures items { (a b : Item) → Decides (⟦<Item as PartialEq>⟧.eq a b) (item_type a ≡ item_type b) }
+    ensures exports { (a b : Export) → Decides (⟦<Export as PartialEq>⟧.eq a b) (named_item a ≡ named_item b) }
+    ensures views { (a b : View) → Decides (⟦<View as PartialEq>⟧.eq a b) (viewed a ≡ viewed b) }
+{}
+
+/// Two views are equal exactly where the index spaces are equal as trees: with defined types in place of type indexes. So `==` is an equivalence.
 pub fn equal_views()
-    ensures views { (s t : Spaces) (v w : View) → IsViewOf s v → IsViewOf t w → HasTypes s → HasTypes t → as_trees s ≡ as_trees t → viewed v ≡ viewed w }
-    ensures spaces { (s t : Spaces) (groups others : List (spec.RecGroup ℕ)) (v w : View) → s.types ≡ section_types groups → t.types ≡ section_types others
-        → IsViewOf s v → IsViewOf t w → HasTypes s → viewed v ≡ viewed w → as_trees s ≡ as_trees t }
+    ensures decided { (s t : Spaces) (groups others : List (spec.RecGroup ℕ)) (v w : View) → s.types ≡ section_types groups → t.types ≡ section_types others → HasTypes s → HasTypes t
+        → IsViewOf s v → IsViewOf t w → Decides (⟦<View as PartialEq>⟧.eq v w) (as_trees s ≡ as_trees t) }
+    ensures equivalence { IsEquivalence ⟦<View as PartialEq>⟧.eq }
 {}

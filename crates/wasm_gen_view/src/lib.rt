@@ -6,7 +6,7 @@ mod groups;
 mod imported;
 mod item_text;
 mod item_types;
-mod laws;
+pub mod laws;
 mod lines;
 mod made_exports;
 mod made_items;

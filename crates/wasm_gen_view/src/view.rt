@@ -1,4 +1,4 @@
-//! What a module has.
+//! Views of modules.
 
 use crate::types::{RefType, SubType, TypePlace, ValType};
 

@@ -1,8 +1,8 @@
-use Rattle.wasm_gen_view.proofs.SameViews.{one_meaning, one_view}
+use Rattle.wasm_gen_view.proofs.EqualValues.{spaces_decide, views_equivalent}
 use Rattle.wasm_gen_view.proofs.laws.equal_views.Goals as goal
 
-pub returns-clause-views : goal.returns-clause-views
-returns-clause-views c = one_view
+pub returns-clause-decided : goal.returns-clause-decided
+returns-clause-decided c = spaces_decide
 
-pub returns-clause-spaces : goal.returns-clause-spaces
-returns-clause-spaces c = one_meaning
+pub returns-clause-equivalence : goal.returns-clause-equivalence
+returns-clause-equivalence c = views_equivalent

@@ -1,0 +1,10 @@
+pub mod EqualValues
+pub mod EqualityLaws
+pub mod GroupLaws
+pub mod ItemMaps
+pub mod MadeTypes
+pub mod MadeViews
+pub mod NumberLaws
+pub mod Numbering
+pub mod SameTrees
+pub mod SameViews

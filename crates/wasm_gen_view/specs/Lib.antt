@@ -1,0 +1,11 @@
+pub mod ItemReferences
+pub mod ItemText
+pub mod MadeItems
+pub mod MadeSpaces
+pub mod Numbers
+pub mod SameViews
+pub mod Text
+pub mod TypeNumbers
+pub mod TypeText
+pub mod Types
+pub mod Views

@@ -1,0 +1,60 @@
+//! Laws of the types of views. The functions do nothing: their contracts are theorems.
+
+ghost use Rattle.std.specs.Prelude.{◌≡◌, ◌∷◌, ◌++◌, ℕ, List, map};
+ghost use Rattle.std.specs.Bool.{Decides};
+ghost use Rattle.std.specs.Cmp.{IsEquivalence};
+ghost use Rattle.wasm_spec.specs.Syntax.{members};
+ghost use Rattle.wasm_spec.specs.Trees.{DefType, GroupTree, section_types, types_after};
+ghost use Rattle.wasm_validity.specs.IndexSpaces.{Spaces};
+ghost use Rattle.wasm_gen_view.specs.SameViews.{as_trees, named_item, viewed};
+ghost use Rattle.wasm_gen_view.specs.Views.{HasTypes, IsViewOf, global_type, item_type, memory_type, table_type};
+ghost use Rattle.wasm_spec.specs.TypeReferences.{subs_map};
+ghost use Rattle.wasm_spec.specs.Types as spec;
+ghost use Rattle.wasm_gen_view.specs.Numbers.{IsNumbered};
+ghost use Rattle.wasm_gen_view.specs.TypeNumbers.{AreNumbersOf, numbered_reference, places_from};
+ghost use Rattle.wasm_gen_view.specs.Types.{heap_type, ref_type, val_type, storage_type, field_type, func_type, composite_type, sub_type};
+
+use crate::types::{
+    CompositeType, FieldType, FuncType, HeapType, RefType, StorageType, SubType, TypePlace,
+    TypeReference, ValType,
+};
+use crate::view::{Export, GlobalType, Item, MemoryType, TableType, View};
+
+/// `==` decides if two types are one type of the specification.
+pub fn equal_types()
+    ensures places { (a b : TypePlace) → Decides (⟦<TypePlace as PartialEq>⟧.eq a b) (a ≡ b) }
+    ensures references { (a b : TypeReference) → Decides (⟦<TypeReference as PartialEq>⟧.eq a b) (a ≡ b) }
+    ensures heap_types { (a b : HeapType) → Decides (⟦<HeapType as PartialEq>⟧.eq a b) (heap_type a ≡ heap_type b) }
+    ensures ref_types { (a b : RefType) → Decides (⟦<RefType as PartialEq>⟧.eq a b) (ref_type a ≡ ref_type b) }
+    ensures val_types { (a b : ValType) → Decides (⟦<ValType as PartialEq>⟧.eq a b) (val_type a ≡ val_type b) }
+    ensures storage_types { (a b : StorageType) → Decides (⟦<StorageType as PartialEq>⟧.eq a b) (storage_type a ≡ storage_type b) }
+    ensures field_types { (a b : FieldType) → Decides (⟦<FieldType as PartialEq>⟧.eq a b) (field_type a ≡ field_type b) }
+    ensures func_types { (a b : FuncType) → Decides (⟦<FuncType as PartialEq>⟧.eq a b) (func_type a ≡ func_type b) }
+    ensures composite_types { (a b : CompositeType) → Decides (⟦<CompositeType as PartialEq>⟧.eq a b) (composite_type a ≡ composite_type b) }
+    ensures sub_types { (a b : SubType) → Decides (⟦<SubType as PartialEq>⟧.eq a b) (sub_type a ≡ sub_type b) }
+{}
+
+/// A group after others is numbered.
+pub fn one_more_group()
+    ensures { (types : List DefType) (all : List GroupTree) (groups : List (List (spec.SubType TypeReference))) (places : List TypePlace) → AreNumbersOf types all groups places
+        → (group : spec.RecGroup ℕ) (m : spec.SubType ℕ) (ms : List (spec.SubType ℕ)) → members group ≡ m ∷ ms → (number : ℕ) (new : List (List (spec.SubType TypeReference)))
+        → IsNumbered (subs_map (numbered_reference places) (members group)) groups number new
+        → (trees : List GroupTree) × AreNumbersOf (types_after types group) trees new (places ++ places_from number 0 (members group)) }
+{}
+
+/// `==` decides if two items or two views have equal values.
+pub fn equal_values()
+    ensures tables { (a b : TableType) → Decides (⟦<TableType as PartialEq>⟧.eq a b) (table_type a ≡ table_type b) }
+    ensures memories { (a b : MemoryType) → Decides (⟦<MemoryType as PartialEq>⟧.eq a b) (memory_type a ≡ memory_type b) }
+    ensures globals { (a b : GlobalType) → Decides (⟦<GlobalType as PartialEq>⟧.eq a b) (global_type a ≡ global_type b) }
+    ensures items { (a b : Item) → Decides (⟦<Item as PartialEq>⟧.eq a b) (item_type a ≡ item_type b) }
+    ensures exports { (a b : Export) → Decides (⟦<Export as PartialEq>⟧.eq a b) (named_item a ≡ named_item b) }
+    ensures views { (a b : View) → Decides (⟦<View as PartialEq>⟧.eq a b) (viewed a ≡ viewed b) }
+{}
+
+/// Two views are equal exactly where the index spaces are equal as trees: with defined types in place of type indexes. So `==` is an equivalence.
+pub fn equal_views()
+    ensures decided { (s t : Spaces) (groups others : List (spec.RecGroup ℕ)) (v w : View) → s.types ≡ section_types groups → t.types ≡ section_types others → HasTypes s → HasTypes t
+        → IsViewOf s v → IsViewOf t w → Decides (⟦<View as PartialEq>⟧.eq v w) (as_trees s ≡ as_trees t) }
+    ensures equivalence { IsEquivalence ⟦<View as PartialEq>⟧.eq }
+{}

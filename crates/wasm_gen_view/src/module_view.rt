@@ -1,0 +1,35 @@
+//! The view of a made module.
+
+ghost use Rattle.std.specs.Prelude.{IfOk};
+ghost use Rattle.wasm_gen_view.specs.MadeSpaces.{made_spaces};
+ghost use Rattle.wasm_gen_view.specs.Views.{HasItems, IsViewOf};
+
+use crate::made_items::made_items;
+use crate::made_types::number_types;
+use crate::view::View;
+use std::alloc::{AllocError, Global};
+use wasm_smith_module::module::Module;
+
+/// Returns the view of a module. An export of an item that the module doesn't have is left out.
+///
+/// # Errors
+/// Where memory runs out.
+pub fn view_of_module(alloc: Global, made: &Module) -> Result<View, AllocError>
+    ensures { IfOk result (λ view. HasItems (made_spaces made.now.made) → IsViewOf (made_spaces made.now.made) view) }
+{
+    let numbers = number_types(alloc, made.types(), made.group_sizes())?;
+    let items = made_items(alloc, &numbers, made)?;
+    let exports = items.exports(alloc, made.exports())?;
+    let (groups, types) = numbers.into_lists(alloc)?;
+    Ok(View {
+        groups,
+        types,
+        functions: items.functions,
+        tables: items.tables,
+        memories: items.memories,
+        globals: items.globals,
+        tags: items.tags,
+        elements: items.elements,
+        exports,
+    })
+}

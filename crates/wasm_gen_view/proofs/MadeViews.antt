@@ -55,7 +55,7 @@ module _ (s : Spaces) (all : List GroupTree) (groups : List (List (spec.SubType 
       by None e = ap (λ t. record { tree = unwrap_or t no_type.tree; place = 0 }) e
       by (Some t) e = absurd (omega (arith, is, slice_get_within all count t e))
 
-  -- what a reference stands for
+  -- the type that a reference stands for
   meant_at : (index : ℕ) (found : Option TypePlace) → slice_get places index ≡ found → (own : ℕ) → type_of all (reference_to (Some (length groups)) found own) ≡ type_at s.types index
   meant_at index (Some place) at own = sym (ap (λ t. unwrap_or t no_type) (there index ∙ ap (option_map (type_in all)) at))
   meant_at index None at own = past (length groups) trees_count ∙ sym (ap (λ t. unwrap_or t no_type) (there index ∙ ap (option_map (type_in all)) at))
@@ -117,7 +117,7 @@ module _ (s : Spaces) (all : List GroupTree) (groups : List (List (spec.SubType 
         ap (λ item. with_item e.name item (exports_among items es)) (item_is e.kind e.index) ∙ one_shown e.name (item_in s e.kind e.index) h.0 (exports_among items es)
         ∙ ap (λ others. record { name = e.name; item = option_map (external_map refer) (item_in s e.kind e.index) } ∷ others) (all_shown es h.1)
 
-    -- what they stand for
+    -- exports, with the types that they stand for
     abbrev pub named_of : Named TypeReference → Named DefType
     named_of n = record { name = n.name; item = option_map (external_map (type_of all)) n.item }
 

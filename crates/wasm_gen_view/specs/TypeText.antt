@@ -1,4 +1,4 @@
--- The text of types, in which a reference is the number of a group, a point and a place there, or `own`, a point and a place.
+-- The text of types, in which a reference is the number of a group, a dot and a place there, or `own`, a dot and a place.
 use Rattle.std.specs.Prelude.{ℕ, List, [], ◌∷◌, ◌++◌, codes, decimal, flat_map, Option, None, Some, if◌then◌else◌}
 use Rattle.wasm_gen_view.specs.declared.types.CompositeType.{CompositeType}
 use Rattle.wasm_gen_view.specs.declared.types.CompositeType.TheVariants.{Func, Struct, Array, Cont}
@@ -22,7 +22,7 @@ abbrev pub or_dash : {A : Type 0} → (A → List ℕ) → Option A → List ℕ
 or_dash text None = codes "-"
 or_dash text (Some x) = text x
 
--- the items of a list, parted by a space
+-- the items of a list, separated by a space
 abbrev pub parted : {A : Type 0} → (A → List ℕ) → List A → List ℕ
 parted text [] = []
 parted text (x ∷ xs) = text x ++ flat_map (λ y. codes " " ++ text y) xs

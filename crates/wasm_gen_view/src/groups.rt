@@ -10,14 +10,14 @@ use std::fmt;
 use std::hash::{BuildHasher, DefaultHasher};
 use std::marker::Model;
 
-/// Hashes groups after a hash of all groups of the module. Choosing groups so that they collide changes that, after which they hardly do.
+/// Hashes groups, from a hash of all types of the module on, so that groups can't be chosen to collide without changing where hashes start.
 #[derive(Clone, Copy)]
 pub(crate) struct GroupHasher {
     start: DefaultHasher,
 }
 
 impl GroupHasher {
-    /// Creates a hasher for groups of a module whose groups were hashed so.
+    /// Creates a hasher that goes on from the hash of a module's types.
     pub(crate) fn after(start: DefaultHasher) -> GroupHasher {
         GroupHasher { start }
     }

@@ -20,7 +20,7 @@ use crate::types::{
 };
 use crate::view::{Export, GlobalType, Item, MemoryType, TableType, View};
 
-/// `==` decides if two types are one type of the specification.
+/// `==` decides if two types of a view have equal values, as types of the specification over references of a view.
 pub fn equal_types()
     ensures places { (a b : TypePlace) → Decides (⟦<TypePlace as PartialEq>⟧.eq a b) (a ≡ b) }
     ensures references { (a b : TypeReference) → Decides (⟦<TypeReference as PartialEq>⟧.eq a b) (a ≡ b) }

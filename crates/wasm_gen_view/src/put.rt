@@ -62,7 +62,7 @@ fn put_rest<T: Put>(items: &[T], out: &mut String) -> Result<(), AllocError>
     Ok(())
 }
 
-// Appends items, parted by a space.
+// Appends items, separated by a space.
 fn put_parted<T: Put>(items: &[T], out: &mut String) -> Result<(), AllocError>
     ensures { IfOk result (λ _. string_bytes out.new ≡ string_bytes out.old ++ parted T.text items.now) }
 {
@@ -73,7 +73,7 @@ fn put_parted<T: Put>(items: &[T], out: &mut String) -> Result<(), AllocError>
     put_rest(rest, out)
 }
 
-// Appends items, parted by a space, in brackets.
+// Appends items, separated by a space, in brackets.
 pub(crate) fn put_list<T: Put>(items: &[T], out: &mut String) -> Result<(), AllocError>
     ensures { IfOk result (λ _. string_bytes out.new ≡ string_bytes out.old ++ list_text T.text items.now) }
 {

@@ -1,4 +1,4 @@
-//! Types over type indexes, with these as references of a view.
+//! Types over type indexes, turned into types over places.
 
 ghost use Rattle.std.specs.Prelude.{◌≡◌, IfOk, map};
 ghost use Rattle.wasm_core_types.specs.CoreTypes as written;
@@ -15,7 +15,7 @@ use crate::types::{
 use std::alloc::{AllocError, Global};
 use wasm_core_types::types;
 
-/// References to types by index, of which the first have these places.
+/// The places of the types so far, by type index.
 #[derive(Clone, Copy, Debug)]
 pub(crate) struct References<'a> {
     /// The places of types.

@@ -33,7 +33,20 @@ impl Put for View {
 
 impl View {
     /// Returns the text: a line for each type of a group, each item of an index space, and each export, in this order. A type is named by
-    /// the number of its group, a point, and its place there, or in its own group by `own`, a point, and its place.
+    /// the number of its group, a dot, and its place there, or in its own group by `own`, a dot, and its place. In names of exports bytes
+    /// outside of 20 to 7e, quotes and backslashes are a backslash and two hexadecimal digits. The lines are such as
+    ///
+    /// ```text
+    /// type 0.0 final - struct [const:refnull(own.0) var:i8]
+    /// index 0 0.0
+    /// function 0 1.0
+    /// table 0 refnull(func) 1 - 32
+    /// memory 0 2 5 64 shared 16
+    /// global 0 const i64
+    /// tag 0 1.0
+    /// element 0 ref(func)
+    /// export "f" function 1.0
+    /// ```
     ///
     /// # Errors
     /// Where memory runs out.

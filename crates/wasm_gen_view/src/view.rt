@@ -63,7 +63,7 @@ pub struct Export {
     pub item: Item,
 }
 
-/// The index spaces of a module, imported items first, and its exports. Groups are the distinct ones with types in them, in the order of their first types.
+/// The index spaces of a module, imported items first, and its exports. Groups are numbered by first occurrence, equal ones once; empty groups are left out.
 #[derive(Debug, PartialEq, Eq, Drop)]
 pub struct View {
     /// The types of each group.

@@ -1,4 +1,4 @@
-//! Tests of `wasm_smith` through its public calls.
+//! Tests of `wasm_smith`, and of views of its modules, through public calls.
 #![tactic(auto)]
 
 #[cfg(test)]
@@ -21,5 +21,7 @@ mod shaped;
 mod shapes;
 #[cfg(test)]
 mod unstructured;
+#[cfg(test)]
+mod views;
 #[cfg(test)]
 mod witness;

@@ -5,4 +5,5 @@ mod module;
 mod names;
 mod shaped;
 mod shapes;
+mod views;
 mod witness;

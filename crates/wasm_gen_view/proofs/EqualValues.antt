@@ -15,9 +15,9 @@ use Rattle.wasm_gen_view.specs.declared.types.TypeReference.{TypeReference}
 use Rattle.wasm_gen_view.proofs.SameViews.{one_meaning, one_view}
 use Rattle.wasm_gen_view.proofs.EqualityLaws.{flags_decide, lists_decide, refs_decide, subs_decide, vals_decide}
 use Rattle.wasm_gen_view.specs.Numbers.{group_types}
-use Rattle.wasm_gen_view.specs.SameViews.{NamedItem, Viewed, as_trees, named_item, viewed}
+use Rattle.wasm_gen_view.specs.SameViews.{Viewed, as_trees, named_item, viewed}
 use Rattle.wasm_gen_view.specs.Types.{ref_type, sub_type}
-use Rattle.wasm_gen_view.specs.Views.{HasTypes, IsViewOf, global_type, item_type, memory_type, table_type}
+use Rattle.wasm_gen_view.specs.Views.{HasTypes, IsViewOf, Named, global_type, item_type, memory_type, table_type}
 use Rattle.wasm_gen_view.specs.contracts.view.ExportPartialEq.TheImpl as exports
 use Rattle.wasm_gen_view.specs.contracts.view.GlobalTypePartialEq.TheImpl as globals
 use Rattle.wasm_gen_view.specs.contracts.view.ItemPartialEq.TheImpl as items
@@ -57,7 +57,7 @@ items_decide a b = search (rules, tables_decide, memories_decide, globals_decide
 
 pub exports_decide : (a b : Export) → Decides (exports.ghosts.eq a b) (named_item a ≡ named_item b)
 exports_decide a b =
-    Decides-like _ (λ p. cc (p.0, p.1)) (λ p. (ap (λ (t : NamedItem). t.name) p, ap (λ (t : NamedItem). t.item) p))
+    Decides-like _ (λ p. cc (p.0, p.1)) (λ p. (ap (λ (t : Named TypeReference). t.name) p, ap (λ (t : Named TypeReference). t.item) p))
     (Decides-and {P = string_bytes a.name ≡ string_bytes b.name} _ _ (bytes_decides (string_bytes a.name) (string_bytes b.name)) (items_decide a.item b.item))
 
 pub views_decide : (a b : View) → Decides (views.ghosts.eq a b) (viewed a ≡ viewed b)

@@ -1,5 +1,5 @@
 -- The view of a made module.
-use Rattle.std.proofs.Common.{◌≡◌, ℕ, zero, suc, ◌-◌, ◌<◌, List, [], ◌∷◌, ◌++◌, map, length, slice_get, Option, Some, None, option_map, is_some, true, refl, sym, ap, subst, ◌∙◌, arith, flat_map}
+use Rattle.std.proofs.Common.{◌≡◌, ℕ, zero, suc, ◌-◌, ◌<◌, List, [], ◌∷◌, ◌++◌, map, length, slice_get, Option, Some, None, option_map, refl, sym, ap, subst, ◌∙◌, arith, flat_map}
 use Rattle.std.proofs.lemmas.List.{length-map}
 use Rattle.std.proofs.lemmas.Option.{slice_get-map, slice_get_within}
 use Rattle.std.specs.Global.{Vec}
@@ -14,11 +14,12 @@ use Rattle.wasm_spec.specs.TypeReferences.{external_map, external_refs, global_m
 use Rattle.wasm_spec.specs.Types as spec
 use Rattle.wasm_validity.specs.IndexSpaces.{Spaces}
 use Rattle.wasm_gen_view.proofs.ItemMaps.{external_twice, global_refs_are, global_twice, lists_refs, lists_twice, ref_refs_are, ref_twice, table_refs_are, table_twice}
-use Rattle.wasm_gen_view.specs.MadeItems.{AreItems, exported_by, exports_among, item_among, shown, with_item}
+use Rattle.wasm_gen_view.specs.MadeItems.{AreItems, exports_among, item_among}
 use Rattle.wasm_gen_view.specs.Numbers.{group_types}
+use Rattle.wasm_gen_view.specs.SameViews.{named_item}
 use Rattle.wasm_gen_view.specs.TypeNumbers.{AreNumbersOf, reference_by, reference_to}
 use Rattle.wasm_gen_view.specs.Types.{ref_type, sub_type}
-use Rattle.wasm_gen_view.specs.Views.{HasItems, HasTypes, IsOutside, IsViewOf, IsWithin, Named, export_in, exported, global_type, item_in, item_type, memory_type, table_type, tree_reference, type_in, type_of}
+use Rattle.wasm_gen_view.specs.Views.{HasTypes, IsOutside, IsViewOf, IsWithin, Named, export_in, exports_of, global_type, item_in, item_type, memory_type, table_type, tree_reference, type_in, type_of, with_item}
 use Rattle.wasm_gen_view.specs.declared.made_items.MadeItems.{MadeItems}
 use Rattle.wasm_gen_view.specs.declared.types.SubType.{SubType}
 use Rattle.wasm_gen_view.specs.declared.types.TypePlace.{TypePlace}
@@ -104,32 +105,28 @@ module _ (s : Spaces) (all : List GroupTree) (groups : List (List (spec.SubType 
     item_is spec.GlobalKind index = found_map global_type (λ t. spec.GlobalExternal t) (global_map refer) (λ x. spec.GlobalExternal x) (λ x. refl) items.globals.items s.globals are.globals index
     item_is spec.TagKind index = found_map (λ (p : TypePlace). Other p) (λ r. spec.TagExternal r) refer (λ x. spec.TagExternal x) (λ x. refl) items.tags.items s.tags are.tags index
 
-    -- all exports are shown, where their items are there
-    one_shown : (name : List ℕ) (found : Option (spec.ExternalType ℕ)) → is_some found ≡ true → (others : List (Named TypeReference))
-        → with_item name (option_map (external_map refer) found) others ≡ record { name = name; item = option_map (external_map refer) found } ∷ others
-    one_shown name None h others = absurd cc
-    one_shown name (Some item) h others = refl
-
-    all_shown : (exports : List WrittenExport) → AllByRecursion (λ export. is_some (item_in s export.kind export.index) ≡ true) exports
-        → exports_among items exports ≡ map (exported_by refer s) exports
-    all_shown [] h = refl
-    all_shown (e ∷ es) h =
-        ap (λ item. with_item e.name item (exports_among items es)) (item_is e.kind e.index) ∙ one_shown e.name (item_in s e.kind e.index) h.0 (exports_among items es)
-        ∙ ap (λ others. record { name = e.name; item = option_map (external_map refer) (item_in s e.kind e.index) } ∷ others) (all_shown es h.1)
-
     -- exports, with the types that they stand for
     abbrev pub named_of : Named TypeReference → Named DefType
-    named_of n = record { name = n.name; item = option_map (external_map (type_of all)) n.item }
+    named_of n = record { name = n.name; item = external_map (type_of all) n.item }
 
     option_twice : (found : Option (spec.ExternalType ℕ)) → option_map (external_map (type_of all)) (option_map (external_map refer) found) ≡ option_map (external_map (type_at s.types)) found
     option_twice None = refl
     option_twice (Some item) = ap Some (external_twice (type_of all) refer (type_at s.types) meant item)
 
-    exported_twice : (e : WrittenExport) → named_of (exported_by refer s e) ≡ exported s e
-    exported_twice e = ap (λ item. record { name = e.name; item = item }) (option_twice (item_in s e.kind e.index))
+    named_with : (name : List ℕ) (found : Option (spec.ExternalType TypeReference)) (others : List (Named TypeReference))
+        → map named_of (with_item name found others) ≡ with_item name (option_map (external_map (type_of all)) found) (map named_of others)
+    named_with name None others = refl
+    named_with name (Some item) others = refl
 
-    exports_are : HasItems s → (exports : List Export) → map shown exports ≡ exports_among items s.exports → map (export_in all) exports ≡ map (exported s) s.exports
-    exports_are has exports e = lists_twice named_of (exported_by refer s) (exported s) exported_twice shown (export_in all) (λ x. refl) exports s.exports (e ∙ all_shown s.exports has)
+    all_named : (exports : List WrittenExport) → map named_of (exports_among items exports) ≡ exports_of s exports
+    all_named [] = refl
+    all_named (e ∷ es) =
+        named_with e.name (item_among items e.kind e.index) (exports_among items es)
+        ∙ ap (λ item. with_item e.name item (map named_of (exports_among items es))) (ap (option_map (external_map (type_of all))) (item_is e.kind e.index) ∙ option_twice (item_in s e.kind e.index))
+        ∙ ap (with_item e.name (option_map (external_map (type_at s.types)) (item_in s e.kind e.index))) (all_named es)
+
+    exports_are : (exports : List Export) → map named_item exports ≡ exports_among items s.exports → map (export_in all) exports ≡ exports_of s s.exports
+    exports_are exports e = sym (map-map named_of named_item (export_in all) (λ x. refl) exports) ∙ ap (map named_of) e ∙ all_named s.exports
 
     -- ---- references go to groups
 
@@ -182,12 +179,12 @@ module _ (s : Spaces) (all : List GroupTree) (groups : List (List (spec.SubType 
           (λ p at. (all_get (λ (p : TypePlace). p.group < length all) items.tags.items tags_placed index p at, tt))
 
       abbrev pub IsNamedOutside : Named TypeReference → Type 0
-      IsNamedOutside n = (item : spec.ExternalType TypeReference) → n.item ≡ Some item → AreOutside (external_refs item)
+      IsNamedOutside n = AreOutside (external_refs n.item)
 
       with_outside : (name : List ℕ) (found : Option (spec.ExternalType TypeReference)) → ((item : spec.ExternalType TypeReference) → found ≡ Some item → AreOutside (external_refs item))
           → (others : List (Named TypeReference)) → AllByRecursion IsNamedOutside others → AllByRecursion IsNamedOutside (with_item name found others)
       with_outside name None h others k = k
-      with_outside name (Some item) h others k = (h, k)
+      with_outside name (Some item) h others k = (h item refl, k)
 
       among_outside : (exports : List WrittenExport) → AllByRecursion IsNamedOutside (exports_among items exports)
       among_outside [] = tt
@@ -197,12 +194,12 @@ module _ (s : Spaces) (all : List GroupTree) (groups : List (List (spec.SubType 
       joined_outside [] ys h k = k
       joined_outside (x ∷ xs) ys h k = (h.0, joined_outside xs ys h.1 k)
 
-      each_outside : (exports : List Export) → AllByRecursion (λ e. IsNamedOutside (shown e)) exports → AreOutside (flat_map (λ export. external_refs (item_type export.item)) exports)
+      each_outside : (exports : List Export) → AllByRecursion (λ e. IsNamedOutside (named_item e)) exports → AreOutside (flat_map (λ export. external_refs (item_type export.item)) exports)
       each_outside [] h = tt
-      each_outside (e ∷ es) h = joined_outside (external_refs (item_type e.item)) (flat_map (λ export. external_refs (item_type export.item)) es) (h.0 (item_type e.item) refl) (each_outside es h.1)
+      each_outside (e ∷ es) h = joined_outside (external_refs (item_type e.item)) (flat_map (λ export. external_refs (item_type export.item)) es) h.0 (each_outside es h.1)
 
-      pub exports_outside : (exports : List Export) → map shown exports ≡ exports_among items s.exports → AreOutside (flat_map (λ export. external_refs (item_type export.item)) exports)
-      exports_outside exports e = each_outside exports (all_unmapped IsNamedOutside shown exports (subst (AllByRecursion IsNamedOutside) (sym e) (among_outside s.exports)))
+      pub exports_outside : (exports : List Export) → map named_item exports ≡ exports_among items s.exports → AreOutside (flat_map (λ export. external_refs (item_type export.item)) exports)
+      exports_outside exports e = each_outside exports (all_unmapped IsNamedOutside named_item exports (subst (AllByRecursion IsNamedOutside) (sym e) (among_outside s.exports)))
 
     -- ---- the view
 
@@ -213,8 +210,8 @@ module _ (s : Spaces) (all : List GroupTree) (groups : List (List (spec.SubType 
     groups_within kept e = all_unmapped (λ g. AllByRecursion (IsWithin (length all)) (subs_refs g)) group_types kept (subst (AllByRecursion (λ g. AllByRecursion (IsWithin (length all)) (subs_refs g))) (sym e) it.within)
 
     pub view_is : (v : View) → map group_types v.groups.items ≡ groups → v.types.items ≡ places → v.functions ≡ items.functions → v.tables ≡ items.tables → v.memories ≡ items.memories
-        → v.globals ≡ items.globals → v.tags ≡ items.tags → v.elements ≡ items.elements → map shown v.exports.items ≡ exports_among items s.exports → HasItems s → IsViewOf s v
-    view_is v kept types functions tables memories globals tags elements exports has = record {
+        → v.globals ≡ items.globals → v.tags ≡ items.tags → v.elements ≡ items.elements → map named_item v.exports.items ≡ exports_among items s.exports → IsViewOf s v
+    view_is v kept types functions tables memories globals tags elements exports = record {
       trees = all;
       first = it.first;
       groups = groups_meant v.groups.items kept;
@@ -233,7 +230,7 @@ module _ (s : Spaces) (all : List GroupTree) (groups : List (List (spec.SubType 
       elements = ap (λ l. map (λ type. ref_map (type_of all) (ref_type type)) l.items) elements
           ∙ lists_twice (ref_map (type_of all)) (ref_map refer) (ref_map (type_at s.types)) (ref_twice (type_of all) refer (type_at s.types) meant) ref_type
           (λ type. ref_map (type_of all) (ref_type type)) (λ t. refl) items.elements.items s.elements are.elements;
-      exports = exports_are has v.exports.items exports;
+      exports = exports_are v.exports.items exports;
       numbered = λ known. record {
         groups = groups_within v.groups.items kept;
         types = subst (AllByRecursion (λ (p : TypePlace). p.group < length all)) (sym types) it.inside;

@@ -1,8 +1,8 @@
 -- Two views are equal exactly where their index spaces are equal as trees.
-use Rattle.std.proofs.Common.{◌≡◌, ℕ, ◌<◌, List, [], ◌∷◌, ◌++◌, map, length, slice_get, Option, Some, refl, sym, ap, subst, ◌∙◌, append_assoc}
+use Rattle.std.proofs.Common.{◌≡◌, ℕ, ◌<◌, List, [], ◌∷◌, map, length, Some, refl, sym, ap, subst, ◌∙◌}
 use Rattle.std.specs.List.{AllByRecursion, flat_map}
 use Rattle.std.specs.Option.{unwrap_or}
-use Rattle.wasm_spec.specs.Trees.{DefType, GroupTree, no_type, opened, section_types, type_at}
+use Rattle.wasm_spec.specs.Trees.{DefType, GroupTree, no_type, opened, section_types}
 use Rattle.wasm_spec.specs.TypeReferences.{external_map, external_refs, global_map, global_refs, heap_map, heap_refs, ref_map, ref_refs, subs_map, subs_refs, table_map, table_refs, val_map, val_refs}
 use Rattle.wasm_spec.specs.Types as spec
 use Rattle.wasm_spec.proofs.MappedBack.{all_left, all_right}
@@ -10,9 +10,9 @@ use Rattle.wasm_spec.proofs.Places.{get_some}
 use Rattle.wasm_spec.proofs.TypeMaps.{map-map}
 use Rattle.wasm_validity.specs.IndexSpaces.{Spaces}
 use Rattle.wasm_gen_view.specs.Numbers.{group_types}
-use Rattle.wasm_gen_view.specs.SameViews.{NamedItem, TreeSpaces, Viewed, as_trees, named_item, viewed}
+use Rattle.wasm_gen_view.specs.SameViews.{TreeSpaces, Viewed, as_trees, named_item, viewed}
 use Rattle.wasm_gen_view.specs.Types.{ref_type, sub_type}
-use Rattle.wasm_gen_view.specs.Views.{AreFirst, AreNumbered, HasTypes, IsOutside, IsViewOf, IsWithin, Named, export_in, exported, global_type, item_type, memory_type, table_type, tree_at, tree_reference, type_in, type_of}
+use Rattle.wasm_gen_view.specs.Views.{AreFirst, AreNumbered, HasTypes, IsOutside, IsViewOf, IsWithin, Named, export_in, global_type, table_type, tree_at, tree_reference, type_in, type_of}
 use Rattle.wasm_gen_view.specs.declared.types.TypePlace.{TypePlace}
 use Rattle.wasm_gen_view.specs.declared.types.TypeReference.{TypeReference}
 use Rattle.wasm_gen_view.specs.declared.types.TypeReference.TheVariants.{Own, Other}
@@ -22,8 +22,8 @@ use Rattle.wasm_gen_view.proofs.SameTrees.{AreDistinct, all_distinct, first_one,
 
 -- ---- the meaning of a view's values, by the trees of its groups
 
-abbrev name_in : List GroupTree → NamedItem → Named DefType
-name_in all named = record { name = named.name; item = Some (external_map (type_of all) named.item) }
+abbrev name_in : List GroupTree → Named TypeReference → Named DefType
+name_in all named = record { name = named.name; item = external_map (type_of all) named.item }
 
 abbrev meaning : List GroupTree → Viewed → TreeSpaces
 meaning all x = record {
@@ -179,11 +179,10 @@ module _ (all : List GroupTree) (distinct : AreDistinct all) where
   external_back (spec.TagExternal x) (spec.GlobalExternal y) h k e = cc
   external_back (spec.TagExternal x) (spec.TagExternal y) h k e = ap spec.TagExternal (outside_back x y h.0 k.0 (let one : type_of all x ≡ type_of all y = cc in one))
 
-  named_back : (a b : NamedItem) → Out (external_refs a.item) → Out (external_refs b.item) → name_in all a ≡ name_in all b → a ≡ b
+  named_back : (a b : Named TypeReference) → Out (external_refs a.item) → Out (external_refs b.item) → name_in all a ≡ name_in all b → a ≡ b
   named_back a b h k e =
       let name : a.name ≡ b.name = ap (λ (t : Named DefType). t.name) e in
-      let some : Some (external_map (type_of all) a.item) ≡ Some (external_map (type_of all) b.item) = ap (λ (t : Named DefType). t.item) e in
-      let item : a.item ≡ b.item = external_back a.item b.item h k (let one : external_map (type_of all) a.item ≡ external_map (type_of all) b.item = cc in one) in
+      let item : a.item ≡ b.item = external_back a.item b.item h k (ap (λ (t : Named DefType). t.item) e) in
       λ j. record { name = name j; item = item j }
 
   places_back : (ps qs : List TypePlace) → AllByRecursion (λ (p : TypePlace). p.group < length all) ps → AllByRecursion (λ (p : TypePlace). p.group < length all) qs → map (type_in all) ps ≡ map (type_in all) qs → ps ≡ qs
@@ -205,7 +204,7 @@ module _ (all : List GroupTree) (distinct : AreDistinct all) where
       let globals = maps_back (λ x. Out (global_refs x)) (global_map (type_of all)) global_back (viewed v).globals (viewed w).globals (parts _ global_type global_refs v.globals.items h.globals) (parts _ global_type global_refs w.globals.items k.globals) (ap (λ (t : TreeSpaces). t.globals) e) in
       let tags = places_back v.tags.items w.tags.items h.tags k.tags (ap (λ (t : TreeSpaces). t.tags) e) in
       let elements = maps_back (λ x. Out (ref_refs x)) (ref_map (type_of all)) ref_back (viewed v).elements (viewed w).elements (parts _ ref_type ref_refs v.elements.items h.elements) (parts _ ref_type ref_refs w.elements.items k.elements) (ap (λ (t : TreeSpaces). t.elements) e) in
-      let exports = maps_back (λ (x : NamedItem). Out (external_refs x.item)) (name_in all) named_back (viewed v).exports (viewed w).exports (parts _ named_item (λ x. external_refs x.item) v.exports.items h.exports) (parts _ named_item (λ x. external_refs x.item) w.exports.items k.exports) (ap (λ (t : TreeSpaces). t.exports) e) in
+      let exports = maps_back (λ (x : Named TypeReference). Out (external_refs x.item)) (name_in all) named_back (viewed v).exports (viewed w).exports (parts _ named_item (λ x. external_refs x.item) v.exports.items h.exports) (parts _ named_item (λ x. external_refs x.item) w.exports.items k.exports) (ap (λ (t : TreeSpaces). t.exports) e) in
       λ j. record {
         groups = groups j;
         types = types j;

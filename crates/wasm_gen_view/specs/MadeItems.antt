@@ -1,17 +1,15 @@
 -- The items of a made module as those of its index spaces, with references of a view.
-use Rattle.std.specs.Prelude.{◌≡◌, ℕ, List, [], ◌∷◌, map, slice_get, Option, Some, None, option_map}
-use Rattle.std.specs.String.{string_bytes}
+use Rattle.std.specs.Prelude.{◌≡◌, ℕ, List, [], ◌∷◌, map, slice_get, Option, option_map}
 use Rattle.wasm_spec.specs.Syntax.{Export as WrittenExport}
-use Rattle.wasm_spec.specs.TypeReferences.{external_map, global_map, ref_map, table_map}
+use Rattle.wasm_spec.specs.TypeReferences.{global_map, ref_map, table_map}
 use Rattle.wasm_spec.specs.Types as spec
 use Rattle.wasm_validity.specs.IndexSpaces.{Spaces}
 use Rattle.wasm_gen_view.specs.Types.{ref_type}
-use Rattle.wasm_gen_view.specs.Views.{Named, global_type, item_in, item_type, memory_type, table_type}
+use Rattle.wasm_gen_view.specs.Views.{Named, global_type, memory_type, table_type, with_item}
 use Rattle.wasm_gen_view.specs.declared.made_items.MadeItems.{MadeItems}
 use Rattle.wasm_gen_view.specs.declared.types.TypePlace.{TypePlace}
 use Rattle.wasm_gen_view.specs.declared.types.TypeReference.{TypeReference}
 use Rattle.wasm_gen_view.specs.declared.types.TypeReference.TheVariants.{Other}
-use Rattle.wasm_gen_view.specs.declared.view.Export.{Export}
 
 -- They are the items of these index spaces, where an index has this reference.
 pub record AreItems (refer : ℕ → TypeReference) (s : Spaces) (items : MadeItems) : Type 0 where
@@ -29,19 +27,6 @@ item_among items spec.TableKind index = option_map (λ type. spec.TableExternal 
 item_among items spec.MemoryKind index = option_map (λ type. spec.MemoryExternal (memory_type type)) (slice_get items.memories.items index)
 item_among items spec.GlobalKind index = option_map (λ type. spec.GlobalExternal (global_type type)) (slice_get items.globals.items index)
 item_among items spec.TagKind index = option_map (λ place. spec.TagExternal (Other place)) (slice_get items.tags.items index)
-
--- an export of a view
-abbrev pub shown : Export → Named TypeReference
-shown export = record { name = string_bytes export.name; item = Some (item_type export.item) }
-
--- an export of a module, with the type of its item
-abbrev pub exported_by : (ℕ → TypeReference) → Spaces → WrittenExport → Named TypeReference
-exported_by refer s export = record { name = export.name; item = option_map (external_map refer) (item_in s export.kind export.index) }
-
--- an item that is there, by this name, before others
-abbrev pub with_item : List ℕ → Option (spec.ExternalType TypeReference) → List (Named TypeReference) → List (Named TypeReference)
-with_item name None others = others
-with_item name (Some item) others = record { name = name; item = Some item } ∷ others
 
 -- the exports whose items are there
 abbrev pub exports_among : MadeItems → List WrittenExport → List (Named TypeReference)

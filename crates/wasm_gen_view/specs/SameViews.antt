@@ -1,5 +1,5 @@
 -- Views and index spaces by their values: index spaces with types in place of their indexes, and views with items as those of the specification.
-use Rattle.std.specs.Prelude.{ℕ, List, map}
+use Rattle.std.specs.Prelude.{List, map}
 use Rattle.std.specs.String.{string_bytes}
 use Rattle.wasm_spec.specs.Trees.{DefType, type_at}
 use Rattle.wasm_spec.specs.TypeReferences.{global_map, ref_map, table_map}
@@ -7,7 +7,7 @@ use Rattle.wasm_spec.specs.Types as spec
 use Rattle.wasm_validity.specs.IndexSpaces.{Spaces}
 use Rattle.wasm_gen_view.specs.Numbers.{group_types}
 use Rattle.wasm_gen_view.specs.Types.{ref_type}
-use Rattle.wasm_gen_view.specs.Views.{Named, exported, global_type, item_type, memory_type, table_type}
+use Rattle.wasm_gen_view.specs.Views.{Named, exports_of, global_type, item_type, memory_type, table_type}
 use Rattle.wasm_gen_view.specs.declared.types.TypePlace.{TypePlace}
 use Rattle.wasm_gen_view.specs.declared.types.TypeReference.{TypeReference}
 use Rattle.wasm_gen_view.specs.declared.view.Export.{Export}
@@ -33,15 +33,11 @@ as_trees s = record {
   globals = map (global_map (type_at s.types)) s.globals;
   tags = map (type_at s.types) s.tags;
   elements = map (ref_map (type_at s.types)) s.elements;
-  exports = map (exported s) s.exports;
+  exports = exports_of s s.exports;
 }
 
 -- an export of a view
-pub record NamedItem : Type 0 where
-  pub name : List ℕ
-  pub item : spec.ExternalType TypeReference
-
-abbrev pub named_item : Export → NamedItem
+abbrev pub named_item : Export → Named TypeReference
 named_item export = record { name = string_bytes export.name; item = item_type export.item }
 
 -- the values of a view
@@ -54,7 +50,7 @@ pub record Viewed : Type 0 where
   pub globals : List (spec.GlobalType TypeReference)
   pub tags : List TypePlace
   pub elements : List (spec.RefType TypeReference)
-  pub exports : List NamedItem
+  pub exports : List (Named TypeReference)
 
 abbrev pub viewed : View → Viewed
 viewed v = record {

@@ -1,6 +1,6 @@
 -- Views of index spaces: types are named by the number of their group, over distinct groups in the order of their first types, and their place there. Groups
 -- are one where they are equal once rolled up (Core Specification 3.0, Validation, Conventions, "Rolling and Unrolling"), so views don't depend on type indexes.
-use Rattle.std.specs.Prelude.{◌≡◌, ◌⊎◌, ⊤, ℕ, ◌<◌, List, [], ◌∷◌, ◌++◌, false, true, is_some, length, map, slice_get, Option, Some, None, option_map}
+use Rattle.std.specs.Prelude.{◌≡◌, ◌⊎◌, ⊤, ℕ, ◌<◌, List, [], ◌∷◌, ◌++◌, false, length, map, slice_get, Option, Some, None, option_map}
 use Rattle.std.specs.List.{AllByRecursion, flat_map}
 use Rattle.std.specs.Option.{unwrap_or}
 use Rattle.std.specs.String.{string_bytes}
@@ -78,10 +78,10 @@ type_of groups (Other place) = type_in groups place
 
 -- ---- exports
 
--- a name, and the type of the item that is exported by it, if there is one
+-- a name, and the type of the item that is exported by it
 pub record Named (R : Type 0) : Type 0 where
   pub name : List ℕ
-  pub item : Option (spec.ExternalType R)
+  pub item : spec.ExternalType R
 
 -- the item of a kind with an index, if there is one
 abbrev pub item_in : Spaces → spec.ExternalKind → ℕ → Option (spec.ExternalType ℕ)
@@ -91,13 +91,19 @@ item_in s spec.MemoryKind index = option_map (λ x. spec.MemoryExternal x) (slic
 item_in s spec.GlobalKind index = option_map (λ x. spec.GlobalExternal x) (slice_get s.globals index)
 item_in s spec.TagKind index = option_map (λ x. spec.TagExternal x) (slice_get s.tags index)
 
--- an export of a module, with the type of its item
-abbrev pub exported : Spaces → WrittenExport → Named DefType
-exported s export = record { name = export.name; item = option_map (external_map (type_at s.types)) (item_in s export.kind export.index) }
+-- an item that is there, by this name, before others
+abbrev pub with_item : {R : Type 0} → List ℕ → Option (spec.ExternalType R) → List (Named R) → List (Named R)
+with_item name None others = others
+with_item name (Some item) others = record { name = name; item = item } ∷ others
+
+-- the exports of a module whose items are there, as all of a valid module are, with the types of their items
+abbrev pub exports_of : Spaces → List WrittenExport → List (Named DefType)
+exports_of s [] = []
+exports_of s (export ∷ exports) = with_item export.name (option_map (external_map (type_at s.types)) (item_in s export.kind export.index)) (exports_of s exports)
 
 -- an export of a view, likewise
 abbrev pub export_in : List GroupTree → Export → Named DefType
-export_in groups export = record { name = string_bytes export.name; item = Some (external_map (type_of groups) (item_type export.item)) }
+export_in groups export = record { name = string_bytes export.name; item = external_map (type_of groups) (item_type export.item) }
 
 -- ---- views
 
@@ -130,10 +136,6 @@ pub record HasTypes (s : Spaces) : Type 0 where
   pub tags : AllByRecursion (λ index. index < length s.types) s.tags
   pub elements : AllByRecursion (λ index. index < length s.types) (flat_map ref_refs s.elements)
 
--- each export names an item
-abbrev pub HasItems : Spaces → Type 0
-HasItems s = AllByRecursion (λ export. is_some (item_in s export.kind export.index) ≡ true) s.exports
-
 -- It is the view of these index spaces: its groups are the distinct ones, and each of its items stands for that of the spaces.
 pub record IsViewOf (s : Spaces) (v : View) : Type 0 where
   pub trees : List GroupTree
@@ -146,5 +148,5 @@ pub record IsViewOf (s : Spaces) (v : View) : Type 0 where
   pub globals : map (λ type. global_map (type_of trees) (global_type type)) v.globals.items ≡ map (global_map (type_at s.types)) s.globals
   pub tags : map (type_in trees) v.tags.items ≡ map (type_at s.types) s.tags
   pub elements : map (λ type. ref_map (type_of trees) (ref_type type)) v.elements.items ≡ map (ref_map (type_at s.types)) s.elements
-  pub exports : map (export_in trees) v.exports.items ≡ map (exported s) s.exports
+  pub exports : map (export_in trees) v.exports.items ≡ exports_of s s.exports
   pub numbered : HasTypes s → AreNumbered (length trees) v

@@ -66,7 +66,7 @@ impl Groups {
         }
     }
 
-    /// Returns the number of a group, which is the last one where there was none of its types.
+    /// Returns the number of a group: that of an equal one, or the next number where there is none.
     ///
     /// # Errors
     /// Where memory runs out.

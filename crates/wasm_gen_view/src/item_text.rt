@@ -7,7 +7,7 @@ use crate::put::{Put, put_optional};
 use crate::view::{GlobalType, Item, MemoryType, TableType};
 use std::alloc::AllocError;
 
-// Appends the least and the greatest size, and the bits of an index or an address.
+// Appends the minimum and the maximum, and the bits of an index or an address.
 fn put_limits(
     minimum: u64,
     maximum: &Option<u64>,

@@ -1,17 +1,13 @@
 //! Laws of the types of views. The functions do nothing: their contracts are theorems.
 
-ghost use Rattle.std.specs.Prelude.{◌≡◌, ◌∷◌, ◌++◌, ℕ, List, map};
+ghost use Rattle.std.specs.Prelude.{◌≡◌, ℕ, List};
 ghost use Rattle.std.specs.Bool.{Decides};
 ghost use Rattle.std.specs.Cmp.{IsEquivalence};
-ghost use Rattle.wasm_spec.specs.Syntax.{members};
-ghost use Rattle.wasm_spec.specs.Trees.{DefType, GroupTree, section_types, types_after};
+ghost use Rattle.wasm_spec.specs.Trees.{section_types};
 ghost use Rattle.wasm_validity.specs.IndexSpaces.{Spaces};
 ghost use Rattle.wasm_gen_view.specs.SameViews.{as_trees, named_item, viewed};
 ghost use Rattle.wasm_gen_view.specs.Views.{HasTypes, IsViewOf, global_type, item_type, memory_type, table_type};
-ghost use Rattle.wasm_spec.specs.TypeReferences.{subs_map};
 ghost use Rattle.wasm_spec.specs.Types as spec;
-ghost use Rattle.wasm_gen_view.specs.Numbers.{IsNumbered};
-ghost use Rattle.wasm_gen_view.specs.TypeNumbers.{AreNumbersOf, numbered_reference, places_from};
 ghost use Rattle.wasm_gen_view.specs.Types.{heap_type, ref_type, val_type, storage_type, field_type, func_type, composite_type, sub_type};
 
 use crate::types::{
@@ -32,14 +28,6 @@ pub fn equal_types()
     ensures func_types { (a b : FuncType) → Decides (⟦<FuncType as PartialEq>⟧.eq a b) (func_type a ≡ func_type b) }
     ensures composite_types { (a b : CompositeType) → Decides (⟦<CompositeType as PartialEq>⟧.eq a b) (composite_type a ≡ composite_type b) }
     ensures sub_types { (a b : SubType) → Decides (⟦<SubType as PartialEq>⟧.eq a b) (sub_type a ≡ sub_type b) }
-{}
-
-/// A group after others is numbered.
-pub fn one_more_group()
-    ensures { (types : List DefType) (all : List GroupTree) (groups : List (List (spec.SubType TypeReference))) (places : List TypePlace) → AreNumbersOf types all groups places
-        → (group : spec.RecGroup ℕ) (m : spec.SubType ℕ) (ms : List (spec.SubType ℕ)) → members group ≡ m ∷ ms → (number : ℕ) (new : List (List (spec.SubType TypeReference)))
-        → IsNumbered (subs_map (numbered_reference places) (members group)) groups number new
-        → (trees : List GroupTree) × AreNumbersOf (types_after types group) trees new (places ++ places_from number 0 (members group)) }
 {}
 
 /// `==` decides if two items or two views have equal values.

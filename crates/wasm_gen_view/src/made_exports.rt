@@ -2,7 +2,8 @@
 
 ghost use Rattle.std.specs.Prelude.{◌≡◌, IfOk, map, option_map};
 ghost use Rattle.wasm_encoder_sections.specs.CoreItems.{export_kind};
-ghost use Rattle.wasm_gen_view.specs.MadeItems.{exports_among, item_among, shown};
+ghost use Rattle.wasm_gen_view.specs.MadeItems.{exports_among, item_among};
+ghost use Rattle.wasm_gen_view.specs.SameViews.{named_item};
 ghost use Rattle.wasm_gen_view.specs.Views.{item_type};
 ghost use Rattle.wasm_smith_definitions.specs.Items.{export};
 
@@ -51,7 +52,7 @@ impl MadeItems {
         alloc: Global,
         exports: &[items::Export],
     ) -> Result<Vec<Export>, AllocError>
-        ensures { IfOk result (λ all. map shown all.items ≡ exports_among self.now (map export exports.now)) }
+        ensures { IfOk result (λ all. map named_item all.items ≡ exports_among self.now (map export exports.now)) }
     {
         let mut all = Vec::new(alloc);
         for export in exports {

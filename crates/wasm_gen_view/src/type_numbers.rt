@@ -21,7 +21,7 @@ pub(crate) struct TypeNumbers {
     places: Vec<TypePlace>,
 }
 
-// Adds the places of so many types of a group of this number.
+// Adds the places of a group's types.
 fn push_places(
     places: &mut Vec<TypePlace>,
     group: usize,

@@ -14,7 +14,7 @@ pub struct TypePlace {
 pub enum TypeReference {
     /// A type of the group that the reference stands in, by its place. It stands in groups alone.
     Own(usize),
-    /// A type of another group, or where the reference stands in no group any type.
+    /// A type of another group, or, where the reference stands in no group, any type.
     Other(TypePlace),
 }
 

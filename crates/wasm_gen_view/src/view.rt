@@ -7,9 +7,9 @@ use crate::types::{RefType, SubType, TypePlace, ValType};
 pub struct TableType {
     /// The type of its elements.
     pub element_type: RefType,
-    /// Its least size, in elements.
+    /// Its minimum size, in elements.
     pub minimum: u64,
-    /// Its greatest size, in elements, where it has one.
+    /// Its maximum size, in elements, where it has one.
     pub maximum: Option<u64>,
     /// True if its indexes have 64 bits, not 32.
     pub table64: bool,
@@ -18,9 +18,9 @@ pub struct TableType {
 /// The type of a memory.
 #[derive(Clone, Copy, Debug, PartialEq, Eq)]
 pub struct MemoryType {
-    /// Its least size, in pages.
+    /// Its minimum size, in pages.
     pub minimum: u64,
-    /// Its greatest size, in pages, where it has one.
+    /// Its maximum size, in pages, where it has one.
     pub maximum: Option<u64>,
     /// True if its addresses have 64 bits, not 32.
     pub memory64: bool,

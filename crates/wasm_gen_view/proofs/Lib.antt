@@ -8,3 +8,4 @@ pub mod NumberLaws
 pub mod Numbering
 pub mod SameTrees
 pub mod SameViews
+pub mod WrittenSpaces

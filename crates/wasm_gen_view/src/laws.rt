@@ -1,10 +1,13 @@
-//! Laws of the types of views. The functions do nothing: their contracts are theorems.
+//! Laws of views, and of the index spaces that they show. The functions do nothing: their contracts are theorems.
 
-ghost use Rattle.std.specs.Prelude.{◌≡◌, ℕ, List};
+ghost use Rattle.std.specs.Prelude.{◌≡◌, ◌↔◌, ℕ, Bool, List};
 ghost use Rattle.std.specs.Bool.{Decides};
 ghost use Rattle.std.specs.Cmp.{IsEquivalence};
+ghost use Rattle.wasm_smith_validity.specs.Made.{Made};
+ghost use Rattle.wasm_smith_validity.specs.Sections.{sections_with};
 ghost use Rattle.wasm_spec.specs.Trees.{section_types};
-ghost use Rattle.wasm_validity.specs.IndexSpaces.{Spaces};
+ghost use Rattle.wasm_validity.specs.IndexSpaces.{Spaces, spaces_of};
+ghost use Rattle.wasm_gen_view.specs.MadeSpaces.{made_spaces};
 ghost use Rattle.wasm_gen_view.specs.SameViews.{as_trees, named_item, viewed};
 ghost use Rattle.wasm_gen_view.specs.Views.{HasTypes, IsViewOf, global_type, item_type, memory_type, table_type};
 ghost use Rattle.wasm_spec.specs.Types as spec;
@@ -45,4 +48,12 @@ pub fn equal_views()
     ensures decided { (s t : Spaces) (groups others : List (spec.RecGroup ℕ)) (v w : View) → s.types ≡ section_types groups → t.types ≡ section_types others → HasTypes s → HasTypes t
         → IsViewOf s v → IsViewOf t w → Decides (⟦<View as PartialEq>⟧.eq v w) (as_trees s ≡ as_trees t) }
     ensures equivalence { IsEquivalence ⟦<View as PartialEq>⟧.eq }
+{}
+
+/// The index spaces of a made module are those of the sections that it is written as, but for imports by their names. Views don't show these, so both have
+/// the same views.
+pub fn written_spaces()
+    ensures spaces { (m : Made) (counted : Bool) (bodies : List (List ℕ))
+        → spaces_of (sections_with counted bodies m) ≡ record (made_spaces m) { imported = (spaces_of (sections_with counted bodies m)).imported } }
+    ensures views { (m : Made) (counted : Bool) (bodies : List (List ℕ)) (v : View) → IsViewOf (made_spaces m) v ↔ IsViewOf (spaces_of (sections_with counted bodies m)) v }
 {}

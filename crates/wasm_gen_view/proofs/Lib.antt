@@ -4,6 +4,7 @@ pub mod GroupLaws
 pub mod ItemMaps
 pub mod MadeTypes
 pub mod MadeViews
+pub mod NamedTypes
 pub mod NumberLaws
 pub mod Numbering
 pub mod SameTrees

@@ -5,6 +5,8 @@ ghost use Rattle.std.specs.Bool.{Decides};
 ghost use Rattle.std.specs.Cmp.{IsEquivalence};
 ghost use Rattle.wasm_smith_validity.specs.Made.{Made};
 ghost use Rattle.wasm_smith_validity.specs.Sections.{sections_with};
+ghost use Rattle.wasm_smith_validity.specs.Validity.{IsValidByIndex};
+ghost use Rattle.wasm_spec.specs.Features.{Features};
 ghost use Rattle.wasm_spec.specs.Trees.{section_types};
 ghost use Rattle.wasm_validity.specs.IndexSpaces.{Spaces, spaces_of};
 ghost use Rattle.wasm_gen_view.specs.MadeSpaces.{made_spaces};
@@ -56,4 +58,11 @@ pub fn written_spaces()
     ensures spaces { (m : Made) (counted : Bool) (bodies : List (List ℕ))
         → spaces_of (sections_with counted bodies m) ≡ record (made_spaces m) { imported = (spaces_of (sections_with counted bodies m)).imported } }
     ensures views { (m : Made) (counted : Bool) (bodies : List (List ℕ)) (v : View) → IsViewOf (made_spaces m) v ↔ IsViewOf (spaces_of (sections_with counted bodies m)) v }
+{}
+
+/// Where a made module is valid by index, each type index of its items names a type, and so does each in the sections that it is written as.
+pub fn valid_names_types()
+    ensures made { (features : Features) (m : Made) → IsValidByIndex features m → HasTypes (made_spaces m) }
+    ensures written { (features : Features) (m : Made) (counted : Bool) (bodies : List (List ℕ)) → IsValidByIndex features m
+        → HasTypes (spaces_of (sections_with counted bodies m)) }
 {}

@@ -6,7 +6,7 @@ use Rattle.wasm_spec.specs.Trees.{DefType, section_types}
 use Rattle.wasm_spec.specs.Types.{RecGroup}
 
 -- These are the types of groups that come one after the other and keep the rules.
-pub record AreOfGroups (features : Features) (types : List DefType) : Type 0 where
+pub record AreOfGroups (features : Features) (defined : List DefType) : Type 0 where
   pub groups : List (RecGroup ℕ)
   pub rules : KeepGroupRules features [] groups
-  pub types : types ≡ section_types groups
+  pub types : defined ≡ section_types groups

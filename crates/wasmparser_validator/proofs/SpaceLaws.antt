@@ -13,11 +13,8 @@ use Rattle.wasm_validity.specs.DefinedTypes.{func_type_at, func_type_of}
 use Rattle.wasm_validity.specs.IndexSpaces.{spaces_in}
 use Rattle.wasm_validity_laws.specs.NamedTypes.{Each, NamesTypes}
 use Rattle.wasmparser_module_state.specs.Entities.{meant_item, names_types}
-use Rattle.wasmparser_module_state.specs.State.{context}
-use Rattle.wasmparser_module_state.specs.declared.module_state.ModuleState.{ModuleState}
 use Rattle.wasmparser_module_types.specs.ModuleTypes.{IsIdOf, KnownTypes, stands_for}
 use Rattle.wasmparser_types.specs.Index.{Index, Module, RecGroup, Id, core_type_id}
-use Rattle.wasmparser_validator.specs.KnownSpaces.{CanBeShown}
 use Rattle.wasmparser_validator.specs.Shown.{declared_supertype, first_of, supertype_in}
 
 -- ---- a look-up
@@ -62,11 +59,6 @@ module _ (types interned : List DefType) (index : ℕ) (found : Option ℕ) (is 
     id_of id some = ap (option_and_then (slice_get types)) (sym is_at ∙ some_at) ∙ id_is id some
 
 pub ruleset found_steps = (is_there, has_it, it_is, id_there, id_is, id_named, id_of)
-
--- ---- types that are named
-
-pub shown_named : (state shown : ModuleState) → shown ≡ state → CanBeShown shown → NamesTypes (spaces_in (context state))
-shown_named state shown same can = subst (λ (s : ModuleState). NamesTypes (spaces_in (context s))) same can.named
 
 -- ---- types of items
 

@@ -164,7 +164,7 @@ impl<'a> TypesRef<'a> {
     }
 
     /// Does nothing: its contract states that the types are those of groups that keep the rules.
-    #[tactic(auto, using(crate::proofs::TypeGroups::of_shown_groups))]
+    #[tactic(auto, using(crate::proofs::TypeGroups::of_groups))]
     pub fn are_of_groups(&self)
         ensures { AreOfGroups (known self.now).features (spaces self.now).types }
     {

@@ -14,7 +14,6 @@ use wasmparser_types::ref_type::RefType;
 
 impl TypesRef<'_> {
     /// Does nothing: its contract states that what stands in the index spaces names types of the module, functions and tags function types.
-    #[tactic(auto, using(crate::proofs::SpaceLaws::shown_named))]
     pub fn names_types(&self)
         ensures { NamesTypes (spaces self.now) }
     {

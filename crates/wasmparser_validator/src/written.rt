@@ -29,7 +29,7 @@ impl TypesRef<'_> {
         self.state().type_of_function(index).unwrap()
     }
 
-    /// Returns the type of the table with this index, which is below their number, as it is written.
+    /// Returns the type of the table with this index, which is below their number, as the module writes it.
     #[tactic(auto, using(crate::proofs::SpaceLaws::found_steps))]
     pub fn written_table_at(&self, index: u32) -> TableType
         requires { index < length (spaces self.now).tables }
@@ -41,7 +41,7 @@ impl TypesRef<'_> {
         ty
     }
 
-    /// Returns the type of the global with this index, which is below their number, as it is written.
+    /// Returns the type of the global with this index, which is below their number, as the module writes it.
     #[tactic(auto, using(crate::proofs::SpaceLaws::found_steps))]
     pub fn written_global_at(&self, index: u32) -> GlobalType
         requires { index < length (spaces self.now).globals }
@@ -62,7 +62,7 @@ impl TypesRef<'_> {
         self.state().type_of_tag(index).unwrap()
     }
 
-    /// Returns the type of the items of the element segment with this index, which is below their number, as it is written.
+    /// Returns the type of the items of the element segment with this index, which is below their number, as the module writes it.
     #[tactic(auto, using(crate::proofs::SpaceLaws::found_steps))]
     pub fn written_element_at(&self, index: u32) -> RefType
         requires { index < length (spaces self.now).elements }

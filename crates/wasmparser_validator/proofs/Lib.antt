@@ -25,4 +25,5 @@ mod ReadPieces
 mod ResourceLaws
 mod SectionEntries
 mod SpaceLaws
+mod TypeGroups
 pub mod VerdictLaws

@@ -10,6 +10,7 @@ pub mod Sections
 pub mod Shown
 pub mod ShownImports
 pub mod Stages
+pub mod TypeGroups
 pub mod TypesById
 pub mod Validation
 pub mod Validators

@@ -13,3 +13,4 @@ mod validate_all;
 mod validate_bodies;
 pub mod validator;
 pub mod validator_id;
+mod written;

@@ -12,7 +12,8 @@ ghost use Rattle.wasmparser_payloads.specs.Parsing.{piece};
 ghost use Rattle.wasmparser_validator.specs.Bodies.{AreNamed};
 ghost use Rattle.wasmparser_validator.specs.KnownSpaces.{CanBeShown, IsEndOf, IsReached};
 ghost use Rattle.wasmparser_validator.specs.PieceJudging.{AddsPiece, has_groups};
-ghost use Rattle.wasmparser_validator.specs.Shown.{exports_left, spaces};
+ghost use Rattle.wasmparser_validator.specs.Shown.{exports_left, known, spaces};
+ghost use Rattle.wasmparser_validator.specs.TypeGroups.{AreOfGroups};
 
 use crate::payload::add_payload;
 use crate::validator_id::ValidatorId;
@@ -160,6 +161,15 @@ impl<'a> TypesRef<'a> {
         ensures { result ≡ length (spaces self.now).types }
     {
         self.state().type_count() as u32
+    }
+
+    /// Does nothing: its contract states that the types are those of groups that keep the rules.
+    #[tactic(auto, using(crate::proofs::TypeGroups::of_groups))]
+    pub fn are_of_groups(&self)
+        ensures { AreOfGroups (known self.now).features (spaces self.now).types }
+    {
+        let types = self.types;
+        let _ = types.state();
     }
 
     /// Returns the number of functions, imported ones counted.

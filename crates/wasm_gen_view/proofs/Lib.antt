@@ -1,7 +1,10 @@
 pub mod EqualValues
 pub mod EqualityLaws
 pub mod GroupLaws
+pub mod ItemLoops
 pub mod ItemMaps
+pub mod KnownGroups
+pub mod KnownNumbers
 pub mod MadeTypes
 pub mod MadeViews
 pub mod NamedTypes

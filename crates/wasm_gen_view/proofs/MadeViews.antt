@@ -14,13 +14,13 @@ use Rattle.wasm_spec.specs.TypeReferences.{external_map, external_refs, global_m
 use Rattle.wasm_spec.specs.Types as spec
 use Rattle.wasm_validity.specs.IndexSpaces.{Spaces}
 use Rattle.wasm_gen_view.proofs.ItemMaps.{external_twice, global_refs_are, global_twice, lists_refs, lists_twice, ref_refs_are, ref_twice, table_refs_are, table_twice}
-use Rattle.wasm_gen_view.specs.MadeItems.{AreItems, exports_among, item_among}
+use Rattle.wasm_gen_view.specs.Items.{AreItems, exports_among, item_among}
 use Rattle.wasm_gen_view.specs.Numbers.{group_types}
 use Rattle.wasm_gen_view.specs.SameViews.{named_item}
 use Rattle.wasm_gen_view.specs.TypeNumbers.{AreNumbersOf, reference_by, reference_to}
 use Rattle.wasm_gen_view.specs.Types.{ref_type, sub_type}
 use Rattle.wasm_gen_view.specs.Views.{HasTypes, IsOutside, IsViewOf, IsWithin, Named, export_in, exports_of, global_type, item_in, item_type, memory_type, table_type, tree_reference, type_in, type_of, with_item}
-use Rattle.wasm_gen_view.specs.declared.made_items.MadeItems.{MadeItems}
+use Rattle.wasm_gen_view.specs.declared.items.Items.{Items}
 use Rattle.wasm_gen_view.specs.declared.types.SubType.{SubType}
 use Rattle.wasm_gen_view.specs.declared.types.TypePlace.{TypePlace}
 use Rattle.wasm_gen_view.specs.declared.types.TypeReference.{TypeReference}
@@ -76,7 +76,7 @@ module _ (s : Spaces) (all : List GroupTree) (groups : List (List (spec.SubType 
   all_outside : (indexes : List ℕ) → AllByRecursion (λ index. index < length s.types) indexes → AllByRecursion (IsOutside (length all)) (map refer indexes)
   all_outside indexes h = all_mapped (IsOutside (length all)) refer indexes (all_each _ _ outside indexes h)
 
-  module _ (items : MadeItems) (are : AreItems refer s items) where
+  module _ (items : Items) (are : AreItems refer s items) where
     -- ---- exports
 
     found_map : {A X Y : Type 0} (view : X → A) (own : A → spec.ExternalType TypeReference) (k : Y → A) (written : Y → spec.ExternalType ℕ)

@@ -96,12 +96,146 @@ references_back all distinct (Other p) (Other q) h k e =
 
 -- ---- one more group
 
+-- types of this tree have places, and the tree a number
 module _ (types : List DefType) (all : List GroupTree) (groups : List (List (spec.SubType TypeReference))) (places : List TypePlace) (it : AreNumbersOf types all groups places)
-    (group : spec.RecGroup ℕ) (m : spec.SubType ℕ) (ms : List (spec.SubType ℕ)) (some : members group ≡ m ∷ ms) where
-  abbrev pub tree : GroupTree
+    (tree : GroupTree) (m : spec.SubType ℕ) (ms : List (spec.SubType ℕ)) where
+  abbrev pub new_types : List DefType
+  new_types = types ++ places_of tree 0 (m ∷ ms)
+
+  pub record IsNext (number : ℕ) (new : List (List (spec.SubType TypeReference))) : Type 0 where
+    pub trees : List GroupTree
+    pub are : AreNumbersOf new_types trees new (places ++ places_from number 0 (m ∷ ms))
+    pub numbered : IsNumbered tree all number trees
+
+  -- a tree that has this number keeps it
+  pub there : (number : ℕ) → slice_get all number ≡ Some tree → IsNext number groups
+  there number here = record {
+    trees = all;
+    are = record {
+      first = first_append [] all all types (places_of tree 0 (m ∷ ms)) it.first (first_there all tree number here 0 (m ∷ ms));
+      distinct = it.distinct;
+      rolled = it.rolled;
+      groups = it.groups;
+      within = it.within;
+      types = map-append (type_in all) places (places_from number 0 (m ∷ ms)) ∙ (λ j. it.types j ++ places_there all tree number (tree_there all tree number here) 0 (m ∷ ms) j);
+      inside = all_append _ places (places_from number 0 (m ∷ ms)) it.inside (places_within (length all) number (slice_get_within all number tree here) 0 (m ∷ ms));
+    };
+    numbered = inl (here, refl);
+  }
+
+  module _ (numbered : List (spec.SubType TypeReference)) (rolled : roll (opened tree) ≡ tree) (meant_group : subs_map (tree_reference all) numbered ≡ opened tree)
+      (within : AllByRecursion (IsWithin (length all)) (subs_refs numbered)) where
+    -- the tree of a group that is there
+    group_at : (n : ℕ) (g : List (spec.SubType TypeReference)) → slice_get groups n ≡ Some g → subs_map (tree_reference all) g ≡ opened tree → slice_get all n ≡ Some tree
+    group_at n g at is = by (slice_get all n) refl
+      where
+        opened_there : option_map opened (slice_get all n) ≡ Some (opened tree)
+        opened_there = sym (slice_get-map opened all n) ∙ ap (λ gs. slice_get gs n) (sym it.groups) ∙ slice_get-map (subs_map (tree_reference all)) groups n ∙ ap (option_map (subs_map (tree_reference all))) at ∙ ap Some is
+
+        by : (found : Option GroupTree) → slice_get all n ≡ found → slice_get all n ≡ Some tree
+        by None e = absurd (let no : None ≡ Some (opened tree) = sym (ap (option_map opened) e) ∙ opened_there in cc)
+        by (Some t) e =
+            let same : opened t ≡ opened tree = let both : Some (opened t) ≡ Some (opened tree) = sym (ap (option_map opened) e) ∙ opened_there in cc in
+            let one : t ≡ tree = sym (all_get (λ t. roll (opened t) ≡ t) all it.rolled n t e) ∙ ap roll same ∙ rolled in
+            e ∙ ap Some one
+
+    trees_count : length groups ≡ length all
+    trees_count = sym (length-map groups (subs_map (tree_reference all))) ∙ ap length it.groups ∙ length-map all opened
+
+    module _ (none : (other : ℕ) → slice_get groups other ≡ Some numbered → ⊥) where
+      absent : (n : ℕ) → slice_get all n ≡ Some tree → ⊥
+      absent n at =
+          let lt : n < length groups = omega (arith, slice_get_within all n tree at, trees_count) in
+          let (g, there) = get_some groups n lt in
+          let is : subs_map (tree_reference all) g ≡ opened tree =
+          let both : Some (subs_map (tree_reference all) g) ≡ Some (opened tree) =
+          ap (option_map (subs_map (tree_reference all))) (sym there) ∙ sym (slice_get-map (subs_map (tree_reference all)) groups n) ∙ ap (λ gs. slice_get gs n) it.groups ∙ slice_get-map opened all n ∙ ap (option_map opened) at in
+          cc in
+          let one : g ≡ numbered = subs_back (Own 0) (IsWithin (length all)) (tree_reference all) (references_back all it.distinct) g numbered
+          (all_get (λ group. AllByRecursion (IsWithin (length all)) (subs_refs group)) groups it.within n g there) within (is ∙ sym meant_group) in
+          none n (there ∙ ap Some one)
+
+      abbrev pub more : List GroupTree
+      more = all ++ tree ∷ []
+
+      more_count : length more ≡ suc (length all)
+      more_count = omega (arith, length-append all (tree ∷ []))
+
+      kept_group : (g : List (spec.SubType TypeReference)) → AllByRecursion (IsWithin (length all)) (subs_refs g) → subs_map (tree_reference more) g ≡ subs_map (tree_reference all) g
+      kept_group g h = subs_map_agree (trees.Own 0) (tree_reference more) (tree_reference all) g (all_each (IsWithin (length all)) (λ r. tree_reference more r ≡ tree_reference all r) (reference_kept all (tree ∷ [])) (subs_refs g) h)
+
+      kept_groups : (gs : List (List (spec.SubType TypeReference))) → AllByRecursion (λ g. AllByRecursion (IsWithin (length all)) (subs_refs g)) gs → map (subs_map (tree_reference more)) gs ≡ map (subs_map (tree_reference all)) gs
+      kept_groups [] h = refl
+      kept_groups (g ∷ gs) h = rw (kept_group g h.0, kept_groups gs h.1)
+
+      kept_places : (ps : List TypePlace) → AllByRecursion (λ (p : TypePlace). p.group < length all) ps → map (type_in more) ps ≡ map (type_in all) ps
+      kept_places [] h = refl
+      kept_places (p ∷ ps) h =
+          let head : type_in more p ≡ type_in all p = ap (λ t. record { tree = t; place = p.place }) (tree_kept all (tree ∷ []) p.group h.0) in
+          rw (head, kept_places ps h.1)
+
+      wider : (r : TypeReference) → IsWithin (length all) r → IsWithin (length more) r
+      wider (Own place) h = tt
+      wider (Other place) h = omega (arith, h, more_count)
+
+      last : slice_get more (length all) ≡ Some tree
+      last = get_one all tree
+
+      new_first : AreFirst all (places_of tree 0 (m ∷ ms)) more
+      new_first = inr (absent, first_there more tree (length all) last 1 ms)
+
+      one_place : (i j : ℕ) (t : GroupTree) → slice_get more i ≡ Some t → slice_get more j ≡ Some t → i ≡ j
+      one_place i j t a b = by (get_cases all (tree ∷ []) i t a) (get_cases all (tree ∷ []) j t b)
+        where
+          only : (k : ℕ) (t : GroupTree) → slice_get (tree ∷ []) k ≡ Some t → t ≡ tree
+          only zero t e = cc
+          only (suc k) t e = cc
+
+          lone : (k : ℕ) (t : GroupTree) → slice_get (tree ∷ []) k ≡ Some t → k ≡ 0
+          lone zero t e = refl
+          lone (suc k) t e = cc
+
+          by : (slice_get all i ≡ Some t) ⊎ ((k : ℕ) × (i ≡ length all + k) × (slice_get (tree ∷ []) k ≡ Some t)) → (slice_get all j ≡ Some t) ⊎ ((k : ℕ) × (j ≡ length all + k) × (slice_get (tree ∷ []) k ≡ Some t)) → i ≡ j
+          by (inl x) (inl y) = it.distinct i j t x y
+          by (inl x) (inr y) = absurd (absent i (x ∙ ap Some (only y.0 t y.2)))
+          by (inr x) (inl y) = absurd (absent j (y ∙ ap Some (only x.0 t x.2)))
+          by (inr x) (inr y) = let a = x.1 in let b = y.1 in let k = lone x.0 t x.2 in let l = lone y.0 t y.2 in omega (arith, a, b, k, l)
+
+      behind : (number : ℕ) → number ≡ length groups → IsNext number (groups ++ numbered ∷ [])
+      behind number is =
+          let place : number ≡ length all = is ∙ trees_count in
+          record {
+            trees = more;
+            are = record {
+              first = first_append [] all more types (places_of tree 0 (m ∷ ms)) it.first new_first;
+              distinct = one_place;
+              rolled = all_append _ all (tree ∷ []) it.rolled (rolled, tt);
+              groups = map-append (subs_map (tree_reference more)) groups (numbered ∷ []) ∙ (λ j. (kept_groups groups it.within ∙ it.groups) j ++ (kept_group numbered within ∙ meant_group) j ∷ []) ∙ sym (map-append opened all (tree ∷ []));
+              within = all_append _ groups (numbered ∷ [])
+                  (all_each _ _ (λ g h. all_each (IsWithin (length all)) (IsWithin (length more)) wider (subs_refs g) h) groups it.within)
+                  (all_each (IsWithin (length all)) (IsWithin (length more)) wider (subs_refs numbered) within, tt);
+              types = map-append (type_in more) places (places_from number 0 (m ∷ ms))
+                  ∙ (λ j. (kept_places places it.inside ∙ it.types) j ++ places_there more tree number (ap (tree_at more) place ∙ tree_there more tree (length all) last) 0 (m ∷ ms) j);
+              inside = all_append _ places (places_from number 0 (m ∷ ms))
+                  (all_each (λ (p : TypePlace). p.group < length all) (λ (p : TypePlace). p.group < length more) (λ p h. omega (arith, h, more_count)) places it.inside)
+                  (places_within (length more) number (omega (arith, place, more_count)) 0 (m ∷ ms));
+            };
+            numbered = inr (absent, place, refl);
+          }
+
+    -- a group that means this tree gets its number
+    pub one_more : (number : ℕ) (new : List (List (spec.SubType TypeReference))) → IsNumbered numbered groups number new → IsNext number new
+    one_more number new (inl (at, same)) = subst (IsNext number) (sym same) (there number (group_at number numbered at meant_group))
+    one_more number new (inr (none, is, same)) = subst (IsNext number) (sym same) (behind none number is)
+
+-- ---- a group that is written
+
+module _ (types : List DefType) (all : List GroupTree) (groups : List (List (spec.SubType TypeReference))) (places : List TypePlace) (it : AreNumbersOf types all groups places)
+    (group : spec.RecGroup ℕ) where
+  abbrev tree : GroupTree
   tree = tree_of types group
 
-  abbrev pub numbered : List (spec.SubType TypeReference)
+  abbrev numbered : List (spec.SubType TypeReference)
   numbered = subs_map (numbered_reference places) (members group)
 
   count : length places ≡ length types
@@ -136,131 +270,16 @@ module _ (types : List DefType) (all : List GroupTree) (groups : List (List (spe
   within : AllByRecursion (IsWithin (length all)) (subs_refs numbered)
   within = subst (AllByRecursion (IsWithin (length all))) (sym (subs_refs-map (numbered_reference places) (members group))) (each_within (subs_refs (members group)))
 
-  -- the group of a tree that is there, and its tree's
-  group_at : (n : ℕ) (g : List (spec.SubType TypeReference)) → slice_get groups n ≡ Some g → subs_map (tree_reference all) g ≡ opened tree → slice_get all n ≡ Some tree
-  group_at n g at is = by (slice_get all n) refl
-    where
-      opened_there : option_map opened (slice_get all n) ≡ Some (opened tree)
-      opened_there = sym (slice_get-map opened all n) ∙ ap (λ gs. slice_get gs n) (sym it.groups) ∙ slice_get-map (subs_map (tree_reference all)) groups n ∙ ap (option_map (subs_map (tree_reference all))) at ∙ ap Some is
+  pub written_one : (m : spec.SubType ℕ) (ms : List (spec.SubType ℕ)) (number : ℕ) (new : List (List (spec.SubType TypeReference))) → IsNumbered numbered groups number new
+      → IsNext types all groups places it tree m ms number new
+  written_one m ms number new is = one_more types all groups places it tree m ms numbered rolled meant_group within number new is
 
-      by : (found : Option GroupTree) → slice_get all n ≡ found → slice_get all n ≡ Some tree
-      by None e = absurd (let no : None ≡ Some (opened tree) = sym (ap (option_map opened) e) ∙ opened_there in cc)
-      by (Some t) e =
-          let same : opened t ≡ opened tree = let both : Some (opened t) ≡ Some (opened tree) = sym (ap (option_map opened) e) ∙ opened_there in cc in
-          let one : t ≡ tree = sym (all_get (λ t. roll (opened t) ≡ t) all it.rolled n t e) ∙ ap roll same ∙ rolled in
-          e ∙ ap Some one
-
-  abbrev pub new_types : List DefType
-  new_types = types ++ places_of tree 0 (members group)
-
-  abbrev pub Next : ℕ → List (List (spec.SubType TypeReference)) → Type 0
-  Next number new = (trees' : List GroupTree) × AreNumbersOf new_types trees' new (places ++ places_from number 0 (members group))
-
-  there : (number : ℕ) → slice_get groups number ≡ Some numbered → Next number groups
-  there number at =
-      let here = group_at number numbered at meant_group in (
-        all,
-        record {
-          first = first_append [] all all types (places_of tree 0 (members group)) it.first (first_there all tree number here 0 (members group));
-          distinct = it.distinct;
-          rolled = it.rolled;
-          groups = it.groups;
-          within = it.within;
-          types = map-append (type_in all) places (places_from number 0 (members group)) ∙ (λ j. it.types j ++ places_there all tree number (tree_there all tree number here) 0 (members group) j);
-          inside = all_append _ places (places_from number 0 (members group)) it.inside (places_within (length all) number (slice_get_within all number tree here) 0 (members group));
-        },
-      )
-
-  trees_count : length groups ≡ length all
-  trees_count = sym (length-map groups (subs_map (tree_reference all))) ∙ ap length it.groups ∙ length-map all opened
-
-  module _ (none : (other : ℕ) → slice_get groups other ≡ Some numbered → ⊥) where
-    absent : (n : ℕ) → slice_get all n ≡ Some tree → ⊥
-    absent n at =
-        let lt : n < length groups = omega (arith, slice_get_within all n tree at, trees_count) in
-        let (g, there) = get_some groups n lt in
-        let is : subs_map (tree_reference all) g ≡ opened tree =
-        let both : Some (subs_map (tree_reference all) g) ≡ Some (opened tree) =
-        ap (option_map (subs_map (tree_reference all))) (sym there) ∙ sym (slice_get-map (subs_map (tree_reference all)) groups n) ∙ ap (λ gs. slice_get gs n) it.groups ∙ slice_get-map opened all n ∙ ap (option_map opened) at in
-        cc in
-        let one : g ≡ numbered = subs_back (Own 0) (IsWithin (length all)) (tree_reference all) (references_back all it.distinct) g numbered
-        (all_get (λ group. AllByRecursion (IsWithin (length all)) (subs_refs group)) groups it.within n g there) within (is ∙ sym meant_group) in
-        none n (there ∙ ap Some one)
-
-    abbrev pub more : List GroupTree
-    more = all ++ tree ∷ []
-
-    more_count : length more ≡ suc (length all)
-    more_count = omega (arith, length-append all (tree ∷ []))
-
-    kept_group : (g : List (spec.SubType TypeReference)) → AllByRecursion (IsWithin (length all)) (subs_refs g) → subs_map (tree_reference more) g ≡ subs_map (tree_reference all) g
-    kept_group g h = subs_map_agree (trees.Own 0) (tree_reference more) (tree_reference all) g (all_each (IsWithin (length all)) (λ r. tree_reference more r ≡ tree_reference all r) (reference_kept all (tree ∷ [])) (subs_refs g) h)
-
-    kept_groups : (gs : List (List (spec.SubType TypeReference))) → AllByRecursion (λ g. AllByRecursion (IsWithin (length all)) (subs_refs g)) gs → map (subs_map (tree_reference more)) gs ≡ map (subs_map (tree_reference all)) gs
-    kept_groups [] h = refl
-    kept_groups (g ∷ gs) h = rw (kept_group g h.0, kept_groups gs h.1)
-
-    kept_places : (ps : List TypePlace) → AllByRecursion (λ (p : TypePlace). p.group < length all) ps → map (type_in more) ps ≡ map (type_in all) ps
-    kept_places [] h = refl
-    kept_places (p ∷ ps) h =
-        let head : type_in more p ≡ type_in all p = ap (λ t. record { tree = t; place = p.place }) (tree_kept all (tree ∷ []) p.group h.0) in
-        rw (head, kept_places ps h.1)
-
-    wider : (r : TypeReference) → IsWithin (length all) r → IsWithin (length more) r
-    wider (Own place) h = tt
-    wider (Other place) h = omega (arith, h, more_count)
-
-    last : slice_get more (length all) ≡ Some tree
-    last = get_one all tree
-
-    new_first : AreFirst all (places_of tree 0 (members group)) more
-    new_first = subst (λ xs. AreFirst all (places_of tree 0 xs) more) (sym some) (inr (absent, first_there more tree (length all) last 1 ms))
-
-    one_place : (i j : ℕ) (t : GroupTree) → slice_get more i ≡ Some t → slice_get more j ≡ Some t → i ≡ j
-    one_place i j t a b = by (get_cases all (tree ∷ []) i t a) (get_cases all (tree ∷ []) j t b)
-      where
-        only : (k : ℕ) (t : GroupTree) → slice_get (tree ∷ []) k ≡ Some t → t ≡ tree
-        only zero t e = cc
-        only (suc k) t e = cc
-
-        lone : (k : ℕ) (t : GroupTree) → slice_get (tree ∷ []) k ≡ Some t → k ≡ 0
-        lone zero t e = refl
-        lone (suc k) t e = cc
-
-        by : (slice_get all i ≡ Some t) ⊎ ((k : ℕ) × (i ≡ length all + k) × (slice_get (tree ∷ []) k ≡ Some t)) → (slice_get all j ≡ Some t) ⊎ ((k : ℕ) × (j ≡ length all + k) × (slice_get (tree ∷ []) k ≡ Some t)) → i ≡ j
-        by (inl x) (inl y) = it.distinct i j t x y
-        by (inl x) (inr y) = absurd (absent i (x ∙ ap Some (only y.0 t y.2)))
-        by (inr x) (inl y) = absurd (absent j (y ∙ ap Some (only x.0 t x.2)))
-        by (inr x) (inr y) = let a = x.1 in let b = y.1 in let k = lone x.0 t x.2 in let l = lone y.0 t y.2 in omega (arith, a, b, k, l)
-
-    behind : (number : ℕ) → number ≡ length groups → Next number (groups ++ numbered ∷ [])
-    behind number is =
-        let place : number ≡ length all = is ∙ trees_count in (
-          more,
-          record {
-            first = first_append [] all more types (places_of tree 0 (members group)) it.first new_first;
-            distinct = one_place;
-            rolled = all_append _ all (tree ∷ []) it.rolled (rolled, tt);
-            groups = map-append (subs_map (tree_reference more)) groups (numbered ∷ []) ∙ (λ j. (kept_groups groups it.within ∙ it.groups) j ++ (kept_group numbered within ∙ meant_group) j ∷ []) ∙ sym (map-append opened all (tree ∷ []));
-            within = all_append _ groups (numbered ∷ [])
-                (all_each _ _ (λ g h. all_each (IsWithin (length all)) (IsWithin (length more)) wider (subs_refs g) h) groups it.within)
-                (all_each (IsWithin (length all)) (IsWithin (length more)) wider (subs_refs numbered) within, tt);
-            types = map-append (type_in more) places (places_from number 0 (members group))
-                ∙ (λ j. (kept_places places it.inside ∙ it.types) j ++ places_there more tree number (ap (tree_at more) place ∙ tree_there more tree (length all) last) 0 (members group) j);
-            inside = all_append _ places (places_from number 0 (members group))
-                (all_each (λ (p : TypePlace). p.group < length all) (λ (p : TypePlace). p.group < length more) (λ p h. omega (arith, h, more_count)) places it.inside)
-                (places_within (length more) number (omega (arith, place, more_count)) 0 (members group));
-          },
-        )
-
-  pub one_more : (number : ℕ) (new : List (List (spec.SubType TypeReference))) → IsNumbered numbered groups number new → Next number new
-  one_more number new (inl (at, same)) = subst (Next number) (sym same) (there number at)
-  one_more number new (inr (none, is, same)) = subst (Next number) (sym same) (behind none number is)
-
--- the same for a group that is written as these types, which may be none
-same_places : {X Y : Type 0} (f : X → Y) (number place : ℕ) (xs : List X) → places_from number place (map f xs) ≡ places_from number place xs
-same_places f number place [] = refl
-same_places f number place (x ∷ xs) = rw (same_places f number (suc place) xs)
+-- places are those of as many items
+pub same_places : {X Y : Type 0} (number place : ℕ) (xs : List X) (ys : List Y) → length xs ≡ length ys → places_from number place xs ≡ places_from number place ys
+same_places number place [] [] e = refl
+same_places number place [] (y ∷ ys) e = absurd (omega (arith, e))
+same_places number place (x ∷ xs) [] e = absurd (omega (arith, e))
+same_places number place (x ∷ xs) (y ∷ ys) e = rw (same_places number (suc place) xs ys (omega (arith, e)))
 
 pub group_added : {X : Type 0} (f : X → spec.SubType ℕ) (xs : List X) (groups new : List (List (spec.SubType TypeReference))) (places : List TypePlace) (number : ℕ) → 0 < length xs
     → IsNumbered (subs_map (numbered_reference places) (map f xs)) groups number new
@@ -268,8 +287,10 @@ pub group_added : {X : Type 0} (f : X → spec.SubType ℕ) (xs : List X) (group
     → (all : List GroupTree) × AreNumbersOf (types_after before group) all new (places ++ places_from number 0 xs)
 group_added f [] groups new places number some it before group is trees h = absurd (omega (arith, some))
 group_added f (x ∷ xs) groups new places number some it before group is trees h =
-    let next = one_more before trees groups places h group (f x) (map f xs) is number new (subst (λ ms. IsNumbered (subs_map (numbered_reference places) ms) groups number new) (sym is) it) in
-    subst (λ ps. (all : List GroupTree) × AreNumbersOf (types_after before group) all new (places ++ ps)) (ap (places_from number 0) is ∙ same_places f number 0 (x ∷ xs)) next
+    let next = written_one before trees groups places h group (f x) (map f xs) number new (subst (λ ms. IsNumbered (subs_map (numbered_reference places) ms) groups number new) (sym is) it) in
+    let types : before ++ places_of (tree_of before group) 0 (f x ∷ map f xs) ≡ types_after before group = ap (λ ms. before ++ places_of (tree_of before group) 0 ms) (sym is) in
+    (next.trees, subst (λ ts. AreNumbersOf ts next.trees new (places ++ places_from number 0 (x ∷ xs))) types
+    (subst (λ ps. AreNumbersOf (before ++ places_of (tree_of before group) 0 (f x ∷ map f xs)) next.trees new (places ++ ps)) (same_places number 0 (f x ∷ map f xs) (x ∷ xs) (omega (arith, length-map xs f))) next.are))
 
 pub none_added : {X : Type 0} (f : X → spec.SubType ℕ) (xs : List X) (groups : List (List (spec.SubType TypeReference))) (places : List TypePlace) → length xs ≡ 0
     → (before : List DefType) (group : spec.RecGroup ℕ) → members group ≡ map f xs → (trees : List GroupTree) → AreNumbersOf before trees groups places

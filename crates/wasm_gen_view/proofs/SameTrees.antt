@@ -68,7 +68,7 @@ kept before all (x ∷ xs) (inr (none, h)) n tree at =
     kept (before ++ x.tree ∷ []) all xs h n tree (get_left before (x.tree ∷ []) n (slice_get_within before n tree at) ∙ at)
 
 -- the tree of each type has a number
-numbered : (before all : List GroupTree) (types : List DefType) → AreFirst before types all → (i : ℕ) (type : DefType) → slice_get types i ≡ Some type → (n : ℕ) × (slice_get all n ≡ Some type.tree)
+pub numbered : (before all : List GroupTree) (types : List DefType) → AreFirst before types all → (i : ℕ) (type : DefType) → slice_get types i ≡ Some type → (n : ℕ) × (slice_get all n ≡ Some type.tree)
 numbered before all [] h i type at = absurd cc
 numbered before all (x ∷ xs) (inl (m, also, h)) zero type at =
     let one : x ≡ type = cc in (m, subst (λ (t : DefType). slice_get all m ≡ Some t.tree) one (kept before all xs h m x.tree also))

@@ -1,6 +1,8 @@
 pub mod ItemReferences
 pub mod ItemText
-pub mod MadeItems
+pub mod Items
+pub mod KnownNumbers
+pub mod KnownReferences
 pub mod MadeSpaces
 pub mod Numbers
 pub mod SameViews

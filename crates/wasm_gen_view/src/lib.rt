@@ -2,10 +2,18 @@
 #![tactic(auto)]
 
 mod among;
+mod group_numbers;
 mod groups;
 mod imported;
 mod item_text;
 mod item_types;
+mod items;
+mod known_exports;
+mod known_group;
+mod known_hash;
+mod known_items;
+mod known_references;
+mod known_types;
 pub mod laws;
 mod lines;
 mod made_exports;
@@ -21,4 +29,6 @@ mod type_hash;
 mod type_numbers;
 mod type_text;
 pub mod types;
+pub mod types_view;
 pub mod view;
+mod written_types;

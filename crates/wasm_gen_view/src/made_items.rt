@@ -3,7 +3,7 @@
 ghost use Rattle.std.specs.Prelude.{◌≡◌, ◌++◌, IfOk, map};
 ghost use Rattle.wasm_encoder_sections.specs.CoreItems as written;
 ghost use Rattle.wasm_gen_view.specs.ItemReferences.{refer};
-ghost use Rattle.wasm_gen_view.specs.MadeItems.{AreItems};
+ghost use Rattle.wasm_gen_view.specs.Items.{AreItems};
 ghost use Rattle.wasm_gen_view.specs.MadeSpaces.{functions_among, globals_among, made_spaces, memories_among, tables_among, tags_among};
 ghost use Rattle.wasm_gen_view.specs.Views.{global_type, item_type, memory_type, table_type};
 ghost use Rattle.wasm_gen_view.specs.declared.types.TypeReference.TheVariants.{Other};
@@ -12,6 +12,7 @@ ghost use Rattle.wasm_spec.specs.TypeReferences.{global_map, table_map};
 
 use crate::among::{functions_among, globals_among, memories_among, tables_among, tags_among};
 use crate::imported::imported_items;
+use crate::items::Items;
 use crate::own_items::{elements, push_globals, push_memories, push_tables, push_types};
 use crate::type_numbers::TypeNumbers;
 use crate::types::{RefType, TypePlace};
@@ -21,23 +22,6 @@ use std::alloc::AllocError;
 use wasm_encoder_sections::entity_type;
 use wasm_smith_definitions::items::{Global, Table};
 use wasm_smith_module::module::Module;
-
-/// The items of a made module, imported ones first.
-#[derive(Drop)]
-pub(crate) struct MadeItems {
-    /// The type of each function.
-    pub(crate) functions: Vec<TypePlace>,
-    /// The tables.
-    pub(crate) tables: Vec<TableType>,
-    /// The memories.
-    pub(crate) memories: Vec<MemoryType>,
-    /// The globals.
-    pub(crate) globals: Vec<GlobalType>,
-    /// The function type of each tag.
-    pub(crate) tags: Vec<TypePlace>,
-    /// The type of the items of each element segment.
-    pub(crate) elements: Vec<RefType>,
-}
 
 // Returns the types of functions.
 fn functions(
@@ -116,12 +100,12 @@ pub(crate) fn made_items(
     alloc: alloc::Global,
     numbers: &TypeNumbers,
     made: &Module,
-) -> Result<MadeItems, AllocError>
+) -> Result<Items, AllocError>
     ensures { IfOk result (AreItems (refer numbers.now) (made_spaces made.now.made)) }
 {
     let imported = imported_items(alloc, numbers, made.imports())?;
     let shown: &[Item] = &imported;
-    Ok(MadeItems {
+    Ok(Items {
         functions: functions(alloc, numbers, shown, made.funcs())?,
         tables: tables(alloc, numbers, shown, made.tables())?,
         memories: memories(alloc, shown, made.memories())?,

@@ -173,8 +173,8 @@ impl References<'_> {
     }
 }
 
-// Returns a heap type that has a name.
-fn named(ty: types::AbstractHeapType) -> HeapType
+/// Returns a heap type that has a name.
+pub(crate) fn named(ty: types::AbstractHeapType) -> HeapType
     ensures { heap_type result ≡ spec.Abstract (written.abstract_heap_type ty) }
 {
     match ty {

@@ -1,11 +1,12 @@
 //! The types of a module by index, as their groups are numbered.
 
 ghost use Rattle.std.specs.Prelude.{◌≡◌, ◌++◌, ℕ, List, [], IfOk, Some, length, map};
+ghost use Rattle.std.specs.List.{range_with_len};
 ghost use Rattle.wasm_core_types.specs.SubTypes as written;
 ghost use Rattle.wasm_spec.specs.Syntax.{members};
 ghost use Rattle.wasm_spec.specs.Trees.{DefType, GroupTree, types_after};
 ghost use Rattle.wasm_spec.specs.Types as spec;
-ghost use Rattle.wasm_gen_view.specs.Numbers.{group_types};
+ghost use Rattle.wasm_gen_view.specs.Numbers.{IsNumbered, group_types};
 ghost use Rattle.wasm_gen_view.specs.TypeNumbers.{AreNumbersOf, places_from};
 
 use crate::groups::{GroupHasher, Groups};
@@ -22,14 +23,10 @@ pub(crate) struct TypeNumbers {
 }
 
 // Adds the places of a group's types.
-fn push_places(
-    places: &mut Vec<TypePlace>,
-    group: usize,
-    types: &[types::SubType],
-) -> Result<(), AllocError>
-    ensures { IfOk result (λ _. places.new.items ≡ places.old.items ++ places_from group 0 types.now) }
+fn push_places(places: &mut Vec<TypePlace>, group: usize, count: usize) -> Result<(), AllocError>
+    ensures { IfOk result (λ _. places.new.items ≡ places.old.items ++ places_from group 0 (range_with_len 0 count)) }
 {
-    for place in 0..types.len() {
+    for place in 0..count {
         places.push(TypePlace { group, place })?;
     }
     Ok(())
@@ -68,8 +65,30 @@ impl TypeNumbers {
         };
         let group = references.sub_types(alloc, types)?;
         let number = self.groups.number(group)?;
-        push_places(&mut self.places, number, types)?;
+        push_places(&mut self.places, number, types.len())?;
         Ok(())
+    }
+
+    /// Returns the number of a group: that of an equal one, or the next number where there is none.
+    ///
+    /// # Errors
+    /// Where memory runs out.
+    pub(crate) fn number(&mut self, group: Vec<SubType>) -> Result<usize, AllocError>
+        ensures numbered { IfOk result (λ number. IsNumbered (group_types group) self.old.groups number self.new.groups) }
+        ensures places { IfOk result (λ _. self.new.places.items ≡ self.old.places.items) }
+    {
+        self.groups.number(group)
+    }
+
+    /// Adds the places of so many types, which are those of a group with this number.
+    ///
+    /// # Errors
+    /// Where memory runs out.
+    pub(crate) fn add_places(&mut self, number: usize, count: usize) -> Result<(), AllocError>
+        ensures places { IfOk result (λ _. self.new.places.items ≡ self.old.places.items ++ places_from number 0 (range_with_len 0 count)) }
+        ensures groups { IfOk result (λ _. self.new.groups ≡ self.old.groups) }
+    {
+        push_places(&mut self.places, number, count)
     }
 
     /// Returns the place of each type.

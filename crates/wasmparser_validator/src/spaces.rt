@@ -2,7 +2,7 @@
 
 ghost use Rattle.std.specs.Prelude.{◌≡◌, ◌<◌, IfSome, IsSome, Some, length, option_map, slice_get, true};
 ghost use Rattle.std.specs.List.{flat_map, range_with_len};
-ghost use Rattle.std.specs.Option.{option_and_then};
+ghost use Rattle.std.specs.Option.{option_and_then, option_copied};
 ghost use Rattle.wasm_spec.specs.Features.{needs_type_canonicalization};
 ghost use Rattle.wasm_spec.specs.Trees.{AreDistinct, type_at, unrolled};
 ghost use Rattle.wasm_spec.specs.TypeReferences.{external_map, global_map, global_refs, ref_map, ref_refs, sub_map, sub_refs, table_map, table_refs};
@@ -44,6 +44,7 @@ impl<'a> TypesRef<'a> {
         ensures known { IfSome result (λ _. id < length (known self.now).interned) }
         ensures unrolled { IfSome result (λ ty. unrolled (type_at (known self.now).interned id) ≡ Some (sub_map (stands_for (known self.now)) (sub_type ty.now))) }
         ensures ids { IfSome result (λ ty. AreIds (known self.now) (sub_refs (sub_type ty.now))) }
+        ensures exact { option_map sub_type (option_copied result) ≡ slice_get (known self.now).sub_types id }
     {
         self.state().types().get(id)
     }

@@ -6,6 +6,7 @@ ghost use Rattle.wasm_core_types.specs.Features.{feature_set};
 ghost use Rattle.wasm_validity.specs.Context.{at_first};
 ghost use Rattle.wasmparser_readers.specs.Exports.{export_item};
 ghost use Rattle.wasmparser_module_state.specs.History.{grows, held};
+ghost use Rattle.wasmparser_module_types.specs.ModuleTypes.{AreKnownTypes};
 ghost use Rattle.wasmparser_module_state.specs.State.{context, features_of};
 ghost use Rattle.wasmparser_module_state.specs.StateResources.{state_resources};
 ghost use Rattle.wasmparser_payloads.specs.Parsing.{piece};
@@ -161,6 +162,13 @@ impl<'a> TypesRef<'a> {
         ensures { result ≡ length (spaces self.now).types }
     {
         self.state().type_count() as u32
+    }
+
+    /// Does nothing: its contract states what always holds of the types by their ids.
+    pub fn are_known(&self)
+        ensures { AreKnownTypes (known self.now) }
+    {
+        self.state().types().are_known();
     }
 
     /// Does nothing: its contract states that the types are those of groups that keep the rules.

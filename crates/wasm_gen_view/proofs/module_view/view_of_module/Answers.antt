@@ -4,7 +4,7 @@ use Rattle.wasm_core_types.specs.SubTypes.{sub_type}
 use Rattle.wasm_gen_view.proofs.MadeTypes.{sizes_whole}
 use Rattle.wasm_gen_view.proofs.MadeViews.{view_is}
 use Rattle.wasm_gen_view.proofs.module_view.view_of_module.Goals as goal
-use Rattle.wasm_gen_view.specs.MadeItems.{exports_among}
+use Rattle.wasm_gen_view.specs.Items.{exports_among}
 use Rattle.wasm_gen_view.specs.MadeSpaces.{made_spaces}
 
 pub number_types-requires : goal.number_types-requires

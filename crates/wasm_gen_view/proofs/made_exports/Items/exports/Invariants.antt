@@ -1,8 +1,8 @@
 use Rattle.std.proofs.Common.{◌≡◌, ◌++◌, map, drop}
 use Rattle.wasm_gen_view.specs.SameViews.{named_item}
-use Rattle.wasm_gen_view.specs.MadeItems.{exports_among}
+use Rattle.wasm_gen_view.specs.Items.{exports_among}
 use Rattle.wasm_smith_definitions.specs.Items.{export}
-use Rattle.wasm_gen_view.proofs.made_items.MadeItems.exports.Given as goal
+use Rattle.wasm_gen_view.proofs.made_exports.Items.exports.Given as goal
 
 abbrev pub invariant-loop-export : goal.invariant-loop-export
 invariant-loop-export l = record {

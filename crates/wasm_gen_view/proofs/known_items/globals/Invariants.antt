@@ -1,0 +1,11 @@
+use Rattle.std.proofs.Common.{◌≡◌, ◌++◌, map, drop}
+use Rattle.wasm_gen_view.specs.ItemReferences.{refer}
+use Rattle.wasm_gen_view.specs.Views.{global_type}
+use Rattle.wasm_spec.specs.TypeReferences.{global_map}
+use Rattle.wasmparser_validator.specs.Shown.{spaces}
+use Rattle.wasm_gen_view.proofs.known_items.globals.Given as goal
+
+abbrev pub invariant-loop-index : goal.invariant-loop-index
+invariant-loop-index l = record {
+  kept : map global_type l.items.items ++ drop l.index (map (global_map (refer l.numbers)) (spaces l.types).globals) ≡ map (global_map (refer l.numbers)) (spaces l.types).globals;
+}

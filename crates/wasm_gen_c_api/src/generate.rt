@@ -34,16 +34,12 @@ fn features_of(config: Config) -> u32
 pub fn features_of_config(alloc: Global, config: &[u8], features: &mut u32) -> u32
     ensures { AreTold config.now features.new result }
 {
-    match config_from_text(alloc, config) {
-        Ok(config) => {
-            *features = features_of(config);
-            YES
-        }
-        Err(e) => {
-            *features = 0;
-            text_code(&e)
-        }
-    }
+    let (told, code) = match config_from_text(alloc, config) {
+        Ok(config) => (features_of(config), YES),
+        Err(e) => (0, text_code(&e)),
+    };
+    *features = told;
+    code
 }
 
 // Makes the module of a configuration and a seed, and writes it where it fits.

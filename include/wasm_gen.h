@@ -1,5 +1,5 @@
 /* Validates WebAssembly modules, and makes valid ones from seeds and configurations. `./wasm_gen_c` proves and builds the library. It needs malloc,
- * realloc, free and memmove from the program that it is linked into, and a processor of x86-64-v2.
+ * realloc, free, memcpy, memmove and memset from the program that it is linked into, and a processor of x86-64-v2.
  *
  * A call borrows its arguments until it returns, and keeps none of them. It reads the bytes, the configuration and the seed, and writes the
  * buffer, the verdict, the features and the length alone; these must not overlap with any other argument. All memory that it allocates is

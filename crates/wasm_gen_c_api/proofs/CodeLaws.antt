@@ -37,7 +37,7 @@ refused_among : (c : Config) (seed : List ℕ) (e : GenerateError) → HasNoShap
 refused_among c seed (generator.Config field) none cause = refl
 refused_among c seed (generator.Shape part) none cause = absurd (not_refused c none _ cause.bad)
 refused_among c seed generator.Minimum none cause = refl
-refused_among c seed generator.EmptyChoice none cause = let plain = all_nullable c none in let some = cause.some in absurd cc
+refused_among c seed generator.EmptyChoice none cause = let some : false ≡ true = sym (all_nullable c none) ∙ cause.some in absurd cc
 refused_among c seed generator.TypeSize none cause = refl
 refused_among c seed (generator.Limit passed) none cause = refl
 refused_among c seed generator.Memory none cause = refl

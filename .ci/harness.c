@@ -84,6 +84,8 @@ static void codes(void) {
     want(wasm_gen_version() == WASM_GEN_VERSION, "the version", 0);
     want(wasm_gen_features_default() == 0x3ffff, "the default features", 0);
     want((wasm_gen_features_generated() | 0x3ffff) == 0x3ffff, "the features of what is generated", 0);
+    uint32_t features = FILL;
+    want(wasm_gen_features_of_config(NULL, 0, &features) == WASM_GEN_YES && features == wasm_gen_features_generated(), "the features of no text", 0);
 }
 
 static void checks(void) {
@@ -127,13 +129,82 @@ static void buffers_of(const uint8_t *seed, size_t seed_length) {
 }
 
 static void buffers(void) {
-    size_t length = 1;
-    uint8_t *buffer = filled(64);
-    want(wasm_gen_generate((const uint8_t *)"x", 1, NULL, 0, buffer, 64, &length) == WASM_GEN_CONFIG_TEXT, "a configuration's text", 0);
-    want(!length && is_filled(buffer, 64), "after a configuration's text", 0);
-    __real_free(buffer);
     buffers_of(NULL, 0);
     for (int i = 0; i < count; i++) buffers_of(inputs[i].bytes, inputs[i].length < 1024 ? inputs[i].length : 1024);
+}
+
+/* A configuration's text, in a block of just its length. */
+static struct input text_of(const char *text) {
+    struct input it = {filled(strlen(text)), strlen(text)};
+    memcpy(it.bytes, text, it.length);
+    return it;
+}
+
+/* The text's modules, one for each seed, are valid under the features that are told for it, which are all of these and none of those. */
+static void configured(const char *text, uint32_t all, uint32_t none) {
+    static uint8_t module[ROOM];
+    struct input config = text_of(text);
+    struct wasm_gen_verdict it;
+    uint32_t features = FILL;
+    size_t length;
+    want(wasm_gen_features_of_config(config.bytes, config.length, &features) == WASM_GEN_YES, text, 0);
+    want((features & all) == all && !(features & none) && features < 1u << 22, text, features);
+    for (int i = 0; i < count; i++) {
+        size_t seed_length = inputs[i].length < 1024 ? inputs[i].length : 1024;
+        want(wasm_gen_generate(config.bytes, config.length, inputs[i].bytes, seed_length, module, ROOM, &length) == WASM_GEN_YES, text, i);
+        want(wasm_gen_check(module, length, features, &it) == WASM_GEN_YES, text, i);
+        want(strncmp(text, "max_funcs = 0", 13) || !it.functions, text, i);
+        want(strncmp(text, "min_memories = 2", 16) || it.memories >= 2, text, i);
+    }
+    __real_free(config.bytes);
+}
+
+/* The text makes the modules that no text makes. */
+static void by_default(const char *text) {
+    static uint8_t module[ROOM], other[ROOM];
+    struct input config = text_of(text);
+    size_t length, other_length;
+    for (int i = 0; i < count; i++) {
+        size_t seed_length = inputs[i].length < 1024 ? inputs[i].length : 1024;
+        want(wasm_gen_generate(NULL, 0, inputs[i].bytes, seed_length, module, ROOM, &length) == WASM_GEN_YES, "no text", i);
+        want(wasm_gen_generate(config.bytes, config.length, inputs[i].bytes, seed_length, other, ROOM, &other_length) == WASM_GEN_YES, text, i);
+        want(length == other_length && !memcmp(module, other, length), text, i);
+    }
+    __real_free(config.bytes);
+}
+
+/* The text makes no module, for this reason. It has features unless it is no configuration. */
+static void misconfigured(const char *text, uint32_t kind) {
+    struct input config = text_of(text);
+    uint8_t *buffer = filled(64);
+    size_t length = 1;
+    uint32_t features = FILL;
+    want(wasm_gen_generate(config.bytes, config.length, NULL, 0, buffer, 64, &length) == kind, text, kind);
+    want(!length && is_filled(buffer, 64), "after a configuration that makes no module", kind);
+    want(wasm_gen_features_of_config(config.bytes, config.length, &features) == (kind == WASM_GEN_CONFIG_TEXT ? kind : WASM_GEN_YES), text, kind);
+    want(!features == (kind == WASM_GEN_CONFIG_TEXT), text, features);
+    __real_free(buffer);
+    __real_free(config.bytes);
+}
+
+static const char numbers[] = "max_funcs = 0\nallowed_instructions = \"Numeric\"\nmemory_offset_choices = '1,2,3'\n";
+
+static void configs(void) {
+    static const char *const bad[] = {"x", "max_funcs", "max_funcs = 7\nmax_types =", "shape = 1", "max_funcs = \"7\"", "max_funcs = -1", "max_types = 4294967296",
+        "gc_enabled = 1", "memory_offset_choices = '1,2'", "\xff", "# \xff\n", "max_funcs = 7\nmax_funcs = 7"};
+    for (size_t i = 0; i < sizeof bad / sizeof *bad; i++) misconfigured(bad[i], WASM_GEN_CONFIG_TEXT);
+    misconfigured("max_types = 2147483649", WASM_GEN_CONFIG);
+    misconfigured("min_funcs = 101", WASM_GEN_CONFIG);
+    misconfigured("max_types = 0\nmin_funcs = 1", WASM_GEN_MINIMUM);
+    misconfigured("export_everything = true\nmin_globals = 1\nmax_type_size = 0", WASM_GEN_TYPE_SIZE);
+    misconfigured("min_types = 1000001\nmax_types = 1000001", WASM_GEN_LIMIT);
+    by_default("");
+    by_default("# nothing\n");
+    by_default("max_types = 100\ngc_enabled = true\n");
+    configured(numbers, WASM_GEN_GC | WASM_GEN_FLOATS, WASM_GEN_THREADS);
+    configured("min_memories = 2\nmax_memories = 3", WASM_GEN_EXCEPTIONS | WASM_GEN_MULTI_MEMORY, WASM_GEN_THREADS);
+    configured("simd_enabled = false\nreference_types_enabled = false", 0, WASM_GEN_SIMD | WASM_GEN_RELAXED_SIMD | WASM_GEN_GC | WASM_GEN_REFERENCE_TYPES);
+    configured("threads_enabled = true\ncustom_page_sizes_enabled = true", WASM_GEN_THREADS | WASM_GEN_CUSTOM_PAGE_SIZES, WASM_GEN_MULTI_MEMORY);
 }
 
 /* A call of each kind, and what they answer, as one number. */
@@ -141,10 +212,12 @@ static uint64_t round_of(int i) {
     static __thread uint8_t module[ROOM];
     struct wasm_gen_verdict it;
     size_t length;
+    uint32_t features;
     uint64_t sum = wasm_gen_check(inputs[i].bytes, inputs[i].length, wasm_gen_features_default(), &it);
     sum = sum * 31 + it.offset + it.types + it.functions + it.exports;
+    sum = sum * 31 + wasm_gen_features_of_config((const uint8_t *)numbers, sizeof numbers - 1, &features);
     sum = sum * 31 + wasm_gen_generate(NULL, 0, inputs[i].bytes, inputs[i].length < 1024 ? inputs[i].length : 1024, module, ROOM, &length);
-    return sum * 31 + length + (length ? module[length - 1] : 0);
+    return sum * 31 + features + length + (length ? module[length - 1] : 0);
 }
 
 static void million(void) {
@@ -164,29 +237,55 @@ static uint32_t refused_check(int i, long number, struct wasm_gen_verdict *it) {
     return kind;
 }
 
-static void refusals_of(int i) {
+/* No module is made where an allocation is refused, each in turn. */
+static void refused_seed(const char *config, const uint8_t *seed, size_t seed_length) {
     static uint8_t module[ROOM];
+    size_t length;
+    long number = 1;
+    for (;; number++) {
+        memset(module, FILL, sizeof module);
+        taken = 0, refused = number;
+        uint32_t code = wasm_gen_generate((const uint8_t *)config, strlen(config), seed, seed_length, module, ROOM, &length);
+        refused = 0;
+        want(held == 0, "blocks that are held after a seed", number);
+        if (taken < number) break;
+        want(code == WASM_GEN_MEMORY && !length && is_filled(module, ROOM), "a seed without memory", number);
+    }
+    want(number > 1, "an allocation of a seed", number);
+}
+
+/* No features are told where an allocation is refused, each in turn, and no other code than the right one where none is. */
+static void refused_config(const char *config, uint32_t kind) {
+    uint32_t code, features;
+    for (long number = 1;; number++) {
+        features = FILL, taken = 0, refused = number;
+        code = wasm_gen_features_of_config((const uint8_t *)config, strlen(config), &features);
+        refused = 0;
+        want(held == 0, "blocks that are held after a configuration", number);
+        if (taken < number) break;
+        want(code == WASM_GEN_MEMORY && !features, "a configuration without memory", number);
+    }
+    want(code == kind && !features == (kind != WASM_GEN_YES), config, code);
+}
+
+static void refusals_of(int i) {
     struct wasm_gen_verdict it, right;
-    size_t length, seed_length = inputs[i].length < 1024 ? inputs[i].length : 1024;
+    size_t seed_length = inputs[i].length < 1024 ? inputs[i].length : 1024;
     long number = 1;
     refused_check(i, 0, &right);
     /* (an allocation that is only to save time may fail: then the verdict is the right one) */
     for (; refused_check(i, number, &it), taken >= number; number++)
         want((is_refusal(&it, WASM_GEN_MEMORY, it.offset) && it.offset <= inputs[i].length) || !memcmp(&it, &right, sizeof it), "a verdict without memory", number);
     want(!memcmp(&it, &right, sizeof it), "a verdict with memory", number);
-    for (number = 1;; number++) {
-        memset(module, FILL, sizeof module);
-        taken = 0, refused = number;
-        uint32_t code = wasm_gen_generate(NULL, 0, inputs[i].bytes, seed_length, module, ROOM, &length);
-        refused = 0;
-        want(held == 0, "blocks that are held after a seed", number);
-        if (taken < number) break;
-        want(code == WASM_GEN_MEMORY && !length && is_filled(module, ROOM), "a seed without memory", number);
-    }
-    want(number > 1, "an allocation", i);
+    refused_seed("", inputs[i].bytes, seed_length);
+    refused_seed(numbers, inputs[i].bytes, seed_length);
 }
 
 static void refusals(void) {
+    refused_config("", WASM_GEN_YES);
+    refused_config(numbers, WASM_GEN_YES);
+    refused_config("max_funcs = 0\nshape = 1", WASM_GEN_CONFIG_TEXT);
+    refused_config("max_funcs = 0\n\"max_types\" = \xff", WASM_GEN_CONFIG_TEXT);
     for (int i = 0; i < count; i++) refusals_of(i);
 }
 
@@ -220,10 +319,10 @@ int main(int words, char **word) {
     static const struct {
         const char *name;
         void (*run)(void);
-    } tests[] = {{"codes", codes}, {"checks", checks}, {"buffers", buffers}, {"million", million}, {"refusals", refusals}, {"threads", threads}};
+    } tests[] = {{"codes", codes}, {"checks", checks}, {"buffers", buffers}, {"configs", configs}, {"million", million}, {"refusals", refusals}, {"threads", threads}};
     for (int i = 2; i < words; i++) read_input(word[i]);
     held = taken = 0;
-    for (int i = 0; i < 6 && words > 2; i++)
+    for (int i = 0; i < 7 && words > 2; i++)
         if (!strcmp(word[1], tests[i].name)) return tests[i].run(), 0;
     return 2;
 }

@@ -1,12 +1,12 @@
-/* Validates WebAssembly modules, and makes valid ones from seeds. `./wasm_gen_c` proves and builds the library. It needs malloc, realloc, free and
- * memmove from the program that it is linked into, and a processor of x86-64-v2.
+/* Validates WebAssembly modules, and makes valid ones from seeds and configurations. `./wasm_gen_c` proves and builds the library. It needs malloc,
+ * realloc, free, memcpy, memmove and memset from the program that it is linked into, and a processor of x86-64-v2.
  *
  * A call borrows its arguments until it returns, and keeps none of them. It reads the bytes, the configuration and the seed, and writes the
- * buffer, the verdict and the length alone; these must not overlap with any other argument. All memory that it allocates is freed. A call
- * that can't go on without memory returns WASM_GEN_MEMORY; no call aborts.
+ * buffer, the verdict, the features and the length alone; these must not overlap with any other argument. All memory that it allocates is
+ * freed. A call that can't go on without memory returns WASM_GEN_MEMORY; no call aborts.
  *
- * Lengths are in bytes. A pointer may be null if its length is 0; a verdict or a length may not. There is no state between calls, so threads
- * may call at the same time with values of their own. Do not call from a signal handler. */
+ * Lengths are in bytes. A pointer may be null if its length is 0; a verdict, features or a length may not. There is no state between calls, so
+ * threads may call at the same time with values of their own. Do not call from a signal handler. */
 #ifndef WASM_GEN_H
 #define WASM_GEN_H
 
@@ -18,11 +18,11 @@ extern "C" {
 #endif
 
 /* The value that wasm_gen_version returns for this header. */
-#define WASM_GEN_VERSION 1
+#define WASM_GEN_VERSION 2
 
 /* Results of calls. If a module has several faults, any of them may be reported. */
 enum wasm_gen_kind {
-    WASM_GEN_YES = 0,          /* the module is valid, or was written */
+    WASM_GEN_YES = 0,          /* the module is valid, or was written; the text is a configuration */
     WASM_GEN_MALFORMED = 1,    /* the bytes don't read as a module */
     WASM_GEN_INVALID = 2,      /* they break a rule of validity */
     WASM_GEN_LIMIT = 3,        /* a count, a size, a depth or a sum passes a limit */
@@ -31,17 +31,17 @@ enum wasm_gen_kind {
     WASM_GEN_MEMORY = 9,       /* out of memory: no verdict */
     WASM_GEN_FEATURES = 10,    /* unknown feature bit */
     WASM_GEN_BUFFER = 11,      /* the buffer is too short for the module */
-    WASM_GEN_CONFIG_TEXT = 12, /* configuration text is not supported yet */
+    WASM_GEN_CONFIG_TEXT = 12, /* the text is no configuration */
+    WASM_GEN_CONFIG = 13,      /* a value of the configuration isn't allowed */
+    WASM_GEN_MINIMUM = 15,     /* fewer items than the configuration's minimum can be made */
+    WASM_GEN_TYPE_SIZE = 17,   /* the types of imports and exports are too large together */
 
     /* No call of this version returns these. */
-    WASM_GEN_TOTAL = 6,         /* the validator's list of types is full */
-    WASM_GEN_ORDER = 7,         /* a part of a module comes too early or late */
-    WASM_GEN_FAILED = 8,        /* the validator refused a module before */
-    WASM_GEN_CONFIG = 13,       /* a value of the configuration isn't allowed */
-    WASM_GEN_SHAPE = 14,        /* a shape of the configuration isn't allowed */
-    WASM_GEN_MINIMUM = 15,      /* fewer items than the configuration's minimum can be made */
-    WASM_GEN_EMPTY_CHOICE = 16, /* a shape asks for references that aren't null, of which there is no constant */
-    WASM_GEN_TYPE_SIZE = 17     /* the types of imports and exports are too large together */
+    WASM_GEN_TOTAL = 6,        /* the validator's list of types is full */
+    WASM_GEN_ORDER = 7,        /* a part of a module comes too early or late */
+    WASM_GEN_FAILED = 8,       /* the validator refused a module before */
+    WASM_GEN_SHAPE = 14,       /* a shape of the configuration isn't allowed; text gives no shapes */
+    WASM_GEN_EMPTY_CHOICE = 16 /* a shape asks for references that aren't null, of which there is no constant */
 };
 
 /* Features of WebAssembly, each as a bit. */
@@ -90,9 +90,14 @@ uint32_t wasm_gen_version(void);
 /* Returns the default features: all but custom page sizes, compact imports, wide arithmetic and stack switching. */
 uint32_t wasm_gen_features_default(void);
 
-/* Returns the features that made modules may use: wasm_gen_check under them returns WASM_GEN_YES for each, or WASM_GEN_MEMORY. All of them
- * are default features. */
+/* Returns the features that modules made by the default configuration may use. All of them are default features. */
 uint32_t wasm_gen_features_generated(void);
+
+/* Sets *features to the features that modules made by a configuration may use, and returns WASM_GEN_YES. wasm_gen_check under them returns
+ * WASM_GEN_YES for each such module, or WASM_GEN_MEMORY, unless the configuration has `allow_invalid_funcs`. Else returns WASM_GEN_CONFIG_TEXT or
+ * WASM_GEN_MEMORY, and sets *features to 0. Empty text has the features of wasm_gen_features_generated. A configuration may have features and
+ * make no module: wasm_gen_generate alone checks its values. */
+uint32_t wasm_gen_features_of_config(const uint8_t *config, size_t config_length, uint32_t *features);
 
 /* Writes the name of a kind, in ASCII and without a zero at its end, to the front of the buffer if it fits; else the buffer stays as it is.
  * Returns the name's length, at most 12, in either case; 0 for a number that is no kind. */
@@ -104,11 +109,18 @@ size_t wasm_gen_kind_name(uint32_t kind, char *buffer, size_t length);
  * results); a system that overcommits may then end the process. */
 uint32_t wasm_gen_check(const uint8_t *bytes, size_t length, uint32_t features, struct wasm_gen_verdict *verdict);
 
-/* Makes a module from a seed, which may be any bytes; equal seeds make equal modules. Sets *module_length to the module's length, or to 0 if
- * none is made. Returns WASM_GEN_YES after writing the module to the front of the buffer, or WASM_GEN_BUFFER if it doesn't fit: call again with
- * a buffer of *module_length bytes. Other bytes of the buffer stay as they are. Returns WASM_GEN_LIMIT if the module would pass a limit. A module
- * has at most 100 types, imports, functions, globals, tags, exports, element segments of at most 100 items, and data segments, and at most one
- * table and one memory. Configuration text is not supported yet: a config_length other than 0 is WASM_GEN_CONFIG_TEXT. */
+/* Makes a module by a configuration from a seed, which may be any bytes; equal configurations and seeds make equal modules. Sets
+ * *module_length to the module's length, or to 0 if none is made. Returns WASM_GEN_YES after writing the module to the front of the buffer, or
+ * WASM_GEN_BUFFER if it doesn't fit: call again with a buffer of *module_length bytes. Other bytes of the buffer stay as they are.
+ *
+ * A configuration is a text in TOML whose keys are those of `data/config.toml`. A key that is left out has its default, which stands there. Empty
+ * text is the default configuration, whose modules have at most 100 types, imports, functions, globals, tags, exports, element segments of at
+ * most 100 items, and data segments, and at most one table and one memory.
+ *
+ * If no module is made, returns WASM_GEN_CONFIG_TEXT if the text isn't TOML in UTF-8, or has another key or a value that its key doesn't take;
+ * WASM_GEN_CONFIG if a minimum is above its maximum, or a maximum is too large; WASM_GEN_MINIMUM; WASM_GEN_TYPE_SIZE, with `export_everything`
+ * alone; WASM_GEN_LIMIT if the module would pass a limit; or WASM_GEN_MEMORY. Empty text leads to no refusal but the last two. A minimum in the
+ * billions takes gigabytes; a system that overcommits may then end the process. */
 uint32_t wasm_gen_generate(const uint8_t *config, size_t config_length, const uint8_t *seed, size_t seed_length, uint8_t *buffer,
                            size_t buffer_length, size_t *module_length);
 

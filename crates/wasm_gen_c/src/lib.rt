@@ -4,6 +4,7 @@
 ghost use Rattle.std.specs.Prelude.{◌≡◌, length};
 ghost use Rattle.wasm_gen_c_api.specs.Buffers.{buffer_with};
 ghost use Rattle.wasm_gen_c_api.specs.Codes.{code_name};
+ghost use Rattle.wasm_gen_c_api.specs.ConfigTexts.{AreTold};
 ghost use Rattle.wasm_gen_c_api.specs.Generate.{IsMade, generated_features};
 ghost use Rattle.wasm_gen_c_api.specs.Verdicts.{IsChecked};
 ghost use Rattle.wasm_spec.specs.Features.{default_features};
@@ -11,15 +12,15 @@ ghost use Rattle.wasm_spec.specs.Features.{default_features};
 use std::alloc::Global;
 use wasm_gen_c_api::check::{check, default_features};
 use wasm_gen_c_api::codes::put_name;
-use wasm_gen_c_api::generate::{generate, generated_features};
+use wasm_gen_c_api::generate::{features_of_config, generate, generated_features};
 use wasm_gen_c_api::verdict::Verdict;
 
 /// The version of these calls: another number where one takes or answers something else.
 #[unsafe(no_mangle)]
 pub extern "C" fn wasm_gen_version() -> u32
-    ensures { result ≡ 1 }
+    ensures { result ≡ 2 }
 {
-    1
+    2
 }
 
 /// The features that are on where nothing else is said, each as a bit.
@@ -30,12 +31,24 @@ pub extern "C" fn wasm_gen_features_default() -> u32
     default_features()
 }
 
-/// The features under which what is generated is valid, each as a bit.
+/// The features under which what the default configuration makes is valid, each as a bit.
 #[unsafe(no_mangle)]
 pub extern "C" fn wasm_gen_features_generated() -> u32
     ensures { result ≡ generated_features }
 {
     generated_features()
+}
+
+/// Fills in the features under which what a text's configuration makes is valid, raw bodies aside, each as a bit, and gives a code.
+#[unsafe(no_mangle)]
+pub extern "C" fn wasm_gen_features_of_config(
+    alloc: Global,
+    config: &[u8],
+    features: &mut u32,
+) -> u32
+    ensures { AreTold config.now features.new result }
+{
+    features_of_config(alloc, config, features)
 }
 
 /// Writes what a code is called at the buffer's front where it fits, and gives its length in bytes: 0 for a number that is no code.
@@ -62,7 +75,7 @@ pub extern "C" fn wasm_gen_check(
     verdict.kind
 }
 
-/// Makes the module of a seed, fills in its length in bytes, writes it at the buffer's front where it fits, and gives a code.
+/// Makes the module of a seed by a text's configuration, fills in its length in bytes, writes it at the buffer's front where it fits, and gives a code.
 #[unsafe(no_mangle)]
 pub extern "C" fn wasm_gen_generate(
     alloc: Global,

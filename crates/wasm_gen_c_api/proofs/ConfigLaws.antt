@@ -89,14 +89,14 @@ config_of on off least largest tables memories type_size table_elements memory32
 }
 
 -- the default one
-default : Config
+pub default : Config
 default = config_of (replicate 14 true) (replicate 12 false) (replicate 11 0) (replicate 10 100) 1 1 1000 1000000 (2 ^ 32) (2 ^ 64) all_kinds default_choices None None None
 
 is_told : (d : Config) → d ≡ config_of (on_by_default d) (off_by_default d) (least_counts d) (largest_counts d) d.max_tables d.max_memories d.max_type_size d.max_table_elements d.max_memory32_bytes d.max_memory64_bytes d.allowed_instructions d.memory_offset_choices d.module_shape d.available_imports d.exports
 unfolding config_of flag_at number_at
 is_told d = refl
 
-is_default : (d : Config) → IsDefault d → d ≡ default
+pub is_default : (d : Config) → IsDefault d → d ≡ default
 unfolding default
 is_default d is = is_told d ∙ rw (is.on, is.off, is.least, is.largest, is.tables, is.memories, is.type_size, is.table_elements, is.memory32_bytes, is.memory64_bytes, is.instructions, is.offsets, is.no_module_shape, is.no_available_imports, is.no_exports) refl
 

@@ -1,3 +1,7 @@
 pub mod CallLaws
+pub mod CodeLaws
 pub mod ConfigLaws
+pub mod ConfigTextLaws
+pub mod DefaultLaws
+pub mod FeatureLaws
 pub mod WrittenLaws

@@ -4,48 +4,28 @@ use Rattle.wasm_gen_sessions.specs.Asked.{MakesLists, RefusesRightly}
 use Rattle.wasm_gen_sessions.specs.Generate.{IsGeneratedFrom, IsCause}
 use Rattle.wasm_gen_sessions.specs.declared.error.GenerateError.{GenerateError}
 use Rattle.wasm_smith.specs.Config.{sanitized}
-use Rattle.wasm_smith.specs.Defaults.{IsDefault}
 use Rattle.wasm_smith.specs.Parts.{Config}
-use Rattle.wasm_gen_c_api.proofs.ConfigLaws.{are_generated, is_askable}
 use Rattle.wasm_gen_c_api.specs.Buffers.{buffer_with}
 use Rattle.wasm_gen_c_api.specs.Codes.{refusal_code, short_buffer, yes}
 use Rattle.wasm_gen_c_api.specs.Generate.{IsWritten}
 
 -- a module was made, is lent as a slice, and is written where it fits
-pub made : (c : Config) (seed bytes lent old new : List ℕ) (len : ℕ) (fits : Bool) → IsDefault c → IsGeneratedFrom (sanitized c) seed bytes → MakesLists (sanitized c) seed bytes
-    → lent ≡ bytes → length lent ≡ len → new ≡ buffer_with lent old → fits ≡ nat_le (length lent) (length old) → IsWritten seed old new len (if fits then yes else short_buffer)
-made c seed bytes lent old new len fits is_default generated lists same len_is new_is fitting = record {
+pub made : (c : Config) (seed bytes lent old new : List ℕ) (len : ℕ) (fits : Bool) → IsGeneratedFrom (sanitized c) seed bytes → MakesLists (sanitized c) seed bytes
+    → lent ≡ bytes → length lent ≡ len → new ≡ buffer_with lent old → fits ≡ nat_le (length lent) (length old) → IsWritten c seed old new len (if fits then yes else short_buffer)
+made c seed bytes lent old new len fits generated lists same len_is new_is fitting = record {
   answer = Ok bytes;
-  answered = record {
-    config = c;
-    is_default = is_default;
-    features = are_generated c is_default;
-    generated = generated;
-    lists = lists;
-    cause = tt;
-    rightly = tt;
-    memory_or_limit = tt;
-  };
+  answered = record { generated = generated; lists = lists; cause = tt; rightly = tt };
   told = ap (λ fits. if fits then yes else short_buffer) (fitting ∙ ap (λ (bytes : List ℕ). nat_le (length bytes) (length old)) same);
   needed = sym len_is ∙ ap length same;
   buffer = new_is ∙ ap (λ bytes. buffer_with bytes old) same;
 }
 
 -- none was, for this reason
-pub refused : (c : Config) (seed old : List ℕ) (e : GenerateError) (code : ℕ) → IsDefault c → IsCause (sanitized c) seed e → RefusesRightly (sanitized c) seed e
-    → code ≡ refusal_code e → IsWritten seed old old 0 code
-refused c seed old e code is_default cause rightly is = record {
+pub refused : (c : Config) (seed old : List ℕ) (e : GenerateError) (code : ℕ) → IsCause (sanitized c) seed e → RefusesRightly (sanitized c) seed e
+    → code ≡ refusal_code e → IsWritten c seed old old 0 code
+refused c seed old e code cause rightly is = record {
   answer = Err e;
-  answered = record {
-    config = c;
-    is_default = is_default;
-    features = are_generated c is_default;
-    generated = tt;
-    lists = tt;
-    cause = cause;
-    rightly = rightly;
-    memory_or_limit = rightly.total (is_askable c is_default);
-  };
+  answered = record { generated = tt; lists = tt; cause = cause; rightly = rightly };
   told = is;
   needed = refl;
   buffer = refl;

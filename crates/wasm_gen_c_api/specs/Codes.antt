@@ -1,5 +1,7 @@
 -- The codes that calls answer, and what they are called.
 use Rattle.std.specs.Prelude.{ℕ, zero, suc, List, [], ◌∷◌, codes}
+use Rattle.wasm_gen_config.specs.declared.config_error.ConfigError.{ConfigError}
+use Rattle.wasm_gen_config.specs.declared.config_error.ConfigError.TheVariants as configs
 use Rattle.wasm_gen_sessions.specs.declared.error.GenerateError.{GenerateError}
 use Rattle.wasm_gen_sessions.specs.declared.error.GenerateError.TheVariants as generator
 use Rattle.wasmparser_error.specs.declared.error.ErrorKind.{ErrorKind}
@@ -21,7 +23,7 @@ unknown_features = 10
 abbrev pub short_buffer : ℕ
 short_buffer = 11
 
--- a configuration's text, which isn't read yet
+-- a text that gives no configuration
 abbrev pub config_text : ℕ
 config_text = 12
 
@@ -46,6 +48,16 @@ refusal_code (generator.Shape _) = 14
 refusal_code generator.Minimum = 15
 refusal_code generator.EmptyChoice = 16
 refusal_code generator.TypeSize = 17
+
+-- the code of a text that isn't read as a configuration
+abbrev pub text_code : ConfigError → ℕ
+text_code (configs.Text cause) = config_text
+text_code (configs.Key key takes) = config_text
+text_code configs.Memory = memory
+
+-- The codes that a configuration's text and a seed may come to. A text gives no shapes, so no shape is refused (14), nor is a constant wanting for one (16).
+abbrev pub codes_of_making : List ℕ
+codes_of_making = yes ∷ 3 ∷ memory ∷ short_buffer ∷ config_text ∷ 13 ∷ 15 ∷ 17 ∷ []
 
 -- what codes are called, in turn
 abbrev pub names : List (List ℕ)

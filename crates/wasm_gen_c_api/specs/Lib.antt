@@ -1,4 +1,5 @@
 pub mod Buffers
 pub mod Codes
+pub mod ConfigTexts
 pub mod Generate
 pub mod Verdicts

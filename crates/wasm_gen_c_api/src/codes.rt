@@ -2,9 +2,10 @@
 
 ghost use Rattle.std.specs.Prelude.{◌≡◌, ◌≤◌, length};
 ghost use Rattle.wasm_gen_c_api.specs.Buffers.{buffer_with};
-ghost use Rattle.wasm_gen_c_api.specs.Codes.{code_name, kind_code, refusal_code};
+ghost use Rattle.wasm_gen_c_api.specs.Codes.{code_name, kind_code, refusal_code, text_code};
 
 use crate::buffers::put;
+use wasm_gen_config::config_error::ConfigError;
 use wasm_gen_sessions::error::GenerateError;
 use wasmparser_error::error::ErrorKind;
 
@@ -17,7 +18,7 @@ pub const UNKNOWN_FEATURES: u32 = 10;
 /// The buffer is shorter than what is to be written.
 pub const SHORT_BUFFER: u32 = 11;
 
-/// Configuration text is not supported yet.
+/// The text gives no configuration.
 pub const CONFIG_TEXT: u32 = 12;
 
 // A limit is passed, of the bytes or of what is made.
@@ -55,6 +56,16 @@ pub fn refusal_code(error: &GenerateError) -> u32
         GenerateError::Minimum => 15,
         GenerateError::EmptyChoice => 16,
         GenerateError::TypeSize => 17,
+    }
+}
+
+/// Returns the code of a text that gives no configuration: `CONFIG_TEXT`, or 9 where memory ran out.
+pub fn text_code(error: &ConfigError) -> u32
+    ensures { result ≡ text_code error.now }
+{
+    match error {
+        ConfigError::Text(_) | ConfigError::Key { .. } => CONFIG_TEXT,
+        ConfigError::Memory => MEMORY,
     }
 }
 

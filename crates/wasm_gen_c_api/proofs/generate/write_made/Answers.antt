@@ -5,12 +5,11 @@ use Rattle.wasm_gen_c_api.proofs.generate.write_made.Goals as goal
 
 pub returns-then-put : goal.returns-then-put
 returns-then-put c =
-    made c.default.result _ c.in-Ok.bytes.items _ _ _ _ true c.default.ensures c.in-Ok.ensures.generated c.in-Ok.ensures.lists c.deref.ensures.value (c.deref.ensures.len ∙ sym c.len.ensures) c.put.ensures.written (sym c.if-put.true ∙ c.put.ensures.fits)
+    made c.args.config.now _ c.in-Ok.bytes.items _ _ _ _ true c.in-Ok.ensures.generated c.in-Ok.ensures.lists c.deref.ensures.value (c.deref.ensures.len ∙ sym c.len.ensures) c.put.ensures.written (sym c.if-put.true ∙ c.put.ensures.fits)
 
 pub returns-in-Ok : goal.returns-in-Ok
 returns-in-Ok c =
-    made c.default.result _ c.in-Ok.bytes.items _ _ _ _ false c.default.ensures c.in-Ok.ensures.generated c.in-Ok.ensures.lists c.deref.ensures.value (c.deref.ensures.len ∙ sym c.len.ensures) c.put.ensures.written (sym c.if-put.false ∙ c.put.ensures.fits)
+    made c.args.config.now _ c.in-Ok.bytes.items _ _ _ _ false c.in-Ok.ensures.generated c.in-Ok.ensures.lists c.deref.ensures.value (c.deref.ensures.len ∙ sym c.len.ensures) c.put.ensures.written (sym c.if-put.false ∙ c.put.ensures.fits)
 
 pub returns : goal.returns
-returns c =
-    refused c.default.result _ _ c.in-Err.e _ c.default.ensures c.in-Err.ensures.refused c.in-Err.ensures.rightly c.refusal_code.ensures
+returns c = refused c.args.config.now _ _ c.in-Err.e _ c.in-Err.ensures.refused c.in-Err.ensures.rightly c.refusal_code.ensures

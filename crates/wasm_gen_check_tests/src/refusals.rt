@@ -5,6 +5,7 @@
 mod config_files;
 mod generated;
 mod inputs;
+mod reports;
 mod rows;
 mod runs;
 mod sessions;

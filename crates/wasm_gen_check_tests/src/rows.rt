@@ -1,9 +1,10 @@
 //! Rows of a module, and what new sessions answer on it.
 
+use crate::reports::has_report;
 use crate::views::{has_exports, has_line};
 use crate::{
     custom_sections, cuts, data_segments, elements, exports, function_limits, functions, globals,
-    lines, other_limits, other_sections, tables, types, value_types,
+    lines, other_limits, other_sections, reports, tables, types, value_types,
 };
 use std::alloc::Global;
 use std::test::Fail;
@@ -129,6 +130,7 @@ fn holds(alloc: Global, row: &str) -> Option<bool> {
     match word {
         "line" => on_new_session(alloc, features_of(features)?, row, has_line),
         "exports" => on_new_session(alloc, features_of(features)?, row, has_exports),
+        "report" => on_new_session(alloc, features_of(features)?, row, has_report),
         _ => are_answers(alloc, way, sections, expected),
     }
 }
@@ -147,6 +149,7 @@ fn new_sessions_give_these_answers(rt: HostRuntime) -> Result<(), Fail> {
         (lines::ROWS, lines::COUNT),
         (other_limits::ROWS, other_limits::COUNT),
         (other_sections::ROWS, other_sections::COUNT),
+        (reports::ROWS, reports::COUNT),
         (tables::ROWS, tables::COUNT),
         (types::ROWS, types::COUNT),
         (value_types::ROWS, value_types::COUNT),

@@ -1,4 +1,4 @@
-//! The program `wasm_gen`: makes WebAssembly modules of seeds, and validates modules in files.
+//! The program `wasm_gen`: makes WebAssembly modules of seeds, validates modules in files, and shows what they have.
 #![tactic(auto)]
 
 ghost use Rattle.std.specs.Prelude.{◌≡◌, ◌⊎◌};
@@ -6,6 +6,7 @@ ghost use Rattle.std.specs.Prelude.{◌≡◌, ◌⊎◌};
 mod check;
 mod fault;
 mod generate;
+mod report;
 
 use std::process::ExitCode;
 use std::rt::{Env, Files};
@@ -36,6 +37,7 @@ fn run_command<R: Files + Print + Eprint + AllocGlobal>(rt: &R, asked: &Asked<'_
     match asked {
         Asked::Generate(files) => generate::generate_from_files(rt, *files),
         Asked::Check(names) => check::check_files(rt, names.as_slice()),
+        Asked::Report(name) => report::report_file(rt, name),
         Asked::Help(text) => show(rt, text.as_str()),
     }
 }

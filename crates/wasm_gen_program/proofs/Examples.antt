@@ -3,7 +3,7 @@ use Rattle.std.proofs.Common.{◌≡◌, List, [], ◌∷◌, Some, None, codes,
 use Rattle.clap.proofs.OnLiterals.{clap_on_literals}
 use Rattle.clap.specs.Words.{Text, fault_of, subcommand_of}
 use Rattle.clap.specs.declared.error.kind.ErrorKind.TheVariants as kind
-use Rattle.wasm_gen_program.specs.Asked.{files_of, seed_of}
+use Rattle.wasm_gen_program.specs.Asked.{command_of, files_of, reported_of, seed_of}
 use Rattle.wasm_gen_program.specs.CommandLine.{program}
 
 -- the program's name, which comes first
@@ -67,3 +67,23 @@ named_as_a_flag = refl
 named_as_a_command : seed_of (subcommand_of program (words (codes "generate" ∷ codes "check" ∷ []))) ≡ Some (codes "check")
 unfolding clap_on_literals
 named_as_a_command = refl
+
+a_report : reported_of (subcommand_of program (words (codes "report" ∷ codes "a" ∷ []))) ≡ Some (codes "a")
+unfolding clap_on_literals
+a_report = refl
+
+no_report_of_check : reported_of (subcommand_of program (words (codes "check" ∷ codes "a" ∷ []))) ≡ None
+unfolding clap_on_literals
+no_report_of_check = refl
+
+two_reports : fault_of program (words (codes "report" ∷ codes "a" ∷ codes "b" ∷ [])) ≡ kind.UnknownArgument ∷ []
+unfolding clap_on_literals
+two_reports = refl
+
+no_report : fault_of program (words (codes "report" ∷ [])) ≡ kind.MissingRequiredArgument ∷ []
+unfolding clap_on_literals
+no_report = refl
+
+check_is_named : command_of (subcommand_of program (words (codes "check" ∷ codes "a" ∷ []))) ≡ Some (codes "check")
+unfolding clap_on_literals
+check_is_named = refl

@@ -7,7 +7,7 @@ use Rattle.clap.specs.declared.error.kind.ErrorKind.TheVariants as kind
 use Rattle.wasm_gen_program.specs.Asked.{AreRefused, AskFor, IsHelp}
 use Rattle.wasm_gen_program.specs.CommandLine.{program}
 use Rattle.wasm_gen_program.specs.declared.asked.Asked.{Asked}
-use Rattle.wasm_gen_program.specs.declared.asked.Asked.TheVariants.{Generate, Check, Help}
+use Rattle.wasm_gen_program.specs.declared.asked.Asked.TheVariants.{Generate, Check, Report, Help}
 use Rattle.wasm_gen_program.specs.declared.asked.WordsError.{WordsError}
 use Rattle.wasm_gen_program.specs.declared.asked.WordsError.TheVariants.{Wrong, Memory}
 
@@ -25,6 +25,7 @@ module _ (words : List Text) (k : ErrorKind) (fails : (k ≡ kind.OutOfMemory) �
   ]
   asks_for_help (Ok (Generate name)) help = absurd help.0
   asks_for_help (Ok (Check names)) help = absurd help.0
+  asks_for_help (Ok (Report name)) help = absurd help.0
   asks_for_help (Err e) help = tt
 
   pub is_refused : (result : Result Asked WordsError) → IfErr result (λ e. e ≢ Memory → (k ≢ kind.DisplayHelp) × (k ≢ kind.DisplayVersion)) → (k ≡ kind.OutOfMemory → result ≡ Err Memory)

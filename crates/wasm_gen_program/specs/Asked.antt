@@ -5,13 +5,17 @@ use Rattle.clap.specs.Words.{IsAmong, Row, Text, all_of, fault_of, first_of, sub
 use Rattle.clap.specs.declared.error.kind.ErrorKind.TheVariants as kind
 use Rattle.wasm_gen_program.specs.CommandLine.{program}
 use Rattle.wasm_gen_program.specs.declared.asked.Asked.{Asked}
-use Rattle.wasm_gen_program.specs.declared.asked.Asked.TheVariants.{Generate, Check, Help}
+use Rattle.wasm_gen_program.specs.declared.asked.Asked.TheVariants.{Generate, Check, Report, Help}
 use Rattle.wasm_gen_program.specs.declared.asked.WordsError.{WordsError}
 use Rattle.wasm_gen_program.specs.declared.asked.WordsError.TheVariants.{Wrong, Memory}
 
 -- what is found for an argument of this command, where the words name it: they name a command, with what is found for it
 abbrev pub found_for : {A : Type 0} → Text → (List Row → Option A) → Option (Text × List Row) → Option A
 found_for command find_in met = option_and_then (λ it. if bytes_eq it.0 command then find_in it.1 else None) met
+
+-- the command that the words name
+abbrev pub command_of : Option (Text × List Row) → Option Text
+command_of = option_map (λ it. it.0)
 
 -- the file that the seed is in, where a module is to be made
 abbrev pub seed_of : Option (Text × List Row) → Option Text
@@ -29,11 +33,20 @@ explains met = unwrap_or (option_map (bytes_eq (codes "true")) (found_for (codes
 abbrev pub files_of : Option (Text × List Row) → List Text
 files_of met = unwrap_or (found_for (codes "check") (all_of (codes "FILE")) met) []
 
+-- the file that the module is in, where one is to be shown
+abbrev pub reported_of : Option (Text × List Row) → Option Text
+reported_of = found_for (codes "report") (first_of (codes "FILE"))
+
 -- what is asked for by the command that the words name, with what is found for it
 abbrev pub Asks : Option (Text × List Row) → Asked → Type 0
 Asks met (Generate asked) = (seed_of met ≡ Some asked.seed.now) × (config_of met ≡ option_map (λ name. name.now) asked.config) × (explains met ≡ asked.explain)
-Asks met (Check names) = (seed_of met ≡ None) × (map (λ name. name.now) names.items ≡ files_of met)
+Asks met (Check names) = (command_of met ≡ Some (codes "check")) × (map (λ name. name.now) names.items ≡ files_of met)
+Asks met (Report name) = reported_of met ≡ Some name.now
 Asks met (Help text) = ⊥
+
+-- something is asked for, other than help
+abbrev pub CanBeAsked : Option (Text × List Row) → Type 0
+CanBeAsked met = (seed_of met ≢ None) ⊎ (reported_of met ≢ None) ⊎ (command_of met ≡ Some (codes "check"))
 
 -- what words ask for: help, where clap may answer with help; or, where nothing is wrong with them, what the command that they name does. Of words that begin
 -- with `help`, clap's contract leaves open whether they ask for help or name a wrong command. (No words ask for the version, as the program tells none.)

@@ -5,6 +5,7 @@ use Rattle.wasm_gen_program.specs.Device.{FailsWrite, SinkView, SourceView, Writ
 use Rattle.wasm_gen_program.specs.Input.{ReadsInput, WritesOutput}
 use Rattle.wasm_gen_program.specs.Inputs.{AddsEvents, Event, faults_of, opened}
 use Rattle.wasm_gen_program.specs.Run.{WritesFront, WritesVerdict}
+use Rattle.wasm_gen_program.specs.Verdict.{IsLine}
 use Rattle.wasm_spec.specs.Features.{default_features}
 use Rattle.wasm_gen_program.specs.declared.error.RunError.{RunError}
 use Rattle.wasm_gen_program.specs.declared.error.RunError.TheVariants.{Memory, Read, TooLong, Write}
@@ -37,11 +38,11 @@ going_on session next = if session.has_failed then restarted session next else s
 -- the line of the session's verdict on what was read is written, and nothing else; then the session goes on
 abbrev pub WritesLine : History → ℕ → History → SourceView → SourceView → SinkView → SinkView → Bool → Type 0
 WritesLine old next new unread left before after is_yes =
-    (validated : History) × WritesVerdict old validated unread.remaining left.remaining before.contents after.contents is_yes × (new ≡ going_on validated next)
+    (validated : History) × WritesVerdict IsLine old validated unread.remaining left.remaining before.contents after.contents is_yes × (new ≡ going_on validated next)
 
 -- a front of the line of its verdict is written, and nothing else
 abbrev pub BreaksLine : History → SourceView → SourceView → SinkView → SinkView → Type 0
-BreaksLine old unread left before after = (validated : History) × WritesFront old validated unread.remaining left.remaining before.contents after.contents
+BreaksLine old unread left before after = (validated : History) × WritesFront IsLine old validated unread.remaining left.remaining before.contents after.contents
 
 -- an input is validated, the line of its verdict is written, and unless that failed, the session goes on
 pub record ValidatesNext (old : History) (next : ℕ) (new : History) (unread left : SourceView) (before after : SinkView) (result : Result Bool RunError) : Type 0 where

@@ -24,8 +24,15 @@ config = record (new_rule (codes "config")) { long = Some (codes "config"); valu
 abbrev pub explain : Rule
 explain = record (new_rule (codes "explain")) { long = Some (codes "explain"); action = Some SetTrue }
 
+-- the file that `report` shows the module of
+abbrev pub file : Rule
+file = record (new_rule (codes "FILE")) { required = true }
+
 abbrev pub check : App
 check = with_rule (new_app (codes "check")) files
+
+abbrev pub report : App
+report = with_rule (new_app (codes "report")) file
 
 abbrev pub generate : App
 generate = with_rule (with_rule (with_rule (new_app (codes "generate")) config) explain) seed
@@ -35,4 +42,4 @@ abbrev pub alone : App
 alone = let new = new_app (codes "wasm_gen") in record new { top = record new.top { subcommand_required = true; arg_required_else_help = true } }
 
 abbrev pub program : App
-program = with_subcommand (with_subcommand alone generate.top) check.top
+program = with_subcommand (with_subcommand (with_subcommand alone generate.top) check.top) report.top

@@ -5,6 +5,7 @@ pub mod Device
 pub mod Input
 pub mod Inputs
 pub mod ReadConfig
+pub mod Report
 pub mod Run
 pub mod RunGenerate
 pub mod Transfer

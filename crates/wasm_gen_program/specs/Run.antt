@@ -1,4 +1,4 @@
--- Runs that read a module and write its verdict.
+-- Runs that read a module, validate it and write a text on the verdict.
 use Rattle.std.specs.Prelude.{◌≡◌, ◌≢◌, ◌≤◌, ◌⊎◌, ◌^◌, ℕ, List, length, Bool, Option, Result, is_ok, IfErr, IfOk, IsErrAnd}
 use Rattle.std.specs.Io.KnownBytes.{Appends}
 use Rattle.wasmparser_error.specs.declared.error.Error.{Error}
@@ -8,8 +8,9 @@ use Rattle.wasm_gen_sessions.specs.History.{History}
 use Rattle.wasm_gen_sessions.specs.Session.{Checks}
 use Rattle.wasm_gen_program.specs.Device.{SinkView, SourceView}
 use Rattle.wasm_gen_program.specs.Input.{ReadsInput, WritesOutput}
+use Rattle.wasm_gen_program.specs.Report.{IsReport}
 use Rattle.wasm_gen_program.specs.Transfer.{ConsumesAll, AppendsFront}
-use Rattle.wasm_gen_program.specs.Verdict.{verdict_line}
+use Rattle.wasm_gen_program.specs.Verdict.{IsLine}
 use Rattle.wasm_gen_program.specs.declared.error.RunError.{RunError}
 use Rattle.wasm_gen_program.specs.declared.error.RunError.TheVariants as runs
 
@@ -25,29 +26,41 @@ pub record ReachesVerdict (old new : History) (unread left : Option (List ℕ)) 
   pub validated : ChecksInput old new unread left verdict
   pub is_verdict : IfErr verdict (λ e. e.kind ≢ Memory)
 
--- the session is as it was, or validating the reader's bytes, which were read to their end, ran out of memory
-abbrev pub KeepsOrRunsOut : History → History → Option (List ℕ) → Option (List ℕ) → Type 0
-KeepsOrRunsOut old new unread left =
-    (new ≡ old) ⊎ ((verdict : Result KnownModule Error) × ChecksInput old new unread left verdict × IsErrAnd verdict (λ e. e.kind ≡ Memory))
+-- the answer is that memory ran out
+abbrev pub IsOutOfMemory : Result KnownModule Error → Type 0
+IsOutOfMemory answer = IsErrAnd answer (λ e. e.kind ≡ Memory)
 
--- the line of the verdict on what was read is written, and nothing else
-pub record WritesVerdict (old new : History) (unread left before after : Option (List ℕ)) (is_yes : Bool) : Type 0 where
+-- it is that, or a yes
+abbrev pub IsYesOrOutOfMemory : Result KnownModule Error → Type 0
+IsYesOrOutOfMemory answer = IfErr answer (λ e. e.kind ≡ Memory)
+
+-- the session is as it was, or has validated the reader's bytes, which were read to their end, with an answer at which a run may lack memory
+abbrev pub KeepsOrRunsOut : (Result KnownModule Error → Type 0) → History → History → Option (List ℕ) → Option (List ℕ) → Type 0
+KeepsOrRunsOut RunsOut old new unread left =
+    (new ≡ old) ⊎ ((verdict : Result KnownModule Error) × ChecksInput old new unread left verdict × RunsOut verdict)
+
+-- the text on the verdict on what was read is written, and nothing else
+pub record WritesVerdict (IsText : Result KnownModule Error → List ℕ → Type 0) (old new : History) (unread left before after : Option (List ℕ)) (is_yes : Bool) : Type 0 where
   pub verdict : Result KnownModule Error
   pub reached : ReachesVerdict old new unread left verdict
-  pub line : Appends before after (verdict_line verdict)
+  pub text : List ℕ
+  pub is_text : IsText verdict text
+  pub written : Appends before after text
   pub answer : is_yes ≡ is_ok verdict
 
--- a front of that line is written, which is not all of it, and nothing else
-pub record WritesFront (old new : History) (unread left before after : Option (List ℕ)) : Type 0 where
+-- a front of that text is written, which is not all of it, and nothing else
+pub record WritesFront (IsText : Result KnownModule Error → List ℕ → Type 0) (old new : History) (unread left before after : Option (List ℕ)) : Type 0 where
   pub verdict : Result KnownModule Error
   pub reached : ReachesVerdict old new unread left verdict
-  pub line : AppendsFront before after (verdict_line verdict)
+  pub text : List ℕ
+  pub is_text : IsText verdict text
+  pub written : AppendsFront before after text
 
--- how a call that reads a module and validates it leaves the session
-pub record LeavesSession {A : Type 0} (old new : History) (unread left : SourceView) (result : Result A RunError) : Type 0 where
+-- how a call that reads a module and validates it leaves the session; at these answers it may lack memory
+pub record LeavesSession {A : Type 0} (RunsOut : Result KnownModule Error → Type 0) (old new : History) (unread left : SourceView) (result : Result A RunError) : Type 0 where
   -- without a whole input it is as it was
   pub kept : IfErr result (λ e. (e ≡ runs.Read) ⊎ (e ≡ runs.TooLong) → new ≡ old)
-  pub memory : IfErr result (λ e. e ≡ runs.Memory → KeepsOrRunsOut old new unread.remaining left.remaining)
+  pub memory : IfErr result (λ e. e ≡ runs.Memory → KeepsOrRunsOut RunsOut old new unread.remaining left.remaining)
   pub features : new.features ≡ old.features
   pub id : new.id ≡ old.id
 
@@ -56,14 +69,23 @@ pub record ValidatesInput (old new : History) (unread left : SourceView) (result
   pub reached : IfOk result (ReachesVerdict old new unread.remaining left.remaining)
   pub kinds : IfErr result (λ e. (e ≡ runs.Read) ⊎ (e ≡ runs.TooLong) ⊎ (e ≡ runs.Memory))
   pub input : ReadsInput unread left result
-  pub session : LeavesSession old new unread left result
+  pub session : LeavesSession IsOutOfMemory old new unread left result
 
--- a module is read and validated, and the line of its verdict is written
-pub record RunsCheck (old new : History) (unread left : SourceView) (before after : SinkView) (result : Result Bool RunError) : Type 0 where
-  pub ok : IfOk result (WritesVerdict old new unread.remaining left.remaining before.contents after.contents)
-  pub front : IfErr result (λ e. e ≡ runs.Write → WritesFront old new unread.remaining left.remaining before.contents after.contents)
+-- a module is read and validated, and the text on the verdict is written: one that fits the verdict by this relation
+pub record Runs (IsText : Result KnownModule Error → List ℕ → Type 0) (RunsOut : Result KnownModule Error → Type 0) (old new : History) (unread left : SourceView)
+    (before after : SinkView) (result : Result Bool RunError) : Type 0 where
+  pub ok : IfOk result (WritesVerdict IsText old new unread.remaining left.remaining before.contents after.contents)
+  pub front : IfErr result (λ e. e ≡ runs.Write → WritesFront IsText old new unread.remaining left.remaining before.contents after.contents)
   -- these are all the refusals
   pub kinds : IfErr result (λ e. (e ≡ runs.Read) ⊎ (e ≡ runs.TooLong) ⊎ (e ≡ runs.Memory) ⊎ (e ≡ runs.Write))
   pub input : ReadsInput unread left result
   pub output : WritesOutput before after result
-  pub session : LeavesSession old new unread left result
+  pub session : LeavesSession RunsOut old new unread left result
+
+-- the text is the verdict's line, for which memory is taken before the input is read
+abbrev pub RunsCheck : History → History → SourceView → SourceView → SinkView → SinkView → Result Bool RunError → Type 0
+RunsCheck = Runs IsLine IsOutOfMemory
+
+-- the text is the report, which takes memory after a yes
+abbrev pub RunsReport : History → History → SourceView → SourceView → SinkView → SinkView → Result Bool RunError → Type 0
+RunsReport = Runs IsReport IsYesOrOutOfMemory

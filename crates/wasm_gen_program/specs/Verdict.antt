@@ -1,5 +1,5 @@
 -- The line that tells the verdict on a module.
-use Rattle.std.specs.Prelude.{ℕ, List, ◌++◌, codes, decimal, Result, Ok, Err}
+use Rattle.std.specs.Prelude.{◌≡◌, ℕ, List, ◌++◌, codes, decimal, Result, Ok, Err}
 use Rattle.wasm_spec.specs.Spaces.{Sizes}
 use Rattle.wasm_validity.specs.IndexSpaces.{sizes_in}
 use Rattle.wasmparser_error.specs.Error.{kind_name}
@@ -20,3 +20,7 @@ yes_line s = codes "yes" ++ counted (codes " types=") s.types ++ counted (codes 
 abbrev pub verdict_line : Result KnownModule Error → List ℕ
 verdict_line (Ok known) = yes_line (sizes_in (spaces_known known))
 verdict_line (Err e) = codes "no " ++ kind_name e.kind ++ codes "\n"
+
+-- a text is that line
+abbrev pub IsLine : Result KnownModule Error → List ℕ → Type 0
+IsLine verdict text = text ≡ verdict_line verdict

@@ -1,9 +1,9 @@
 //! The meaning of a command line.
 
-ghost use Rattle.std.specs.Prelude.{◌≡◌, ◌≢◌, ◌⊎◌, IfOk, IfErr, MatchOption, Err, None, codes, map, option_map};
+ghost use Rattle.std.specs.Prelude.{◌≡◌, ◌≢◌, ◌⊎◌, IfOk, IfErr, MatchOption, [], Err, None, Some, codes, map, option_map, unwrap_or};
 ghost use Rattle.std.specs.String.{string_bytes};
-ghost use Rattle.clap.specs.Words.{first_of, kind_of, subcommand_rows_of};
-ghost use Rattle.wasm_gen_program.specs.Asked.{AreRefused, AskFor, Asks, IsHelp, files_of, found_for, seed_of};
+ghost use Rattle.clap.specs.Words.{all_of, first_of, found_of, kind_of, rows_of, subcommand_rows_of};
+ghost use Rattle.wasm_gen_program.specs.Asked.{AreRefused, AskFor, Asks, CanBeAsked, IsHelp, command_of, found_for, seed_of};
 
 use crate::command::matches_of;
 use clap::error::ErrorKind;
@@ -28,6 +28,8 @@ pub enum Asked<'a> {
     Generate(Generate<'a>),
     /// To validate the files of these names.
     Check(Vec<&'a str>),
+    /// To show what the module in the file of this name has.
+    Report(&'a str),
     /// To show this text.
     Help(String),
 }
@@ -51,20 +53,20 @@ impl From<AllocError> for WordsError {
     }
 }
 
-// Returns the value of an argument of `generate`, where a module is to be made.
-fn generate_value<'a>(matches: &ArgMatches<'a>, id: &str) -> Option<&'a str>
-    ensures { option_map (λ name. name.now) result ≡ found_for (codes "generate") (first_of id.now) (subcommand_rows_of matches.now) }
+// Returns the value of an argument of a command, where the words name that.
+fn value_of<'a>(matches: &ArgMatches<'a>, command: &str, id: &str) -> Option<&'a str>
+    ensures { option_map (λ name. name.now) result ≡ found_for command.now (first_of id.now) (subcommand_rows_of matches.now) }
 {
-    matches.subcommand_matches("generate")?.get_str(id)
+    matches.subcommand_matches(command)?.get_str(id)
 }
 
 // Returns the files of the command that makes a module, where one is to be made.
 fn generate_files<'a>(matches: &ArgMatches<'a>) -> Option<Generate<'a>>
     ensures { MatchOption result (seed_of (subcommand_rows_of matches.now) ≡ None) (λ asked. Asks (subcommand_rows_of matches.now) (Asked.Generate asked)) }
 {
-    let seed = generate_value(matches, "SEED")?;
-    let config = generate_value(matches, "config");
-    let explain = match generate_value(matches, "explain") {
+    let seed = value_of(matches, "generate", "SEED")?;
+    let config = value_of(matches, "generate", "config");
+    let explain = match value_of(matches, "generate", "explain") {
         Some(text) => "true" == text,
         None => false,
     };
@@ -75,27 +77,45 @@ fn generate_files<'a>(matches: &ArgMatches<'a>) -> Option<Generate<'a>>
     })
 }
 
-// Returns the files that are to be validated.
-fn file_names<'a>(alloc: Global, matches: &ArgMatches<'a>) -> Result<Vec<&'a str>, AllocError>
-    ensures { IfOk result (λ names. map (λ name. name.now) names.items ≡ files_of (subcommand_rows_of matches.now)) }
+// Returns the files that were found for `check`.
+fn file_names<'a>(alloc: Global, found: &ArgMatches<'a>) -> Result<Vec<&'a str>, AllocError>
+    ensures { IfOk result (λ names. map (λ name. name.now) names.items ≡ unwrap_or (all_of (codes "FILE") (rows_of (found_of found.now))) []) }
 {
-    let Some(found) = matches.subcommand_matches("check") else {
-        return Ok(Vec::new(alloc));
-    };
     match found.get_strs("FILE") {
         Some(names) => Vec::from_slice(alloc, names),
         None => Ok(Vec::new(alloc)),
     }
 }
 
+// Returns the files that are to be validated, where the words name `check`.
+fn check_files<'a>(
+    alloc: Global,
+    matches: &ArgMatches<'a>,
+) -> Result<Option<Vec<&'a str>>, AllocError>
+    ensures { IfOk result (λ found. MatchOption found (¬ (command_of (subcommand_rows_of matches.now) ≡ Some (codes "check")))
+        (λ names. Asks (subcommand_rows_of matches.now) (Asked.Check names))) }
+{
+    match matches.subcommand_matches("check") {
+        Some(found) => Ok(Some(file_names(alloc, found)?)),
+        None => Ok(None),
+    }
+}
+
 // Returns the command of words in which nothing is wrong.
 fn asked_by<'a>(alloc: Global, matches: &ArgMatches<'a>) -> Result<Asked<'a>, WordsError>
+    requires { CanBeAsked (subcommand_rows_of matches.now) }
     ensures asked { IfOk result (Asks (subcommand_rows_of matches.now)) }
     ensures memory { IfErr result (λ e. e ≡ WordsError.Memory) }
 {
-    match generate_files(matches) {
-        Some(files) => Ok(Asked::Generate(files)),
-        None => Ok(Asked::Check(file_names(alloc, matches)?)),
+    if let Some(files) = generate_files(matches) {
+        return Ok(Asked::Generate(files));
+    }
+    if let Some(name) = value_of(matches, "report", "FILE") {
+        return Ok(Asked::Report(name));
+    }
+    match check_files(alloc, matches)? {
+        Some(names) => Ok(Asked::Check(names)),
+        None => unreachable!(),
     }
 }
 

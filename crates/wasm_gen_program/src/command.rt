@@ -52,6 +52,16 @@ fn explain<'a>(alloc: Global) -> Arg<'a>
         .action(ArgAction::SetTrue)
 }
 
+// Returns the file that `report` shows the module of.
+fn file<'a>(alloc: Global) -> Arg<'a>
+    ensures rule { rule_of result ≡ line.file }
+    ensures own { result.global ≡ false }
+{
+    Arg::new(alloc, "FILE")
+        .help("A file with a module")
+        .required(true)
+}
+
 // Returns the command that validates modules.
 fn check<'a>(alloc: Global) -> Result<Command<'a>, AllocError>
     ensures { IfOk result (λ c. app_of c ≡ line.check) }
@@ -59,6 +69,15 @@ fn check<'a>(alloc: Global) -> Result<Command<'a>, AllocError>
     Command::new(alloc, "check")
         .about("Says of each file whether it holds a valid module")
         .arg(files(alloc))
+}
+
+// Returns the command that shows what a module has.
+fn report<'a>(alloc: Global) -> Result<Command<'a>, AllocError>
+    ensures { IfOk result (λ c. app_of c ≡ line.report) }
+{
+    Command::new(alloc, "report")
+        .about("Lists the types, items and exports of a valid module")
+        .arg(file(alloc))
 }
 
 // Returns the command that makes a module.
@@ -98,7 +117,8 @@ fn command<'a>(alloc: Global) -> Result<Command<'a>, AllocError>
     ensures { IfOk result (λ c. app_of c ≡ line.program) }
 {
     let with_generate = add(program(alloc)?, generate(alloc))?;
-    add(with_generate, check(alloc))
+    let with_check = add(with_generate, check(alloc))?;
+    add(with_check, report(alloc))
 }
 
 /// Returns the matches that clap finds in the words, the program's name being the first.

@@ -1,10 +1,11 @@
 //! The program's commands over a reader and a writer.
 
-ghost use Rattle.wasm_gen_program.specs.Run.{RunsCheck, ValidatesInput};
+ghost use Rattle.wasm_gen_program.specs.Run.{RunsCheck, RunsReport, ValidatesInput};
 ghost use Rattle.wasm_gen_program.specs.RunGenerate.{ReturnsModule, RunsGenerate};
 
 use crate::device::{Sink, Source};
 use crate::error::RunError;
+use crate::report::report_of;
 use crate::transfer::{MAX_INPUT, MAX_TURNS, read_whole, write_whole};
 use crate::verdict::{empty_line, put_verdict};
 use std::alloc::Global;
@@ -55,6 +56,35 @@ fn check_input<R: Source>(
         }
     }
     Ok(verdict)
+}
+
+/// Reads a module, validates it and writes the report on it: the text of a valid module's view, or the line of the refusal. Answers whether the module is valid.
+///
+/// After `Write` the session has validated the module. After `Memory` it is as it was, or has validated a module whose report had no memory, or it has failed since
+/// validating ran out of memory.
+///
+/// # Errors
+/// Those of [`run_check`].
+#[tactic(auto, using(crate::proofs::ReadLaws::none_read, crate::proofs::WriteLaws::none_written))]
+pub fn run_report<R: Source, W: Sink>(
+    alloc: Global,
+    session: &mut Session,
+    reader: &mut R,
+    writer: &mut W,
+) -> Result<bool, RunError>
+    ensures { RunsReport session.old session.new (R.seen reader.old) (R.seen reader.new) (W.seen writer.old) (W.seen writer.new) result }
+{
+    let Ok(line) = empty_line(alloc) else {
+        return Err(RunError::Memory);
+    };
+    let verdict = check_input(alloc, session, reader)?;
+    let is_valid = verdict.is_ok();
+    let Ok(report) = report_of(alloc, line, &verdict) else {
+        return Err(RunError::Memory);
+    };
+    drop(verdict);
+    write_whole(writer, &report)?;
+    Ok(is_valid)
 }
 
 /// Reads a seed, makes a module of it and writes its bytes.

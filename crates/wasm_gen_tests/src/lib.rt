@@ -33,6 +33,8 @@ mod run_check;
 #[cfg(test)]
 mod run_generate;
 #[cfg(test)]
+mod run_report;
+#[cfg(test)]
 mod same_types;
 #[cfg(test)]
 mod seeds;

@@ -18,9 +18,13 @@ const ROWS: &str = "
     refusal  | judge          | InvalidSubcommand 2
     refusal  | check          | MissingRequiredArgument 2
     refusal  | check --fast a | UnknownArgument 2
-    // The files that they name, all of them in turn; the seed, the configuration, and if more is to be told of that.
+    refusal  | report a       | none
+    refusal  | report         | MissingRequiredArgument 2
+    refusal  | report a b     | UnknownArgument 2
+    // The files that they name, all of them in turn, or the one; the seed, the configuration, and if more is to be told of that.
     check    | check a        | a
     check    | check b a b    | b a b
+    report   | report a       | a
     generate | generate a     | a - -
     generate | generate --config c a           | a c -
     generate | generate --config=c a           | a c -
@@ -32,6 +36,7 @@ const ROWS: &str = "
     help     | help           | Usage: wasm_gen <COMMAND>
     help     | help check     | Usage: wasm_gen check <FILE>...
     help     | check a --help | Usage: wasm_gen check <FILE>...
+    help     | help report    | Usage: wasm_gen report <FILE>
     help     | help generate  | Usage: wasm_gen generate [OPTIONS] <SEED>
     wrong    |                | Makes and validates WebAssembly modules
     wrong    | judge          | error: unrecognized subcommand 'judge'
@@ -98,6 +103,7 @@ fn is_asked(asked: &Result<Asked<'_>, WordsError>, way: &str, expected: &str) ->
     match asked {
         Ok(Asked::Check(names)) => way == "check" && are(names.as_slice(), expected),
         Ok(Asked::Generate(files)) => way == "generate" && are_files(files, expected),
+        Ok(Asked::Report(name)) => way == "report" && *name == expected,
         Ok(Asked::Help(text)) => way == "help" && text.contains(expected),
         Err(WordsError::Wrong(text)) => way == "wrong" && text.starts_with(expected),
         Err(WordsError::Memory) => false,
@@ -122,5 +128,5 @@ fn holds(alloc: Global, row: &str) -> Option<bool> {
 
 #[test]
 fn words_ask_for_this(rt: HostRuntime) -> Result<(), Fail> {
-    Ok(check_rows(rt.alloc(), ROWS, 28, holds)?)
+    Ok(check_rows(rt.alloc(), ROWS, 33, holds)?)
 }

@@ -1,8 +1,12 @@
-use Rattle.std.proofs.Common.{map}
+use Rattle.std.proofs.Common.{map, refl}
 use Rattle.std.specs.String.{string_bytes}
 use Rattle.clap.specs.Words.{kind_of}
 use Rattle.wasm_gen_program.proofs.Faults.{asks_for_help, is_refused}
+use Rattle.wasm_gen_program.proofs.NamedCommand.{can_be_asked}
 use Rattle.wasm_gen_program.proofs.asked.read_words.Goals as goal
+
+pub asked_by-requires : goal.asked_by-requires
+asked_by-requires c = can_be_asked (map string_bytes c.args.words.now) _ c.in-Ok.ensures.refused (c.in-Ok.ensures.found refl).1
 
 pub returns-in-Err-clause-asked : goal.returns-in-Err-clause-asked
 returns-in-Err-clause-asked c =

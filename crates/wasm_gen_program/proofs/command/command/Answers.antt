@@ -10,7 +10,10 @@ returns c =
     let first : app_of c.in_ok-with_generate.with_generate ≡ with_subcommand line.alone line.generate.top =
     of_value c.generate.result c.generate.ensures c.in_ok-with_generate.ensures
     (λ x is adds. adds (ap (λ (a : App). a.top.is_plain) is) ∙ ap₂ with_subcommand c.in_ok-program.ensures (ap (λ (a : App). a.top) is)) in
-    IfOk-weaker c.add-2.result _ _ (λ r second.
-    of_value c.check.result c.check.ensures second
-    (λ x is adds. adds (ap (λ (a : App). a.top.is_plain) is) ∙ ap₂ with_subcommand first (ap (λ (a : App). a.top) is)))
-    c.add-2.ensures
+    let second : app_of c.in_ok-with_check.with_check ≡ with_subcommand (with_subcommand line.alone line.generate.top) line.check.top =
+    of_value c.check.result c.check.ensures c.in_ok-with_check.ensures
+    (λ x is adds. adds (ap (λ (a : App). a.top.is_plain) is) ∙ ap₂ with_subcommand first (ap (λ (a : App). a.top) is)) in
+    IfOk-weaker c.add-3.result _ _ (λ r third.
+    of_value c.report.result c.report.ensures third
+    (λ x is adds. adds (ap (λ (a : App). a.top.is_plain) is) ∙ ap₂ with_subcommand second (ap (λ (a : App). a.top) is)))
+    c.add-3.ensures

@@ -1,5 +1,5 @@
 -- Where in a module a place is.
-use Rattle.std.proofs.Common.{◌≡◌, ◌≤◌, ◌<◌, inl, inr, ℕ, ◌+◌, false, length, List, [], ◌∷◌, Some, None, Result, Ok, Err, IfOk, refl, subst, arith, nat_eq}
+use Rattle.std.proofs.Common.{◌≡◌, ◌≤◌, ◌<◌, inl, inr, ℕ, ◌+◌, true, false, length, List, [], ◌∷◌, Some, None, Result, Ok, Err, IfOk, refl, subst, arith, nat_eq}
 use Rattle.std.specs.List.{starts_with}
 use Rattle.wasm_core_read.specs.Input.{Input}
 use Rattle.wasm_core_read.specs.ModuleReading.{frame_at}
@@ -56,9 +56,10 @@ early features bytes offset lt = in_header (inl lt)
 pub no_header : (features : Features) (bytes : List ℕ) (offset : ℕ) → starts_with nat_eq bytes header ≡ false → StandsIn features bytes offset places.Header
 no_header features bytes offset e = in_header (inr e)
 
-pub after : {E : Type 0} (features : Features) (bytes : List ℕ) (offset : ℕ) (start : Input) (result : Result Place E) → start ≡ after_header features bytes → IfOk result (StandsAmong start offset) → IfOk result (StandsIn features bytes offset)
-after features bytes offset start (Ok place) e s = in_sections place (subst (λ i. StandsAmong i offset place) e s)
-after features bytes offset start (Err error) e s = s
+pub after : {E : Type 0} (features : Features) (bytes : List ℕ) (offset : ℕ) (start : Input) (result : Result Place E) → 8 ≤ offset → starts_with nat_eq bytes header ≡ true → start ≡ after_header features bytes
+    → IfOk result (StandsAmong start offset) → IfOk result (StandsIn features bytes offset)
+after features bytes offset start (Ok place) le begins e s = in_sections place le begins (subst (λ i. StandsAmong i offset place) e s)
+after features bytes offset start (Err error) le begins e s = s
 
 -- what the search for a place in a module cites
 pub ruleset header_steps = (early, no_header, after)

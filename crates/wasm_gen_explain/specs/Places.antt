@@ -1,5 +1,5 @@
 -- Where in a module a place is.
-use Rattle.std.specs.Prelude.{◌≡◌, ◌≤◌, ◌<◌, ◌⊎◌, ℕ, false, List, Some, nat_eq, drop}
+use Rattle.std.specs.Prelude.{◌≡◌, ◌≤◌, ◌<◌, ◌⊎◌, ℕ, true, false, List, Some, nat_eq, drop}
 use Rattle.std.specs.List.{starts_with}
 use Rattle.wasm_core_read.specs.Input.{Input, GoesOn}
 use Rattle.wasm_core_read.specs.ModuleReading.{frame_at}
@@ -35,7 +35,7 @@ after_header features bytes = record { rest = drop 8 bytes; position = 8; featur
 -- where in a module a place is
 pub data StandsIn (features : Features) (bytes : List ℕ) (offset : ℕ) : Place → Type 0 where
   in_header : (offset < 8) ⊎ (starts_with nat_eq bytes header ≡ false) → StandsIn features bytes offset places.Header
-  in_sections : (place : Place) → StandsAmong (after_header features bytes) offset place → StandsIn features bytes offset place
+  in_sections : (place : Place) → 8 ≤ offset → starts_with nat_eq bytes header ≡ true → StandsAmong (after_header features bytes) offset place → StandsIn features bytes offset place
 
 -- a text tells where an error is
 pub record Explains (features : Features) (bytes : List ℕ) (error : Error) (text : List ℕ) : Type 0 where

@@ -50,8 +50,8 @@ pub(crate) fn find_operator(reader: &mut BinaryReader<'_>, offset: u64) -> Optio
     requires { reader.old.position ≤ offset }
     ensures { FindsOperator reader.old reader.new offset result }
 {
-    let mut number = 0;
-    let mut open = 1;
+    let mut number: u64 = 0;
+    let mut open: u64 = 1;
     'operators: while open > 0 || !reader.eof() {
         let code = reader.peek();
         if !pass_operator(reader, offset) {

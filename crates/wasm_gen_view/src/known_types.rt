@@ -94,6 +94,7 @@ pub(crate) fn number_known_types(
         numbers: GroupNumbers::new(alloc),
     };
     for index in 0..types.core_type_count_in_module() {
+        // (the types of a group get their places together)
         if index as usize == numbers.types.places().len() {
             numbers.add_group(alloc, types, types.core_type_at_in_module(index))?;
         }

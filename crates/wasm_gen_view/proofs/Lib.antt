@@ -12,4 +12,6 @@ pub mod NumberLaws
 pub mod Numbering
 pub mod SameTrees
 pub mod SameViews
+pub mod TwoRoads
+pub mod ValidTypes
 pub mod WrittenSpaces

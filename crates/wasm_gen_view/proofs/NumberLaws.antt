@@ -288,9 +288,11 @@ pub group_added : {X : Type 0} (f : X → spec.SubType ℕ) (xs : List X) (group
 group_added f [] groups new places number some it before group is trees h = absurd (omega (arith, some))
 group_added f (x ∷ xs) groups new places number some it before group is trees h =
     let next = written_one before trees groups places h group (f x) (map f xs) number new (subst (λ ms. IsNumbered (subs_map (numbered_reference places) ms) groups number new) (sym is) it) in
-    let types : before ++ places_of (tree_of before group) 0 (f x ∷ map f xs) ≡ types_after before group = ap (λ ms. before ++ places_of (tree_of before group) 0 ms) (sym is) in
-    (next.trees, subst (λ ts. AreNumbersOf ts next.trees new (places ++ places_from number 0 (x ∷ xs))) types
-    (subst (λ ps. AreNumbersOf (before ++ places_of (tree_of before group) 0 (f x ∷ map f xs)) next.trees new (places ++ ps)) (same_places number 0 (f x ∷ map f xs) (x ∷ xs) (omega (arith, length-map xs f))) next.are))
+    let types : before ++ places_of (tree_of before group) 0 (f x ∷ map f xs) ≡ types_after before group = ap (λ ms. before ++ places_of (tree_of before group) 0 ms) (sym is) in (
+      next.trees,
+      subst (λ ts. AreNumbersOf ts next.trees new (places ++ places_from number 0 (x ∷ xs))) types
+          (subst (λ ps. AreNumbersOf (before ++ places_of (tree_of before group) 0 (f x ∷ map f xs)) next.trees new (places ++ ps)) (same_places number 0 (f x ∷ map f xs) (x ∷ xs) (omega (arith, length-map xs f))) next.are),
+    )
 
 pub none_added : {X : Type 0} (f : X → spec.SubType ℕ) (xs : List X) (groups : List (List (spec.SubType TypeReference))) (places : List TypePlace) → length xs ≡ 0
     → (before : List DefType) (group : spec.RecGroup ℕ) → members group ≡ map f xs → (trees : List GroupTree) → AreNumbersOf before trees groups places

@@ -59,7 +59,9 @@ impl TypeNumbers {
         ensures { global_type result ≡ global_map (refer self.now) (global_map number_of (written.global_type ty.now)) }
     {
         GlobalType {
-            value_type: self.references().val_type(written_val_type(&ty.content_type)),
+            value_type: self
+                .references()
+                .val_type(written_val_type(&ty.content_type)),
             mutable: ty.mutable,
         }
     }
@@ -96,10 +98,7 @@ fn tables(
 }
 
 // Returns the memories.
-fn memories(
-    alloc: Global,
-    types: &TypesRef<'_>,
-) -> Result<Vec<MemoryType>, AllocError>
+fn memories(alloc: Global, types: &TypesRef<'_>) -> Result<Vec<MemoryType>, AllocError>
     ensures { IfOk result (λ items. map (memory_type) items.items ≡ (spaces types.now).memories) }
 {
     let mut items = Vec::new(alloc);

@@ -12,8 +12,8 @@ ghost use Rattle.wasmparser_validator.specs.Shown.{known, spaces};
 
 use crate::group_numbers::GroupNumbers;
 use crate::groups::GroupHasher;
-use crate::known_hash::known_hash;
 use crate::known_group::{KnownGroup, group_of};
+use crate::known_hash::known_hash;
 use crate::known_references::KnownReferences;
 use crate::type_numbers::TypeNumbers;
 use std::alloc::{AllocError, Global};

@@ -1,14 +1,17 @@
 //! Laws of views, and of the index spaces that they show. The functions do nothing: their contracts are theorems.
 
-ghost use Rattle.std.specs.Prelude.{◌≡◌, ◌↔◌, ℕ, Bool, List};
+ghost use Rattle.std.specs.Prelude.{◌≡◌, ◌↔◌, ℕ, Bool, List, Ok, true};
 ghost use Rattle.std.specs.Bool.{Decides};
 ghost use Rattle.std.specs.Cmp.{IsEquivalence};
 ghost use Rattle.wasm_smith_validity.specs.Made.{Made};
 ghost use Rattle.wasm_smith_validity.specs.Sections.{sections_with};
 ghost use Rattle.wasm_smith_validity.specs.Validity.{IsValidByIndex};
-ghost use Rattle.wasm_spec.specs.Features.{Features};
-ghost use Rattle.wasm_spec.specs.Trees.{section_types};
+ghost use Rattle.wasm_spec.specs.Features.{CompactImports, Features, has};
+ghost use Rattle.wasm_spec.specs.Grammar.{IsModule};
+ghost use Rattle.wasm_spec.specs.Trees.{DefType, section_types};
 ghost use Rattle.wasm_validity.specs.IndexSpaces.{Spaces, spaces_of};
+ghost use Rattle.wasmparser_validator.specs.KnownSpaces.{KnownModule, spaces_known};
+ghost use Rattle.wasmparser_validator.specs.Validation.{IsValidated};
 ghost use Rattle.wasm_gen_view.specs.MadeSpaces.{made_spaces};
 ghost use Rattle.wasm_gen_view.specs.SameViews.{as_trees, named_item, viewed};
 ghost use Rattle.wasm_gen_view.specs.Views.{HasTypes, IsViewOf, global_type, item_type, memory_type, table_type};
@@ -65,4 +68,11 @@ pub fn valid_names_types()
     ensures made { (features : Features) (m : Made) → IsValidByIndex features m → HasTypes (made_spaces m) }
     ensures written { (features : Features) (m : Made) (counted : Bool) (bodies : List (List ℕ)) → IsValidByIndex features m
         → HasTypes (spaces_of (sections_with counted bodies m)) }
+{}
+
+/// Bytes that a made module is written as, and that a validator accepts, have one view: that of the made module and that of the valid module are equal by `==`.
+pub fn two_roads()
+    ensures { (features : Features) (held : List DefType) (m : Made) (counted : Bool) (bodies : List (List ℕ)) (bytes : List ℕ) (known : KnownModule) (v w : View)
+        → IsModule (has features CompactImports) bytes (sections_with counted bodies m) → IsValidated features held bytes (Ok known)
+        → IsViewOf (made_spaces m) v → IsViewOf (spaces_known known) w → ⟦<View as PartialEq>⟧.eq v w ≡ true }
 {}

@@ -18,6 +18,8 @@ mod encoded_bytes;
 #[cfg(test)]
 mod encoded_modules;
 #[cfg(test)]
+mod exported_names;
+#[cfg(test)]
 mod exports;
 #[cfg(test)]
 mod function_limits;
@@ -28,9 +30,13 @@ mod globals;
 #[cfg(test)]
 mod import_groups;
 #[cfg(test)]
+mod kept_reports;
+#[cfg(test)]
 mod kept_types;
 #[cfg(test)]
 mod lines;
+#[cfg(test)]
+mod many_groups;
 #[cfg(test)]
 mod other_limits;
 #[cfg(test)]

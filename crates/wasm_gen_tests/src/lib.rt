@@ -11,6 +11,8 @@ mod drawn_modules;
 #[cfg(test)]
 mod drawn_types;
 #[cfg(test)]
+mod drawn_views;
+#[cfg(test)]
 mod errors;
 #[cfg(test)]
 mod fakes;

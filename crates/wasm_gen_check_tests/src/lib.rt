@@ -1,4 +1,4 @@
-//! Tests of sessions on worked modules and on modules that the encoder makes, and of configurations from texts, through public calls alone.
+//! Tests of sessions and reports on worked modules and on modules that the encoder makes, and of configurations from texts, through public calls alone.
 #![tactic(auto)]
 
 #[cfg(test)]

@@ -59,7 +59,12 @@ fn has_one_view(alloc: Global, session: &mut Session, module: &Module) -> Option
 }
 
 // Does the same for the module of a seed. It is false, too, where everything is exported and this is too much.
-fn is_seen(alloc: Global, session: &mut Session, config: &Config, seed: &[u8]) -> Option<bool> {
+fn makes_one_view(
+    alloc: Global,
+    session: &mut Session,
+    config: &Config,
+    seed: &[u8],
+) -> Option<bool> {
     let made = new_module(alloc, config, seed);
     let found = match &made {
         Ok(module) => has_one_view(alloc, session, module),
@@ -72,7 +77,7 @@ fn is_seen(alloc: Global, session: &mut Session, config: &Config, seed: &[u8]) -
 }
 
 // Counts the modules of so many drawn seeds that have one view, in this session.
-fn count_seen(
+fn count_in(
     alloc: Global,
     session: &mut Session,
     config: &Config,
@@ -82,7 +87,7 @@ fn count_seen(
     let mut count = 0u32;
     for _ in 0..seeds {
         let seed = drawn_seed(alloc, numbers);
-        if is_seen(alloc, session, config, &seed)? {
+        if makes_one_view(alloc, session, config, &seed)? {
             count = count.saturating_add(1);
         }
     }
@@ -93,7 +98,7 @@ fn count_seen(
 fn count_of(alloc: Global, config: &Config, numbers: &mut Numbers, seeds: u32) -> Option<u32> {
     let features = features_of(alloc, config)?;
     let mut session = Session::new(alloc, features, ValidatorId::new(8));
-    let count = count_seen(alloc, &mut session, config, numbers, seeds);
+    let count = count_in(alloc, &mut session, config, numbers, seeds);
     drop(session);
     count
 }
@@ -104,8 +109,8 @@ fn count_drawn(alloc: Global, configs: u32, seeds: u32) -> Option<u32> {
     let mut count = 0u32;
     for _ in 0..configs {
         let config = drawn_config(alloc, &mut numbers);
-        let seen = count_of(alloc, &config, &mut numbers, seeds)?;
-        count = count.saturating_add(seen);
+        let found = count_of(alloc, &config, &mut numbers, seeds)?;
+        count = count.saturating_add(found);
     }
     Some(count)
 }

@@ -10,9 +10,9 @@ use wasm_gen_rows::new_session::{on_new_session, on_types_after, on_types_of_bot
 use wasm_test_rows::fields::{is_row, two_fields};
 use wasm_test_rows::rows::check_rows;
 
-// Modules: the letters of their groups, and their sections. Those of `e`, `f`, `g` and `i` have two types; those of the first three stand alone in others. The
-// generator makes `hh` of an open structure and its clone, and `i` of two structures that refer to each other. One with a `!` has a function whose body is refused, after which its groups stay in the list.
-const MODULES: &str = "
+/// Modules: the letters of their groups, and their sections. Those of `e`, `f`, `g` and `i` have two types; those of the first three stand alone in others. The
+/// generator makes `hh` of an open structure and its clone, and `i` of two structures that refer to each other. One with a `!` has a function whose body is refused, after which its groups stay in the list.
+pub const MODULES: &str = "
     a       | 01 04 01 600000
     b       | 01 06 01 60017f017c
     c       | 01 03 01 5f00
@@ -38,8 +38,8 @@ const MODULES: &str = "
     agf!    | 01 14 03 600000 4e025f005f00 4e0260000060017f017c functions 0a03010100
 ";
 
-// The same of modules that are valid under features of the first version.
-const FUNCTIONS: &str = "
+/// The same of modules that are valid under features of the first version.
+pub const FUNCTIONS: &str = "
     a       | 01 04 01 600000
     b       | 01 06 01 60017f017c
     aa      | 01 07 02 600000 600000

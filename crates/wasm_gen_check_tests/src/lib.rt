@@ -1,4 +1,4 @@
-//! Tests of sessions on worked modules and on modules that the encoder makes, and of configurations from texts, through public calls alone.
+//! Tests of sessions and reports on worked modules and on modules that the encoder makes, and of configurations from texts, through public calls alone.
 #![tactic(auto)]
 
 #[cfg(test)]
@@ -20,6 +20,8 @@ mod encoded_modules;
 #[cfg(test)]
 mod explanations;
 #[cfg(test)]
+mod exported_names;
+#[cfg(test)]
 mod exports;
 #[cfg(test)]
 mod function_limits;
@@ -30,9 +32,13 @@ mod globals;
 #[cfg(test)]
 mod import_groups;
 #[cfg(test)]
+mod kept_reports;
+#[cfg(test)]
 mod kept_types;
 #[cfg(test)]
 mod lines;
+#[cfg(test)]
+mod many_groups;
 #[cfg(test)]
 mod other_limits;
 #[cfg(test)]

@@ -41,12 +41,22 @@ pub fn is_text_of(text: &[u8], lines: &str) -> bool {
     rest.is_empty()
 }
 
+/// Writes the report on a module. Returns true where the module is valid, and none where there is no report.
+pub fn put_report(
+    alloc: Global,
+    session: &mut Session,
+    bytes: &[u8],
+    written: &mut Vec<u8>,
+) -> Option<bool> {
+    let mut reader = bytes;
+    run_report(alloc, session, &mut reader, written).ok()
+}
+
 /// Checks that the report of a row is written of its module.
 pub fn has_report(alloc: Global, session: &mut Session, row: &str) -> Option<bool> {
     let (_, sections, report) = three_fields(row)?;
     let bytes = module_of(alloc, sections)?;
-    let mut reader = bytes.as_slice();
     let mut written = Vec::new(alloc);
-    let answer = run_report(alloc, session, &mut reader, &mut written);
-    Some(answer == Ok(!report.starts_with("no ")) && is_text_of(&written, report))
+    let is_valid = put_report(alloc, session, &bytes, &mut written)?;
+    Some(is_valid != report.starts_with("no ") && is_text_of(&written, report))
 }

@@ -1,10 +1,11 @@
 //! Rows of a module, and what new sessions answer on it.
 
+use crate::many_groups::has_groups;
 use crate::reports::has_report;
 use crate::views::{has_exports, has_line};
 use crate::{
     custom_sections, cuts, data_segments, elements, exports, function_limits, functions, globals,
-    lines, other_limits, other_sections, reports, tables, types, value_types,
+    lines, many_groups, other_limits, other_sections, reports, tables, types, value_types,
 };
 use std::alloc::Global;
 use std::test::Fail;
@@ -130,6 +131,7 @@ fn holds(alloc: Global, row: &str) -> Option<bool> {
     match word {
         "line" => on_new_session(alloc, features_of(features)?, row, has_line),
         "exports" => on_new_session(alloc, features_of(features)?, row, has_exports),
+        "groups" => on_new_session(alloc, features_of(features)?, row, has_groups),
         "report" => on_new_session(alloc, features_of(features)?, row, has_report),
         _ => are_answers(alloc, way, sections, expected),
     }
@@ -147,6 +149,7 @@ fn new_sessions_give_these_answers(rt: HostRuntime) -> Result<(), Fail> {
         (functions::ROWS, functions::COUNT),
         (globals::ROWS, globals::COUNT),
         (lines::ROWS, lines::COUNT),
+        (many_groups::ROWS, many_groups::COUNT),
         (other_limits::ROWS, other_limits::COUNT),
         (other_sections::ROWS, other_sections::COUNT),
         (reports::ROWS, reports::COUNT),

@@ -19,14 +19,14 @@ pub fn drawn_bytes(alloc: Global, numbers: &mut Numbers, len: u32, made_odd: u32
     bytes
 }
 
-// Returns a configuration.
-fn drawn_config(alloc: Global, numbers: &mut Numbers) -> Config {
+/// Returns a configuration.
+pub fn drawn_config(alloc: Global, numbers: &mut Numbers) -> Config {
     let bytes = drawn_bytes(alloc, numbers, 64, 2);
     Config::arbitrary(&mut Unstructured::new(&bytes))
 }
 
-// Returns 10 to 4,000 bytes. Those of two thirds of the seeds are odd more often, so that growing goes on.
-fn drawn_seed(alloc: Global, numbers: &mut Numbers) -> Vec<u8> {
+/// Returns 10 to 4,000 bytes. Those of two thirds of the seeds are odd more often, so that growing goes on.
+pub fn drawn_seed(alloc: Global, numbers: &mut Numbers) -> Vec<u8> {
     let len = numbers.below(3991).wrapping_add(10);
     let made_odd = numbers.below(3).wrapping_mul(2);
     drawn_bytes(alloc, numbers, len, made_odd)

@@ -69,8 +69,8 @@ pub fn new_module(alloc: Global, config: &Config, seed: &[u8]) -> Result<Module,
     Module::new(alloc, config, &mut Unstructured::new(seed))
 }
 
-// Returns the features of what is made for the configuration.
-fn features_of(alloc: Global, config: &Config) -> Option<WasmFeatures> {
+/// Returns the features of what is made for the configuration.
+pub fn features_of(alloc: Global, config: &Config) -> Option<WasmFeatures> {
     let mut config = config.try_clone(alloc).ok()?;
     config.sanitize();
     Some(config.features())

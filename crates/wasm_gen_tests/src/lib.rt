@@ -1,5 +1,5 @@
-//! Tests of the words of `wasm_gen`'s command line, of its commands over readers and writers, and of the modules that are made of seeds and of the seeds for
-//! lists, through public calls.
+//! Tests of the words of `wasm_gen`'s command line, of its commands over readers and writers, and of the modules that are made of seeds with
+//! their views, and of the seeds for lists, through public calls.
 #![tactic(auto)]
 
 #[cfg(test)]
@@ -10,6 +10,8 @@ mod drawn_groups;
 mod drawn_modules;
 #[cfg(test)]
 mod drawn_types;
+#[cfg(test)]
+mod drawn_views;
 #[cfg(test)]
 mod errors;
 #[cfg(test)]

@@ -12,8 +12,8 @@ use wasm_smith_config_rows::shaped::with_shapes;
 use wasm_test_rows::fields::two_fields;
 use wasm_test_rows::rows::check_rows;
 
-// Configurations, and shapes of modules. In these a type's index stands in brackets.
-const MODULES: &str = "
+/// Configurations, and shapes of modules. In these a type's index stands in brackets.
+pub const MODULES: &str = "
     default | / /
     default | func -> ; / /
     default | func i32 -> i32 ; / one m f func [0] ; / g func [0], h func [0]
@@ -36,8 +36,8 @@ const MODULES: &str = "
     default | func -> * 20; struct [0]? [19]? * 20; / many m : a func [3], b func [19], c global mut:[39]?, d tag [7], e table [25]? 1..2 ; / f func [19], g global [20]?, h tag [5]
 ";
 
-// The same of imports.
-const IMPORTS: &str = "
+/// The same of imports.
+pub const IMPORTS: &str = "
     default | / /
     default | func -> ; / /
     default | / one m a global i32 ; one m b global i64 ; one m c global f32 ; one m d global f64 ; one m e global v128 ; /
@@ -60,8 +60,8 @@ const IMPORTS: &str = "
     default | ; func -> * 20; struct [0]? [19]? * 20; / many m : a func [3], b func [19], c global mut:[39]?, d tag [7], e table [25]? 1..2 ; same m func [1] : f g ; /
 ";
 
-// The same of exports.
-const EXPORTS: &str = "
+/// The same of exports.
+pub const EXPORTS: &str = "
     default | / /
     default | func -> ; / /
     default | func i32 -> i32 ; func i64 -> ; / / f func [0], g func [0], h tag [1]
@@ -118,12 +118,18 @@ fn are_made(alloc: Global, config: &Config, purpose: &str, text: &str, seeds: u3
     true
 }
 
-// Checks a row with a shape for this use.
-fn holds(alloc: Global, purpose: &str, row: &str) -> Option<bool> {
+/// Returns the configuration of a row with a shape for this use.
+pub fn config_for(alloc: Global, purpose: &str, row: &str) -> Option<Config> {
     let (settings, text) = two_fields(row)?;
     let written = moved_text(alloc, text, 0)?;
     let field = format!(in alloc; "{purpose} {written}").ok()?;
-    let config = with_shapes(alloc, config_in(settings)?, &field)?;
+    with_shapes(alloc, config_in(settings)?, &field)
+}
+
+// Checks a row with a shape for this use.
+fn holds(alloc: Global, purpose: &str, row: &str) -> Option<bool> {
+    let (_settings, text) = two_fields(row)?;
+    let config = config_for(alloc, purpose, row)?;
     Some(are_made(alloc, &config, purpose, text, 200))
 }
 

@@ -207,6 +207,95 @@ static void configs(void) {
     configured("threads_enabled = true\ncustom_page_sizes_enabled = true", WASM_GEN_THREADS | WASM_GEN_CUSTOM_PAGE_SIZES, WASM_GEN_MULTI_MEMORY);
 }
 
+/* Number of lines of a report that begin with this word. */
+static uint64_t lines_of(const uint8_t *report, size_t length, const char *word) {
+    uint64_t lines = 0;
+    size_t letters = strlen(word);
+    for (size_t i = 0; i + letters < length; i++)
+        lines += (!i || report[i - 1] == '\n') && !memcmp(report + i, word, letters) && report[i + letters] == ' ';
+    return lines;
+}
+
+/* Writes the report's text into a large buffer, and returns its length. It tells what the verdict does. */
+static size_t reported(const uint8_t *bytes, size_t bytes_length, uint8_t *report) {
+    struct wasm_gen_verdict it;
+    uint32_t kind = wasm_gen_check(bytes, bytes_length, wasm_gen_features_default(), &it);
+    size_t length;
+    want(wasm_gen_report(bytes, bytes_length, wasm_gen_features_default(), report, ROOM, &length) == kind, "a report's code", bytes_length);
+    if (kind) {
+        char line[16] = "no ";
+        size_t letters = wasm_gen_kind_name(kind, line + 3, 12);
+        line[3 + letters] = '\n';
+        want(length == letters + 4 && !memcmp(report, line, length), "the line of a refusal", bytes_length);
+        return length;
+    }
+    static const char *const words[] = {"index", "function", "table", "memory", "global", "tag", "element", "export"};
+    const uint64_t counts[] = {it.types, it.functions, it.tables, it.memories, it.globals, it.tags, it.elements, it.exports};
+    for (int i = 0; i < 8; i++) want(lines_of(report, length, words[i]) == counts[i], words[i], bytes_length);
+    want(!length || report[length - 1] == '\n', "the end of a report", bytes_length);
+    return length;
+}
+
+/* The report on these bytes in buffers of all lengths up to one that is longer than it. */
+static void reports_of(const uint8_t *bytes, size_t bytes_length) {
+    static uint8_t report[ROOM];
+    size_t needed = reported(bytes, bytes_length, report), length;
+    uint32_t kind = wasm_gen_report(bytes, bytes_length, wasm_gen_features_default(), report, sizeof report, &length);
+    for (size_t room = 0; room < needed + 8; room++) {
+        uint8_t *buffer = filled(room);
+        int fits = room >= needed;
+        uint32_t code = wasm_gen_report(bytes, bytes_length, wasm_gen_features_default(), buffer, room, &length);
+        want(code == (fits ? kind : WASM_GEN_BUFFER) && length == needed, "a report's code and length", room);
+        want(!fits || !memcmp(buffer, report, needed), "a report that is written", room);
+        want(is_filled(buffer + fits * needed, room - fits * needed), "what stands beside a report", room);
+        __real_free(buffer);
+    }
+    want(wasm_gen_report(bytes, bytes_length, wasm_gen_features_default(), NULL, 0, &length) == (needed ? WASM_GEN_BUFFER : kind) && length == needed,
+        "a report without a buffer", needed);
+}
+
+/* Bits that are no features have no report. */
+static void unreported(void) {
+    for (int bit = 22; bit < 32; bit++) {
+        uint8_t *buffer = filled(64);
+        size_t length = 1;
+        want(wasm_gen_report(inputs[0].bytes, inputs[0].length, 1u << bit, buffer, 64, &length) == WASM_GEN_FEATURES, "a report under no feature", bit);
+        want(!length && is_filled(buffer, 64), "after a report under no feature", bit);
+        __real_free(buffer);
+    }
+}
+
+static void reports(void) {
+    static const uint8_t module[] = "\0asm\1\0\0\0\1\4\1\140\0\0\3\2\1\0\7\5\1\1\"\0\0\12\5\1\3\0\0\13";
+    static const char text[] = "type 0.0 final - func [] []\nindex 0 0.0\nfunction 0 0.0\nexport \"\\22\" function 0.0\n";
+    static uint8_t made[ROOM], report[ROOM];
+    size_t length = reported(module, sizeof module - 1, report);
+    want(length == sizeof text - 1 && !memcmp(report, text, length), "a report", length);
+    want(reported(module, 8, report) == 0, "the report on a header", 0);
+    want(wasm_gen_report(module, sizeof module - 2, 0, report, ROOM, &length) == WASM_GEN_MALFORMED, "the report on what is cut off", length);
+    want(length == 13 && !memcmp(report, "no malformed\n", 13), "the line on what is cut off", length);
+    want(wasm_gen_report((const uint8_t *)"\0asm\1\0\0\0\5\3\1\4\1", 13, WASM_GEN_MEMORY64, report, ROOM, &length) == WASM_GEN_YES, "a feature", length);
+    want(wasm_gen_report((const uint8_t *)"\0asm\1\0\0\0\5\3\1\4\1", 13, 0, report, ROOM, &length) != WASM_GEN_YES, "no feature", length);
+    reports_of(module, sizeof module - 1);
+    reports_of(NULL, 0);
+    unreported();
+    for (int i = 0; i < count; i++) {
+        for (size_t end = 0; end < inputs[i].length && end < 1024; end++) reported(inputs[i].bytes, end, report);
+        reports_of(inputs[i].bytes, inputs[i].length);
+        want(wasm_gen_generate(NULL, 0, inputs[i].bytes, inputs[i].length < 1024 ? inputs[i].length : 1024, made, ROOM, &length) == WASM_GEN_YES, "a module", i);
+        reported(made, length, report);
+    }
+}
+
+/* Writes the report on the first file to standard output, and ends as the program does. */
+static void report(void) {
+    static uint8_t text[ROOM];
+    size_t length;
+    uint32_t kind = wasm_gen_report(inputs[0].bytes, inputs[0].length, wasm_gen_features_default(), text, ROOM, &length);
+    want(fwrite(text, 1, length, stdout) == length && !fflush(stdout), "standard output", length);
+    exit(kind != WASM_GEN_YES);
+}
+
 /* A call of each kind, and what they answer, as one number. */
 static uint64_t round_of(int i) {
     static __thread uint8_t module[ROOM];
@@ -215,6 +304,8 @@ static uint64_t round_of(int i) {
     uint32_t features;
     uint64_t sum = wasm_gen_check(inputs[i].bytes, inputs[i].length, wasm_gen_features_default(), &it);
     sum = sum * 31 + it.offset + it.types + it.functions + it.exports;
+    sum = sum * 31 + wasm_gen_report(inputs[i].bytes, inputs[i].length, wasm_gen_features_default(), module, ROOM, &length);
+    sum = sum * 31 + length + (length ? module[length - 1] : 0);
     sum = sum * 31 + wasm_gen_features_of_config((const uint8_t *)numbers, sizeof numbers - 1, &features);
     sum = sum * 31 + wasm_gen_generate(NULL, 0, inputs[i].bytes, inputs[i].length < 1024 ? inputs[i].length : 1024, module, ROOM, &length);
     return sum * 31 + features + length + (length ? module[length - 1] : 0);
@@ -268,6 +359,23 @@ static void refused_config(const char *config, uint32_t kind) {
     want(code == kind && !features == (kind != WASM_GEN_YES), config, code);
 }
 
+/* Nothing is reported where an allocation is refused, each in turn, unless it is one that is only to save time. */
+static void refused_report(const uint8_t *bytes, size_t bytes_length) {
+    static uint8_t right[ROOM], report[ROOM];
+    size_t needed = reported(bytes, bytes_length, right), length;
+    uint32_t kind = wasm_gen_report(bytes, bytes_length, wasm_gen_features_default(), right, ROOM, &length), code;
+    for (long number = 1;; number++) {
+        memset(report, FILL, needed + 8);
+        taken = 0, refused = number;
+        code = wasm_gen_report(bytes, bytes_length, wasm_gen_features_default(), report, ROOM, &length);
+        refused = 0;
+        want(held == 0, "blocks that are held after a report", number);
+        int is_right = code == kind && length == needed && !memcmp(report, right, needed) && is_filled(report + needed, 8);
+        want(is_right || (taken >= number && code == WASM_GEN_MEMORY && !length && is_filled(report, needed + 8)), "a report without memory", number);
+        if (taken < number) break;
+    }
+}
+
 static void refusals_of(int i) {
     struct wasm_gen_verdict it, right;
     size_t seed_length = inputs[i].length < 1024 ? inputs[i].length : 1024;
@@ -277,6 +385,7 @@ static void refusals_of(int i) {
     for (; refused_check(i, number, &it), taken >= number; number++)
         want((is_refusal(&it, WASM_GEN_MEMORY, it.offset) && it.offset <= inputs[i].length) || !memcmp(&it, &right, sizeof it), "a verdict without memory", number);
     want(!memcmp(&it, &right, sizeof it), "a verdict with memory", number);
+    refused_report(inputs[i].bytes, inputs[i].length);
     refused_seed("", inputs[i].bytes, seed_length);
     refused_seed(numbers, inputs[i].bytes, seed_length);
 }
@@ -319,10 +428,10 @@ int main(int words, char **word) {
     static const struct {
         const char *name;
         void (*run)(void);
-    } tests[] = {{"codes", codes}, {"checks", checks}, {"buffers", buffers}, {"configs", configs}, {"million", million}, {"refusals", refusals}, {"threads", threads}};
+    } tests[] = {{"codes", codes}, {"checks", checks}, {"buffers", buffers}, {"configs", configs}, {"reports", reports}, {"report", report}, {"million", million}, {"refusals", refusals}, {"threads", threads}};
     for (int i = 2; i < words; i++) read_input(word[i]);
     held = taken = 0;
-    for (int i = 0; i < 7 && words > 2; i++)
+    for (int i = 0; i < 9 && words > 2; i++)
         if (!strcmp(word[1], tests[i].name)) return tests[i].run(), 0;
     return 2;
 }

@@ -1,5 +1,5 @@
-/* Validates WebAssembly modules, and makes valid ones from seeds and configurations. `./wasm_gen_c` proves and builds the library. It needs malloc,
- * realloc, free, memcpy, memmove and memset from the program that it is linked into, and a processor of x86-64-v2.
+/* Validates WebAssembly modules, reports what they have, and makes valid ones from seeds and configurations. `./wasm_gen_c` proves and builds the
+ * library. It needs malloc, realloc, free, memcpy, memmove and memset from the program that it is linked into, and a processor of x86-64-v2.
  *
  * A call borrows its arguments until it returns, and keeps none of them. It reads the bytes, the configuration and the seed, and writes the
  * buffer, the verdict, the features and the length alone; these must not overlap with any other argument. All memory that it allocates is
@@ -30,7 +30,7 @@ enum wasm_gen_kind {
     WASM_GEN_BODY = 5,         /* valid but for the bytes of a body, or its typing */
     WASM_GEN_MEMORY = 9,       /* out of memory: no verdict */
     WASM_GEN_FEATURES = 10,    /* unknown feature bit */
-    WASM_GEN_BUFFER = 11,      /* the buffer is too short for the module */
+    WASM_GEN_BUFFER = 11,      /* the buffer is too short for the module or the report */
     WASM_GEN_CONFIG_TEXT = 12, /* the text is no configuration */
     WASM_GEN_CONFIG = 13,      /* a value of the configuration isn't allowed */
     WASM_GEN_MINIMUM = 15,     /* fewer items than the configuration's minimum can be made */
@@ -108,6 +108,16 @@ size_t wasm_gen_kind_name(uint32_t kind, char *buffer, size_t length);
  * WASM_GEN_BODY, WASM_GEN_MEMORY or WASM_GEN_FEATURES. A small body can need gigabytes of operands (calls of a function with a thousand
  * results); a system that overcommits may then end the process. */
 uint32_t wasm_gen_check(const uint8_t *bytes, size_t length, uint32_t features, struct wasm_gen_verdict *verdict);
+
+/* Validates a module as wasm_gen_check does, and reports on it: writes a text, in ASCII and without a zero at its end, to the front of the buffer
+ * if it fits. Other bytes of the buffer stay as they are. Sets *report_length to the text's length, whether it fits or not.
+ *
+ * The text of a valid module has a line for each type of a group, each item of an index space, imported ones first, and each export, as README shows
+ * for the program's `report`; it is empty if there are none. That of a refused one is `no`, a space, the name of its kind and a newline. If the text
+ * doesn't fit, returns WASM_GEN_BUFFER, be the module valid or not: call again with a buffer of *report_length bytes. Else returns WASM_GEN_YES, or
+ * the kind of the refusal, from WASM_GEN_MALFORMED to WASM_GEN_BODY. If there is no text, returns WASM_GEN_MEMORY or WASM_GEN_FEATURES, and sets
+ * *report_length to 0. */
+uint32_t wasm_gen_report(const uint8_t *bytes, size_t length, uint32_t features, uint8_t *buffer, size_t buffer_length, size_t *report_length);
 
 /* Makes a module by a configuration from a seed, which may be any bytes; equal configurations and seeds make equal modules. Sets
  * *module_length to the module's length, or to 0 if none is made. Returns WASM_GEN_YES after writing the module to the front of the buffer, or

@@ -6,6 +6,7 @@ ghost use Rattle.wasm_gen_c_api.specs.Buffers.{buffer_with};
 ghost use Rattle.wasm_gen_c_api.specs.Codes.{code_name};
 ghost use Rattle.wasm_gen_c_api.specs.ConfigTexts.{AreTold};
 ghost use Rattle.wasm_gen_c_api.specs.Generate.{IsMade, generated_features};
+ghost use Rattle.wasm_gen_c_api.specs.Report.{IsReportOf};
 ghost use Rattle.wasm_gen_c_api.specs.Verdicts.{IsChecked};
 ghost use Rattle.wasm_spec.specs.Features.{default_features};
 
@@ -13,6 +14,7 @@ use std::alloc::Global;
 use wasm_gen_c_api::check::{check, default_features};
 use wasm_gen_c_api::codes::put_name;
 use wasm_gen_c_api::generate::{features_of_config, generate, generated_features};
+use wasm_gen_c_api::report::report;
 use wasm_gen_c_api::verdict::Verdict;
 
 /// The version of these calls: another number where one takes or answers something else.
@@ -73,6 +75,21 @@ pub extern "C" fn wasm_gen_check(
 {
     *verdict = check(alloc, bytes, features);
     verdict.kind
+}
+
+/// Validates the bytes of a module under these features, fills in the length of the report on it in bytes, writes the report at the buffer's front where it
+/// fits, and gives a code.
+#[unsafe(no_mangle)]
+pub extern "C" fn wasm_gen_report(
+    alloc: Global,
+    bytes: &[u8],
+    features: u32,
+    buffer: &mut [u8],
+    report_length: &mut usize,
+) -> u32
+    ensures { IsReportOf features bytes.now buffer.old buffer.new report_length.new result }
+{
+    report(alloc, bytes, features, buffer, report_length)
 }
 
 /// Makes the module of a seed by a text's configuration, fills in its length in bytes, writes it at the buffer's front where it fits, and gives a code.

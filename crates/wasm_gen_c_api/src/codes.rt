@@ -12,6 +12,9 @@ use wasmparser_error::error::ErrorKind;
 /// The module is valid, or what was asked for was written.
 pub const YES: u32 = 0;
 
+/// Memory ran out.
+pub const MEMORY: u32 = 9;
+
 /// A bit of the features stands for none.
 pub const UNKNOWN_FEATURES: u32 = 10;
 
@@ -23,9 +26,6 @@ pub const CONFIG_TEXT: u32 = 12;
 
 // A limit is passed, of the bytes or of what is made.
 const LIMIT: u32 = 3;
-
-// Memory ran out.
-const MEMORY: u32 = 9;
 
 /// Returns the code of a refusal by the validator, from 1 to 9.
 pub fn kind_code(kind: ErrorKind) -> u32

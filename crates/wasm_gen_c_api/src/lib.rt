@@ -6,4 +6,5 @@ pub mod check;
 pub mod codes;
 pub mod generate;
 pub mod laws;
+pub mod report;
 pub mod verdict;

@@ -1,18 +1,9 @@
 -- The report on a module.
 use Rattle.std.specs.Prelude.{◌≡◌, ℕ, List, Result, Ok, Err}
-use Rattle.wasm_validity.specs.IndexSpaces.{Spaces}
 use Rattle.wasmparser_error.specs.declared.error.Error.{Error}
 use Rattle.wasmparser_validator.specs.KnownSpaces.{KnownModule, spaces_known}
-use Rattle.wasm_gen_view.specs.Text.{view_text}
-use Rattle.wasm_gen_view.specs.Views.{IsViewOf}
-use Rattle.wasm_gen_view.specs.declared.view.View.{View}
+use Rattle.wasm_gen_view.specs.TypesText.{IsViewText}
 use Rattle.wasm_gen_program.specs.Verdict.{verdict_line}
-
--- it is the text of a view of these index spaces
-pub record IsViewText (s : Spaces) (text : List ℕ) : Type 0 where
-  pub view : View
-  pub is_view : IsViewOf s view
-  pub is_text : text ≡ view_text view
 
 -- it is the report on a verdict: the text of a valid module's view, or the line of a refusal
 abbrev pub IsReport : Result KnownModule Error → List ℕ → Type 0

@@ -10,4 +10,5 @@ pub mod Text
 pub mod TypeNumbers
 pub mod TypeText
 pub mod Types
+pub mod TypesText
 pub mod Views

@@ -29,6 +29,7 @@ mod type_hash;
 mod type_numbers;
 mod type_text;
 pub mod types;
+pub mod types_text;
 pub mod types_view;
 pub mod view;
 mod written_types;

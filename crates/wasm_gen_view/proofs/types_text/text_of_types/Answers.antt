@@ -1,6 +1,6 @@
 use Rattle.std.specs.Global.{Vec}
 use Rattle.std.proofs.Common.{ℕ, ap, ◌∙◌}
-use Rattle.wasm_gen_program.proofs.report.view_text.Goals as goal
+use Rattle.wasm_gen_view.proofs.types_text.text_of_types.Goals as goal
 
 pub returns : goal.returns
 returns c =

@@ -9,4 +9,6 @@ pub use wasm_gen_program::{
     check_inputs, config_file, device, report, run, status, transfer, verdict,
 };
 pub use wasm_gen_sessions::{generate, judge, laws, seed, session, smith};
-pub use wasm_gen_view::{laws as view_laws, module_view, types as view_types, types_view, view};
+pub use wasm_gen_view::{
+    laws as view_laws, module_view, types as view_types, types_text, types_view, view,
+};

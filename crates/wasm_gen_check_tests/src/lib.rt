@@ -18,6 +18,8 @@ mod encoded_bytes;
 #[cfg(test)]
 mod encoded_modules;
 #[cfg(test)]
+mod explanations;
+#[cfg(test)]
 mod exports;
 #[cfg(test)]
 mod function_limits;

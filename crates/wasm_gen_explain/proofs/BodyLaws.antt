@@ -1,0 +1,77 @@
+-- Where in a body a place is.
+use Rattle.std.proofs.Common.{◌≡◌, ◌≤◌, ◌<◌, inl, inr, ℕ, ◌-◌, length, List, [], Option, Some, None, sym, ap, subst, arith}
+use Rattle.wasm_core_read.specs.Input.{Input, GoesOn, end}
+use Rattle.wasm_core_read.specs.PartReading.{body_at}
+use Rattle.wasm_core_read.specs.TypeReading.{list_at}
+use Rattle.wasm_core_read.proofs.ReadingLaws.{some_is}
+use Rattle.wasmparser_operators.specs.OperatorReading.{code_at}
+use Rattle.wasmparser_payloads.specs.Locals.{run_at}
+use Rattle.wasmparser_readers.specs.Passing.{rest_of}
+use Rattle.wasm_gen_explain.specs.Bodies.{IsBefore, IsNextBody, IsOperatorAt, PassesBody, StandsAtBody, StandsInBody, StopsLocals, StopsSize}
+use Rattle.wasm_gen_explain.specs.Items.{EndsPast}
+use Rattle.wasm_gen_explain.specs.Operators.{ArePassed, StopsOperator, front_name}
+use Rattle.wasm_gen_explain.specs.declared.place.Place.{Place}
+use Rattle.wasm_gen_explain.specs.declared.place.Place.TheVariants as places
+
+past_place : {A : Type 0} (read : Option (A × List ℕ)) (old new : Input) (offset : ℕ) → rest_of read ≡ Some new.rest → GoesOn old new → offset < new.position → EndsPast (end old) offset read
+past_place None old new offset e g lt = absurd cc
+past_place (Some read) old new offset e g lt =
+    let same : read.1 ≡ new.rest = some_is read.1 new.rest e in
+    subst (λ (l : List ℕ). offset < end old - length l) (sym same) (omega (arith, lt, g.same_end))
+
+pub no_locals : (body : Input) (offset : ℕ) → list_at run_at body.rest ≡ None → StopsLocals body offset
+no_locals body offset e = inl e
+
+pub past_locals : (body first : Input) (offset : ℕ) → rest_of (list_at run_at body.rest) ≡ Some first.rest → GoesOn body first → offset < first.position → StopsLocals body offset
+past_locals body first offset e g lt = inr (past_place (list_at run_at body.rest) body first offset e g lt)
+
+pub at_operator : (body first now : Input) (offset number : ℕ) (name : List ℕ) → rest_of (list_at run_at body.rest) ≡ Some first.rest → GoesOn body first → ArePassed first offset number now → StopsOperator now offset
+    → name ≡ front_name (code_at now.rest) → IsOperatorAt body offset number name
+at_operator body first now offset number name e g passed stops named = record {
+  now = now;
+  past = record { first = first; locals = e; goes_on = g; operators = passed };
+  stops = stops;
+  named = named;
+}
+
+pub all_before : (body first now : Input) (offset number : ℕ) → rest_of (list_at run_at body.rest) ≡ Some first.rest → GoesOn body first → ArePassed first offset number now → now.rest ≡ [] → IsBefore body offset
+all_before body first now offset number e g passed ended = record { number = number; now = now; past = record { first = first; locals = e; goes_on = g; operators = passed }; ended = ended }
+
+-- what the search for a place in a body cites
+pub ruleset body_steps = (no_locals, past_locals, at_operator, all_before)
+
+-- ---- the next body
+
+pub no_size : (i : Input) (offset : ℕ) → body_at i.rest ≡ None → StopsSize i offset
+no_size i offset e = inl e
+
+next_body : (old new body : Input) → body_at old.rest ≡ Some (body.rest, new.rest) → GoesOn old new → body.features ≡ old.features → end body ≡ new.position → IsNextBody old body new.rest
+next_body old new body e g f at = record { reads = e; same_features = f; ends = omega (arith, at, g.same_end) }
+
+pub past_size : (old new body : Input) (offset : ℕ) → body_at old.rest ≡ Some (body.rest, new.rest) → GoesOn old new → body.features ≡ old.features → end body ≡ new.position → offset < body.position → StopsSize old offset
+past_size old new body offset e g f at lt = inr (body, new.rest, next_body old new body e g f at, lt)
+
+pub passed_early : (old new body : Input) (offset : ℕ) → body_at old.rest ≡ Some (body.rest, new.rest) → GoesOn old new → body.features ≡ old.features → end body ≡ new.position → new.position < offset → PassesBody old new offset
+passed_early old new body offset e g f at lt = record { body = body; is_next = next_body old new body e g f at; goes_on = g; ends = omega (arith, lt); whole = inl lt }
+
+-- all of a body is before a place, so its end is
+end_before : (body : Input) (offset : ℕ) → IsBefore body offset → end body ≤ offset
+end_before body offset b =
+    let none : length b.now.rest ≡ 0 = ap length b.ended in
+    omega (arith, none, b.past.goes_on.same_end, b.past.operators.goes_on.same_end, b.past.operators.begins)
+
+-- where a place is, by what is known of the body
+pub in_next : (function : ℕ) (old new body : Input) (offset : ℕ) (place : Option Place) → body_at old.rest ≡ Some (body.rest, new.rest) → GoesOn old new → body.features ≡ old.features → end body ≡ new.position → body.position ≤ offset
+    → StandsInBody function body offset place → StandsAtBody function old new offset place
+in_next function old new body offset None e g f at le h =
+    record { body = body; is_next = next_body old new body e g f at; goes_on = g; ends = omega (arith, at, end_before body offset h); whole = inr h }
+in_next function old new body offset (Some (places.Locals x)) e g f at le h = record { body = body; rest = new.rest; is_next = next_body old new body e g f at; begins = le; stands = h }
+in_next function old new body offset (Some (places.Operator x number name)) e g f at le h = record { body = body; rest = new.rest; is_next = next_body old new body e g f at; begins = le; stands = h }
+in_next function old new body offset (Some places.Header) e g f at le h = absurd h
+in_next function old new body offset (Some (places.Section id)) e g f at le h = absurd h
+in_next function old new body offset (Some (places.Entry id number)) e g f at le h = absurd h
+in_next function old new body offset (Some (places.Function x)) e g f at le h = absurd h
+in_next function old new body offset (Some places.End) e g f at le h = absurd h
+
+-- what the search for a place at the next body cites
+pub ruleset next_steps = (no_size, past_size, passed_early, in_next)

@@ -1,9 +1,9 @@
 -- The commands that some words ask for.
-use Rattle.std.proofs.Common.{◌≡◌, List, [], ◌∷◌, Some, None, codes, refl}
+use Rattle.std.proofs.Common.{◌≡◌, List, [], ◌∷◌, Some, None, true, false, codes, refl}
 use Rattle.clap.proofs.OnLiterals.{clap_on_literals}
 use Rattle.clap.specs.Words.{Text, fault_of, subcommand_of}
 use Rattle.clap.specs.declared.error.kind.ErrorKind.TheVariants as kind
-use Rattle.wasm_gen_program.specs.Asked.{command_of, files_of, reported_of, seed_of}
+use Rattle.wasm_gen_program.specs.Asked.{command_of, explains, files_of, reported_of, seed_of}
 use Rattle.wasm_gen_program.specs.CommandLine.{program}
 
 -- the program's name, which comes first
@@ -87,3 +87,11 @@ no_report = refl
 check_is_named : command_of (subcommand_of program (words (codes "check" ∷ codes "a" ∷ []))) ≡ Some (codes "check")
 unfolding clap_on_literals
 check_is_named = refl
+
+more_is_asked_for : explains (codes "check") (subcommand_of program (words (codes "check" ∷ codes "a" ∷ codes "--explain" ∷ []))) ≡ true
+unfolding clap_on_literals
+more_is_asked_for = refl
+
+more_is_not_asked_for : explains (codes "check") (subcommand_of program (words (codes "check" ∷ codes "a" ∷ []))) ≡ false
+unfolding clap_on_literals
+more_is_not_asked_for = refl

@@ -25,9 +25,9 @@ seed_of = found_for (codes "generate") (first_of (codes "SEED"))
 abbrev pub config_of : Option (Text × List Row) → Option Text
 config_of = found_for (codes "generate") (first_of (codes "config"))
 
--- true if more is to be told of a bad configuration
-abbrev pub explains : Option (Text × List Row) → Bool
-explains met = unwrap_or (option_map (bytes_eq (codes "true")) (found_for (codes "generate") (first_of (codes "explain")) met)) false
+-- true if this command is to tell more: of a bad configuration, or of a refused module
+abbrev pub explains : Text → Option (Text × List Row) → Bool
+explains command met = unwrap_or (option_map (bytes_eq (codes "true")) (found_for command (first_of (codes "explain")) met)) false
 
 -- the files that are to be validated
 abbrev pub files_of : Option (Text × List Row) → List Text
@@ -39,8 +39,8 @@ reported_of = found_for (codes "report") (first_of (codes "FILE"))
 
 -- what is asked for by the command that the words name, with what is found for it
 abbrev pub Asks : Option (Text × List Row) → Asked → Type 0
-Asks met (Generate asked) = (seed_of met ≡ Some asked.seed.now) × (config_of met ≡ option_map (λ name. name.now) asked.config) × (explains met ≡ asked.explain)
-Asks met (Check names) = (command_of met ≡ Some (codes "check")) × (map (λ name. name.now) names.items ≡ files_of met)
+Asks met (Generate asked) = (seed_of met ≡ Some asked.seed.now) × (config_of met ≡ option_map (λ name. name.now) asked.config) × (explains (codes "generate") met ≡ asked.explain)
+Asks met (Check asked) = (command_of met ≡ Some (codes "check")) × (map (λ name. name.now) asked.files.items ≡ files_of met) × (explains (codes "check") met ≡ asked.explain)
 Asks met (Report name) = reported_of met ≡ Some name.now
 Asks met (Help text) = ⊥
 

@@ -20,7 +20,7 @@ seed = record (new_rule (codes "SEED")) { required = true }
 abbrev pub config : Rule
 config = record (new_rule (codes "config")) { long = Some (codes "config"); value_names = 1 }
 
--- the flag by which `generate` tells more of a bad configuration
+-- the flag by which `generate` tells more of a bad configuration, and `check` of a refused module
 abbrev pub explain : Rule
 explain = record (new_rule (codes "explain")) { long = Some (codes "explain"); action = Some SetTrue }
 
@@ -29,7 +29,7 @@ abbrev pub file : Rule
 file = record (new_rule (codes "FILE")) { required = true }
 
 abbrev pub check : App
-check = with_rule (new_app (codes "check")) files
+check = with_rule (with_rule (new_app (codes "check")) explain) files
 
 abbrev pub report : App
 report = with_rule (new_app (codes "report")) file

@@ -3,7 +3,7 @@
 ghost use Rattle.std.specs.Prelude.{◌≡◌, ◌≢◌, ◌⊎◌, IfOk, IfErr, MatchOption, [], Err, None, Some, codes, map, option_map, unwrap_or};
 ghost use Rattle.std.specs.String.{string_bytes};
 ghost use Rattle.clap.specs.Words.{all_of, first_of, found_of, kind_of, rows_of, subcommand_rows_of};
-ghost use Rattle.wasm_gen_program.specs.Asked.{AreRefused, AskFor, Asks, CanBeAsked, IsHelp, command_of, found_for, seed_of};
+ghost use Rattle.wasm_gen_program.specs.Asked.{AreRefused, AskFor, Asks, CanBeAsked, IsHelp, command_of, explains, found_for, seed_of};
 
 use crate::command::matches_of;
 use clap::error::ErrorKind;
@@ -21,13 +21,22 @@ pub struct Generate<'a> {
     pub explain: bool,
 }
 
+/// The files of the command that validates modules.
+#[derive(Debug, Drop)]
+pub struct Check<'a> {
+    /// The names of the files that the modules are in.
+    pub files: Vec<&'a str>,
+    /// True if more is to be told of a refused module.
+    pub explain: bool,
+}
+
 /// A command of the program.
 #[derive(Debug, Drop)]
 pub enum Asked<'a> {
     /// To make a module.
     Generate(Generate<'a>),
-    /// To validate the files of these names.
-    Check(Vec<&'a str>),
+    /// To validate modules.
+    Check(Check<'a>),
     /// To show what the module in the file of this name has.
     Report(&'a str),
     /// To show this text.
@@ -60,16 +69,23 @@ fn value_of<'a>(matches: &ArgMatches<'a>, command: &str, id: &str) -> Option<&'a
     matches.subcommand_matches(command)?.get_str(id)
 }
 
+// Checks that a command is to tell more.
+fn explains(matches: &ArgMatches<'_>, command: &str) -> bool
+    ensures { result ≡ explains command.now (subcommand_rows_of matches.now) }
+{
+    match value_of(matches, command, "explain") {
+        Some(text) => "true" == text,
+        None => false,
+    }
+}
+
 // Returns the files of the command that makes a module, where one is to be made.
 fn generate_files<'a>(matches: &ArgMatches<'a>) -> Option<Generate<'a>>
     ensures { MatchOption result (seed_of (subcommand_rows_of matches.now) ≡ None) (λ asked. Asks (subcommand_rows_of matches.now) (Asked.Generate asked)) }
 {
     let seed = value_of(matches, "generate", "SEED")?;
     let config = value_of(matches, "generate", "config");
-    let explain = match value_of(matches, "generate", "explain") {
-        Some(text) => "true" == text,
-        None => false,
-    };
+    let explain = explains(matches, "generate");
     Some(Generate {
         seed,
         config,
@@ -88,17 +104,16 @@ fn file_names<'a>(alloc: Global, found: &ArgMatches<'a>) -> Result<Vec<&'a str>,
 }
 
 // Returns the files that are to be validated, where the words name `check`.
-fn check_files<'a>(
-    alloc: Global,
-    matches: &ArgMatches<'a>,
-) -> Result<Option<Vec<&'a str>>, AllocError>
+fn check_files<'a>(alloc: Global, matches: &ArgMatches<'a>) -> Result<Option<Check<'a>>, AllocError>
     ensures { IfOk result (λ found. MatchOption found (¬ (command_of (subcommand_rows_of matches.now) ≡ Some (codes "check")))
-        (λ names. Asks (subcommand_rows_of matches.now) (Asked.Check names))) }
+        (λ asked. Asks (subcommand_rows_of matches.now) (Asked.Check asked))) }
 {
-    match matches.subcommand_matches("check") {
-        Some(found) => Ok(Some(file_names(alloc, found)?)),
-        None => Ok(None),
-    }
+    let Some(found) = matches.subcommand_matches("check") else {
+        return Ok(None);
+    };
+    let files = file_names(alloc, found)?;
+    let explain = explains(matches, "check");
+    Ok(Some(Check { files, explain }))
 }
 
 // Returns the command of words in which nothing is wrong.
@@ -114,7 +129,7 @@ fn asked_by<'a>(alloc: Global, matches: &ArgMatches<'a>) -> Result<Asked<'a>, Wo
         return Ok(Asked::Report(name));
     }
     match check_files(alloc, matches)? {
-        Some(names) => Ok(Asked::Check(names)),
+        Some(files) => Ok(Asked::Check(files)),
         None => unreachable!(),
     }
 }

@@ -41,14 +41,14 @@ fn config<'a>(alloc: Global) -> Arg<'a>
         .help("A file with a configuration in TOML")
 }
 
-// Returns the flag by which `generate` tells more of a bad configuration.
-fn explain<'a>(alloc: Global) -> Arg<'a>
+// Returns the flag by which a command tells more, as this help says.
+fn explain<'a>(alloc: Global, help: &'a str) -> Arg<'a>
     ensures rule { rule_of result ≡ line.explain }
     ensures own { result.global ≡ false }
 {
     Arg::new(alloc, "explain")
         .long("explain")
-        .help("Says what is wrong with a bad configuration")
+        .help(help)
         .action(ArgAction::SetTrue)
 }
 
@@ -68,6 +68,7 @@ fn check<'a>(alloc: Global) -> Result<Command<'a>, AllocError>
 {
     Command::new(alloc, "check")
         .about("Says of each file whether it holds a valid module")
+        .arg(explain(alloc, "Says where a refused module is wrong"))?
         .arg(files(alloc))
 }
 
@@ -87,7 +88,7 @@ fn generate<'a>(alloc: Global) -> Result<Command<'a>, AllocError>
     Command::new(alloc, "generate")
         .about("Generates the module of a seed and writes it to standard output")
         .arg(config(alloc))?
-        .arg(explain(alloc))?
+        .arg(explain(alloc, "Says what is wrong with a bad configuration"))?
         .arg(seed(alloc))
 }
 

@@ -21,9 +21,11 @@ const ROWS: &str = "
     refusal  | report a       | none
     refusal  | report         | MissingRequiredArgument 2
     refusal  | report a b     | UnknownArgument 2
-    // The files that they name, all of them in turn, or the one; the seed, the configuration, and if more is to be told of that.
+    // The files that they name, all of them in turn, or the one, and if more is to be told of refused modules; the seed, the configuration, and if more is to be told of that.
     check    | check a        | a
     check    | check b a b    | b a b
+    explain  | check --explain b a | b a
+    explain  | check b --explain a | b a
     report   | report a       | a
     generate | generate a     | a - -
     generate | generate --config c a           | a c -
@@ -34,8 +36,8 @@ const ROWS: &str = "
     // A part of the help that they ask for, and the beginning of what is wrong with them.
     help     | --help         | Usage: wasm_gen <COMMAND>
     help     | help           | Usage: wasm_gen <COMMAND>
-    help     | help check     | Usage: wasm_gen check <FILE>...
-    help     | check a --help | Usage: wasm_gen check <FILE>...
+    help     | help check     | Usage: wasm_gen check [OPTIONS] <FILE>...
+    help     | check a --help | Usage: wasm_gen check [OPTIONS] <FILE>...
     help     | help report    | Usage: wasm_gen report <FILE>
     help     | help generate  | Usage: wasm_gen generate [OPTIONS] <SEED>
     wrong    |                | Makes and validates WebAssembly modules
@@ -101,7 +103,10 @@ fn are_files(files: &Generate<'_>, expected: &str) -> bool {
 // Checks that this is what is asked for.
 fn is_asked(asked: &Result<Asked<'_>, WordsError>, way: &str, expected: &str) -> bool {
     match asked {
-        Ok(Asked::Check(names)) => way == "check" && are(names.as_slice(), expected),
+        Ok(Asked::Check(asked)) => {
+            let told = if asked.explain { "explain" } else { "check" };
+            way == told && are(asked.files.as_slice(), expected)
+        }
         Ok(Asked::Generate(files)) => way == "generate" && are_files(files, expected),
         Ok(Asked::Report(name)) => way == "report" && *name == expected,
         Ok(Asked::Help(text)) => way == "help" && text.contains(expected),
@@ -128,5 +133,5 @@ fn holds(alloc: Global, row: &str) -> Option<bool> {
 
 #[test]
 fn words_ask_for_this(rt: HostRuntime) -> Result<(), Fail> {
-    Ok(check_rows(rt.alloc(), ROWS, 33, holds)?)
+    Ok(check_rows(rt.alloc(), ROWS, 35, holds)?)
 }

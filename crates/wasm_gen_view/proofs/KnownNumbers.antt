@@ -18,7 +18,6 @@ use Rattle.wasm_spec.proofs.GroupTrees.{length-places_of, opened-roll}
 use Rattle.wasm_spec.proofs.Places.{all_get, get_cases, get_left, get_right, get_some}
 use Rattle.wasm_spec.proofs.SectionTypes.{rules_in_range, types_from_more}
 use Rattle.wasm_spec.proofs.TypeMaps.{map-map, same_subs, subs_map-subs_map, subs_refs-map}
-use Rattle.wasm_validity_laws.proofs.PlainTypes.{plain_group}
 use Rattle.wasmparser_module_types.specs.ModuleTypes.{AreIds, AreKnownTypes, IsIdOf, KnownTypes, stands_for}
 use Rattle.wasmparser_types.specs.Index.{Index, Module, RecGroup, Id, number_of}
 use Rattle.wasmparser_validator.specs.TypeGroups.{AreOfGroups}
@@ -31,6 +30,7 @@ use Rattle.wasm_gen_view.specs.declared.types.TypePlace.{TypePlace}
 use Rattle.wasm_gen_view.specs.declared.types.TypeReference.{TypeReference}
 use Rattle.wasm_gen_view.specs.declared.types.TypeReference.TheVariants.{Own, Other}
 use Rattle.wasm_gen_view.proofs.KnownGroups.{range_count, range_there, type_in_group}
+use Rattle.wasm_gen_view.proofs.PlainGroups.{plain_group}
 use Rattle.wasm_gen_view.proofs.NumberLaws.{IsNext, all_append, one_more, same_places, there}
 use Rattle.wasm_gen_view.proofs.SameTrees.{numbered as tree_number}
 

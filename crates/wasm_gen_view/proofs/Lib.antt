@@ -10,6 +10,7 @@ pub mod MadeViews
 pub mod NamedTypes
 pub mod NumberLaws
 pub mod Numbering
+pub mod PlainGroups
 pub mod SameTrees
 pub mod SameViews
 pub mod TwoRoads

@@ -2,7 +2,7 @@ use Rattle.std.proofs.Common.{◌≡◌, ◌++◌, map, drop}
 use Rattle.wasm_gen_view.specs.SameViews.{named_item}
 use Rattle.wasm_gen_view.specs.Items.{exports_among}
 use Rattle.wasm_smith_definitions.specs.Items.{export}
-use Rattle.wasm_gen_view.proofs.made_exports.Items.exports.Given as goal
+use Rattle.wasm_gen_view.proofs.items.Items.exports.Given as goal
 
 abbrev pub invariant-loop-export : goal.invariant-loop-export
 invariant-loop-export l = record {

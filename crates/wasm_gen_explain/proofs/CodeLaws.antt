@@ -1,9 +1,11 @@
 -- In which body of a code section a place is.
-use Rattle.std.proofs.Common.{◌≡◌, ◌≤◌, ◌<◌, ℕ, ◌+◌, length, List, [], Some}
+use Rattle.std.proofs.Common.{◌≡◌, ◌≤◌, ◌<◌, ℕ, ◌+◌, length, List, [], Some, arith}
 use Rattle.wasm_core_read.specs.Input.{Input, GoesOn}
 use Rattle.wasm_core_read.specs.PartReading.{body_at}
+use Rattle.wasm_core_read.specs.Reading.{bytes_at, unsigned_at}
 use Rattle.wasm_core_read.specs.TypeReading.{items_at}
-use Rattle.wasm_core_read.proofs.ReadingLaws.{goes_further}
+use Rattle.wasm_core_read.proofs.ModuleForms.{number_shorter}
+use Rattle.wasm_core_read.proofs.ReadingLaws.{bind_some, bytes_length, goes_further}
 use Rattle.wasmparser_readers.specs.Passing.{rest_of}
 use Rattle.wasm_gen_explain.specs.Bodies.{GoesThrough, IsInOneOf, PassesBody, StandsAtBody, StandsInCode, bodies_at}
 use Rattle.wasm_gen_explain.specs.Items.{AreBefore}
@@ -13,6 +15,12 @@ use Rattle.wasm_gen_explain.specs.declared.place.Place.TheVariants as places
 use Rattle.wasm_gen_explain.proofs.ItemLaws.{all_before, item_passed, none_passed, one_more}
 use Rattle.wasm_gen_explain.proofs.ListLaws.{ends_items, has_more, in_count}
 
+body_shorter : (bytes content rest : List ℕ) → body_at bytes ≡ Some (content, rest) → length rest < length bytes
+unfolding body_at
+body_shorter bytes content rest e =
+    let n = bind_some (unsigned_at 32 bytes) (λ n. bytes_at n.0 n.1) (content, rest) e in
+    omega (arith, number_shorter 32 bytes n.0.0 n.0.1 n.1, (bytes_length n.0.0 n.0.1 content rest n.2).1)
+
 pub body_passed : (number : ℕ) (start : List ℕ) (old new : Input) (offset : ℕ) → rest_of (items_at body_at number start) ≡ Some old.rest → PassesBody old new offset → rest_of (items_at body_at (number + 1) start) ≡ Some new.rest
 body_passed number start old new offset e p = one_more body_at number start old.rest new.rest e (item_passed (body_at old.rest) p.body.rest new.rest p.is_next.reads)
 
@@ -21,6 +29,10 @@ gone_on start old new offset g p = goes_further start old new g p.goes_on
 
 pub ends_there : (old new : Input) (offset : ℕ) → PassesBody old new offset → new.position ≤ offset
 ends_there old new offset p = p.ends
+
+-- each body takes a byte
+pub few_on : (imported number : ℕ) (old new : Input) (offset : ℕ) → imported + number ≤ old.position → PassesBody old new offset → imported + (number + 1) ≤ new.position
+few_on imported number old new offset le p = omega (arith, le, body_shorter old.rest p.body.rest new.rest p.is_next.reads, p.goes_on.same_end)
 
 pub in_one : (imported count number : ℕ) (start old new : Input) (offset : ℕ) (place : Place) → number < count → rest_of (items_at body_at number start.rest) ≡ Some old.rest → GoesOn start old → old.position ≤ offset
     → StandsAtBody (imported + number) old new offset (Some place) → IsInOneOf imported count start offset place

@@ -1,5 +1,7 @@
 pub mod BodyLaws
 pub mod CodeLaws
+pub mod CountLaws
+pub mod ImportLaws
 pub mod ItemLaws
 pub mod ListLaws
 pub mod OperatorLaws

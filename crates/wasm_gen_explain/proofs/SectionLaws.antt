@@ -105,7 +105,7 @@ pub ruleset content_steps = (stands_in_code, stands_around, stands_in_entry, sta
 
 -- ---- the next section
 
-frame_reads : (bytes : List ℕ) (id : ℕ) (mid content rest : List ℕ) → byte_at bytes ≡ Some (id, mid) → body_at mid ≡ Some (content, rest) → frame_at bytes ≡ Some ((id, content), rest)
+pub frame_reads : (bytes : List ℕ) (id : ℕ) (mid content rest : List ℕ) → byte_at bytes ≡ Some (id, mid) → body_at mid ≡ Some (content, rest) → frame_at bytes ≡ Some ((id, content), rest)
 unfolding frame_at body_at
 frame_reads bytes id mid content rest h k =
     let n = bind_some (unsigned_at 32 mid) (λ n. bytes_at n.0 n.1) (content, rest) k in
@@ -120,7 +120,7 @@ none_sized : (read : Option (ℕ × List ℕ)) (id : ℕ) → (read >>= λ n. by
 none_sized None id e = refl
 none_sized (Some n) id e = rw e refl
 
-frame_unread : (bytes : List ℕ) (id : ℕ) (mid : List ℕ) → byte_at bytes ≡ Some (id, mid) → body_at mid ≡ None → frame_at bytes ≡ None
+pub frame_unread : (bytes : List ℕ) (id : ℕ) (mid : List ℕ) → byte_at bytes ≡ Some (id, mid) → body_at mid ≡ None → frame_at bytes ≡ None
 unfolding frame_at body_at
 frame_unread bytes id mid h k = rw h (none_sized (unsigned_at 32 mid) id k)
 

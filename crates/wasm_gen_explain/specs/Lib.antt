@@ -1,4 +1,5 @@
 pub mod Bodies
+pub mod Imports
 pub mod Items
 pub mod Lists
 pub mod Names

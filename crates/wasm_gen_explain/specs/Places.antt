@@ -1,31 +1,32 @@
 -- Where in a module a place is.
-use Rattle.std.specs.Prelude.{◌≡◌, ◌≤◌, ◌<◌, ◌⊎◌, ℕ, true, false, List, Some, nat_eq, drop}
+use Rattle.std.specs.Prelude.{◌≡◌, ◌≤◌, ◌<◌, ◌⊎◌, ℕ, true, false, List, length, Some, nat_eq, drop}
 use Rattle.std.specs.List.{starts_with}
 use Rattle.wasm_core_read.specs.Input.{Input, GoesOn}
 use Rattle.wasm_core_read.specs.ModuleReading.{frame_at}
 use Rattle.wasm_core_read.specs.TypeReading.{items_at}
-use Rattle.wasm_spec.specs.Features.{Features}
+use Rattle.wasm_spec.specs.Features.{CompactImports, Features, has}
 use Rattle.wasm_spec.specs.Grammar.{header}
 use Rattle.wasmparser_error.specs.declared.error.Error.{Error}
-use Rattle.wasmparser_readers.specs.Passing.{rest_of}
+use Rattle.wasm_gen_explain.specs.Imports.{functions_imported}
 use Rattle.wasm_gen_explain.specs.Sections.{StandsAtSection}
 use Rattle.wasm_gen_explain.specs.Text.{line_text}
 use Rattle.wasm_gen_explain.specs.declared.place.Place.{Place}
 use Rattle.wasm_gen_explain.specs.declared.place.Place.TheVariants as places
 
--- some sections end at a place or before it, and this is left
-pub record ArePast (start : Input) (offset : ℕ) (now : Input) : Type 0 where
-  pub number : ℕ
-  pub passed : rest_of (items_at frame_at number start.rest) ≡ Some now.rest
+-- some sections end at a place or before it, which import so many functions, and this is left
+pub record ArePast (start : Input) (offset imported : ℕ) (now : Input) : Type 0 where
+  pub sections : List (ℕ × List ℕ)
+  pub passed : items_at frame_at (length sections) start.rest ≡ Some (sections, now.rest)
   pub goes_on : GoesOn start now
   pub before : now.position ≤ offset
+  pub counted : imported ≡ functions_imported (has start.features CompactImports) sections
 
 -- a place is in the first section that doesn't end at the place or before it, or that doesn't read; or else at the end
 pub record StandsAmong (start : Input) (offset : ℕ) (place : Place) : Type 0 where
   pub now : Input
   pub next : Input
-  pub past : ArePast start offset now
   pub imported : ℕ
+  pub past : ArePast start offset imported now
   pub stands : StandsAtSection imported now next offset (Some place)
 
 -- what follows the header

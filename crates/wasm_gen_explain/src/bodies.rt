@@ -66,16 +66,17 @@ fn place_at_body(function: u64, reader: &mut BinaryReader<'_>, offset: u64) -> O
 // Returns where in the next bodies, of which there are so many, a place is. Passes all of them where it is in none. Their functions come after so many others.
 #[tactic(auto, using(crate::proofs::CodeLaws::bodies_loop))]
 fn place_at_bodies(
-    imported: u32,
+    imported: u64,
     count: u32,
     reader: &mut BinaryReader<'_>,
     offset: u64,
 ) -> Option<Place>
-    requires { reader.old.position ≤ offset }
+    requires before { reader.old.position ≤ offset }
+    requires few { imported ≤ reader.old.position }
     ensures { GoesThrough imported count reader.old reader.new offset result }
 {
     for number in 0..count {
-        let function = u64::from(imported) + u64::from(number);
+        let function = imported + u64::from(number);
         let place = place_at_body(function, reader, offset);
         if place.is_some() {
             return place;
@@ -87,10 +88,11 @@ fn place_at_bodies(
 // Returns where in a code section a place is, whose functions come after so many imported ones. None where all of it reads and ends at the place or before it.
 #[tactic(auto, using(crate::proofs::CodeLaws::code_steps))]
 pub(crate) fn place_in_code(
-    imported: u32,
+    imported: u64,
     content: &mut BinaryReader<'_>,
     offset: u64,
 ) -> Option<Place>
+    requires { imported ≤ content.old.position }
     ensures { StandsInCode imported content.old offset result }
 {
     let Some(count) = read_count(content, offset) else {

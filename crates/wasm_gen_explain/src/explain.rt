@@ -4,8 +4,7 @@ ghost use Rattle.std.specs.Prelude.{◌≡◌, ◌≤◌, IfOk, string_bytes};
 ghost use Rattle.wasm_core_types.specs.Features.{feature_set};
 ghost use Rattle.wasm_gen_explain.specs.Places.{Explains, StandsAmong, StandsIn};
 
-use crate::bodies::read_sized;
-use crate::imported::imported_functions;
+use crate::imported::next_imported;
 use crate::place::Place;
 use crate::sections::place_at_section;
 use crate::text::line;
@@ -18,20 +17,6 @@ use wasmparser_readers::passing::fork;
 // The first bytes of each module.
 const HEADER: [u8; 8] = [0x00, 0x61, 0x73, 0x6d, 0x01, 0x00, 0x00, 0x00];
 
-// The id of import sections.
-const IMPORTS: u8 = 2;
-
-// Returns how many functions are imported after the next section, where so many were before it. A module has at most one section of imports.
-fn imported_after(alloc: Global, imported: u32, reader: &mut BinaryReader<'_>) -> u32 {
-    if reader.peek() != Some(IMPORTS) || reader.read_u8().is_err() {
-        return imported;
-    }
-    match read_sized(reader) {
-        Ok(content) => imported_functions(alloc, &content),
-        Err(_) => imported,
-    }
-}
-
 // Returns where in a module's sections a place is.
 #[tactic(auto, using(crate::proofs::PlaceLaws::section_loop))]
 fn place_in_sections(
@@ -42,13 +27,13 @@ fn place_in_sections(
     requires { reader.old.position ≤ offset }
     ensures { IfOk result (StandsAmong reader.old offset) }
 {
-    let mut imported = 0;
+    let mut imported: u64 = 0;
     'sections: while !reader.eof() {
         let mut section = fork(reader);
         if let Some(place) = place_at_section(alloc, imported, reader, offset)? {
             return Ok(place);
         }
-        imported = imported_after(alloc, imported, &mut section);
+        imported += next_imported(&mut section);
     }
     Ok(Place::End)
 }

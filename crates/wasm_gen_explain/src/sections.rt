@@ -1,6 +1,6 @@
 //! Sections by places.
 
-ghost use Rattle.std.specs.Prelude.{◌≡◌, ◌≢◌, ◌<◌, IfOk, true};
+ghost use Rattle.std.specs.Prelude.{◌≡◌, ◌≢◌, ◌≤◌, ◌<◌, IfOk, true};
 ghost use Rattle.wasm_core_read.specs.Input.{end};
 ghost use Rattle.wasm_core_read.specs.Reading.{filled, name_at, unsigned_at};
 ghost use Rattle.wasm_gen_explain.specs.Sections.{FindsIn, StandsAtSection, StandsInContent, StandsInWhole};
@@ -92,10 +92,11 @@ fn find_in_section(
 fn place_in_content(
     alloc: Global,
     id: u8,
-    imported: u32,
+    imported: u64,
     content: &mut BinaryReader<'_>,
     offset: u64,
 ) -> Result<Option<Place>, AllocError>
+    requires { imported ≤ content.old.position }
     ensures { IfOk result (StandsInContent imported content.old offset id) }
 {
     if id == CODE {
@@ -112,10 +113,11 @@ fn place_in_content(
 #[tactic(auto, using(crate::proofs::SectionLaws::section_steps))]
 pub(crate) fn place_at_section(
     alloc: Global,
-    imported: u32,
+    imported: u64,
     reader: &mut BinaryReader<'_>,
     offset: u64,
 ) -> Result<Option<Place>, AllocError>
+    requires { imported ≤ reader.old.position }
     ensures { IfOk result (StandsAtSection imported reader.old reader.new offset) }
 {
     let Ok(id) = reader.read_u8() else {

@@ -37,7 +37,7 @@ at_operator body first now offset number name e g passed stops named = record {
 pub all_before : (body first now : Input) (offset number : ℕ) → rest_of (list_at run_at body.rest) ≡ Some first.rest → GoesOn body first → ArePassed first offset number now → now.rest ≡ [] → IsBefore body offset
 all_before body first now offset number e g passed ended = record { number = number; now = now; past = record { first = first; locals = e; goes_on = g; operators = passed }; ended = ended }
 
--- what the search for a place in a body cites
+-- (cited by the search for a place in a body)
 pub ruleset body_steps = (no_locals, past_locals, at_operator, all_before)
 
 -- ---- the next body
@@ -73,5 +73,5 @@ in_next function old new body offset (Some (places.Entry id number)) e g f at le
 in_next function old new body offset (Some (places.Function x)) e g f at le h = absurd h
 in_next function old new body offset (Some places.End) e g f at le h = absurd h
 
--- what the search for a place at the next body cites
+-- (cited by the search for a place at the next body)
 pub ruleset next_steps = (no_size, past_size, passed_early, in_next)

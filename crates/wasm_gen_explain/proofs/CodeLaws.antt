@@ -38,7 +38,7 @@ pub in_one : (imported count number : ℕ) (start old new : Input) (offset : ℕ
     → StandsAtBody (imported + number) old new offset (Some place) → IsInOneOf imported count start offset place
 in_one imported count number start old new offset place lt e g le h = record { number = number; now = old; next = new; among = lt; passed = e; goes_on = g; before = le; stands = h }
 
--- what a loop over bodies cites
+-- (cited by a loop over bodies)
 pub ruleset bodies_loop = (none_passed, body_passed, gone_on, ends_there, in_one, all_before)
 
 -- ---- code sections
@@ -61,5 +61,5 @@ code_more content items offset count rest b h more = has_more bodies_at content 
 pub code_count : (content : Input) (offset : ℕ) → StopsCount content offset → StopsAround bodies_at content offset
 code_count content offset h = in_count bodies_at content offset h
 
--- what the search for a place in a code section cites
+-- (cited by the search for a place in a code section)
 pub ruleset code_steps = (code_place, code_ends, code_more, code_count)

@@ -37,7 +37,7 @@ name_shorter bytes name rest e =
 pub after_name : (old new : Input) (name : List ℕ) → name_at old.rest ≡ Some (name, new.rest) → GoesOn old new → old.position + 1 ≤ new.position
 after_name old new name e g = omega (arith, name_shorter old.rest name new.rest e, g.same_end)
 
--- what counting names cites
+-- (cited by counting names)
 pub ruleset name_steps = (after_name)
 
 -- ---- types
@@ -65,7 +65,7 @@ type_counts bytes v rest e = by_read (external_type_at bytes) (sym (external_is 
 pub type_unread : (bytes : List ℕ) → packed_external_at bytes ≡ None → seen_at functions_in external_type_at bytes ≡ None
 type_unread bytes e = rw (external_unread bytes e) refl
 
--- what counting a type cites
+-- (cited by counting a type)
 pub ruleset type_steps = (type_counts, type_unread)
 
 -- ---- imports of a group
@@ -89,7 +89,7 @@ pub item_unread : (bytes : List ℕ) → name_at bytes ≡ None → seen_at (λ 
 unfolding import_item_at
 item_unread bytes e = rw e refl
 
--- what counting an import cites
+-- (cited by counting an import)
 pub ruleset item_steps = (after_name, item_counts, item_unread)
 
 abbrev items_count : List ImportItem → ℕ
@@ -106,7 +106,7 @@ items_counted bytes two mid total e h = rw e (by_read (list_at import_item_at mi
 pub items_unread : (bytes : List ℕ) → bytes_at 2 bytes ≡ None → seen_at (λ x. counted (λ item. functions_in item.type) x.1) (pair_at (bytes_at 2) (list_at import_item_at)) bytes ≡ None
 items_unread bytes e = rw e refl
 
--- what counting a group of imports cites
+-- (cited by counting a group of imports)
 pub ruleset items_steps = (items_counted, items_unread)
 
 -- ---- names of a group
@@ -183,7 +183,7 @@ no_names bytes two mid after each e f g =
     none_read None h = refl
     none_read (Some l) h = absurd cc
 
--- what counting a group of names cites
+-- (cited by counting a group of names)
 pub ruleset names_steps = (no_functions, all_functions, no_group, no_type, no_names)
 
 -- ---- entries
@@ -290,7 +290,7 @@ pub entry_unread : (compact : Bool) (bytes : List ℕ) → name_at bytes ≡ Non
 unfolding import_at
 entry_unread compact bytes e = rw e refl
 
--- what counting an entry cites
+-- (cited by counting an entry)
 pub ruleset entry_steps = (entry_unread)
 
 -- ---- a section
@@ -338,7 +338,7 @@ none_counted compact bytes e = by_read (list_at (import_at compact) bytes) e
 pub no_more : (old new : Input) (n : ℕ) → GoesOn old new → old.position + n ≤ new.position → n ≤ length old.rest
 no_more old new n g le = omega (arith, g.same_end, le)
 
--- what counting the imports of a section cites
+-- (cited by counting the imports of a section)
 pub ruleset section_steps = (all_counted, not_filled, none_counted, no_more)
 
 -- ---- the next section
@@ -384,5 +384,5 @@ frame_parts (b ∷ bs) id content rest e =
     let long = bytes_length n.0.0 n.0.1 c.0.0 c.0.1 c.1 in
     omega (arith, number_shorter 32 bs n.0.0 n.0.1 n.1, long.0, long.1, ap length same, ap length left)
 
--- what counting the imports of the next section cites
+-- (cited by counting the imports of the next section)
 pub ruleset next_steps = (no_next, other_next, unread_next, imports_next)

@@ -36,7 +36,7 @@ ends_past indexes old new offset v read e g lt = subst (λ r. Stops indexes old 
 pub item_passed : {A : Type 0} (read : Option (A × List ℕ)) (v : A) (rest : List ℕ) → read ≡ Some (v, rest) → rest_of read ≡ Some rest
 item_passed read v rest e = rw e refl
 
--- what passing an item cites
+-- (cited by passing an item)
 pub ruleset item_steps = (refused, ends_past, item_passed)
 
 -- ---- items
@@ -97,5 +97,5 @@ all_before item_at count number offset i now le ge e g before =
     let same : number ≡ count = omega (arith, le, ge) in
     record { passed = ap (λ (k : ℕ). rest_of (items_at item_at k i.rest)) (sym same) ∙ e; ends = omega (arith, before, g.same_end) }
 
--- what a loop over items cites
+-- (cited by a loop over items)
 pub ruleset item_loop = (none_passed, one_more, found, all_before)

@@ -17,7 +17,7 @@ no_count content offset e = inl e
 pub past_count : (content items : Input) (offset count : ℕ) → unsigned_at 32 content.rest ≡ Some (count, items.rest) → GoesOn content items → offset < items.position → StopsCount content offset
 past_count content items offset count e g lt = inr (subst (λ r. EndsPast (end content) offset r) (sym e) (omega (arith, lt, g.same_end)))
 
--- what reading the number of items cites
+-- (cited by reading the number of items)
 pub ruleset count_steps = (count_reads, no_count, past_count)
 
 -- ---- the items
@@ -38,5 +38,5 @@ pub ends_items : {A : Type 0} (item_at : Features → ReadingOf A) (content item
 ends_items item_at content items offset count [] b h none = record { count = count; items = items; begins = b; before = h }
 ends_items item_at content items offset count (x ∷ xs) b h none = absurd omega (arith, none)
 
--- what the search for an entry cites
+-- (cited by the search for an entry)
 pub ruleset list_steps = (in_count, at_entry, has_more, ends_items)

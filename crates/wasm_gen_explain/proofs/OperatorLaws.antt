@@ -21,7 +21,7 @@ past read v old new offset e g lt = subst (λ r. EndsPast (end old) offset r) (s
 pub ends_past : (old new : Input) (offset : ℕ) → EndsPast (end old) offset (operator_at old.features old.rest) → StopsOperator old offset
 ends_past old new offset h = inr h
 
--- what passing an operator cites
+-- (cited by passing an operator)
 pub ruleset operator_steps = (refused, past, ends_past, item_passed)
 
 pub none_yet : (i : Input) (offset : ℕ) → i.position ≤ offset → ArePassed i offset 0 i
@@ -39,7 +39,7 @@ pub nothing_left : (bytes : List ℕ) → length bytes ≡ 0 → bytes ≡ []
 nothing_left [] e = refl
 nothing_left (b ∷ bs) e = absurd omega (arith, e)
 
--- what a loop over operators cites
+-- (cited by a loop over operators)
 pub ruleset operator_loop = (none_yet, one_operator, nothing_left)
 
 pub no_name : (bytes : List ℕ) → byte_at bytes ≡ None → [] ≡ front_name (code_at bytes)
@@ -52,5 +52,5 @@ unfolding byte_at code_at
 name_after [] b rest e = absurd cc
 name_after (c ∷ cs) b rest e = ap (λ (x : ℕ × List ℕ). front_name (code_from x.0 x.1)) (some_is (c, cs) (b, rest) e)
 
--- what naming an operator cites
+-- (cited by naming an operator)
 pub ruleset name_steps = (no_name, name_after)

@@ -103,7 +103,7 @@ no_byte (b ∷ bs) e = absurd omega (arith, e)
 pub at_end : (start old : Input) (offset imported : ℕ) → ArePast start offset imported old → length old.rest ≡ 0 → StandsAmong start offset places.End
 at_end start old offset imported a none = record { now = old; next = old; imported = imported; past = a; stands = no_section (no_byte old.rest none) }
 
--- what a loop over sections cites
+-- (cited by a loop over sections)
 pub ruleset section_loop = (none_past, one_past, few_past, new_before, fewer_left, among, at_end)
 
 -- ---- the header
@@ -119,11 +119,11 @@ pub after : {E : Type 0} (features : Features) (bytes : List ℕ) (offset : ℕ)
 after features bytes offset start (Ok place) le begins e s = in_sections place le begins (subst (λ i. StandsAmong i offset place) e s)
 after features bytes offset start (Err error) le begins e s = s
 
--- what the search for a place in a module cites
+-- (cited by the search for a place in a module)
 pub ruleset header_steps = (early, no_header, after)
 
 pub told : (features : Features) (bytes : List ℕ) (error : Error) (place : Place) (text : List ℕ) → StandsIn features bytes error.offset place → text ≡ line_text place error → Explains features bytes error text
 told features bytes error place text s e = record { place = place; stands = s; told = e }
 
--- what the explanation cites
+-- (cited by the explanation)
 pub ruleset tells = (told)

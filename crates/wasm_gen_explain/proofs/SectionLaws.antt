@@ -34,7 +34,7 @@ no_number read e = rw e refl
 pub is_read : {A : Type 0} (read : Option A) (x : A) → read ≡ Some x → ¬ (read ≡ None)
 is_read read x e = rw e (λ f. absurd cc)
 
--- what the search in a content that is read whole cites
+-- (cited by the search in a content that is read whole)
 pub ruleset whole_steps = (unfilled, is_filled, no_number, is_read)
 
 -- ---- contents by ids
@@ -85,7 +85,7 @@ finds_segments content offset id result e h = subst (λ (k : ℕ). IfOk result (
 pub finds_tags : {E : Type 0} (content : Input) (offset id : ℕ) (result : Result Found E) → id ≡ 13 → IfOk result (StandsInList (λ (features : Features). tag_type_at) no_refs content offset) → IfOk result (FindsIn content offset id)
 finds_tags content offset id result e h = subst (λ (k : ℕ). IfOk result (FindsIn content offset k)) (sym e) (if_ok result (λ found h. in_tags h) h)
 
--- what the search by an id cites
+-- (cited by the search by an id)
 pub ruleset id_steps = (finds_custom, finds_start, finds_data_count, finds_unknown, finds_types, finds_imports, finds_functions, finds_tables, finds_memories, finds_globals, finds_exports, finds_elements, finds_segments, finds_tags)
 
 pub stands_in_code : (imported : ℕ) (content : Input) (offset id : ℕ) (place : Option Place) → id ≡ 10 → StandsInCode imported content offset place → StandsInContent imported content offset id place
@@ -100,7 +100,7 @@ stands_in_entry imported content offset id number found h e = in_entry (subst (�
 pub stands_past : (imported : ℕ) (content : Input) (offset id : ℕ) (found : Found) → FindsIn content offset id found → found ≡ Past → StandsInContent imported content offset id None
 stands_past imported content offset id found h e = past (subst (λ f. FindsIn content offset id f) e h)
 
--- what the search in a content cites
+-- (cited by the search in a content)
 pub ruleset content_steps = (stands_in_code, stands_around, stands_in_entry, stands_past)
 
 -- ---- the next section
@@ -185,5 +185,5 @@ frame_stands imported old mid new content offset id None h g k m f at le s =
     let last = content_ends imported content offset id s in
     passed (record { id = id; content = content; frame = frame; goes_on = on; further = goes_past old mid new content id frame on; ends = omega (arith, at, last); whole = inr s })
 
--- what the search for a place at the next section cites
+-- (cited by the search for a place at the next section)
 pub ruleset section_steps = (ended, frame_none, frame_before, frame_passed, frame_stands)

@@ -10,8 +10,7 @@ const HEADER: &[u8] = b"\0asm\x01\0\0\0";
 const CUT_HEADER: &[u8] = b"\0asm\x01\0\0";
 
 // A function type, a function of it, and its body, which adds operands that aren't there.
-const BODY: &[u8] =
-    b"\0asm\x01\0\0\0\x01\x04\x01\x60\0\0\x03\x02\x01\0\x0a\x05\x01\x03\0\x6a\x0b";
+const BODY: &[u8] = b"\0asm\x01\0\0\0\x01\x04\x01\x60\0\0\x03\x02\x01\0\x0a\x05\x01\x03\0\x6a\x0b";
 
 const NAMES: &[&str] = &["cut", "whole", "absent", "body"];
 

@@ -29,5 +29,5 @@ pub const ROWS: &str = "
     explained | types 03 02 01 01 code             | no invalid | at offset 17: section function, entry 0
     explained all | 05 cb 01 65 0001*101           | no limit | at offset 212: section memory, entry 100; the limit Memories is 100
     explained | types functions 0a 05 01 03 00 6a 0b          | no body | at offset 23: function 0, operator 0 (i32.add)
-    explained | types functions 0a 09 01 07 00 41 00 fd 0f 1a 0b | no operator | at offset 25: function 0, operator 1 (i8x16.splat)
+    explained | types functions 0a 09 01 07 00 41 00 fd 0f 1a 0b | no operator | at offset 27: function 0, operator 1
 ";

@@ -24,7 +24,7 @@ no body
 const FAULTS: &str = "absent: cannot read
 ";
 
-const FAULTS_AND_EXPLANATIONS: &str = "cut: at offset 7: header
+const FAULTS_AND_EXPLANATIONS: &str = "cut: at offset 0: header
 absent: cannot read
 body: at offset 23: function 0, operator 0 (i32.add)
 ";

@@ -6,7 +6,7 @@ pub mod error;
 
 pub use wasm_gen_config::{bad_key, config_error, read as config};
 pub use wasm_gen_program::{
-    check_inputs, config_file, device, report, run, status, transfer, verdict,
+    check_inputs, config_file, device, explanation, report, run, status, transfer, verdict,
 };
 pub use wasm_gen_sessions::{generate, judge, laws, seed, session, smith};
 pub use wasm_gen_view::{

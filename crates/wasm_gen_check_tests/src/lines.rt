@@ -1,9 +1,9 @@
-//! The lines that are written of modules, and what they export.
+//! The lines that are written of modules, their explanations, and what modules export.
 
 /// How many rows there are.
-pub const COUNT: usize = 19;
+pub const COUNT: usize = 25;
 
-/// Features, sections, and the line on their module, or what it exports.
+/// Features, sections, and the line on their module, with its explanation, if it is asked for, or what it exports.
 pub const ROWS: &str = "
     line |                                | yes types=0 functions=0 tables=0 memories=0 globals=0 tags=0 elements=0 exports=0
     line | types functions code           | yes types=1 functions=1 tables=0 memories=0 globals=0 tags=0 elements=0 exports=0
@@ -24,4 +24,10 @@ pub const ROWS: &str = "
     line all | 01 05 01 60 00 01 7f 0d 03 01 00 00 | yes types=1 functions=0 tables=0 memories=0 globals=0 tags=1 elements=0 exports=0
     line | types functions 0a 03 01 01 00 | no body
     line | types 03 02 01 01 code         | no invalid
+    explained | types functions code               | yes types=1 functions=1 tables=0 memories=0 globals=0 tags=0 elements=0 exports=0 |
+    explained | 01 ff                              | no malformed | at offset 9: section type
+    explained | types 03 02 01 01 code             | no invalid | at offset 17: section function, entry 0
+    explained all | 05 cb 01 65 0001*101           | no limit | at offset 212: section memory, entry 100; the limit Memories is 100
+    explained | types functions 0a 05 01 03 00 6a 0b          | no body | at offset 23: function 0, operator 0 (i32.add)
+    explained | types functions 0a 09 01 07 00 41 00 fd 0f 1a 0b | no operator | at offset 27: function 0, operator 1
 ";

@@ -2,7 +2,7 @@
 
 use crate::many_groups::has_groups;
 use crate::reports::has_report;
-use crate::views::{has_exports, has_line};
+use crate::views::{has_explanation, has_exports, has_line};
 use crate::{
     custom_sections, cuts, data_segments, elements, exports, function_limits, functions, globals,
     lines, many_groups, other_limits, other_sections, reports, tables, types, value_types,
@@ -130,6 +130,7 @@ fn holds(alloc: Global, row: &str) -> Option<bool> {
     let (word, features) = word_and_rest(way);
     match word {
         "line" => on_new_session(alloc, features_of(features)?, row, has_line),
+        "explained" => on_new_session(alloc, features_of(features)?, row, has_explanation),
         "exports" => on_new_session(alloc, features_of(features)?, row, has_exports),
         "groups" => on_new_session(alloc, features_of(features)?, row, has_groups),
         "report" => on_new_session(alloc, features_of(features)?, row, has_report),

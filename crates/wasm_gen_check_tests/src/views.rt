@@ -2,11 +2,11 @@
 
 use std::alloc::Global;
 use wasm_gen::judge::{CoreExports, TypesRef};
-use wasm_gen::run::run_check;
+use wasm_gen::run::{run_check, run_check_explained};
 use wasm_gen::session::Session;
 use wasm_gen_rows::modules::module_of;
 use wasm_gen_rows::new_session::{on_types, renew};
-use wasm_test_rows::fields::three_fields;
+use wasm_test_rows::fields::{four_fields, three_fields};
 
 // Checks that the session writes the line.
 fn writes(alloc: Global, session: &mut Session, bytes: &[u8], line: &str) -> bool {
@@ -90,4 +90,35 @@ pub fn has_line(alloc: Global, session: &mut Session, row: &str) -> Option<bool>
     let is_shown = is_shown(alloc, session, &bytes, line);
     renew(alloc, session);
     Some(is_shown && writes(alloc, session, &bytes, line))
+}
+
+// Checks that the session writes the line, and explains it so, where that is asked for.
+fn explains(
+    alloc: Global,
+    session: &mut Session,
+    bytes: &[u8],
+    line: &str,
+    explanation: Option<&str>,
+    asked: bool,
+) -> bool {
+    let mut reader = bytes;
+    let mut written = Vec::new(alloc);
+    match run_check_explained(alloc, session, &mut reader, &mut written, asked) {
+        Ok(checked) => {
+            checked.is_yes == line.starts_with("yes")
+                && checked.explanation.as_deref() == explanation
+                && written.strip_suffix(b"\n") == Some(line.as_bytes())
+        }
+        Err(_) => false,
+    }
+}
+
+/// Checks that the line of a row is written of its module, and is explained as the row says where that is asked for, and else not.
+pub fn has_explanation(alloc: Global, session: &mut Session, row: &str) -> Option<bool> {
+    let (_, sections, line, explanation) = four_fields(row)?;
+    let bytes = module_of(alloc, sections)?;
+    let explanation = (!explanation.is_empty()).then_some(explanation);
+    let is_explained = explains(alloc, session, &bytes, line, explanation, true);
+    renew(alloc, session);
+    Some(is_explained && explains(alloc, session, &bytes, line, None, false))
 }

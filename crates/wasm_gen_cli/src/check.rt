@@ -1,12 +1,13 @@
 //! The command `check`.
 
-use crate::fault::{tell, tell_of_file};
+use crate::fault::{tell, tell_explanation, tell_of_file};
 use std::io::{Write, writer};
 use std::rt::Files;
 use std::{fs, io};
 use wasm_gen::check_inputs::{Inputs, check_inputs};
 use wasm_gen::error::RunError;
 use wasm_gen::status::status_of;
+use wasm_gen_program::asked::Check;
 
 // The files of a runtime, by their names.
 #[derive(Drop)]
@@ -26,6 +27,10 @@ impl<R: Files + Eprint> Inputs for NamedFiles<'_, R> {
     fn tell(&mut self, fault: RunError, name: &str) {
         let _ = tell_of_file(self.0, fault, name);
     }
+
+    fn explain(&mut self, text: &str, name: &str) {
+        tell_explanation(self.0, text, name);
+    }
 }
 
 // A writer that is flushed after each write, so that a full disk is seen.
@@ -44,11 +49,13 @@ impl<W: Write> Write for Flushed<W> {
     }
 }
 
-/// Validates the files in turn by one session, tells each fault, and gives the program's status. A failed write ends the run; after
-/// any other fault the next file follows.
-pub fn check_files<R: Files + Print + Eprint + AllocGlobal>(rt: &R, names: &[&str]) -> u8 {
+/// Validates the files in turn by one session, tells each fault, explains each no where that is asked for, and gives the program's status. A failed write ends the
+/// run; after any other fault the next file follows.
+pub fn check_files<R: Files + Print + Eprint + AllocGlobal>(rt: &R, asked: &Check<'_>) -> u8 {
     let mut files = NamedFiles(rt);
-    match check_inputs(rt.alloc(), &mut files, names, &mut Flushed(writer(rt))) {
+    let names = asked.files.as_slice();
+    let mut out = Flushed(writer(rt));
+    match check_inputs(rt.alloc(), &mut files, names, &mut out, asked.explain) {
         Ok(outcomes) => status_of(&outcomes),
         Err(_) => tell(rt, RunError::Memory),
     }

@@ -18,13 +18,21 @@ pub fn tell<R: Eprint>(rt: &R, e: RunError) -> u8
 pub fn tell_of_file<R: Eprint>(rt: &R, e: RunError, name: &str) -> u8
     ensures { result ≡ 2 }
 {
-    // A name that isn't UTF-8 ends with a NUL.
-    let shown = name.strip_suffix('\0').unwrap_or(name);
     let _ = match e {
-        RunError::Read => eprintln!(rt; "wasm_gen: {e} {shown}"),
+        RunError::Read => eprintln!(rt; "wasm_gen: {e} {}", shown(name)),
         _ => eprintln!(rt; "wasm_gen: {e}"),
     };
     status_of(&[Outcome::Fault])
+}
+
+/// Tells where the error of a file stands that was refused.
+pub fn tell_explanation<R: Eprint>(rt: &R, text: &str, name: &str) {
+    let _ = eprintln!(rt; "wasm_gen: {}: {text}", shown(name));
+}
+
+// Returns a name as it is shown: one that isn't UTF-8 ends with a NUL.
+fn shown(name: &str) -> &str {
+    name.strip_suffix('\0').unwrap_or(name)
 }
 
 /// Tells why no module is made, and gives the status of a refusal.

@@ -36,7 +36,7 @@ fn run<R: Env + Files + Print + Eprint + AllocGlobal>(rt: &R) -> u8 {
 fn run_command<R: Files + Print + Eprint + AllocGlobal>(rt: &R, asked: &Asked<'_>) -> u8 {
     match asked {
         Asked::Generate(files) => generate::generate_from_files(rt, *files),
-        Asked::Check(asked) => check::check_files(rt, asked.files.as_slice()),
+        Asked::Check(asked) => check::check_files(rt, asked),
         Asked::Report(name) => report::report_file(rt, name),
         Asked::Help(text) => show(rt, text.as_str()),
     }

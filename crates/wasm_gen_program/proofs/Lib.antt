@@ -1,5 +1,6 @@
 mod CheckInputsLaws
 pub mod Examples
+mod ExplanationLaws
 pub mod Faults
 pub mod Found
 mod NamedCommand

@@ -2,6 +2,7 @@ pub mod Asked
 pub mod CheckInputs
 pub mod CommandLine
 pub mod Device
+pub mod Explanation
 pub mod Input
 pub mod Inputs
 pub mod ReadConfig

@@ -1,5 +1,5 @@
 -- Runs that read a module, validate it and write a text on the verdict.
-use Rattle.std.specs.Prelude.{◌≡◌, ◌≢◌, ◌≤◌, ◌⊎◌, ◌^◌, ℕ, List, length, Bool, Option, Result, is_ok, IfErr, IfOk, IsErrAnd}
+use Rattle.std.specs.Prelude.{◌≡◌, ◌≢◌, ◌≤◌, ◌⊎◌, ◌^◌, ℕ, List, length, Bool, Option, Result, is_ok, IfErr, IfOk, IsErrAnd, Vec}
 use Rattle.std.specs.Io.KnownBytes.{Appends}
 use Rattle.wasmparser_error.specs.declared.error.Error.{Error}
 use Rattle.wasmparser_error.specs.declared.error.ErrorKind.TheVariants.{Memory}
@@ -7,12 +7,14 @@ use Rattle.wasmparser_validator.specs.KnownSpaces.{KnownModule}
 use Rattle.wasm_gen_sessions.specs.History.{History}
 use Rattle.wasm_gen_sessions.specs.Session.{Checks}
 use Rattle.wasm_gen_program.specs.Device.{SinkView, SourceView}
+use Rattle.wasm_gen_program.specs.Explanation.{IsExplanation, explanation_of}
 use Rattle.wasm_gen_program.specs.Input.{ReadsInput, WritesOutput}
 use Rattle.wasm_gen_program.specs.Report.{IsReport}
 use Rattle.wasm_gen_program.specs.Transfer.{ConsumesAll, AppendsFront}
 use Rattle.wasm_gen_program.specs.Verdict.{IsLine}
 use Rattle.wasm_gen_program.specs.declared.error.RunError.{RunError}
 use Rattle.wasm_gen_program.specs.declared.error.RunError.TheVariants as runs
+use Rattle.wasm_gen_program.specs.declared.explanation.Checked.{Checked}
 
 -- the reader's bytes are read to their end, and the session answers so on them
 pub record ChecksInput (old new : History) (unread left : Option (List ℕ)) (verdict : Result KnownModule Error) : Type 0 where
@@ -48,6 +50,11 @@ pub record WritesVerdict (IsText : Result KnownModule Error → List ℕ → Typ
   pub written : Appends before after text
   pub answer : is_yes ≡ is_ok verdict
 
+-- the line of that verdict is written, and nothing else, and this is the answer, with the explanation of the verdict, if there is one
+pub record WritesExplained (asked : Bool) (old new : History) (unread left before after : Option (List ℕ)) (checked : Checked) : Type 0 where
+  pub line : WritesVerdict IsLine old new unread left before after checked.is_yes
+  pub explained : IsExplanation asked old.features line.reached.validated.input line.verdict (explanation_of checked)
+
 -- a front of that text is written, which is not all of it, and nothing else
 pub record WritesFront (IsText : Result KnownModule Error → List ℕ → Type 0) (old new : History) (unread left before after : Option (List ℕ)) : Type 0 where
   pub verdict : Result KnownModule Error
@@ -64,17 +71,23 @@ pub record LeavesSession {A : Type 0} (RunsOut : Result KnownModule Error → Ty
   pub features : new.features ≡ old.features
   pub id : new.id ≡ old.id
 
+-- a module of these bytes is read, and this verdict reached
+pub record ReachesOn (old new : History) (unread left : Option (List ℕ)) (bytes : List ℕ) (verdict : Result KnownModule Error) : Type 0 where
+  pub reached : ReachesVerdict old new unread left verdict
+  pub same : reached.validated.input ≡ bytes
+
 -- a module is read and validated, and nothing is written
-pub record ValidatesInput (old new : History) (unread left : SourceView) (result : Result (Result KnownModule Error) RunError) : Type 0 where
-  pub reached : IfOk result (ReachesVerdict old new unread.remaining left.remaining)
+pub record ValidatesInput {Z : Type 0} (old new : History) (unread left : SourceView) (result : Result (Vec ℕ Z × Result KnownModule Error) RunError) : Type 0 where
+  pub reached : IfOk result (λ it. ReachesOn old new unread.remaining left.remaining it.0.items it.1)
   pub kinds : IfErr result (λ e. (e ≡ runs.Read) ⊎ (e ≡ runs.TooLong) ⊎ (e ≡ runs.Memory))
   pub input : ReadsInput unread left result
   pub session : LeavesSession IsOutOfMemory old new unread left result
 
--- a module is read and validated, and the text on the verdict is written: one that fits the verdict by this relation
-pub record Runs (IsText : Result KnownModule Error → List ℕ → Type 0) (RunsOut : Result KnownModule Error → Type 0) (old new : History) (unread left : SourceView)
-    (before after : SinkView) (result : Result Bool RunError) : Type 0 where
-  pub ok : IfOk result (WritesVerdict IsText old new unread.remaining left.remaining before.contents after.contents)
+-- a module is read and validated, and the text on the verdict is written: one that fits the verdict by this relation. The answer fits what is written by another.
+pub record Runs {A : Type 0} (Writes : History → History → Option (List ℕ) → Option (List ℕ) → Option (List ℕ) → Option (List ℕ) → A → Type 0)
+    (IsText : Result KnownModule Error → List ℕ → Type 0) (RunsOut : Result KnownModule Error → Type 0) (old new : History) (unread left : SourceView)
+    (before after : SinkView) (result : Result A RunError) : Type 0 where
+  pub ok : IfOk result (Writes old new unread.remaining left.remaining before.contents after.contents)
   pub front : IfErr result (λ e. e ≡ runs.Write → WritesFront IsText old new unread.remaining left.remaining before.contents after.contents)
   -- these are all the refusals
   pub kinds : IfErr result (λ e. (e ≡ runs.Read) ⊎ (e ≡ runs.TooLong) ⊎ (e ≡ runs.Memory) ⊎ (e ≡ runs.Write))
@@ -84,8 +97,12 @@ pub record Runs (IsText : Result KnownModule Error → List ℕ → Type 0) (Run
 
 -- the text is the verdict's line, for which memory is taken before the input is read
 abbrev pub RunsCheck : History → History → SourceView → SourceView → SinkView → SinkView → Result Bool RunError → Type 0
-RunsCheck = Runs IsLine IsOutOfMemory
+RunsCheck = Runs (WritesVerdict IsLine) IsLine IsOutOfMemory
+
+-- the same with the explanation of a no, where it is asked for
+abbrev pub RunsExplained : Bool → History → History → SourceView → SourceView → SinkView → SinkView → Result Checked RunError → Type 0
+RunsExplained asked = Runs (WritesExplained asked) IsLine IsOutOfMemory
 
 -- the text is the report, which takes memory after a yes
 abbrev pub RunsReport : History → History → SourceView → SourceView → SinkView → SinkView → Result Bool RunError → Type 0
-RunsReport = Runs IsReport IsYesOrOutOfMemory
+RunsReport = Runs (WritesVerdict IsReport) IsReport IsYesOrOutOfMemory

@@ -2,24 +2,26 @@
 
 ghost use Rattle.std.specs.Prelude.{◌≡◌, ◌∷◌, [], List, Option, false, map, option_map};
 ghost use Rattle.wasm_gen_program.specs.CheckInputs.{ChecksInputs, ChecksNamed, EndsInput, ValidatesNext, beginning, ends_run, outcome};
-ghost use Rattle.wasm_gen_program.specs.Inputs.{AddsEvents, Event, opened, told};
+ghost use Rattle.wasm_gen_program.specs.Explanation.{answer_of};
+ghost use Rattle.wasm_gen_program.specs.Inputs.{AddsEvents, Event, explained, opened, told, told_of};
 
 use crate::device::{Sink, Source};
 use crate::error::RunError;
-use crate::run::run_check;
+use crate::explanation::Checked;
+use crate::run::run_check_explained;
 use crate::status::Outcome;
 use std::alloc::{AllocError, Global};
 use wasm_core::features::WasmFeatures;
 use wasm_gen_sessions::judge::ValidatorId;
 use wasm_gen_sessions::session::Session;
 
-/// Inputs, which are found by their names, and reports of their faults. Std has no model of files and of standard error, so an
+/// Inputs, which are found by their names, and reports of their faults and of where their errors stand. Std has no model of files and of standard error, so an
 /// implementation over them tells contracts nothing; `check_inputs` is the same for all.
 pub trait Inputs {
     /// An input that is read.
     type Input: Source + Drop;
 
-    // The inputs opened and the faults reported so far, where an implementation states them.
+    // The inputs opened and what was told of them so far, where an implementation states them.
     ghost events: { Self → Option (List Event) };
 
     /// Returns the input of this name, where it can be opened.
@@ -29,6 +31,10 @@ pub trait Inputs {
     /// Tells a fault of the input of this name.
     fn tell(&mut self, fault: RunError, name: &str)
         ensures { AddsEvents (events self.old) (events self.new) (told fault name.now ∷ []) };
+
+    /// Tells where the error of the input of this name stands, which was refused, by a line without a line feed.
+    fn explain(&mut self, text: &str, name: &str)
+        ensures { AddsEvents (events self.old) (events self.new) (explained text.now name.now ∷ []) };
 }
 
 /// Returns the session that the program begins with: under the default features.
@@ -56,22 +62,23 @@ fn ends_run(answer: Result<bool, RunError>) -> bool
     matches!(answer, Err(RunError::Write))
 }
 
-/// Validates an input and writes the line of its verdict, as [`run_check`] does. Unless the write failed, the session then validates the next input:
-/// where it failed, or memory ran out, by a new validator of the name `next`.
+/// Validates an input, writes the line of its verdict, and where that is asked for explains a no, as [`run_check_explained`] does. Unless the write failed, the
+/// session then validates the next input: where it failed, or memory ran out, by a new validator of the name `next`.
 ///
 /// # Errors
-/// Those of [`run_check`].
+/// Those of [`run_check_explained`].
 pub fn check_next<R: Source, W: Sink>(
     alloc: Global,
     session: &mut Session,
     next: ValidatorId,
     reader: &mut R,
     writer: &mut W,
-) -> Result<bool, RunError>
+    explain: bool,
+) -> Result<Checked, RunError>
     requires { session.old.has_failed ≡ false }
-    ensures { ValidatesNext session.old next session.new (R.seen reader.old) (R.seen reader.new) (W.seen writer.old) (W.seen writer.new) result }
+    ensures { ValidatesNext explain session.old next session.new (R.seen reader.old) (R.seen reader.new) (W.seen writer.old) (W.seen writer.new) result }
 {
-    let answer = run_check(alloc, session, reader, writer);
+    let answer = run_check_explained(alloc, session, reader, writer, explain);
     if session.has_failed() || matches!(answer, Err(RunError::Memory)) {
         session.restart(next);
     }
@@ -85,17 +92,42 @@ fn check_opened<R: Source + Drop, W: Sink>(
     next: ValidatorId,
     input: Option<R>,
     writer: &mut W,
-) -> Result<bool, RunError>
+    explain: bool,
+) -> Result<Checked, RunError>
     requires { session.old.has_failed ≡ false }
-    ensures { EndsInput (option_map R.seen input) result session.old next session.new (W.seen writer.old) (W.seen writer.new) }
+    ensures { EndsInput explain (option_map R.seen input) result session.old next session.new (W.seen writer.old) (W.seen writer.new) }
 {
     match input {
-        Some(mut reader) => check_next(alloc, session, next, &mut reader, writer),
+        Some(mut reader) => check_next(alloc, session, next, &mut reader, writer, explain),
         None => Err(RunError::Read),
     }
 }
 
-// Opens the input of this name, validates it, and tells its fault.
+// Tells the fault of an input of this name, or the explanation of a no, if there is one, and gives the answer without it.
+#[tactic(auto, using(crate::proofs::CheckInputsLaws::none_told))]
+fn tell_of<I: Inputs>(
+    inputs: &mut I,
+    answer: Result<Checked, RunError>,
+    name: &str,
+) -> Result<bool, RunError>
+    ensures told { AddsEvents (I.events inputs.old) (I.events inputs.new) (told_of name.now answer) }
+    ensures same { result ≡ answer_of answer }
+{
+    match answer {
+        Ok(checked) => {
+            if let Some(text) = &checked.explanation {
+                inputs.explain(text.as_str(), name);
+            }
+            Ok(checked.is_yes)
+        }
+        Err(e) => {
+            inputs.tell(e, name);
+            Err(e)
+        }
+    }
+}
+
+// Opens the input of this name, validates it, tells its fault, and where that is asked for explains a no.
 fn check_named<I: Inputs, W: Sink>(
     alloc: Global,
     session: &mut Session,
@@ -103,17 +135,15 @@ fn check_named<I: Inputs, W: Sink>(
     inputs: &mut I,
     name: &str,
     writer: &mut W,
+    explain: bool,
 ) -> Result<bool, RunError>
     requires { session.old.has_failed ≡ false }
-    ensures { ChecksNamed name.now next (record { session = session.old; sink = W.seen writer.old; events = I.events inputs.old })
+    ensures { ChecksNamed explain name.now next (record { session = session.old; sink = W.seen writer.old; events = I.events inputs.old })
         (record { session = session.new; sink = W.seen writer.new; events = I.events inputs.new }) result }
 {
     let input = inputs.open(name);
-    let answer = check_opened(alloc, session, next, input, writer);
-    if let Err(e) = answer {
-        inputs.tell(e, name);
-    }
-    answer
+    let answer = check_opened(alloc, session, next, input, writer, explain);
+    tell_of(inputs, answer, name)
 }
 
 // Validates the inputs of these names in turn by a session.
@@ -123,14 +153,15 @@ fn check_all<I: Inputs, W: Sink>(
     inputs: &mut I,
     names: &[&str],
     writer: &mut W,
+    explain: bool,
 ) -> Result<Vec<Outcome>, AllocError>
     requires { session.old ≡ beginning }
-    ensures { ChecksInputs (map (λ name. name.now) names.now) (W.seen writer.old) (W.seen writer.new) (I.events inputs.old) (I.events inputs.new) result }
+    ensures { ChecksInputs explain (map (λ name. name.now) names.now) (W.seen writer.old) (W.seen writer.new) (I.events inputs.old) (I.events inputs.new) result }
 {
     let mut outcomes = Vec::with_capacity(alloc, names.len())?;
     for (place, name) in names.iter().enumerate() {
         let next = ValidatorId::new(place + 1);
-        let answer = check_named(alloc, session, next, inputs, name, writer);
+        let answer = check_named(alloc, session, next, inputs, name, writer, explain);
         outcomes.push_reserved(outcome_of(answer));
         if ends_run(answer) {
             break;
@@ -139,8 +170,8 @@ fn check_all<I: Inputs, W: Sink>(
     Ok(outcomes)
 }
 
-/// Validates the inputs of these names in turn, tells each fault, and gives how each ended. A failed write ends the run; after any other fault the
-/// next input follows.
+/// Validates the inputs of these names in turn, tells each fault, explains each no where that is asked for and memory suffices, and gives how each ended. A failed
+/// write ends the run; after any other fault the next input follows.
 ///
 /// # Errors
 /// Where there is no memory for the outcomes: then nothing was opened, told or written.
@@ -149,11 +180,12 @@ pub fn check_inputs<I: Inputs, W: Sink>(
     inputs: &mut I,
     names: &[&str],
     writer: &mut W,
+    explain: bool,
 ) -> Result<Vec<Outcome>, AllocError>
-    ensures { ChecksInputs (map (λ name. name.now) names.now) (W.seen writer.old) (W.seen writer.new) (I.events inputs.old) (I.events inputs.new) result }
+    ensures { ChecksInputs explain (map (λ name. name.now) names.now) (W.seen writer.old) (W.seen writer.new) (I.events inputs.old) (I.events inputs.new) result }
 {
     let mut session = first_session(alloc);
-    let outcomes = check_all(alloc, &mut session, inputs, names, writer);
+    let outcomes = check_all(alloc, &mut session, inputs, names, writer, explain);
     drop(session);
     outcomes
 }

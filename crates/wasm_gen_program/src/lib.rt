@@ -8,6 +8,7 @@ pub mod command;
 pub mod config_file;
 pub mod device;
 pub mod error;
+pub mod explanation;
 pub mod report;
 pub mod run;
 pub mod status;

@@ -1,10 +1,11 @@
 //! The program's commands over a reader and a writer.
 
-ghost use Rattle.wasm_gen_program.specs.Run.{RunsCheck, RunsReport, ValidatesInput};
+ghost use Rattle.wasm_gen_program.specs.Run.{RunsCheck, RunsExplained, RunsReport, ValidatesInput};
 ghost use Rattle.wasm_gen_program.specs.RunGenerate.{ReturnsModule, RunsGenerate};
 
 use crate::device::{Sink, Source};
 use crate::error::RunError;
+use crate::explanation::{Checked, explanation_of};
 use crate::report::report_of;
 use crate::transfer::{MAX_INPUT, MAX_TURNS, read_whole, write_whole};
 use crate::verdict::{empty_line, put_verdict};
@@ -29,23 +30,49 @@ pub fn run_check<R: Source, W: Sink>(
 ) -> Result<bool, RunError>
     ensures { RunsCheck session.old session.new (R.seen reader.old) (R.seen reader.new) (W.seen writer.old) (W.seen writer.new) result }
 {
+    match run_check_explained(alloc, session, reader, writer, false) {
+        Ok(checked) => Ok(checked.is_yes),
+        Err(e) => Err(e),
+    }
+}
+
+/// Does what [`run_check`] does, and where that is asked for explains a no: by the line that tells where its error stands. Where memory doesn't suffice for that
+/// line it is left out.
+///
+/// # Errors
+/// Those of [`run_check`].
+#[tactic(auto, using(crate::proofs::ReadLaws::none_read, crate::proofs::WriteLaws::none_written))]
+pub fn run_check_explained<R: Source, W: Sink>(
+    alloc: Global,
+    session: &mut Session,
+    reader: &mut R,
+    writer: &mut W,
+    explain: bool,
+) -> Result<Checked, RunError>
+    ensures { RunsExplained explain session.old session.new (R.seen reader.old) (R.seen reader.new) (W.seen writer.old) (W.seen writer.new) result }
+{
     let Ok(mut line) = empty_line(alloc) else {
         return Err(RunError::Memory);
     };
-    let verdict = check_input(alloc, session, reader)?;
+    let (bytes, verdict) = check_input(alloc, session, reader)?;
     put_verdict(&mut line, &verdict);
+    let explanation = explanation_of(alloc, explain, &bytes, session.features(), &verdict);
     let is_yes = verdict.is_ok();
     drop(verdict);
+    drop(bytes);
     write_whole(writer, &line)?;
-    Ok(is_yes)
+    Ok(Checked {
+        is_yes,
+        explanation,
+    })
 }
 
-// Reads a module and validates it. Running out of memory is no verdict.
+// Reads a module and validates it, and gives its bytes too. Running out of memory is no verdict.
 fn check_input<R: Source>(
     alloc: Global,
     session: &mut Session,
     reader: &mut R,
-) -> Result<Result<Types, Error>, RunError>
+) -> Result<(Vec<u8>, Result<Types, Error>), RunError>
     ensures { ValidatesInput session.old session.new (R.seen reader.old) (R.seen reader.new) result }
 {
     let bytes = read_whole(alloc, reader, MAX_INPUT, MAX_TURNS)?;
@@ -55,7 +82,7 @@ fn check_input<R: Source>(
             return Err(RunError::Memory);
         }
     }
-    Ok(verdict)
+    Ok((bytes, verdict))
 }
 
 /// Reads a module, validates it and writes the report on it: the text of a valid module's view, or the line of the refusal. Answers whether the module is valid.
@@ -77,7 +104,8 @@ pub fn run_report<R: Source, W: Sink>(
     let Ok(line) = empty_line(alloc) else {
         return Err(RunError::Memory);
     };
-    let verdict = check_input(alloc, session, reader)?;
+    let (bytes, verdict) = check_input(alloc, session, reader)?;
+    drop(bytes);
     let is_valid = verdict.is_ok();
     let Ok(report) = report_of(alloc, line, &verdict) else {
         return Err(RunError::Memory);

@@ -5,6 +5,8 @@
 #[cfg(test)]
 mod answers;
 #[cfg(test)]
+mod check_inputs;
+#[cfg(test)]
 mod drawn_groups;
 #[cfg(test)]
 mod drawn_modules;

@@ -14,11 +14,12 @@ const NAMES: &[&str] = &["whole", "cut", "absent", "whole"];
 // The outcome of each where memory doesn't run out.
 const OUTCOMES: &[Outcome] = &[Outcome::Yes, Outcome::No, Outcome::Fault, Outcome::Yes];
 
-// Inputs by their names, and how many faults of theirs were told, any and those of running out of memory.
+// Inputs by their names, and how many faults of theirs were told, any and those of running out of memory, and how many were explained.
 #[derive(Drop)]
 struct Named {
     told: u32,
     out_of_memory: u32,
+    explained: u32,
 }
 
 impl Inputs for Named {
@@ -42,6 +43,10 @@ impl Inputs for Named {
             self.out_of_memory = self.out_of_memory.saturating_add(1);
         }
     }
+
+    fn explain(&mut self, _text: &str, _name: &str) {
+        self.explained = self.explained.saturating_add(1);
+    }
 }
 
 // Returns the number of inputs that end as a fault, but don't by themselves, or none where one ends in another way.
@@ -58,11 +63,14 @@ fn more_faults(outcomes: &[Outcome]) -> Option<u32> {
     (outcomes.len() == OUTCOMES.len()).then_some(count)
 }
 
-// Checks that each input ended as it should but where memory ran out, which was told, and there is a line for each that is no fault.
+// Checks that each input ended as it should but where memory ran out, which was told, that there is a line for each that is no fault, and that no more is explained
+// than what is a no.
 fn are_expected(outcomes: &[Outcome], inputs: &Named, written: &[u8]) -> bool {
     let lines = written.iter().filter(|byte| **byte == b'\n').count();
     let answers = outcomes.iter().filter(|it| **it != Outcome::Fault).count();
+    let refused = outcomes.iter().filter(|it| **it == Outcome::No).count();
     more_faults(outcomes) == Some(inputs.out_of_memory)
+        && inputs.explained as usize <= refused
         && inputs.told.checked_sub(1) == Some(inputs.out_of_memory)
         && lines == answers
 }
@@ -72,13 +80,14 @@ fn validates(alloc: Global, written: &mut Vec<u8>) -> bool {
     let mut inputs = Named {
         told: 0,
         out_of_memory: 0,
+        explained: 0,
     };
-    let mut answer = check_inputs(alloc, &mut inputs, NAMES, written);
+    let mut answer = check_inputs(alloc, &mut inputs, NAMES, written, true);
     if answer.is_err() {
-        if inputs.told != 0 || !written.is_empty() {
+        if inputs.told != 0 || inputs.explained != 0 || !written.is_empty() {
             return false;
         }
-        answer = check_inputs(alloc, &mut inputs, NAMES, written);
+        answer = check_inputs(alloc, &mut inputs, NAMES, written, true);
     }
     match answer {
         Ok(outcomes) => are_expected(&outcomes, &inputs, written),

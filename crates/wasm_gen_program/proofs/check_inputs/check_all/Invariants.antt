@@ -10,7 +10,7 @@ invariant-loop-place g l = record {
   ready : l.session.has_failed ≡ false;
   each : length l.outcomes.items ≡ l.place;
   room : length l.names ≤ vec_capacity l.outcomes;
-  validated : Validates (starting (g.W.Sink.seen l.initial.writer) (g.I.Inputs.events l.initial.inputs)) (take l.place (map (λ name. name.now) l.names)) l.outcomes.items
+  validated : Validates l.explain (starting (g.W.Sink.seen l.initial.writer) (g.I.Inputs.events l.initial.inputs)) (take l.place (map (λ name. name.now) l.names)) l.outcomes.items
       (record { session = l.session; sink = g.W.Sink.seen l.writer; events = g.I.Inputs.events l.inputs });
   wrote : WritesOn (g.W.Sink.seen l.initial.writer).faults (g.W.Sink.seen l.writer).faults;
 }

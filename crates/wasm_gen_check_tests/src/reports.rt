@@ -7,7 +7,7 @@ use wasm_gen_rows::modules::module_of;
 use wasm_test_rows::fields::three_fields;
 
 /// How many rows there are.
-pub const COUNT: usize = 12;
+pub const COUNT: usize = 14;
 
 /// Features, sections, and the lines of the report on their module, with a slash between them.
 pub const ROWS: &str = "
@@ -19,6 +19,9 @@ pub const ROWS: &str = "
     report     | 05 03 01 00 01 07 0a 02 01 22 02 00 02 62 63 02 00 | memory 0 1 - 32 plain - / export \"\\22\" memory 1 - 32 plain - / export \"bc\" memory 1 - 32 plain -
     report all | 01 11 02 4e 02 60 00 00 60 00 00 4e 02 60 00 00 60 00 00 | type 0.0 final - func [] [] / type 0.1 final - func [] [] / index 0 0.0 / index 1 0.1 / index 2 0.0 / index 3 0.1
     report all | 01 0a 01 50 00 5f 02 63 00 00 78 01 | type 0.0 open - struct [const:refnull(own.0) var:i8] / index 0 0.0
+    // Two equal groups whose types refer to one another.
+    report     | 01 19 02 4e 02 5f 01 63 01 00 5f 01 63 00 00 4e 02 5f 01 63 03 00 5f 01 63 02 00 | type 0.0 final - struct [const:refnull(own.1)] / type 0.1 final - struct [const:refnull(own.0)] / index 0 0.0 / index 1 0.1 / index 2 0.0 / index 3 0.1
+    report     | types 02 07 01 01 6d 01 66 00 00 05 03 01 00 01 07 05 01 01 66 00 00 08 01 00 0c 01 01 0b 08 01 00 41 00 0b 02 68 69 00 03 01 63 07 | type 0.0 final - func [] [] / index 0 0.0 / function 0 0.0 / memory 0 1 - 32 plain - / export \"f\" function 0.0
     report     | types functions 0a 03 01 01 00 | no body
     report     | types 03 02 01 01 code         | no invalid
     report     | 01 05 01 60 00 00              | no malformed

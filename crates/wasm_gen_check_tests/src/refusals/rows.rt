@@ -13,7 +13,7 @@ use wasm_core::features::{Flags, WasmFeatures};
 use wasm_gen::session::Session;
 use wasm_gen_rows::modules::module_of;
 use wasm_gen_rows::new_session::on_new_session;
-use wasm_test_rows::fields::{is_row, three_fields, word_and_rest};
+use wasm_test_rows::fields::{has_word, is_row, three_fields, word_and_rest};
 use wasm_test_rows::values::number_of;
 
 // The most times that a part is repeated in a short module: one more than limits of 1,000.
@@ -27,9 +27,9 @@ fn is_short_word(word: &str) -> bool {
     }
 }
 
-// Checks that a line of a table is a row of a short module.
+// Checks that a line of a table is a row of a short module. Explanations run with memory refused among the inputs.
 fn is_short_row(line: &str) -> bool {
-    is_row(line) && line.split_whitespace().all(is_short_word)
+    is_row(line) && !has_word(line, "explained") && line.split_whitespace().all(is_short_word)
 }
 
 // Joins neighbouring bytes of a field into one word, since each word takes two allocations to read.

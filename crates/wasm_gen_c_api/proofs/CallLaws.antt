@@ -22,7 +22,7 @@ use Rattle.wasm_gen_c_api.specs.Generate.{IsAnswer, IsMade, IsUnread, IsWritten,
 use Rattle.wasm_gen_c_api.specs.Verdicts.{IsChecked, IsJudged, verdict_of}
 use Rattle.wasm_gen_c_api.specs.declared.verdict.Verdict.{Verdict}
 
--- what is generated is a module that is valid under the features of the configuration
+-- a generated module is valid under the features of the configuration
 accepted : (c : Config) (seed bytes : List ℕ) (features : Features) (g : IsGeneratedFrom c seed bytes) → AreFeaturesOf c features → c.allow_invalid_funcs ≡ false
     → IsAccepted features bytes (sections_with c.bulk_memory_enabled g.generated.bodies g.made)
 accepted c seed bytes features g are off = record {

@@ -5,7 +5,7 @@ use Rattle.wasm_core_read.specs.TypeReading.{items_at, list_at}
 use Rattle.wasm_core_read.proofs.ReadingLaws.{some_is}
 use Rattle.wasm_gen_explain.specs.Imports.{counted}
 
--- what is counted so far, and what further items count
+-- the count so far, and that of further items
 abbrev pub counting : {A : Type 0} → (A → ℕ) → ℕ → Option (List A × List ℕ) → Option (ℕ × List ℕ)
 counting count so_far None = None
 counting count so_far (Some read) = Some (so_far + counted count read.0, read.1)
@@ -27,7 +27,7 @@ begins count item_at bytes rest n h =
     let k : n - 0 ≡ n = omega arith in
     rw (k, h) refl
 
--- what is counted of the others with the first one is what is counted of all
+-- the first item and the others count as much as all
 others_counted : {A : Type 0} (count : A → ℕ) (so_far : ℕ) (item : A) (read : Option (List A × List ℕ)) → counting count (so_far + count item) read ≡ counting count so_far (read >>= λ others. Some (item ∷ others.0, others.1))
 others_counted count so_far item None = refl
 others_counted count so_far item (Some read) =
@@ -74,5 +74,5 @@ is_done count item_at n i so_far bytes all le told =
     let none : so_far + 0 ≡ so_far = omega arith in
     whole count (list_at item_at all) ∙ sym told ∙ rw k (ap (λ (v : ℕ). Some (v, bytes)) none)
 
--- what a loop cites that counts
+-- (cited by a loop that counts)
 pub ruleset count_loop = (count_unread, begins, goes_on, ends, is_done)

@@ -42,7 +42,7 @@ pub ruleset name_steps = (after_name)
 
 -- ---- types
 
--- what reads counts so much
+-- an item that reads counts so much
 abbrev seen : {A : Type 0} → (A → ℕ) → Option (A × List ℕ) → Option (ℕ × List ℕ)
 seen count read = read >>= λ x. Some (count x.0, x.1)
 
@@ -191,7 +191,7 @@ pub ruleset names_steps = (no_functions, all_functions, no_group, no_type, no_na
 abbrev entry_count : ImportEntry → ℕ
 entry_count entry = functions_among (imported_by entry)
 
--- what follows the two bytes that a group begins with
+-- the bytes after the two that a group begins with
 is_code : (compact : Bool) (bytes : List ℕ) (code : ℕ) → code_of compact bytes ≡ Some code → (compact ≡ true) × (rest : List ℕ) × (bytes ≡ 0x00 ∷ code ∷ rest)
 is_code false bytes code e = absurd cc
 is_code true [] code e = absurd cc

@@ -12,7 +12,7 @@ use Rattle.wasm_gen_explain.specs.Items.{AreBefore, EndsPast, IsItemAt, Stops, b
 
 -- ---- an item
 
--- what a reader of items refuses but for memory stops at a place
+-- an item that a reader refuses, but for memory, stops at a place
 pub refused : {A : Type 0} (indexes : A → List ℕ) (i : Input) (kind : ErrorKind) (at offset : ℕ) (read : Option (A × List ℕ)) (Takes : Type 0) (P : Type 0) (Q : Type 0) → kind ≢ kinds.Memory
     → IsItemRefusal kind at Takes ((read ≡ None) × P) (HasLargeIndex indexes read × Q) → Stops indexes i offset read
 refused indexes i kinds.Malformed at offset read Takes P Q other h = inl h.0

@@ -48,7 +48,7 @@ items_more {A = A} item_at (suc n) bytes xs rest x after e h =
     let more = items_more item_at n first.0.1 others.0.0 rest x after left h in
     ap (λ read. read >>= then_items item_at (suc n)) first.1 ∙ ap (λ read. read >>= and_others first.0.0) more ∙ ap (λ (q : List A × List ℕ). Some (q.0 ++ x ∷ [], after)) p
 
--- what one more section imports is imported
+-- the imports of one more section are added
 one_counted : (compact : Bool) (imported n : ℕ) (sections : List (ℕ × List ℕ)) (section : ℕ × List ℕ) → imported ≡ functions_imported compact sections → n ≡ functions_among (imports_of compact section)
     → imported + n ≡ functions_imported compact (sections ++ section ∷ [])
 one_counted compact imported n sections section e h =
@@ -58,7 +58,7 @@ one_counted compact imported n sections section e h =
     let none : functions_among [] ≡ 0 = refl in
     omega (arith, e, h, all, both, last, none)
 
--- what the next section imports, which reads
+-- the imports of the next section, which reads
 counts_read : (compact : Bool) (read : Option ((ℕ × List ℕ) × List ℕ)) (section : ℕ × List ℕ) (rest : List ℕ) (n : ℕ) → read ≡ Some (section, rest) → CountsNext compact read n
     → (n ≡ functions_among (imports_of compact section)) × (n ≤ length section.1)
 counts_read compact read section rest n e h = subst (λ r. CountsNext compact r n) e h

@@ -48,7 +48,7 @@ StandsInBody function body offset (Some _) = ⊥
 
 -- ---- code sections
 
--- What a call returned that reads a size and so many bytes, as a reader of these.
+-- The result of a call that reads a size and so many bytes, as a reader of these.
 abbrev pub ReadsSized : {E : Type 0} → Input → Input → Result Input E → Type 0
 ReadsSized old new (Ok part) = (body_at old.rest ≡ Some (part.rest, new.rest)) × GoesOn old new × (part.features ≡ old.features) × (end part ≡ new.position) × (old.position ≤ part.position)
 ReadsSized old new (Err e) = body_at old.rest ≡ None
@@ -79,7 +79,7 @@ pub record PassesBody (old new : Input) (offset : ℕ) : Type 0 where
   pub ends : new.position ≤ offset
   pub whole : (new.position < offset) ⊎ IsBefore body offset
 
--- where in the next body, of which this is the function, a place is, if it is in it
+-- where in the next body, that of this function, a place is, if it is in it
 abbrev pub StandsAtBody : ℕ → Input → Input → ℕ → Option Place → Type 0
 StandsAtBody function old new offset None = PassesBody old new offset
 StandsAtBody function old new offset (Some (places.Function f)) = (f ≡ function) × StopsSize old offset
@@ -96,7 +96,7 @@ pub record IsInOneOf (imported count : ℕ) (old : Input) (offset : ℕ) (place 
   pub before : now.position ≤ offset
   pub stands : StandsAtBody (imported + number) now next offset (Some place)
 
--- What a call returned that goes through so many bodies.
+-- The result of a call that goes through so many bodies.
 abbrev pub GoesThrough : ℕ → ℕ → Input → Input → ℕ → Option Place → Type 0
 GoesThrough imported count old new offset None = AreBefore body_at count old offset new.rest × GoesOn old new
 GoesThrough imported count old new offset (Some place) = IsInOneOf imported count old offset place

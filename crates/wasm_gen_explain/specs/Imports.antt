@@ -41,7 +41,7 @@ counted count (x ∷ xs) = count x + counted count xs
 abbrev pub code_of : Bool → List ℕ → Option ℕ
 code_of compact bytes = if compact then group_code bytes else None
 
--- What a call returned that counts the functions that the next section imports, if one reads: each of them takes a byte.
+-- The result of a call that counts the functions that the next section imports, if one reads: each of them takes a byte.
 abbrev pub CountsNext : Bool → Option ((ℕ × List ℕ) × List ℕ) → ℕ → Type 0
 CountsNext compact None functions = functions ≡ 0
 CountsNext compact (Some read) functions = (functions ≡ functions_among (imports_of compact read.0)) × (functions ≤ length read.0.1)

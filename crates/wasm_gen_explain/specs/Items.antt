@@ -15,7 +15,7 @@ abbrev pub EndsPast : {A : Type 0} → ℕ → ℕ → Option (A × List ℕ) �
 EndsPast last offset None = ⊥
 EndsPast last offset (Some read) = offset < last - length read.1
 
--- What reads ends past a place, or nothing reads, or an item with a type index that is too large to be packed.
+-- The item that reads ends past a place, or has a type index that is too large to be packed, or none reads.
 abbrev pub Stops : {A : Type 0} → (A → List ℕ) → Input → ℕ → Option (A × List ℕ) → Type 0
 Stops indexes i offset read = (read ≡ None) ⊎ HasLargeIndex indexes read ⊎ EndsPast (end i) offset read
 
@@ -32,13 +32,13 @@ pub record AreBefore {A : Type 0} (item_at : ReadingOf A) (count : ℕ) (i : Inp
   pub passed : rest_of (items_at item_at count i.rest) ≡ Some rest
   pub ends : begin_of i rest ≤ offset
 
--- What a call returned that passes an item which ends at a place or before it.
+-- The result of a call that passes an item which ends at a place or before it.
 abbrev pub PassesItem : {A E : Type 0} → ReadingOf A → (A → List ℕ) → Input → Input → ℕ → Result Bool E → Type 0
 PassesItem item_at indexes old new offset (Ok true) = (rest_of (item_at old.rest) ≡ Some new.rest) × GoesOn old new × (new.position ≤ offset)
 PassesItem item_at indexes old new offset (Ok false) = Stops indexes old offset (item_at old.rest)
 PassesItem item_at indexes old new offset (Err e) = ⊤
 
--- What a call returned that looks for the item in which a place is: its number, or none where all end at the place or before it.
+-- The result of a call that looks for the item in which a place is: its number, or none where all end at the place or before it.
 abbrev pub FindsItem : {A E : Type 0} → ReadingOf A → (A → List ℕ) → ℕ → Input → Input → ℕ → Result (Option ℕ) E → Type 0
 FindsItem item_at indexes count old new offset (Ok (Some number)) = IsItemAt item_at indexes count old offset number
 FindsItem item_at indexes count old new offset (Ok None) = AreBefore item_at count old offset new.rest × GoesOn old new

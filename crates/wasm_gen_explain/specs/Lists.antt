@@ -17,7 +17,7 @@ pub record BeginsList (content : Input) (offset count : ℕ) (items : Input) : T
 abbrev pub StopsCount : Input → ℕ → Type 0
 StopsCount content offset = (unsigned_at 32 content.rest ≡ None) ⊎ EndsPast (end content) offset (unsigned_at 32 content.rest)
 
--- What a call returned that reads the number of items.
+-- The result of a call that reads the number of items.
 abbrev pub ReadsCount : Input → Input → ℕ → Option ℕ → Type 0
 ReadsCount old new offset (Some count) = BeginsList old offset count new
 ReadsCount old new offset None = StopsCount old offset

@@ -1,4 +1,4 @@
--- What operators are called in the text format. Core Specification 3.0, Text Format, "Instructions".
+-- The names of operators in the text format. Core Specification 3.0, Text Format, "Instructions".
 use Rattle.std.specs.Prelude.{ℕ, zero, suc, ◌-◌, List, [], ◌∷◌, codes, nat_lt, nat_eq, if◌then◌else◌}
 
 -- the name at a place, if there is one, and else nothing

@@ -26,12 +26,12 @@ pub record ArePassed (old : Input) (offset number : ℕ) (new : Input) : Type 0 
   pub goes_on : GoesOn old new
   pub begins : new.position ≤ offset
 
--- What a call returned that passes an operator which ends at a place or before it. Where it doesn't, the reader stays.
+-- The result of a call that passes an operator which ends at a place or before it. Where it doesn't, the reader stays.
 abbrev pub PassesOperator : Input → Input → ℕ → Bool → Type 0
 PassesOperator old new offset true = (rest_of (operator_at old.features old.rest) ≡ Some new.rest) × GoesOn old new × (old.position < new.position) × (new.position ≤ offset)
 PassesOperator old new offset false = StopsOperator old offset × (new ≡ old)
 
--- What a call returned that goes to the operator in which a place is: its number, or none where all end at the place or before it.
+-- The result of a call that goes to the operator in which a place is: its number, or none where all end at the place or before it.
 abbrev pub FindsOperator : Input → Input → ℕ → Option ℕ → Type 0
 FindsOperator old new offset (Some number) = ArePassed old offset number new × StopsOperator new offset
 FindsOperator old new offset None = (number : ℕ) × ArePassed old offset number new × (new.rest ≡ [])

@@ -29,7 +29,7 @@ pub record StandsAmong (start : Input) (offset : ℕ) (place : Place) : Type 0 w
   pub past : ArePast start offset imported now
   pub stands : StandsAtSection imported now next offset (Some place)
 
--- what follows the header
+-- the bytes after the header
 abbrev pub after_header : Features → List ℕ → Input
 after_header features bytes = record { rest = drop 8 bytes; position = 8; features = features }
 

@@ -46,7 +46,7 @@ pub(crate) fn read_sized<'a>(reader: &mut BinaryReader<'a>) -> Result<BinaryRead
     Ok(part)
 }
 
-// Returns where in the next body, of which this is the function, a place is. Passes the body where it ends before the place, or at it and reads.
+// Returns where in the next body, that of this function, a place is. Passes the body where it ends before the place, or at it and reads.
 #[tactic(auto, using(crate::proofs::BodyLaws::next_steps))]
 fn place_at_body(function: u64, reader: &mut BinaryReader<'_>, offset: u64) -> Option<Place>
     ensures { StandsAtBody function reader.old reader.new offset result }
@@ -63,7 +63,7 @@ fn place_at_body(function: u64, reader: &mut BinaryReader<'_>, offset: u64) -> O
     place_in_body(function, body, offset)
 }
 
-// Returns where in the next bodies, of which there are so many, a place is. Passes all of them where it is in none. Their functions come after so many others.
+// Returns where in the next `count` bodies a place is. Passes all of them where it is in none. Their functions come after the imported ones.
 #[tactic(auto, using(crate::proofs::CodeLaws::bodies_loop))]
 fn place_at_bodies(
     imported: u64,
@@ -85,7 +85,7 @@ fn place_at_bodies(
     None
 }
 
-// Returns where in a code section a place is, whose functions come after so many imported ones. None where all of it reads and ends at the place or before it.
+// Returns where in a code section a place is, or none where all of it reads and ends at the place or before it. Its functions come after the imported ones.
 #[tactic(auto, using(crate::proofs::CodeLaws::code_steps))]
 pub(crate) fn place_in_code(
     imported: u64,

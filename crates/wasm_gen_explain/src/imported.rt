@@ -26,7 +26,7 @@ const ITEMS: u8 = 0x7f;
 // The same where the imports have one type.
 const NAMES: u8 = 0x7e;
 
-// Items of a list that are read one after the other, of which each counts as so many functions.
+// Items of a list that are read one after the other. Each counts as so many functions.
 trait Counted {
     // An item of the specification.
     ghost Form: { Type 0 };

@@ -44,7 +44,8 @@ fn opened(open: u64, code: Option<u8>) -> u64 {
     }
 }
 
-// Goes to the operator in which a place is: the first one that doesn't end at the place or before it, or doesn't read. Returns its number, or none where there is no such operator and the body's block has ended.
+// Goes to the operator in which a place is: the first one that doesn't end at the place or before it, or doesn't read. Returns its number, or none where there is no such
+// operator and the body's block has ended.
 #[tactic(auto, using(crate::proofs::OperatorLaws::operator_loop))]
 pub(crate) fn find_operator(reader: &mut BinaryReader<'_>, offset: u64) -> Option<u64>
     requires { reader.old.position ≤ offset }

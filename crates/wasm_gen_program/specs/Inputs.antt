@@ -15,7 +15,7 @@ pub data Event : Type 0 where
 abbrev pub AddsEvents : Option (List Event) → Option (List Event) → List Event → Type 0
 AddsEvents before after events = Tells (λ old new. new ≡ old ++ events) before after
 
--- what is told of an input that came to this answer: the explanation of a no, if there is one, or a fault
+-- the events by which an answer is told: the explanation of a no, if there is one, or a fault
 abbrev pub told_of : List ℕ → Result Checked RunError → List Event
 told_of name (Ok checked) = option_to_list (option_map (λ text. explained text name) (explanation_of checked))
 told_of name (Err fault) = told fault name ∷ []

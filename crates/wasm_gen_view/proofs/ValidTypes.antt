@@ -1,4 +1,4 @@
--- What stands in the index spaces of a valid module names types of it, so that each reference of its view goes to a group of the view.
+-- Items in the index spaces of a valid module name its types, so that each reference of its view goes to a group of the view.
 use Rattle.std.proofs.Common.{◌≡◌, ◌∙◌, ℕ, suc, ◌<◌, true, List, [], ◌∷◌, length, map, slice_get, Option, Some, None, is_some, refl, sym, ap, subst}
 use Rattle.std.specs.Global.{Vec}
 use Rattle.std.specs.List.{AllByRecursion, flat_map}

@@ -16,7 +16,7 @@ use Rattle.wasm_gen_view.specs.declared.types.TypeReference.TheVariants.{Own, Ot
 
 -- ---- groups of ids
 
--- The ids of a whole group, of which this id is one: as many as `count`, from `first` on.
+-- The ids of a whole group with this id among them: as many as `count`, from `first` on.
 pub record AreIdsOfGroup (interned : List DefType) (id first count : ℕ) : Type 0 where
   pub place : first + (type_at interned id).place ≡ id
   pub within : (type_at interned id).place < count

@@ -112,14 +112,14 @@ uint32_t wasm_gen_check(const uint8_t *bytes, size_t length, uint32_t features, 
 /* Validates a module as wasm_gen_check does, and reports on it: writes a text, in ASCII and without a zero at its end, to the front of the buffer
  * if it fits. Other bytes of the buffer stay as they are. Sets *report_length to the text's length, whether it fits or not.
  *
- * The text of a valid module has a line for each type of a group, each item of an index space, imported ones first, and each export, as README shows
- * for the program's `report`; it is empty if there are none. That of a refused one is `no`, a space, the name of its kind and a newline. If the text
+ * The text of a valid module has a line for each type of a group, each item of an index space, imported ones first, and each export, as
+ * docs/SPEC.md lists under "Reports"; it is empty if there are none. That of a refused one is `no`, a space, the name of its kind and a newline. If the text
  * doesn't fit, returns WASM_GEN_BUFFER, be the module valid or not: call again with a buffer of *report_length bytes. Else returns WASM_GEN_YES, or
  * the kind of the refusal, from WASM_GEN_MALFORMED to WASM_GEN_BODY. If there is no text, returns WASM_GEN_MEMORY or WASM_GEN_FEATURES, and sets
  * *report_length to 0. */
 uint32_t wasm_gen_report(const uint8_t *bytes, size_t length, uint32_t features, uint8_t *buffer, size_t buffer_length, size_t *report_length);
 
-/* Makes a module by a configuration from a seed, which may be any bytes; equal configurations and seeds make equal modules. Sets
+/* Makes a module by a configuration from a seed, which may be any bytes. Equal configurations and seeds make equal modules (tested, not proved). Sets
  * *module_length to the module's length, or to 0 if none is made. Returns WASM_GEN_YES after writing the module to the front of the buffer, or
  * WASM_GEN_BUFFER if it doesn't fit: call again with a buffer of *module_length bytes. Other bytes of the buffer stay as they are.
  *

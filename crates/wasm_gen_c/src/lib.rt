@@ -62,7 +62,7 @@ pub extern "C" fn wasm_gen_kind_name(kind: u32, buffer: &mut [u8]) -> usize
     put_name(kind, buffer)
 }
 
-/// Judges the bytes of a module under these features, fills the record, and gives its kind.
+/// Validates the bytes of a module under these features, fills the record, and returns its kind.
 #[unsafe(no_mangle)]
 pub extern "C" fn wasm_gen_check(
     alloc: Global,

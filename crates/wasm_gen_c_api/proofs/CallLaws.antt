@@ -30,7 +30,7 @@ accepted c seed bytes features g are off = record {
   valid = g.generated.all_valid off features are;
 }
 
--- a judge that holds no types refuses such bytes only when out of memory
+-- a validator that holds no types refuses such bytes only when out of memory
 judged_so : (c : Config) (seed bytes : List ℕ) (features : Features) (answer : Result KnownModule Error) → IsGeneratedFrom c seed bytes → AreFeaturesOf c features
     → c.allow_invalid_funcs ≡ false → IsValidated features [] bytes answer → ((verdict_of answer).kind ≡ yes) ⊎ ((verdict_of answer).kind ≡ memory)
 judged_so c seed bytes features (Ok known) g are off validated = inl refl
@@ -40,7 +40,7 @@ judged_so c seed bytes features (Err e) g are off validated =
       | inr total ↦ absurd (validated.first refl total)
     ]
 
--- a refusal isn't told as a yes
+-- a refusal's code isn't that of a yes
 not_yes : (e : GenerateError) → yes ≡ refusal_code e → ⊥
 not_yes (generator.Config field) is = search rules
 not_yes (generator.Shape part) is = search rules
@@ -79,7 +79,7 @@ written_for : (text seed old new : List ℕ) (len : ℕ) (c : Config) (config : 
 written_for text seed old new len c (Ok d) is read made refused = subst (λ c. IsWritten c seed old new len yes) (same_given text d c read.given is) made
 written_for text seed old new len c (Err e) is read made refused = absurd (unread e refused.told)
 
--- and features were told, so for this configuration
+-- and features were returned, so for this configuration
 used_for : (text : List ℕ) (features : Features) (c : Config) (config : Result Config ConfigError) → IsGivenByText text c → IsRead text config
     → yes ≡ code_of_reading config → IfOk config (λ c. AreFeaturesOf (sanitized c) features) → AreFeaturesOf (sanitized c) features
 used_for text features c (Ok d) is read told used = subst (λ c. AreFeaturesOf (sanitized c) features) (same_given text d c read.given is) used

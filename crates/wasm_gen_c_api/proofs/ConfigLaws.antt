@@ -24,7 +24,7 @@ number_at [] place = 0
 number_at (number ∷ numbers) zero = number
 number_at (number ∷ numbers) (suc place) = number_at numbers place
 
--- the configuration whose fields stand in these lists, in the order in which the default is told
+-- the configuration whose fields stand in these lists, in the order of the default's
 config_of : (on off : List Bool) (least largest : List ℕ) (tables memories type_size table_elements memory32_bytes memory64_bytes : ℕ) (instructions : InstructionKinds) (offsets : MemoryOffsetChoices)
     (module_shape available_imports exports : Option ShapeValue) → Config
 config_of on off least largest tables memories type_size table_elements memory32_bytes memory64_bytes instructions offsets module_shape available_imports exports = record {

@@ -7,7 +7,7 @@ use Rattle.std.proofs.lemmas.Nat.{pow_pos}
 use Rattle.std.proofs.lemmas.Nat.Bits.{and_pow, bit_at-lt, same_from_bits_below}
 use Rattle.wasm_spec.specs.Features.{Features, Flag, MutableGlobal, SaturatingFloatToInt, SignExtension, ReferenceTypes, MultiValue, BulkMemory, Simd, RelaxedSimd, Threads, TailCall, Floats, MultiMemory, Exceptions, Memory64, ExtendedConst, FunctionReferences, Gc, GcTypes, CustomPageSizes, CompactImports, WideArithmetic, StackSwitching, bit_of, has}
 
--- whether a digit in a place of a positive weight gives the weight
+-- a digit in a place of a positive weight, and the weight
 digit : (x weight : ℕ) → x < 2 → 0 < weight → (((x * weight == weight) ≡ true) × (x ≡ 1)) ⊎ (((x * weight == weight) ≡ false) × (x ≡ 0))
 digit zero weight small some = elim (eqb_tells (0 * weight) weight) [ inl (test, same) ↦ absurd (omega arith) | inr (test, differs) ↦ inr (test, refl) ]
 digit (suc zero) weight small some = elim (eqb_tells (1 * weight) weight) [ inl (test, same) ↦ inl (test, refl) | inr (test, differs) ↦ absurd (differs (omega arith)) ]

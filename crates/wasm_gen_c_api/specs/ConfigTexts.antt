@@ -11,12 +11,12 @@ pub record IsRead (text : List ℕ) (config : Result Config ConfigError) : Type 
   pub given : IfOk config (IsGivenByText text)
   pub refused : IfErr config (IsCauseIn text)
 
--- the code that tells whether there is a configuration
+-- the code for a text that gives a configuration, or none
 abbrev pub code_of_reading : Result Config ConfigError → ℕ
 code_of_reading (Ok c) = yes
 code_of_reading (Err e) = text_code e
 
--- It is told which features the modules of a text's configuration may use; where the text gives none, there are none.
+-- The features that the modules of a text's configuration may use are returned; where the text gives none, there are none.
 pub record AreTold (text : List ℕ) (features code : ℕ) : Type 0 where
   pub config : Result Config ConfigError
   pub read : IsRead text config

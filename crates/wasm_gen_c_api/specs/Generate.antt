@@ -23,7 +23,7 @@ pub record IsAnswer (c : Config) (seed : List ℕ) (answer : Result (List ℕ) G
   pub cause : IfErr answer (IsCause (sanitized c) seed)
   pub rightly : IfErr answer (RefusesRightly (sanitized c) seed)
 
--- the code that tells of it, for a buffer like this
+-- its code, for a buffer like this
 abbrev pub code_of : Result (List ℕ) GenerateError → List ℕ → ℕ
 code_of (Ok bytes) buffer = if nat_le (length bytes) (length buffer) then yes else short_buffer
 code_of (Err e) buffer = refusal_code e
@@ -38,7 +38,7 @@ abbrev pub buffer_after : Result (List ℕ) GenerateError → List ℕ → List 
 buffer_after (Ok bytes) buffer = buffer_with bytes buffer
 buffer_after (Err e) buffer = buffer
 
--- the generator's answer is told by a code and a length, and a module that fits is written
+-- what the generator returns has a code and a length, and a module that fits is written
 pub record IsWritten (c : Config) (seed old new : List ℕ) (len code : ℕ) : Type 0 where
   pub answer : Result (List ℕ) GenerateError
   pub answered : IsAnswer c seed answer

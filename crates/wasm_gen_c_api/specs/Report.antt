@@ -11,7 +11,7 @@ use Rattle.wasm_gen_c_api.specs.Codes.{kind_code, memory, short_buffer, unknown_
 use Rattle.wasm_gen_c_api.specs.Verdicts.{verdict_of}
 use Rattle.wasm_gen_view.specs.TypesText.{IsViewText}
 
--- the line that tells a refusal
+-- the line of a refusal
 abbrev pub refusal_line : ErrorKind → List ℕ
 refusal_line kind = codes "no " ++ kind_name kind ++ codes "\n"
 
@@ -25,7 +25,7 @@ IsReport (Ok known) (Some text) = IsViewText (spaces_known known) text
 IsReport (Ok known) None = ⊤
 IsReport (Err e) report = report ≡ refusal_report e.kind
 
--- the code that tells of a report on this answer, for a buffer like this: the kind of the verdict where the report fits
+-- the code of a report on this verdict, for a buffer like this: the kind of the verdict where the report fits
 abbrev pub report_code : Result KnownModule Error → Option (List ℕ) → List ℕ → ℕ
 report_code answer (Some text) buffer = if nat_le (length text) (length buffer) then (verdict_of answer).kind else short_buffer
 report_code answer None buffer = memory
@@ -40,7 +40,7 @@ abbrev pub buffer_after : Option (List ℕ) → List ℕ → List ℕ
 buffer_after (Some text) buffer = buffer_with text buffer
 buffer_after None buffer = buffer
 
--- the report on an answer is told by a code and a length, and is written where it fits
+-- the report on a verdict has a code and a length, and is written where it fits
 pub record IsToldOf (answer : Result KnownModule Error) (old new : List ℕ) (len code : ℕ) : Type 0 where
   pub report : Option (List ℕ)
   pub is_report : IsReport answer report

@@ -39,12 +39,12 @@ valid sizes = record {
   exports = sizes.exports;
 }
 
--- what is told of a validator's answer
+-- a validator's result as a code, an offset and sizes
 abbrev pub verdict_of : Result KnownModule Error → Verdict
 verdict_of (Ok known) = valid (sizes_in (spaces_known known))
 verdict_of (Err e) = refused (kind_code e.kind) e.offset
 
--- it is told what a validator answers that holds no types yet
+-- the result is that of a validator that holds no types yet
 pub record IsJudged (features : Features) (bytes : List ℕ) (told : Verdict) : Type 0 where
   pub answer : Result KnownModule Error
   pub validated : IsValidated features [] bytes answer

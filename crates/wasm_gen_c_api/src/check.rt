@@ -47,7 +47,7 @@ pub(crate) fn validate(alloc: Global, bytes: &[u8], features: WasmFeatures) -> R
     answer
 }
 
-// Judges the bytes by a validator of their own.
+// Validates the bytes by a validator of their own.
 fn judge(alloc: Global, bytes: &[u8], features: WasmFeatures) -> Verdict
     ensures { IsJudged (feature_set features) bytes.now result }
 {
@@ -58,8 +58,8 @@ fn judge(alloc: Global, bytes: &[u8], features: WasmFeatures) -> Verdict
     verdict
 }
 
-/// Judges the bytes of a module under the features whose bits are set, by a validator of its own. Where a bit is no feature, nothing is
-/// judged, and the code is `UNKNOWN_FEATURES`.
+/// Validates the bytes of a module under the features whose bits are set, by a validator of its own. Where a bit is no feature, nothing is
+/// validated, and the code is `UNKNOWN_FEATURES`.
 pub fn check(alloc: Global, bytes: &[u8], features: u32) -> Verdict
     ensures { IsChecked features bytes.now result }
 {

@@ -96,7 +96,7 @@ pub fn code_name(code: u32) -> &'static str
     }
 }
 
-/// Writes what a code is called at the buffer's front where it fits, and tells how many bytes it has: at most 12. What isn't written to stays.
+/// Writes what a code is called at the buffer's front where it fits, and returns its length, which is at most 12. What isn't written to stays.
 pub fn put_name(code: u32, buffer: &mut [u8]) -> usize
     ensures length { result ≡ length (code_name code) }
     ensures short { result ≤ 12 }

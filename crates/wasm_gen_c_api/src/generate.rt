@@ -68,7 +68,7 @@ fn write_made(
     }
 }
 
-/// Makes the module of a seed by the configuration that the text gives, and tells how many bytes it has. It is written at the buffer's front
+/// Makes the module of a seed by the configuration that the text gives, and returns its length. It is written at the buffer's front
 /// where it fits, and else the code is `SHORT_BUFFER`. What isn't written to stays, and after a refusal the length is 0. Empty text gives the
 /// default configuration. Where the text gives none, the code is `CONFIG_TEXT`, or 9 without memory.
 pub fn generate(

@@ -22,7 +22,7 @@ pub fn empty_text_is_the_default()
     ensures told { (features code : ℕ) → AreTold [] features code → (code ≡ yes) × (features ≡ generated_features) }
 {}
 
-/// A module that was generated and written is valid under the features that are told for its configuration, where this allows no raw bodies,
+/// A module that was generated and written is valid under the features that are returned for its configuration, where this allows no raw bodies,
 /// and by default under `generated_features`, unless memory runs out.
 pub fn generated_is_accepted()
     ensures given { (text seed old new : List ℕ) (len features : ℕ) (told : Verdict) (c : Config) → IsGivenByText text c → c.allow_invalid_funcs ≡ false

@@ -15,7 +15,7 @@ use wasm_gen_view::types_text::text_of_types;
 use wasmparser_error::error::{Error, ErrorKind};
 use wasmparser_validator::types::TypesRef;
 
-// Returns the line that tells a refusal of this kind.
+// Returns the line of a refusal of this kind.
 fn refusal_line(kind: ErrorKind) -> &'static str
     ensures { result.now ≡ refusal_line kind }
 {
@@ -91,7 +91,7 @@ fn report_under(
     code
 }
 
-/// Validates the bytes of a module under the features whose bits are set, and tells how many bytes the report on it has: the text of a valid
+/// Validates the bytes of a module under the features whose bits are set, and returns the length of the report on it: the text of a valid
 /// module's view, or `no`, a space, the kind of the refusal and a newline. It is written at the buffer's front where it fits, and the code is then
 /// that of the verdict, and else `SHORT_BUFFER`. What isn't written to stays. Where memory runs out, or a bit is no feature, the code is 9 or
 /// `UNKNOWN_FEATURES`, the length is 0, and nothing is written.

@@ -49,7 +49,7 @@ impl<W: Write> Write for Flushed<W> {
     }
 }
 
-/// Validates the files in turn by one session, tells each fault, explains each no where that is asked for, and gives the program's status. A failed write ends the
+/// Validates the files in turn by one session, reports each fault, explains each no where that is asked for, and returns the program's status. A failed write ends the
 /// run; after any other fault the next file follows.
 pub fn check_files<R: Files + Print + Eprint + AllocGlobal>(rt: &R, asked: &Check<'_>) -> u8 {
     let mut files = NamedFiles(rt);

@@ -1,4 +1,4 @@
-//! Faults, as the program tells them on standard error.
+//! Faults, as the program reports them on standard error.
 
 ghost use Rattle.std.specs.Prelude.{◌≡◌};
 

@@ -13,7 +13,7 @@ use wasm_gen::smith::Config;
 use wasm_gen::status::status_of;
 use wasm_gen_program::asked::Generate;
 
-/// Makes a module of the seed in a file, for the configuration in another where one is named, writes its bytes to standard output, tells each fault, and gives the
+/// Makes a module of the seed in a file, for the configuration in another where one is named, writes its bytes to standard output, reports each fault, and returns the
 /// program's status.
 pub fn generate_from_files<R: Files + Print + Eprint + AllocGlobal>(
     rt: &R,
@@ -30,7 +30,7 @@ pub fn generate_from_files<R: Files + Print + Eprint + AllocGlobal>(
     }
 }
 
-// Reads the configuration, which is the default one where no file is named. Where it can't be read or is bad, that is told, and the error is the status.
+// Reads the configuration, which is the default one where no file is named. Where it can't be read or is bad, that is reported, and the error is the status.
 fn config_of<R: Files + Eprint + AllocGlobal>(rt: &R, files: Generate<'_>) -> Result<Config, u8>
     ensures { IfErr result (λ status. status ≡ 2) }
 {

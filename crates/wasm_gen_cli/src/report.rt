@@ -11,13 +11,13 @@ use wasm_gen::error::RunError;
 use wasm_gen::run::run_report;
 use wasm_gen::status::{Outcome, status_of};
 
-/// Writes what the module in a file has to standard output, or why it is refused, tells each fault, and gives the program's status.
+/// Writes what the module in a file has to standard output, or why it is refused, reports each fault, and returns the program's status.
 pub fn report_file<R: Files + Print + Eprint + AllocGlobal>(rt: &R, name: &str) -> u8 {
     let answer = write_report(rt, name);
     status_after(rt, answer, name)
 }
 
-// Returns the status after an answer, and tells a fault.
+// Returns the status after a run, and reports a fault.
 fn status_after<R: Eprint>(rt: &R, answer: Result<bool, RunError>, name: &str) -> u8
     ensures yes { answer ≡ Ok true → result ≡ 0 }
     ensures no { answer ≡ Ok false → result ≡ 1 }

@@ -15,12 +15,12 @@ use Rattle.wasm_gen_program.specs.declared.status.Outcome.{Outcome}
 use Rattle.wasm_gen_program.proofs.ReadLaws.{joined}
 use Rattle.wasm_gen_program.proofs.WriteLaws.{last_write_fails, none_written}
 
--- nothing is told
+-- nothing is reported
 pub none_told : (a : Option (List Event)) → AddsEvents a a []
 none_told None = tt
 none_told (Some events) = sym (append-nil events)
 
--- an input is opened, and then more is told
+-- an input is opened, and then more is reported
 pub told_after : (a b c : Option (List Event)) (first : Event) (more : List Event) → AddsEvents a b (first ∷ []) → AddsEvents b c more → AddsEvents a c (first ∷ more)
 told_after a b c first more p q =
     joined _ _ _ (λ x y z is then. then ∙ ap (λ front. front ++ more) is ∙ append_assoc x (first ∷ []) more) a b c p q

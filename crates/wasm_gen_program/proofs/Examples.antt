@@ -34,7 +34,7 @@ no_command : fault_of program (words []) ≡ kind.DisplayHelpOnMissingArgumentOr
 unfolding clap_on_literals
 no_command = refl
 
--- (either may be told)
+-- (either may be reported)
 unknown_command : fault_of program (words (codes "judge" ∷ [])) ≡ kind.UnknownArgument ∷ kind.InvalidSubcommand ∷ []
 unfolding clap_on_literals
 unknown_command = refl

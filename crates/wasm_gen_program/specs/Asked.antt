@@ -25,7 +25,7 @@ seed_of = found_for (codes "generate") (first_of (codes "SEED"))
 abbrev pub config_of : Option (Text × List Row) → Option Text
 config_of = found_for (codes "generate") (first_of (codes "config"))
 
--- true if this command is to tell more: of a bad configuration, or of a refused module
+-- true if this command is to explain a bad configuration, or a refused module
 abbrev pub explains : Text → Option (Text × List Row) → Bool
 explains command met = unwrap_or (option_map (bytes_eq (codes "true")) (found_for command (first_of (codes "explain")) met)) false
 
@@ -49,7 +49,7 @@ abbrev pub CanBeAsked : Option (Text × List Row) → Type 0
 CanBeAsked met = (seed_of met ≢ None) ⊎ (reported_of met ≢ None) ⊎ (command_of met ≡ Some (codes "check"))
 
 -- what words ask for: help, where clap may answer with help; or, where nothing is wrong with them, what the command that they name does. Of words that begin
--- with `help`, clap's contract leaves open whether they ask for help or name a wrong command. (No words ask for the version, as the program tells none.)
+-- with `help`, clap's contract leaves open whether they ask for help or name a wrong command. (No words ask for the version, as the program has none.)
 abbrev pub AskFor : List Text → Asked → Type 0
 AskFor words (Help text) = IsAmong kind.DisplayHelp (fault_of program words) ⊎ IsAmong kind.DisplayVersion (fault_of program words)
 AskFor words asked = (fault_of program words ≡ []) × Asks (subcommand_of program words) asked

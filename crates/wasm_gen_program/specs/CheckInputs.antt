@@ -74,7 +74,7 @@ pub record Progress : Type 0 where
 abbrev pub starting : SinkView → Option (List Event) → Progress
 starting sink events = record { session = beginning; sink = sink; events = events }
 
--- the input of this name was opened, came to this answer, and its fault was told, or the explanation of a no, if there is one; a validator that had failed is
+-- the input of this name was opened, came to this result, and its fault was reported, or the explanation of a no, if there is one; a validator that had failed is
 -- followed by one of the name `next`
 pub record ChecksNamed (asked : Bool) (name : List ℕ) (next : ℕ) (old new : Progress) (answer : Result Bool RunError) : Type 0 where
   pub found : Option SourceView
@@ -114,5 +114,5 @@ pub record ValidatesUntil (asked : Bool) (names : List (List ℕ)) (outcomes : L
 pub record ChecksInputs {Z E : Type 0} (asked : Bool) (names : List (List ℕ)) (before after : SinkView) (start end : Option (List Event)) (result : Result (Vec Outcome Z) E) : Type 0 where
   pub each : IfOk result (λ outcomes. length outcomes.items ≤ length names)
   pub whole : IfOk result (λ outcomes. ValidatesAll asked names outcomes.items before after start end ⊎ ValidatesUntil asked names outcomes.items before after start end)
-  -- without memory for the outcomes nothing is opened, told or written
+  -- without memory for the outcomes nothing is opened, reported or written
   pub refused : OnErr result ((after ≡ before) × (end ≡ start))

@@ -20,7 +20,7 @@ seed = record (new_rule (codes "SEED")) { required = true }
 abbrev pub config : Rule
 config = record (new_rule (codes "config")) { long = Some (codes "config"); value_names = 1 }
 
--- the flag by which `generate` tells more of a bad configuration, and `check` of a refused module
+-- the flag by which `generate` explains a bad configuration, and `check` a refused module
 abbrev pub explain : Rule
 explain = record (new_rule (codes "explain")) { long = Some (codes "explain"); action = Some SetTrue }
 

@@ -1,4 +1,4 @@
--- Sources and sinks as contracts see them, and the failures that these state. One that tells may stop, as where a count has no room,
+-- Sources and sinks as contracts see them, and the failures that these state. One that does so may stop, as where a count can't grow,
 -- and does not begin again.
 use Rattle.std.specs.Prelude.{◌≡◌, ◌≢◌, ◌≤◌, ◌+◌, ◌⊎◌, ℕ, List, Option, Some, None, ⊤, MatchResult, Result}
 use Rattle.std.specs.IoError.{error_kind}
@@ -11,17 +11,17 @@ pub record ReadCounts : Type 0 where
   pub failed : ℕ
   pub ended : ℕ
 
--- what contracts see of a source: the bytes that are left, where they are known, and how many reads there were, where that is told
+-- what contracts see of a source: the bytes that are left, where they are known, and how many reads there were, where that is stated
 pub record SourceView : Type 0 where
   pub remaining : Option (List ℕ)
   pub reads : Option ReadCounts
 
--- what contracts see of a sink: the bytes that it holds, where they are known, and how many writes failed or took no byte, where that is told
+-- what contracts see of a sink: the bytes that it holds, where they are known, and how many writes failed or took no byte, where that is stated
 pub record SinkView : Type 0 where
   pub contents : Option (List ℕ)
   pub faults : Option ℕ
 
--- what is told before and after a step, which fits this relation while it is told
+-- what is stated before and after a step, which fits this relation while it is stated
 abbrev pub Tells : {T : Type 0} → (T → T → Type 0) → Option T → Option T → Type 0
 Tells relation old None = ⊤
 Tells relation None (Some new) = ⊥

@@ -1,4 +1,4 @@
--- The explanation of a verdict: the line that tells where the error of a refusal stands.
+-- The explanation of a verdict: the line on where the error of a refusal stands.
 use Rattle.std.specs.Prelude.{⊤, ℕ, List, Bool, true, Option, Some, None, Result, Ok, Err, option_map, string_bytes}
 use Rattle.wasm_gen_explain.specs.Places.{Explains}
 use Rattle.wasm_spec.specs.Features.{Features}
@@ -7,7 +7,7 @@ use Rattle.wasmparser_validator.specs.KnownSpaces.{KnownModule}
 use Rattle.wasm_gen_program.specs.declared.error.RunError.{RunError}
 use Rattle.wasm_gen_program.specs.declared.explanation.Checked.{Checked}
 
--- the explanation of a verdict on these bytes, if there is one: it comes only where it is asked for, and tells where the error of the refusal stands.
+-- the explanation of a verdict on these bytes, if there is one: it comes only where it is asked for, and says where the error of the refusal stands.
 -- Nothing is said of memory, for want of which there is none.
 abbrev pub IsExplanation : Bool → Features → List ℕ → Result KnownModule Error → Option (List ℕ) → Type 0
 IsExplanation asked features bytes verdict None = ⊤

@@ -39,7 +39,7 @@ pub record RefusesSeed (config : Config) (unread left : Option (List ℕ)) (e : 
   pub rightly : RefusesRightly (sanitized config) seed e
   pub is_refusal : e ≢ Memory
 
--- how a run tells why nothing is generated
+-- a run's error where nothing is generated
 abbrev pub run_error : GenerateError → RunError
 run_error Memory = runs.Memory
 run_error cause = runs.Generate cause

@@ -1,4 +1,4 @@
--- The line that tells the verdict on a module.
+-- The line of the verdict on a module.
 use Rattle.std.specs.Prelude.{◌≡◌, ℕ, List, ◌++◌, codes, decimal, Result, Ok, Err}
 use Rattle.wasm_spec.specs.Spaces.{Sizes}
 use Rattle.wasm_validity.specs.IndexSpaces.{sizes_in}

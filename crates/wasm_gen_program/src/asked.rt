@@ -17,7 +17,7 @@ pub struct Generate<'a> {
     pub seed: &'a str,
     /// The name of the file that the configuration is in, where it isn't the default one.
     pub config: Option<&'a str>,
-    /// True if more is to be told of a bad configuration.
+    /// True if a bad configuration is to be explained.
     pub explain: bool,
 }
 
@@ -26,7 +26,7 @@ pub struct Generate<'a> {
 pub struct Check<'a> {
     /// The names of the files that the modules are in.
     pub files: Vec<&'a str>,
-    /// True if more is to be told of a refused module.
+    /// True if a refused module is to be explained.
     pub explain: bool,
 }
 
@@ -69,7 +69,7 @@ fn value_of<'a>(matches: &ArgMatches<'a>, command: &str, id: &str) -> Option<&'a
     matches.subcommand_matches(command)?.get_str(id)
 }
 
-// Checks that a command is to tell more.
+// Checks that a command has the flag to explain.
 fn explains(matches: &ArgMatches<'_>, command: &str) -> bool
     ensures { result ≡ explains command.now (subcommand_rows_of matches.now) }
 {

@@ -16,12 +16,12 @@ use wasm_gen_sessions::judge::ValidatorId;
 use wasm_gen_sessions::session::Session;
 
 /// Inputs, which are found by their names, and reports of their faults and of where their errors stand. Std has no model of files and of standard error, so an
-/// implementation over them tells contracts nothing; `check_inputs` is the same for all.
+/// implementation over them states nothing to contracts; `check_inputs` is the same for all.
 pub trait Inputs {
     /// An input that is read.
     type Input: Source + Drop;
 
-    // The inputs opened and what was told of them so far, where an implementation states them.
+    // The inputs opened and what was reported of them so far, where an implementation states them.
     ghost events: { Self → Option (List Event) };
 
     /// Returns the input of this name, where it can be opened.
@@ -127,7 +127,7 @@ fn tell_of<I: Inputs>(
     }
 }
 
-// Opens the input of this name, validates it, tells its fault, and where that is asked for explains a no.
+// Opens the input of this name, validates it, reports its fault, and where that is asked for explains a no.
 fn check_named<I: Inputs, W: Sink>(
     alloc: Global,
     session: &mut Session,
@@ -170,11 +170,11 @@ fn check_all<I: Inputs, W: Sink>(
     Ok(outcomes)
 }
 
-/// Validates the inputs of these names in turn, tells each fault, explains each no where that is asked for and memory suffices, and gives how each ended. A failed
+/// Validates the inputs of these names in turn, reports each fault, explains each no where that is asked for and memory suffices, and returns how each ended. A failed
 /// write ends the run; after any other fault the next input follows.
 ///
 /// # Errors
-/// Where there is no memory for the outcomes: then nothing was opened, told or written.
+/// Where there is no memory for the outcomes: then nothing was opened, reported or written.
 pub fn check_inputs<I: Inputs, W: Sink>(
     alloc: Global,
     inputs: &mut I,

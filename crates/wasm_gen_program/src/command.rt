@@ -41,7 +41,7 @@ fn config<'a>(alloc: Global) -> Arg<'a>
         .help("A file with a configuration in TOML")
 }
 
-// Returns the flag by which a command tells more, as this help says.
+// Returns the flag by which a command explains, as this help says.
 fn explain<'a>(alloc: Global, help: &'a str) -> Arg<'a>
     ensures rule { rule_of result ≡ line.explain }
     ensures own { result.global ≡ false }

@@ -7,7 +7,7 @@ ghost use Rattle.wasm_gen_program.specs.Device.{CountsRead, CountsWrite, SinkVie
 use std::io;
 use std::io::{Read, Write};
 
-/// A reader that may tell how often it was asked and how often it failed.
+/// A reader that may state how often it was asked and how often it failed.
 pub trait Source {
     // The bytes that are left, and how many reads there were, and what came of them.
     ghost seen: { Self → SourceView };
@@ -20,7 +20,7 @@ pub trait Source {
         ensures told { CountsRead (seen self.old).reads (seen self.new).reads result };
 }
 
-/// A writer that may tell how often it failed.
+/// A writer that may state how often it failed.
 pub trait Sink {
     // The bytes that are held, and how many writes failed or took no byte.
     ghost seen: { Self → SinkView };

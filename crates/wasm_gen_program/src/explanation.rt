@@ -14,11 +14,11 @@ use wasm_gen_sessions::judge::{Error, Types};
 pub struct Checked {
     /// True if the verdict is yes.
     pub is_yes: bool,
-    /// The line that tells where the error of a no stands, without a line feed, where that was asked for and memory sufficed for it.
+    /// The line on where the error of a no stands, without a line feed, where that was asked for and memory sufficed for it.
     pub explanation: Option<String>,
 }
 
-/// Returns the line that tells where the error of a refusal stands, where that is asked for and memory suffices for it.
+/// Returns the line on where the error of a refusal stands, where that is asked for and memory suffices for it.
 pub fn explanation_of(
     alloc: Global,
     asked: bool,

@@ -15,7 +15,7 @@ use wasm_gen_sessions::judge::{Error, ErrorKind, Types};
 use wasm_gen_sessions::session::Session;
 use wasm_smith::config::Config;
 
-/// Reads a module, validates it and writes the line of its verdict, for which it takes the room beforehand. Answers whether the verdict is yes.
+/// Reads a module, validates it and writes the line of its verdict, which it allocates beforehand. Returns true if the verdict is yes.
 ///
 /// After `Write` the session has validated the module. After `Memory` it is as it was, or it has failed since validating ran out of memory.
 ///
@@ -36,7 +36,7 @@ pub fn run_check<R: Source, W: Sink>(
     }
 }
 
-/// Does what [`run_check`] does, and where that is asked for explains a no: by the line that tells where its error stands. Where memory doesn't suffice for that
+/// Does what [`run_check`] does, and where that is asked for explains a no: by the line on where its error stands. Where memory doesn't suffice for that
 /// line it is left out.
 ///
 /// # Errors
@@ -85,7 +85,7 @@ fn check_input<R: Source>(
     Ok((bytes, verdict))
 }
 
-/// Reads a module, validates it and writes the report on it: the text of a valid module's view, or the line of the refusal. Answers whether the module is valid.
+/// Reads a module, validates it and writes the report on it: the text of a valid module's view, or the line of the refusal. Returns true if the module is valid.
 ///
 /// After `Write` the session has validated the module. After `Memory` it is as it was, or has validated a module whose report had no memory, or it has failed since
 /// validating ran out of memory.

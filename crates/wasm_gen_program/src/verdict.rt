@@ -1,4 +1,4 @@
-//! The line that tells the verdict on a module.
+//! The line of the verdict on a module.
 
 ghost use Rattle.std.specs.Prelude.{◌≡◌, ◌≤◌, ◌+◌, ◌++◌, [], length, vec_len, vec_capacity, Err, IfOk};
 ghost use Rattle.wasm_gen_program.specs.Verdict.{counted, yes_line, verdict_line};
@@ -13,7 +13,7 @@ use wasm_gen_sessions::judge::{Error, Types, TypesRef};
 // More than a line's bytes: a number has at most 20 digits, and there are eight after labels.
 const ROOM: usize = 300;
 
-// Appends a label and a number, for which there is room.
+// Appends a label and a number, for which there is capacity.
 fn put_count(line: &mut Vec<u8>, label: &str, count: u64)
     requires { vec_len line.old + length label.now + 20 ≤ vec_capacity line.old }
     ensures written { line.new.items ≡ line.old.items ++ counted label.now count }
@@ -58,7 +58,7 @@ fn put_no(line: &mut Vec<u8>, e: Error)
     put_bytes(b"\n", line);
 }
 
-/// Returns an empty line, with room for any verdict's.
+/// Returns an empty line, with capacity for any verdict's.
 ///
 /// # Errors
 /// Where memory runs out.

@@ -63,7 +63,7 @@ impl Shape {
         let mut items = Items::new(features, &types);
         let left = most as usize - items.types.len();
         let imported = self.check_imports(alloc, &mut items, purpose, left)?;
-        self.check_exports(alloc, &mut items, purpose, left - imported)
+        self.check_exports(alloc, &items, purpose, left - imported)
     }
 
     // Checks the groups, and returns their types.
@@ -119,20 +119,20 @@ impl Shape {
     fn check_exports(
         &self,
         alloc: Global,
-        items: &mut Items<'_>,
+        items: &Items<'_>,
         purpose: ShapeUse,
         left: usize,
     ) -> Result<(), Error>
-        requires imported { Stand items.old (imported_spaces self.now) }
-        ensures good { IfOk result (λ _. HasGoodExports (feature_set items.old.features) purpose (length (shape_types self.now) + length (imported_items self.now) + left) self.now) }
-        ensures bad { IfErr result (IsPartReason (codes "exports") (¬ (HasGoodExports (feature_set items.old.features) purpose (length (shape_types self.now) + length (imported_items self.now) + left) self.now))) }
+        requires imported { Stand items.now (imported_spaces self.now) }
+        ensures good { IfOk result (λ _. HasGoodExports (feature_set items.now.features) purpose (length (shape_types self.now) + length (imported_items self.now) + left) self.now) }
+        ensures bad { IfErr result (IsPartReason (codes "exports") (¬ (HasGoodExports (feature_set items.now.features) purpose (length (shape_types self.now) + length (imported_items self.now) + left) self.now))) }
     {
         let is_unwanted = matches!(purpose, ShapeUse::Imports) && !self.exports.is_empty();
         if is_unwanted || self.exports.len() > left {
             return Err(Error::BadShape("exports"));
         }
         let types = types_of_exports(alloc, &self.exports)?;
-        if !may_have_items(purpose, &types) || !items.define_all(&types) {
+        if !may_have_items(purpose, &types) || !items.can_define_all(&types) {
             return Err(Error::BadShape("exports"));
         }
         if !have_distinct_names(alloc, &self.exports)? {

@@ -233,8 +233,8 @@ impl<'a> Items<'a> {
         true
     }
 
-    /// Adds items that the module defines and exports, up to the first that doesn't keep its rule. Returns true if each does.
-    pub fn define_all(&mut self, items: &[EntityType]) -> bool
+    // Adds items that the module defines and exports, up to the first that doesn't keep its rule. Returns true if each does.
+    fn define_all(&mut self, items: &[EntityType]) -> bool
         ensures { (spaces : Spaces) → Stand self.old spaces → result ≡ keep_own (feature_set self.old.features) spaces (map entity_type items.now) }
     {
         for type_ in items {
@@ -244,5 +244,13 @@ impl<'a> Items<'a> {
             self.add(type_);
         }
         true
+    }
+
+    /// Checks that the module may define and export these items as well.
+    pub fn can_define_all(&self, items: &[EntityType]) -> bool
+        ensures { (spaces : Spaces) → Stand self.now spaces → result ≡ keep_own (feature_set self.now.features) spaces (map entity_type items.now) }
+    {
+        let mut with_items = *self;
+        with_items.define_all(items)
     }
 }

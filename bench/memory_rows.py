@@ -1,0 +1,155 @@
+"""Prints the rows of bench/memory.sh: memory_rows.py PROGRAM PEAK FOLDER (check|report) [NAME..], or .. generate [NAME..]; without names all rows. PEAK is
+bench/peak.c, linked with the C library. Modules are written to FOLDER by a process of their own, since one that holds a module would lend its size to those that
+it starts. The status is 1 where a row is past its bound."""
+import os
+import random
+import subprocess
+import sys
+
+from memory_modules import KNOWN, MODULES, REPORTED
+
+program, peak, folder, command, *names = sys.argv[1:]
+MAKER = os.path.join(os.path.dirname(os.path.realpath(__file__)), "memory_modules.py")
+MODULE, SEED, CONFIG, OUT = (f"{folder}/{name}" for name in ("module.wasm", "seed", "config.toml", "out"))
+# What a process may have before memory ends, in KiB, and how many seconds.
+MOST, SECONDS = 8 << 20, 100
+# What may be had for a definition, and for whatever is there from the start, in bytes.
+EACH, SLACK = 100, 1 << 19
+# The validator's limits on what a configuration bounds, and the greatest maximum that is allowed.
+LIMITS = {"types": 1_000_000, "imports": 1_000_000, "tags": 1_000_000, "funcs": 1_000_000, "globals": 1_000_000, "exports": 1_000_000,
+          "element_segments": 100_000, "elements": 10_000_000, "data_segments": 100_000, "tables": 100, "memories": 100}
+GREATEST = 1 << 31
+past = []
+
+
+def run(*words):
+    """Writes what a process says to a file, and returns its first words, its most memory in bytes and its seconds. (GNU time is small, and so lends the process
+    none of its own size.)"""
+    limited = f'ulimit -v {MOST}; exec timeout {SECONDS} /usr/bin/time -q -f "%M %U %S" -o "$0" "$@"'
+    with open(f"{folder}/time", "w") as file:
+        file.write(f"0 {SECONDS} 0")
+    with open(OUT, "wb") as out:
+        error = subprocess.run(["sh", "-c", limited, f"{folder}/time", *words], stdout=out, stderr=subprocess.PIPE, text=True, check=False).stderr
+    with open(f"{folder}/time") as file:
+        kib, user, system = file.read().split()[-3:]
+    return error.strip().replace("\n", "; ")[:60], int(kib) * 1024, float(user) + float(system)
+
+
+def first_words():
+    with open(OUT, "rb") as file:
+        return file.readline(200).decode(errors="replace").split()
+
+
+def said_of(length):
+    """Returns the verdict of `check`, or how long the report is."""
+    words = first_words()[:2]
+    return f"{length / 1e6:.2f} MB of text" if command == "report" else " ".join(word for word in words if "=" not in word)
+
+
+def figures(beyond, size, definitions):
+    """Returns memory in MiB, and in bytes for a byte of the input and for a definition."""
+    each = f", {beyond / definitions:.0f} bytes a definition" if definitions > 1 else ""
+    return f"{beyond / 2**20:.1f} MiB, {beyond / size:.2f} times the input{each}"
+
+
+def show(what, is_within):
+    print(what if is_within else f"{what}: PAST", flush=True)
+    if not is_within:
+        past.append(what)
+
+
+def in_place(path):
+    """Returns how many bytes a call of the library touches beyond the input, and has of malloc."""
+    run(peak, command, path)
+    words = first_words()
+    return (int(words[2]), int(words[1])) if len(words) == 4 else (0, 0)
+
+
+def module_row(name, own, own_in_place):
+    """Prints what `check` or `report` of a module takes: a process, and a call in a process that holds the module, each less that of an empty module."""
+    subprocess.run(["python3", MAKER, name, MODULE], check=True)
+    size, definitions = os.path.getsize(MODULE), MODULES[name][0]
+    error, most, seconds = run(program, command, MODULE)
+    answer = error or said_of(os.path.getsize(OUT))
+    whole = most - own
+    touched, asked = in_place(MODULE)
+    touched -= own_in_place
+    bound = KNOWN.get((command, name), size + EACH * definitions) + SLACK
+    show(f"{command}, {name}: {size / 1e6:.2f} MB, {answer}, {seconds:.2f} s; a process: {whole / 2**20:.1f} MiB, beyond the input "
+         f"{figures(whole - size, size, definitions)}; in place: {figures(touched, size, definitions)}; of malloc: {asked / 2**20:.1f} MiB",
+         whole <= size + bound and touched <= bound)
+
+
+def write_empty():
+    subprocess.run(["python3", MAKER, "an empty module", MODULE], check=True)
+
+
+def text_of(**values):
+    return "".join(f"{key} = {value}\n" for key, value in values.items())
+
+
+def maximums(of):
+    return {f"max_{key}": of(limit) for key, limit in LIMITS.items()}
+
+
+def configurations():
+    """Yields what a configuration has, and its text. Where a minimum is raised its maximum is too."""
+    types = {"max_type_size": 999_999}
+    yield "maximums at the limits", text_of(**maximums(lambda limit: limit), **types)
+    yield "maximums at 2^31", text_of(**maximums(lambda _: GREATEST), max_type_size=GREATEST)
+    yield "maximums at 2^31 + 1", text_of(**maximums(lambda _: GREATEST + 1), max_type_size=GREATEST)
+    for what, of in [("the limit", lambda limit: limit), ("2^31", lambda _: GREATEST)]:
+        for key, limit in LIMITS.items():
+            yield f"min_{key} at {what}", text_of(**{f"min_{key}": of(limit), f"max_{key}": of(limit)}, **types)
+        minimums = {f"min_{key}": of(limit) for key, limit in LIMITS.items()}
+        yield f"all minimums at {what}", text_of(**minimums, **maximums(of), **types)
+
+
+def seeds(name):
+    yield "0 bytes", b""
+    yield "1 KB of ff", b"\xff" * 1_000
+    if name.startswith("max"):
+        yield "100 KB of ff", b"\xff" * 100_000
+        yield "10 MB of ff", b"\xff" * 10_000_000
+        for size, text in [(1_000, "1 KB"), (100_000, "100 KB"), (10_000_000, "10 MB")]:
+            yield f"{text} of odd bytes", bytes(byte | 1 for byte in random.Random(7).randbytes(size))
+
+
+def definitions_in(path):
+    """Returns the sizes of a module's index spaces together, and exports."""
+    run(program, "check", path)
+    return sum(int(word.split("=")[1]) for word in first_words()[1:])
+
+
+def generate_row(name, text, what, seed, own):
+    with open(CONFIG, "w") as config, open(SEED, "wb") as file:
+        config.write(text)
+        file.write(seed)
+    error, most, seconds = run(program, "generate", "--config", CONFIG, SEED)
+    os.replace(OUT, MODULE)
+    length = os.path.getsize(MODULE)
+    definitions = definitions_in(MODULE) if length else 0
+    beyond = most - own - 2 * len(seed)
+    made = f"{length / 1e6:.2f} MB of {definitions} definitions" if length else error
+    show(f"generate, {name}, seed of {what}: {made}, {seconds:.2f} s, beyond twice the seed {figures(beyond, len(seed) + length or 1, definitions)}",
+         beyond <= EACH * definitions + length + 2 * SLACK)
+
+
+def generate_rows():
+    write_empty()
+    own = run(program, "check", MODULE)[1]
+    for name, text in configurations():
+        for what, seed in seeds(name):
+            if not names or name in names:
+                generate_row(name, text, what, seed, own)
+
+
+def module_rows():
+    write_empty()
+    own, own_in_place = run(program, command, MODULE)[1], in_place(MODULE)[0]
+    for name in names or (REPORTED if command == "report" else MODULES):
+        module_row(name, own, own_in_place)
+
+
+generate_rows() if command == "generate" else module_rows()
+sys.exit(bool(past))

@@ -92,10 +92,10 @@ def deep_constant(count):
     return HEADER + items(6, 1, b"\x7f\0" + b"\x41\0" * count + b"\x6a" * (count - 1) + b"\x0b")
 
 
-def imports_of_modules(count, length):
-    """Imports of globals from modules of different names of this length."""
-    names = (number(length) + b"%05x" % i + b"x" * (length - 5) for i in range(count))
-    return HEADER + items(2, count, b"".join(name + b"\0\3\x7f\0" for name in names))
+def imports_of_modules(count, length=0):
+    """Imports of globals by a name of this length from modules of different names."""
+    end = number(length) + b"x" * length + b"\3\x7f\0"
+    return HEADER + items(2, count, b"".join(b"\5%05x" % i + end for i in range(count)))
 
 
 def compact_imports(count):
@@ -115,6 +115,12 @@ def structures(count, fields):
     return HEADER + items(1, count, b"".join(each + b"".join(b"\x7e\0" if i >> bit & 1 else b"\x7d\0" for bit in range(20)) for i in range(count)))
 
 
+def chained_types(count, depth=63):
+    """A group of structures, each below as many others as there may be but for the first ones."""
+    front = b"\x50\0\x5f\0" + b"".join(b"\x50\1" + number(i) + b"\x5f\0" for i in range(depth - 1))
+    return HEADER + items(1, 1, b"\x4e" + number(count) + front + (b"\x50\1" + number(depth - 1) + b"\x5f\0") * (count - depth))
+
+
 def item_module(name):
     return next(HEADER + content for what, _, content in modules(MILLION) if what == name)
 
@@ -131,6 +137,7 @@ MODULES = {
     "types, equal": (MILLION, lambda: HEADER + items(1, MILLION, function_type(0, 0) * MILLION)),
     "types, different": (MILLION, lambda: HEADER + type_modules.functions(MILLION, 0)),
     "types in one group": (MILLION, lambda: HEADER + items(1, 1, b"\x4e" + number(MILLION) + b"\x5f\0" * MILLION)),
+    "types in one group, below 63 others": (MILLION, lambda: chained_types(MILLION)),
     "types in two equal groups": (MILLION, lambda: HEADER + type_modules.groups(MILLION // 2)),
     "empty groups": (MILLION, lambda: HEADER + items(1, MILLION, b"\x4e\0" * MILLION)),
     "20,000 types of 1,000 parameters and 1,000 results": (20_000, lambda: HEADER + type_modules.functions(20_000, 997, 1_000)),
@@ -143,8 +150,8 @@ MODULES = {
     "imports by different names": (MILLION - 2, lambda: item_module("imports of globals by different names")),
     "imports by names of 200 bytes": (MILLION - 2, lambda: long_names(MILLION - 2, 200, 2, b"\0", b"\3\x7f\0")),
     "imports by 2,600 names of 100,000 bytes": (2_600, lambda: long_names(2_600, 100_000, 2, b"\0", b"\3\x7f\0")),
-    "imports from modules of different names": (MILLION - 2, lambda: imports_of_modules(MILLION - 2, 5)),
-    "imports from modules of different names of 20 bytes": (MILLION - 2, lambda: imports_of_modules(MILLION - 2, 20)),
+    "imports from modules of different names": (MILLION - 2, lambda: imports_of_modules(MILLION - 2)),
+    "imports by names of 17 bytes from modules of different names": (MILLION - 2, lambda: imports_of_modules(MILLION - 2, 17)),
     "imports of one type from one module, compact": (MILLION - 2, lambda: compact_imports(MILLION - 2)),
     "exports by names in order": (MILLION - 2, lambda: item_module("exports of a memory")),
     "exports by names in no order": (MILLION - 2, lambda: item_module("exports of a memory, shuffled")),
@@ -182,7 +189,7 @@ MODULES = {
 
 
 # Those of which a report is made too.
-REPORTED = ["an empty module", "types, equal", "types, different", "types in one group", "functions of one type", "functions of 1,000 parameters",
+REPORTED = ["an empty module", "types, equal", "types, different", "types in one group", "types in one group, below 63 others", "functions of one type",
             "20,000 types of 1,000 parameters and 1,000 results", "imports by equal names", "imports by different names", "imports by names of 200 bytes",
             "imports from modules of different names", "exports by names in order", "exports by names in no order", "exports by names of 200 bytes",
             "globals", "tags", "100,000 element segments", "a body of nops"]

@@ -7,6 +7,7 @@ import subprocess
 import sys
 
 from memory_modules import KNOWN, MODULES, REPORTED
+from module_sizes import items_in
 
 program, peak, folder, command, *names = sys.argv[1:]
 MAKER = os.path.join(os.path.dirname(os.path.realpath(__file__)), "memory_modules.py")
@@ -19,6 +20,8 @@ EACH, SLACK = 100, 1 << 19
 LIMITS = {"types": 1_000_000, "imports": 1_000_000, "tags": 1_000_000, "funcs": 1_000_000, "globals": 1_000_000, "exports": 1_000_000,
           "element_segments": 100_000, "elements": 10_000_000, "data_segments": 100_000, "tables": 100, "memories": 100}
 GREATEST = 1 << 31
+# Sizes of types of which no module passes the validator's limit, which counts a function one more.
+SIZE_OF_TYPES = 499_999
 past = []
 
 
@@ -49,7 +52,8 @@ def said_of(length):
 def figures(beyond, size, definitions):
     """Returns memory in MiB, and in bytes for a byte of the input and for a definition."""
     each = f", {beyond / definitions:.0f} bytes a definition" if definitions > 1 else ""
-    return f"{beyond / 2**20:.1f} MiB, {beyond / size:.2f} times the input{each}"
+    times = f", {beyond / size:.2f} times the input" if size > 1_000 else ""
+    return f"{beyond / 2**20:.1f} MiB{times}{each}"
 
 
 def show(what, is_within):
@@ -84,41 +88,48 @@ def write_empty():
     subprocess.run(["python3", MAKER, "an empty module", MODULE], check=True)
 
 
-def text_of(**values):
-    return "".join(f"{key} = {value}\n" for key, value in values.items())
+def text_of(values):
+    return "".join(f"{key} = {str(value).lower()}\n" for key, value in values.items())
 
 
 def maximums(of):
     return {f"max_{key}": of(limit) for key, limit in LIMITS.items()}
 
 
+# What lets a seed of 0 bytes meet a minimum: one function type of no parameters, or imports and exports of one kind.
+PLAIN = {"min_types": 1, "gc_enabled": False}
+LEADING = {"imports": {"max_funcs": 0, "max_tags": 0, "max_tables": 0, "max_memories": 0}, "tags": PLAIN, "funcs": PLAIN, "elements": {"min_element_segments": 1},
+           "exports": {"min_memories": 1, "max_types": 0, "max_globals": 0, "max_tables": 0, "max_imports": 0}}
+
+
 def configurations():
     """Yields what a configuration has, and its text. Where a minimum is raised its maximum is too."""
-    types = {"max_type_size": 999_999}
-    yield "maximums at the limits", text_of(**maximums(lambda limit: limit), **types)
-    yield "maximums at 2^31", text_of(**maximums(lambda _: GREATEST), max_type_size=GREATEST)
-    yield "maximums at 2^31 + 1", text_of(**maximums(lambda _: GREATEST + 1), max_type_size=GREATEST)
-    for what, of in [("the limit", lambda limit: limit), ("2^31", lambda _: GREATEST)]:
+    yield "maximums at the limits", text_of({**maximums(lambda limit: limit), "max_type_size": SIZE_OF_TYPES})
+    yield "maximums at 2^31", text_of({**maximums(lambda _: GREATEST), "max_type_size": GREATEST})
+    yield "maximums at 2^31 + 1", text_of({**maximums(lambda _: GREATEST + 1), "max_type_size": GREATEST})
+    for what, of, size in [("the limit", lambda limit: limit, 999_998), ("2^31", lambda _: GREATEST, GREATEST)]:
         for key, limit in LIMITS.items():
-            yield f"min_{key} at {what}", text_of(**{f"min_{key}": of(limit), f"max_{key}": of(limit)}, **types)
+            # (the module itself counts as one import or export)
+            least = min(of(limit), size) if key in ("imports", "exports") else of(limit)
+            globals = {"max_globals": least} if key == "imports" else {}
+            yield f"min_{key} at {what}", text_of({**LEADING.get(key, {}), **globals, f"min_{key}": least, f"max_{key}": least, "max_type_size": size})
         minimums = {f"min_{key}": of(limit) for key, limit in LIMITS.items()}
-        yield f"all minimums at {what}", text_of(**minimums, **maximums(of), **types)
+        yield f"all minimums at {what}", text_of({**minimums, **maximums(of), "max_type_size": size})
 
 
 def seeds(name):
     yield "0 bytes", b""
-    yield "1 KB of ff", b"\xff" * 1_000
-    if name.startswith("max"):
-        yield "100 KB of ff", b"\xff" * 100_000
-        yield "10 MB of ff", b"\xff" * 10_000_000
-        for size, text in [(1_000, "1 KB"), (100_000, "100 KB"), (10_000_000, "10 MB")]:
+    for size, text in [(1_000, "1 KB"), (100_000, "100 KB"), (10_000_000, "10 MB")]:
+        if name.startswith("max"):
+            yield f"{text} of ff", b"\xff" * size
+        if size == 1_000 or name.startswith("max"):
             yield f"{text} of odd bytes", bytes(byte | 1 for byte in random.Random(7).randbytes(size))
 
 
 def definitions_in(path):
-    """Returns the sizes of a module's index spaces together, and exports."""
+    """Returns the sizes of a made module's index spaces together, with exports and data segments."""
     run(program, "check", path)
-    return sum(int(word.split("=")[1]) for word in first_words()[1:])
+    return sum(int(word.split("=")[1]) for word in first_words()[1:]) + items_in(path).get(11, 0)
 
 
 def generate_row(name, text, what, seed, own):
@@ -129,10 +140,10 @@ def generate_row(name, text, what, seed, own):
     os.replace(OUT, MODULE)
     length = os.path.getsize(MODULE)
     definitions = definitions_in(MODULE) if length else 0
-    beyond = most - own - 2 * len(seed)
+    whole = most - own
     made = f"{length / 1e6:.2f} MB of {definitions} definitions" if length else error
-    show(f"generate, {name}, seed of {what}: {made}, {seconds:.2f} s, beyond twice the seed {figures(beyond, len(seed) + length or 1, definitions)}",
-         beyond <= EACH * definitions + length + 2 * SLACK)
+    show(f"generate, {name}, seed of {what}: {made}, {seconds:.2f} s; a process: {figures(whole, len(seed) + length, definitions)}",
+         whole <= EACH * definitions + 2 * (len(seed) + length) + SLACK)
 
 
 def generate_rows():

@@ -193,8 +193,49 @@ REPORTED = ["an empty module", "types, equal", "types, different", "types in one
             "20,000 types of 1,000 parameters and 1,000 results", "imports by equal names", "imports by different names", "imports by names of 200 bytes",
             "imports from modules of different names", "exports by names in order", "exports by names in no order", "exports by names of 200 bytes",
             "globals", "tags", "100,000 element segments", "a body of nops"]
-# What a call may have besides the input, where that is more, in bytes.
-KNOWN = {}
+# What a call may have besides the input, in bytes, where that isn't 100 for a definition and as much as the input: by what an operand (12), an open block (40), a
+# parameter or a result (12), a field (20) and a type takes, or an import from a module of its own, and in a report what the view and the text of each take.
+KNOWN = {
+    "check": {
+        "types, different": 320 * MILLION,
+        "types in one group": 250 * MILLION,
+        "types in one group, below 63 others": 570 * MILLION,
+        "types in two equal groups": 225 * MILLION,
+        "20,000 types of 1,000 parameters and 1,000 results": 13 * 40 * MILLION,
+        "2,000 structures of 10,000 fields": 21 * 20 * MILLION,
+        "imports from modules of different names": 160 * MILLION,
+        "imports by names of 17 bytes from modules of different names": 190 * MILLION,
+        "a constant of 10,000,000 operands": 9 * 10 * MILLION,
+        "a body of constants that stay": 13 * BODY // 2,
+        "a body of blocks in each other": 42 * BODY // 3,
+        "a body of blocks that stay open, refused": 42 * BODY // 2,
+        "a body of `if` and `else` in each other": 42 * BODY // 6,
+        "a body of 50,000 locals and blocks": 42 * BODY // 3,
+        "a body of 50,000 assigned locals and blocks": 42 * BODY // 7,
+        "a body of 50,000 blocks that assign a local": 60 * 50_000,
+        "10 KB of blocks in each other of 1,000 operands": 42 * 10_000 // 3,
+        "100 KB of blocks in each other of 1,000 operands": 42 * 100_000 // 3,
+        "1 KB of calls with 1,000 results": 13 * 500_000,
+        "10 KB of calls with 1,000 results": 13 * 5 * MILLION,
+        "100 KB of calls with 1,000 results": 13 * 50 * MILLION,
+        "200 KB of calls with 1,000 results": 13 * 100 * MILLION,
+        "7.6 MB of calls with 1,000 results": 8 << 30,
+        "10 KB of blocks with 1,000 results": 13 * 2_500_000,
+    },
+    "report": {
+        "types, different": 1_180 * MILLION,
+        "types in one group": 350 * MILLION,
+        "types in one group, below 63 others": 680 * MILLION,
+        "20,000 types of 1,000 parameters and 1,000 results": 68 * 40 * MILLION,
+        "imports by equal names": 150 * MILLION,
+        "imports by different names": 155 * MILLION,
+        "imports by names of 200 bytes": 370 * MILLION,
+        "imports from modules of different names": 250 * MILLION,
+        "exports by names in order": 215 * MILLION,
+        "exports by names in no order": 240 * MILLION,
+        "exports by names of 200 bytes": 800 * MILLION,
+    },
+}
 
 
 def main(words):

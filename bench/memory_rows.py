@@ -13,9 +13,13 @@ program, peak, folder, command, *names = sys.argv[1:]
 MAKER = os.path.join(os.path.dirname(os.path.realpath(__file__)), "memory_modules.py")
 MODULE, SEED, CONFIG, OUT = (f"{folder}/{name}" for name in ("module.wasm", "seed", "config.toml", "out"))
 # What a process may have before memory ends, in KiB, and how many seconds.
-MOST, SECONDS = 8 << 20, 100
+MOST, SECONDS = 8 << 20, 300
 # What may be had for a definition, and for whatever is there from the start, in bytes.
 EACH, SLACK = 100, 1 << 19
+# What may be had for a definition of a made module, as many of the limit on types where there is a refusal, and for each byte of the seed.
+MADE, SEED_TIMES = 250, 160
+# What a configuration isn't refused by.
+UNNAMED = ["wasm_gen: out of memory", f"no end within {SECONDS} s"]
 # The validator's limits on what a configuration bounds, and the greatest maximum that is allowed.
 LIMITS = {"types": 1_000_000, "imports": 1_000_000, "tags": 1_000_000, "funcs": 1_000_000, "globals": 1_000_000, "exports": 1_000_000,
           "element_segments": 100_000, "elements": 10_000_000, "data_segments": 100_000, "tables": 100, "memories": 100}
@@ -28,14 +32,13 @@ past = []
 def run(*words):
     """Writes what a process says to a file, and returns its first words, its most memory in bytes and its seconds. (GNU time is small, and so lends the process
     none of its own size.)"""
-    limited = f'ulimit -v {MOST}; exec timeout {SECONDS} /usr/bin/time -q -f "%M %U %S" -o "$0" "$@"'
-    with open(f"{folder}/time", "w") as file:
-        file.write(f"0 {SECONDS} 0")
+    limited = f'ulimit -v {MOST}; exec /usr/bin/time -q -f "%M %U %S" -o "$0" timeout {SECONDS} "$@"'
     with open(OUT, "wb") as out:
-        error = subprocess.run(["sh", "-c", limited, f"{folder}/time", *words], stdout=out, stderr=subprocess.PIPE, text=True, check=False).stderr
+        ran = subprocess.run(["sh", "-c", limited, f"{folder}/time", *words], stdout=out, stderr=subprocess.PIPE, text=True, check=False)
     with open(f"{folder}/time") as file:
         kib, user, system = file.read().split()[-3:]
-    return error.strip().replace("\n", "; ")[:60], int(kib) * 1024, float(user) + float(system)
+    error = f"no end within {SECONDS} s" if ran.returncode == 124 else ran.stderr.strip().replace("\n", "; ")[:60]
+    return error, int(kib) * 1024, float(user) + float(system)
 
 
 def first_words():
@@ -78,7 +81,7 @@ def module_row(name, own, own_in_place):
     whole = most - own
     touched, asked = in_place(MODULE)
     touched -= own_in_place
-    bound = KNOWN.get((command, name), size + EACH * definitions) + SLACK
+    bound = max(KNOWN[command].get(name, 0), size + EACH * definitions) + SLACK
     show(f"{command}, {name}: {size / 1e6:.2f} MB, {answer}, {seconds:.2f} s; a process: {whole / 2**20:.1f} MiB, beyond the input "
          f"{figures(whole - size, size, definitions)}; in place: {figures(touched, size, definitions)}; of malloc: {asked / 2**20:.1f} MiB",
          whole <= size + bound and touched <= bound)
@@ -102,19 +105,27 @@ LEADING = {"imports": {"max_funcs": 0, "max_tags": 0, "max_tables": 0, "max_memo
            "exports": {"min_memories": 1, "max_types": 0, "max_globals": 0, "max_tables": 0, "max_imports": 0}}
 
 
+def minimum(key, limit, greatest_size):
+    """Returns a minimum that is its maximum too, and a configuration with it. (The module itself counts among the sizes of imports and exports.)"""
+    least = min(limit, greatest_size) if key in ("imports", "exports") else limit
+    globals = {"max_globals": least} if key == "imports" else {}
+    return least, text_of({**LEADING.get(key, {}), **globals, f"min_{key}": least, f"max_{key}": least, "max_type_size": greatest_size})
+
+
 def configurations():
-    """Yields what a configuration has, and its text. Where a minimum is raised its maximum is too."""
-    yield "maximums at the limits", text_of({**maximums(lambda limit: limit), "max_type_size": SIZE_OF_TYPES})
-    yield "maximums at 2^31", text_of({**maximums(lambda _: GREATEST), "max_type_size": GREATEST})
-    yield "maximums at 2^31 + 1", text_of({**maximums(lambda _: GREATEST + 1), "max_type_size": GREATEST})
+    """Yields what a configuration has, its text, and how many items of the kind that it is about a module has at least."""
+    yield "maximums at the limits", text_of({**maximums(lambda limit: limit), "max_type_size": SIZE_OF_TYPES}), 0
+    yield "maximums at 2^31", text_of({**maximums(lambda _: GREATEST), "max_type_size": GREATEST}), 0
+    yield "maximums at 2^31 + 1", text_of({**maximums(lambda _: GREATEST + 1), "max_type_size": GREATEST}), 0
     for what, of, size in [("the limit", lambda limit: limit, 999_998), ("2^31", lambda _: GREATEST, GREATEST)]:
         for key, limit in LIMITS.items():
-            # (the module itself counts as one import or export)
-            least = min(of(limit), size) if key in ("imports", "exports") else of(limit)
-            globals = {"max_globals": least} if key == "imports" else {}
-            yield f"min_{key} at {what}", text_of({**LEADING.get(key, {}), **globals, f"min_{key}": least, f"max_{key}": least, "max_type_size": size})
+            least, text = minimum(key, of(limit), size)
+            yield f"min_{key} at {what}", text, least
         minimums = {f"min_{key}": of(limit) for key, limit in LIMITS.items()}
-        yield f"all minimums at {what}", text_of({**minimums, **maximums(of), "max_type_size": size})
+        yield f"all minimums at {what}", text_of({**minimums, **maximums(of), "max_type_size": size}), 0
+    few, most = 1_000, LIMITS["elements"]
+    segments = {"min_element_segments": few, "max_element_segments": few, "min_elements": most, "max_elements": most}
+    yield "1,000 element segments with min_elements at the limit", text_of(segments), few * most
 
 
 def seeds(name):
@@ -132,27 +143,28 @@ def definitions_in(path):
     return sum(int(word.split("=")[1]) for word in first_words()[1:]) + items_in(path).get(11, 0)
 
 
-def generate_row(name, text, what, seed, own):
+def generate_row(name, text, least, what, seed, own):
     with open(CONFIG, "w") as config, open(SEED, "wb") as file:
         config.write(text)
         file.write(seed)
     error, most, seconds = run(program, "generate", "--config", CONFIG, SEED)
     os.replace(OUT, MODULE)
     length = os.path.getsize(MODULE)
-    definitions = definitions_in(MODULE) if length else 0
+    definitions = max(definitions_in(MODULE), least) if length else 0
     whole = most - own
+    bound = MADE * (definitions or LIMITS["types"]) + SEED_TIMES * len(seed) + 2 * length + SLACK
     made = f"{length / 1e6:.2f} MB of {definitions} definitions" if length else error
     show(f"generate, {name}, seed of {what}: {made}, {seconds:.2f} s; a process: {figures(whole, len(seed) + length, definitions)}",
-         whole <= EACH * definitions + 2 * (len(seed) + length) + SLACK)
+         error not in UNNAMED and whole <= bound)
 
 
 def generate_rows():
     write_empty()
     own = run(program, "check", MODULE)[1]
-    for name, text in configurations():
+    for name, text, least in configurations():
         for what, seed in seeds(name):
             if not names or name in names:
-                generate_row(name, text, what, seed, own)
+                generate_row(name, text, least, what, seed, own)
 
 
 def module_rows():

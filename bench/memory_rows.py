@@ -130,11 +130,10 @@ def configurations():
 
 def seeds(name):
     yield "0 bytes", b""
-    for size, text in [(1_000, "1 KB"), (100_000, "100 KB"), (10_000_000, "10 MB")]:
-        if name.startswith("max"):
-            yield f"{text} of ff", b"\xff" * size
-        if size == 1_000 or name.startswith("max"):
-            yield f"{text} of odd bytes", bytes(byte | 1 for byte in random.Random(7).randbytes(size))
+    sizes = [(1_000, "1 KB"), (100_000, "100 KB"), (10_000_000, "10 MB")]
+    for size, text in sizes if name.startswith("max") else []:
+        yield f"{text} of ff", b"\xff" * size
+        yield f"{text} of odd bytes", bytes(byte | 1 for byte in random.Random(7).randbytes(size))
 
 
 def definitions_in(path):
@@ -174,5 +173,8 @@ def module_rows():
         module_row(name, own, own_in_place)
 
 
-generate_rows() if command == "generate" else module_rows()
+if command == "generate":
+    generate_rows()
+else:
+    module_rows()
 sys.exit(bool(past))

@@ -8,6 +8,7 @@ import sys
 import time
 
 from in_process import peers, times_of
+from module_sizes import code_size, items_in
 
 program, driver, counter, folder = sys.argv[1:]
 ROUNDS = 5
@@ -77,28 +78,10 @@ def compare(name, path, best, may_differ=False):
     show(row, may_differ or is_agreed(verdict, node))
 
 
-def number_at(data, at):
-    value, shift = 0, 0
-    while True:
-        byte = data[at]
-        value |= (byte & 127) << shift
-        at, shift = at + 1, shift + 7
-        if byte < 128:
-            return value, at
-
-
 def sizes_in(path):
     """Returns how many bytes of code a module has, and how many definitions: the items of all sections but custom ones, the start, the code and the data."""
-    with open(path, "rb") as file:
-        data = file.read()
-    at, code, definitions = 8, 0, 0
-    while at < len(data):
-        id, size_at = data[at], at + 1
-        size, start = number_at(data, size_at)
-        code += size if id == 10 else 0
-        definitions += number_at(data, start)[0] if id in (1, 2, 3, 4, 5, 6, 7, 9, 13) else 0
-        at = start + size
-    return code, definitions
+    items = items_in(path)
+    return code_size(path), sum(items.get(id, 0) for id in (1, 2, 3, 4, 5, 6, 7, 9, 13))
 
 
 def peak_of(path):

@@ -9,39 +9,7 @@ set -eu
 . bench/driver.sh
 driver=$(build wasm_bench session 0)
 # (a process that holds the modules would lend its size to those that it starts)
-python3 - "$folder" <<'PYTHON'
-import sys
-def number(n, most=127):
-    out = bytearray()
-    while n > most:
-        out.append(n & 127 | 128)
-        n >>= 7
-    return bytes([*out, n])
-def section(id, count, items):
-    content = number(count) + items
-    return bytes([id]) + number(len(content)) + content
-def signed(n):
-    return number(n, 63)
-values = [bytes([code]) for code in (0x7f, 0x7e, 0x7d, 0x7c, 0x7b)] + [bytes([code, index]) for index in range(48) for code in (0x63, 0x64)]
-def functions(count, front):
-    begin = b"\x60" + number(front + 3) + b"\x7f" * front
-    of = lambda n: values[n % len(values)]
-    return section(1, count, b"".join(begin + of(i) + of(i // len(values)) + of(i // len(values) ** 2) + b"\0" for i in range(count)))
-def groups(count):
-    def group(first):
-        last = first + count - 1
-        return b"\x4e" + number(count) + b"".join(b"\x5f\1\x63" + signed(min(i + 1, last)) + b"\0" for i in range(first, last + 1))
-    return section(1, 2, group(0) + group(count))
-def assignments(source, count):
-    chain = b"\x50\0\x5f\0" + b"".join(b"\x50\1" + number(i) + b"\x5f\0" for i in range(63))
-    body = b"\2\1\x63" + signed(source) + b"\1\x63\0" + b"\x20\0\x21\1" * count + b"\x0b"
-    return section(1, 65, chain + b"\x60\0\0") + section(3, 1, b"\x40") + section(10, 1, number(len(body)) + body)
-modules = {"functions": functions(1_000_000, 0), "fronts": functions(100_000, 256), "groups": groups(100_000),
-           "far": assignments(63, 1_000_000), "near": assignments(0, 1_000_000)}
-for name, sections in modules.items():
-    with open(f"{sys.argv[1]}/{name}.wasm", "wb") as file:
-        file.write(b"\0asm\1\0\0\0" + sections)
-PYTHON
+python3 bench/type_modules.py "$folder"
 python3 - "$program" "$driver" "$folder" <<'PYTHON'
 import os, subprocess, sys
 program, driver, folder = sys.argv[1:]

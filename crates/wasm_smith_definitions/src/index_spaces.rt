@@ -96,14 +96,16 @@ impl<'a> IndexSpaces<'a> {
 
     /// Returns the number of types that have an index of 32 bits.
     pub fn type_count(&self) -> u32
-        ensures { result ≤ length self.now.types }
+        ensures most { result ≤ length self.now.types }
+        ensures all { length self.now.types < 2 ^ 32 → result ≡ length self.now.types }
     {
         self.types.len().min(u32::MAX as usize) as u32
     }
 
     /// Returns the number of functions that have an index of 32 bits.
     pub fn function_count(&self) -> u32
-        ensures { result ≤ length (functions_of self.now) }
+        ensures most { result ≤ length (functions_of self.now) }
+        ensures all { length (functions_of self.now) < 2 ^ 32 → result ≡ length (functions_of self.now) }
     {
         self.imported_functions
             .len()
@@ -125,7 +127,8 @@ impl<'a> IndexSpaces<'a> {
 
     /// Returns the number of globals that have an index of 32 bits.
     pub fn global_count(&self) -> u32
-        ensures { result ≤ length (globals_of self.now) }
+        ensures most { result ≤ length (globals_of self.now) }
+        ensures all { length (globals_of self.now) < 2 ^ 32 → result ≡ length (globals_of self.now) }
     {
         self.imported_globals
             .len()

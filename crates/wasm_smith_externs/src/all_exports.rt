@@ -90,7 +90,7 @@ fn named_export(
     ensures kind { IfOk result (λ item. (export item).kind ≡ export_kind kind) }
     ensures index { IfOk result (λ item. (export item).index ≡ index) }
     ensures name { IfOk result (λ item. IsAddedName names.old names.new (export item).name) }
-    ensures drawn { unstructured.new ≡ (text_at 1000 unstructured.old).1 }
+    ensures drawn { IfOk result (λ _. unstructured.new ≡ (text_at 1000 unstructured.old).1) }
     ensures taken { length unstructured.new ≤ length unstructured.old }
 {
     let name = unique_string(alloc, unstructured, MAX_NAME, names)?;

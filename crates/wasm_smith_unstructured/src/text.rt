@@ -38,20 +38,24 @@ pub fn limited_str<'a>(unstructured: &mut Unstructured<'a>, max: usize) -> &'a s
 /// them gets a number at its end. Adds the name to them.
 ///
 /// # Errors
-/// Where memory runs out. Nothing is added then, but the text's bytes are taken.
+/// Where memory runs out. Nothing is added then, and nothing is taken from the source.
 pub fn unique_string(
     alloc: Global,
     unstructured: &mut Unstructured<'_>,
     max: usize,
     names: &mut UniqueNames,
 ) -> Result<String, AllocError>
-    ensures drawn { unstructured.new ≡ (text_at max unstructured.old).1 }
+    ensures drawn { IfOk result (λ _. unstructured.new ≡ (text_at max unstructured.old).1) }
     ensures taken { length unstructured.new ≤ length unstructured.old }
     ensures named { IfOk result (λ name. IsNewName (is_name names.old) (length names.old) (text_at max unstructured.old).0 (string_bytes name)) }
     ensures short { IfOk result (λ name. length (string_bytes name) ≤ max + 20) }
     ensures added { IfOk result (λ name. (text : List ℕ) → is_name names.new text ≡ (bytes_eq (string_bytes name) text || is_name names.old text)) }
     ensures one_more { IfOk result (λ _. length names.new ≡ length names.old + 1) }
     ensures refused { OnErr result (names.new ≡ names.old) }
+    ensures untaken { OnErr result (unstructured.new ≡ unstructured.old) }
 {
-    names.add(alloc, limited_str(unstructured, max))
+    let mut ahead = unstructured.fork();
+    let name = names.add(alloc, limited_str(&mut ahead, max))?;
+    *unstructured = ahead;
+    Ok(name)
 }

@@ -37,6 +37,13 @@ impl<'a> Unstructured<'a> {
         Unstructured { rest: bytes }
     }
 
+    /// Returns a source of the bytes that are left here.
+    pub fn fork(&self) -> Unstructured<'a>
+        ensures { result ≡ self.now }
+    {
+        Unstructured { rest: self.rest }
+    }
+
     /// Checks that no bytes are left.
     pub fn is_empty(&self) -> bool
         ensures { IsTrue result ↔ (length self.now ≡ 0) }

@@ -31,7 +31,7 @@ pub const WRITTEN: &str = "
     extended | 41 07 41 01 6a 0b
     extended_pair | d0 6e d2 81 01 fb 06 02 0b
     extended_nothing | 0b
-    all | 23 00 d0 6f d2 01 41 7f 42 7f 43 00 00 80 7f 44 00 00 00 00 00 00 f0 7f 0b
+    all | 23 00 d0 6f d2 01 41 7f 42 7f 43 00 00 80 7f 44 00 00 00 00 00 00 f0 7f fd 0c 01 00*15 0b
 ";
 
 fn sums(alloc: Global) -> Result<ConstExpr, EncodeError> {
@@ -54,7 +54,8 @@ fn all(alloc: Global) -> Result<ConstExpr, EncodeError> {
     let third = second.with_ref_func(1)?.with_i32_const(-1)?;
     let fourth = third.with_i64_const(-1)?;
     let fifth = fourth.with_f32_const(Ieee32::new(0x7f80_0000))?;
-    fifth.with_f64_const(Ieee64::new(0x7ff0_0000_0000_0000))
+    let sixth = fifth.with_f64_const(Ieee64::new(0x7ff0_0000_0000_0000))?;
+    sixth.with_v128_const(1)
 }
 
 fn extended(alloc: Global) -> Result<ConstExpr, EncodeError> {

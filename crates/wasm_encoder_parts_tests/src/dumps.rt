@@ -5,7 +5,8 @@ use std::alloc::Global;
 use wasm_encoder_custom::core_dump::{CoreDumpModulesSection, CoreDumpSection};
 use wasm_encoder_custom::core_dump_instances::CoreDumpInstancesSection;
 
-fn program(alloc: Global) -> Option<bool> {
+/// Checks that the section of a program is written.
+pub fn program(alloc: Global) -> Option<bool> {
     let section = CoreDumpSection::new(alloc, "p").ok()?;
     Some(writes(alloc, &section, "00 08 04 63 6f 72 65 00 01 70"))
 }
@@ -37,7 +38,8 @@ fn has_modules(alloc: Global, section: &CoreDumpModulesSection) -> bool {
     }
 }
 
-fn modules(alloc: Global) -> bool {
+/// Checks that a section of modules is written.
+pub fn modules(alloc: Global) -> bool {
     let mut section = CoreDumpModulesSection::new(alloc);
     add_modules(&mut section) && has_modules(alloc, &section)
 }
@@ -70,7 +72,8 @@ fn has_instances(alloc: Global, section: &CoreDumpInstancesSection) -> bool {
     }
 }
 
-fn instances(alloc: Global) -> bool {
+/// Checks that a section of instances is written.
+pub fn instances(alloc: Global) -> bool {
     let mut section = CoreDumpInstancesSection::new(alloc);
     add_instances(&mut section) && has_instances(alloc, &section)
 }

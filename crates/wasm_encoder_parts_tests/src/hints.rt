@@ -14,7 +14,8 @@ const LATER: BranchHint = BranchHint {
     branch_hint_value: 0,
 };
 
-fn one_hint(alloc: Global) -> Option<bool> {
+/// Checks that a section of one hint is written.
+pub fn one_hint(alloc: Global) -> Option<bool> {
     let mut section = BranchHints::new(alloc);
     section.function_hints(0, &[HINT]).ok()?;
     let is_told = section.len() == 1 && !section.is_empty() && section.item_len(0) == Some(5);
@@ -31,7 +32,8 @@ fn a_hint(rt: HostRuntime) {
     assert!(rt; one_hint(rt.alloc()) == Some(true));
 }
 
-fn two_functions(alloc: Global) -> Option<bool> {
+/// Checks that a section of two functions is written.
+pub fn two_functions(alloc: Global) -> Option<bool> {
     let mut section = BranchHints::new(alloc);
     section.function_hints(0, &[]).ok()?;
     section.function_hints(1, &[HINT, LATER]).ok()?;

@@ -72,8 +72,8 @@ fn add_symbols(table: &mut SymbolTable, symbols: &str) -> Option<()> {
     Some(())
 }
 
-// Symbols, and their subsection.
-const TABLES: &str = "
+/// Symbols, and their subsection.
+pub const TABLES: &str = "
     | 08 01 00
     function:16:5 | 08 04 01 00 10 05
     function:16:64 | 08 04 01 00 10 40
@@ -89,10 +89,15 @@ const TABLES: &str = "
     data:0:d:1:2:3 | 08 08 01 01 00 01 64 01 02 03
     data:128::4294967295:300:0 | 08 0d 01 01 80 01 00 ff ff ff ff 0f ac 02 00
     function:0:0:f data:0:d:0:0:4 global:0:0:g table:0:0:t | 08 17 04 00 00 00 01 66 01 00 01 64 00 00 04 02 00 00 01 67 05 00 00 01 74
+";
+
+// Many symbols.
+const MANY: &str = "
     data:0:d:0:0:0*100000 | 08 e3 dc 2a a0 8d 06 01000164000000*100000
 ";
 
-fn table_row(alloc: Global, row: &str) -> Option<bool> {
+/// Checks a row of symbols.
+pub fn table_row(alloc: Global, row: &str) -> Option<bool> {
     let (symbols, bytes) = two_fields(row)?;
     let mut table = SymbolTable::new(alloc);
     let is_taken = add_symbols(&mut table, symbols).is_some();
@@ -101,7 +106,8 @@ fn table_row(alloc: Global, row: &str) -> Option<bool> {
 
 #[test]
 fn symbol_tables(rt: HostRuntime) -> Result<(), Fail> {
-    Ok(check_rows(rt.alloc(), TABLES, 16, table_row)?)
+    check_rows(rt.alloc(), TABLES, 15, table_row)?;
+    Ok(check_rows(rt.alloc(), MANY, 1, table_row)?)
 }
 
 fn add_table(alloc: Global, section: &mut LinkingSection, symbols: &str) -> bool {
@@ -119,17 +125,22 @@ fn add_tables(alloc: Global, section: &mut LinkingSection, tables: &str) -> bool
     true
 }
 
-// Tables, each before a semicolon, and the section.
-const SECTIONS: &str = "
+/// Tables, each before a semicolon, and the section.
+pub const SECTIONS: &str = "
     | 00 09 07 6c 69 6e 6b 69 6e 67 02
     ; | 00 0c 07 6c 69 6e 6b 69 6e 67 02 08 01 00
     function:16:0; | 00 0f 07 6c 69 6e 6b 69 6e 67 02 08 04 01 00 10 00
     function:0:5:f; | 00 11 07 6c 69 6e 6b 69 6e 67 02 08 06 01 00 00 05 01 66
     function:0:5:f; data:16:d; ; | 00 1b 07 6c 69 6e 6b 69 6e 67 02 08 06 01 00 00 05 01 66 08 05 01 01 10 01 64 08 01 00
+";
+
+// A table of many symbols.
+const LARGE: &str = "
     function:16:0*100000; | 00 f0 a7 12 07 6c 69 6e 6b 69 6e 67 02 08 e3 a7 12 a0 8d 06 001000*100000
 ";
 
-fn section_row(alloc: Global, row: &str) -> Option<bool> {
+/// Checks a row of tables.
+pub fn section_row(alloc: Global, row: &str) -> Option<bool> {
     let (tables, bytes) = two_fields(row)?;
     let mut section = LinkingSection::new(alloc);
     let is_taken = add_tables(alloc, &mut section, tables);
@@ -138,5 +149,6 @@ fn section_row(alloc: Global, row: &str) -> Option<bool> {
 
 #[test]
 fn linking_sections(rt: HostRuntime) -> Result<(), Fail> {
-    Ok(check_rows(rt.alloc(), SECTIONS, 6, section_row)?)
+    check_rows(rt.alloc(), SECTIONS, 5, section_row)?;
+    Ok(check_rows(rt.alloc(), LARGE, 1, section_row)?)
 }

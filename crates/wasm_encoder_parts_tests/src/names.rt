@@ -15,7 +15,8 @@ fn is_written(alloc: Global, section: &NameSection) -> bool {
     }
 }
 
-fn module_name(alloc: Global) -> bool {
+/// Checks that a section with the name of a module is written.
+pub fn module_name(alloc: Global) -> bool {
     let mut section = NameSection::new(alloc);
     let is_taken = section.module("m").is_ok();
     is_taken && is_written(alloc, &section)
@@ -63,7 +64,8 @@ fn has_maps(alloc: Global, names: &NameMap) -> bool {
     is_taken && writes(alloc, &section, MAPS)
 }
 
-fn all_maps(alloc: Global) -> bool {
+/// Checks that a section of maps is written.
+pub fn all_maps(alloc: Global) -> bool {
     let mut names = NameMap::new(alloc);
     add_names(&mut names) && has_maps(alloc, &names)
 }
@@ -86,7 +88,8 @@ fn has_indirect_maps(alloc: Global, map: &IndirectNameMap) -> bool {
     is_taken && writes(alloc, &section, INDIRECT_MAPS)
 }
 
-fn all_indirect_maps(alloc: Global) -> bool {
+/// Checks that a section of maps of maps is written.
+pub fn all_indirect_maps(alloc: Global) -> bool {
     let mut names = NameMap::new(alloc);
     let mut map = IndirectNameMap::new(alloc);
     let is_taken = add_names(&mut names) && map.append(3, &names).is_ok();

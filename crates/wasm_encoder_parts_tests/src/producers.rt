@@ -11,7 +11,8 @@ fn add_language(field: &mut ProducersField, section: &mut ProducersSection) -> b
     field.push("C", "11").is_ok() && section.push("language", field).is_ok()
 }
 
-fn language(alloc: Global) -> bool {
+/// Checks that the section of a language is written.
+pub fn language(alloc: Global) -> bool {
     let mut field = ProducersField::new(alloc);
     let mut section = ProducersSection::new(alloc);
     let is_taken = add_language(&mut field, &mut section);
@@ -43,7 +44,8 @@ const TWO_FIELDS: &str = "
     01 79 02 01 61 01 31 01 62 00
 ";
 
-fn two_fields(alloc: Global) -> bool {
+/// Checks that a section of two fields is written.
+pub fn two_fields(alloc: Global) -> bool {
     let mut field = ProducersField::new(alloc);
     let mut section = ProducersSection::new(alloc);
     let is_taken = add_tools(&mut field) && add_fields(&mut section, &field);

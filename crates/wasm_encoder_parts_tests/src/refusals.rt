@@ -10,3 +10,4 @@ mod instructions;
 mod names;
 mod refused;
 mod sections;
+mod worked;

@@ -33,11 +33,16 @@ fn structure(alloc: Global, above: Option<u32>) -> Option<SubType> {
     })
 }
 
-// Interns so many structures, each below the one before.
+/// Interns the structure with this number in a chain, which is below the one before.
+pub fn add_structure(alloc: Global, list: &mut CheckedList, number: u32) -> Option<()> {
+    let it = structure(alloc, number.checked_sub(1))?;
+    list.intern_sub_type(it, 0)?.ok()?;
+    Some(())
+}
+
 fn add_chain(alloc: Global, list: &mut CheckedList, count: u32) -> Option<()> {
     for number in 0..count {
-        let it = structure(alloc, number.checked_sub(1))?;
-        list.intern_sub_type(it, 0)?.ok()?;
+        add_structure(alloc, list, number)?;
     }
     Some(())
 }
@@ -89,7 +94,8 @@ fn have_places(list: &CheckedList, asked: &AskedList, count: u32) -> bool {
     true
 }
 
-fn are_placed(list: &CheckedList, count: u32) -> bool {
+/// Checks that the types of a chain have their places.
+pub fn are_placed(list: &CheckedList, count: u32) -> bool {
     match AskedList::new(list.list()) {
         Some(asked) => have_places(list, &asked, count),
         None => false,

@@ -7,7 +7,7 @@ use wasm_core::binary_reader::BinaryReader;
 use wasm_test_rows::fields::two_fields;
 use wasm_test_rows::rows::check_rows;
 use wasm_test_rows::values::{bytes_of, number_of};
-use wasmparser::error::Error;
+use wasmparser::error::{Error, ErrorKind};
 use wasmparser::func_to_validate::FuncValidatorAllocations;
 use wasmparser::func_validator::FuncValidator;
 use wasmparser::module_resources::WasmModuleResources;
@@ -17,9 +17,9 @@ use wasmparser::payload::Payload;
 use wasmparser::valid_payload::ValidPayload;
 use wasmparser::validator::Validator;
 
-// Modules, and operators that are handed to the validator of each body, or tried where there is a `?`: how many operands there are then, or the kind of the
-// refusal.
-const OPERATORS: &str = "
+/// Modules, and operators that are handed to the validator of each body, or tried where there is a `?`: how many operands there are then, or the kind of the
+/// refusal.
+pub const OPERATORS: &str = "
     0061736d01000000 010401600000 03020100 0a040102000b | 01=0 4100=1 0240=1 4100=2
     0061736d01000000 010401600000 03020100 0a040102000b | ?6a=body 6a=body 6a=failed ?01=failed
     0061736d01000000 010401600000 03020100 0a040102000b | 4100=1 ?6a=body 4100=2 ?6a=1 6a=body ?01=failed
@@ -48,7 +48,7 @@ fn answer<R: WasmModuleResources>(
     }
 }
 
-// Checks that an operator is answered so. One that is tried and refused leaves as many operands.
+// Checks that an operator is answered so. One that is tried and refused leaves as many operands. None where memory runs out.
 fn is_answered<R: WasmModuleResources>(
     alloc: Global,
     validator: &mut FuncValidator<R>,
@@ -61,9 +61,11 @@ fn is_answered<R: WasmModuleResources>(
     let before = validator.operand_stack_height();
     let answer = answer(validator, &bytes, is_tried);
     let after = validator.operand_stack_height();
+    let is_kept = after == before || !is_tried;
     match answer {
         Ok(()) => Some(number_of(expected) == Some(after as u64)),
-        Err(e) => Some(e.kind.name() == expected && (after == before || !is_tried)),
+        Err(e) if e.kind == ErrorKind::Memory && is_kept => None,
+        Err(e) => Some(e.kind.name() == expected && is_kept),
     }
 }
 
@@ -109,14 +111,15 @@ fn module_holds(alloc: Global, validator: &mut Validator, row: &str) -> Option<b
         let Ok(payload) = payload else {
             return None;
         };
-        if payload_holds(alloc, validator, &payload, steps).ok()? != Some(true) {
+        if !payload_holds(alloc, validator, &payload, steps).ok()?? {
             return Some(false);
         }
     }
     Some(true)
 }
 
-fn holds(alloc: Global, row: &str) -> Option<bool> {
+/// Checks a row with a new validator. None where memory runs out.
+pub fn holds(alloc: Global, row: &str) -> Option<bool> {
     on_new_validator(alloc, row, module_holds)
 }
 

@@ -4,3 +4,4 @@
 mod calls;
 mod imports;
 mod payloads;
+mod rows;

@@ -18,10 +18,10 @@ use wasmparser::ref_type::RefType;
 use wasmparser::types::TypesRef;
 use wasmparser::val_type::ValType;
 
-// The items that are shown of a module: the kinds of its types, the ids of its types and of their supertypes, the types of its element segments, the first
-// item of each index space, its exports and imports, or its imports with their names. A function and a tag show the id of their type, and how many parameters
-// and results it has. In rows of own ids types aren't canonicalized.
-const SHOWN: &str = "
+/// The items that are shown of a module: the kinds of its types, the ids of its types and of their supertypes, the types of its element segments, the first
+/// item of each index space, its exports and imports, or its imports with their names. A function and a tag show the id of their type, and how many parameters
+/// and results it has. In rows of own ids types aren't canonicalized.
+pub const SHOWN: &str = "
     types | 0061736d01000000 01 0b 03 60 00 00 5f 01 7f 00 5e 7f 00 | func struct array
     types | 0061736d01000000 | 
     ids | 0061736d01000000 01 0b 03 60 00 00 60 01 7f 00 60 00 00 | 0 1 0
@@ -118,9 +118,10 @@ fn entity_at(view: TypesRef<'_>, kind: ExternalKind, index: u32) -> Option<Entit
     }
 }
 
-// Checks that an item is what the text says.
-fn is_shown(alloc: Global, view: TypesRef<'_>, entity: EntityType, text: &str) -> bool {
-    entity_text(alloc, view, entity).is_some_and(|shown| shown.as_str() == text)
+// Checks that an item is what the text says. None where memory runs out.
+fn is_shown(alloc: Global, view: TypesRef<'_>, entity: EntityType, text: &str) -> Option<bool> {
+    let shown = entity_text(alloc, view, entity)?;
+    Some(shown.as_str() == text)
 }
 
 // Returns the texts after that of the first item of a kind, which is what its text says; all of them where there is no such item.
@@ -134,7 +135,7 @@ fn shown_item<'a>(
         return Some(texts);
     };
     let (text, rest) = texts.split_once("; ").unwrap_or((texts, ""));
-    if is_shown(alloc, view, entity, text) {
+    if is_shown(alloc, view, entity, text)? {
         Some(rest)
     } else {
         None
@@ -152,32 +153,30 @@ fn has_items(alloc: Global, view: TypesRef<'_>, expected: &str) -> Option<bool> 
 }
 
 // Checks that an export is what the text says, a name and what it stands for.
-fn is_export(alloc: Global, view: TypesRef<'_>, export: &Export<'_>, expected: &str) -> bool {
-    let Some((name, text)) = expected.split_once(' ') else {
-        return false;
-    };
-    let Some(entity) = view.entity_type_from_export(export) else {
-        return false;
-    };
-    let Some(found) = entity_at(view, export.kind, export.index) else {
-        return false;
-    };
-    name == export.name && entity == found && is_shown(alloc, view, entity, text)
+fn is_export(
+    alloc: Global,
+    view: TypesRef<'_>,
+    export: &Export<'_>,
+    expected: &str,
+) -> Option<bool> {
+    let (name, text) = expected.split_once(' ')?;
+    let entity = view.entity_type_from_export(export)?;
+    let found = entity_at(view, export.kind, export.index)?;
+    let is_shown = is_shown(alloc, view, entity, text)?;
+    Some(name == export.name && entity == found && is_shown)
 }
 
-fn has_exports(alloc: Global, view: TypesRef<'_>, expected: &str) -> bool {
-    let Some(mut exports) = view.core_exports() else {
-        return false;
-    };
+fn has_exports(alloc: Global, view: TypesRef<'_>, expected: &str) -> Option<bool> {
+    let mut exports = view.core_exports()?;
     for text in expected.split("; ") {
         let Some(export) = exports.next() else {
-            return false;
+            return Some(false);
         };
-        if !is_export(alloc, view, &export, text) {
-            return false;
+        if !is_export(alloc, view, &export, text)? {
+            return Some(false);
         }
     }
-    exports.next().is_none()
+    Some(exports.next().is_none())
 }
 
 // Checks that the single imports of a module are what the text says.
@@ -207,33 +206,28 @@ fn is_import(
     names: [&str; 2],
     entity: EntityType,
     expected: &str,
-) -> bool {
-    let Some((name, text)) = expected.split_once(' ') else {
-        return false;
-    };
-    let Some((module, name)) = name.split_once('.') else {
-        return false;
-    };
-    module == names[0] && name == names[1] && is_shown(alloc, view, entity, text)
+) -> Option<bool> {
+    let (name, text) = expected.split_once(' ')?;
+    let (module, name) = name.split_once('.')?;
+    let is_shown = is_shown(alloc, view, entity, text)?;
+    Some(module == names[0] && name == names[1] && is_shown)
 }
 
 // Checks that the imports with their names are what the text says.
-fn has_named_imports(alloc: Global, view: TypesRef<'_>, expected: &str) -> bool {
-    let Ok(Some(mut imports)) = view.core_imports() else {
-        return false;
-    };
+fn has_named_imports(alloc: Global, view: TypesRef<'_>, expected: &str) -> Option<bool> {
+    let mut imports = view.core_imports().ok()??;
     for text in expected.split("; ") {
         if text.is_empty() {
             continue;
         }
         let Some((module, name, entity)) = imports.next() else {
-            return false;
+            return Some(false);
         };
-        if !is_import(alloc, view, [module, name], entity, text) {
-            return false;
+        if !is_import(alloc, view, [module, name], entity, text)? {
+            return Some(false);
         }
     }
-    imports.next().is_none()
+    Some(imports.next().is_none())
 }
 
 fn has_types(view: TypesRef<'_>, expected: &str) -> Option<bool> {
@@ -299,7 +293,7 @@ fn features_for(kind: &str) -> WasmFeatures {
     WasmFeatures::all().difference(canonical)
 }
 
-// Checks that a view of a module has what a row says.
+// Checks that a view of a module has what a row says. None where memory runs out.
 fn has(alloc: Global, view: TypesRef<'_>, bytes: &[u8], row: &str) -> Option<bool> {
     let (kind, _, expected) = three_fields(row)?;
     match kind {
@@ -308,14 +302,15 @@ fn has(alloc: Global, view: TypesRef<'_>, bytes: &[u8], row: &str) -> Option<boo
         "supertypes" => has_supertypes(view, expected),
         "items" => has_items(alloc, view, expected),
         "elements" => Some(has_elements(view, expected)),
-        "exports" => Some(has_exports(alloc, view, expected)),
+        "exports" => has_exports(alloc, view, expected),
         "imports" => has_imports(alloc, view, bytes, expected),
-        "named" => Some(has_named_imports(alloc, view, expected)),
+        "named" => has_named_imports(alloc, view, expected),
         _ => None,
     }
 }
 
-fn holds(alloc: Global, row: &str) -> Option<bool> {
+/// Checks a row. None where memory runs out.
+pub fn holds(alloc: Global, row: &str) -> Option<bool> {
     let (kind, bytes, _) = three_fields(row)?;
     on_types(
         alloc,

@@ -14,6 +14,7 @@ const LISTS: &str = "
     func -> = #0; lone open : struct = #1 | types = 2; type #0 = func ->; type #1 = open : struct | group #1 : struct own.1?, struct own.0? #0? = new #2 #3
     func -> = #0; lone open : struct = #1 | supertype #1 = none; ids 1 = #1 #2; ids 2 = none | apart #1 : struct own.1?, struct own.0? #0? = new #2 #3
     func -> = #0; group struct own.1?, struct own.0? = new #1 #2 | types = 3; groups = 2 | group struct own.1?, struct own.0? = known #1 #2
+    func i32 -> = #0 | types = 1; groups = 1 | func i32 -> = #0
     func -> = #0; func i32 -> = #1; func i64 -> = #2; func f32 -> = #3 | types = 4; group_of #3 = 3; type #4 = none | func f64 -> = #4
     func -> = #0; func i32 -> = #1; func i64 -> = #2; func f32 -> = #3 | types = 4; group_of #3 = 3; type #4 = none | lone array mut:#3 = #4
     lone open : struct = #0; lone open #0 : struct = #1 | supertype #1 = #0; type #1 = open #0 : struct | single #1 : struct i8 = new #2
@@ -87,5 +88,5 @@ fn holds(alloc: Global, row: &str) -> Option<bool> {
 
 #[test]
 fn refusals_change_nothing(rt: HostRuntime) -> Result<(), Fail> {
-    Ok(check_rows(rt.alloc(), LISTS, 7, holds)?)
+    Ok(check_rows(rt.alloc(), LISTS, 8, holds)?)
 }

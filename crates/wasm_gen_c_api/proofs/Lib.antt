@@ -1,4 +1,5 @@
 pub mod CallLaws
+pub mod CheckCodeLaws
 pub mod CodeLaws
 pub mod ConfigLaws
 pub mod ConfigTextLaws

@@ -59,6 +59,11 @@ text_code configs.Memory = memory
 abbrev pub codes_of_making : List ℕ
 codes_of_making = yes ∷ 3 ∷ memory ∷ short_buffer ∷ config_text ∷ 13 ∷ 15 ∷ 17 ∷ []
 
+-- The codes that the bytes of a module and features may come to. A validator of its own has space for a module's types (6), has no calls out of order (7),
+-- and refused no module before (8).
+abbrev pub codes_of_checking : List ℕ
+codes_of_checking = yes ∷ 1 ∷ 2 ∷ 3 ∷ 4 ∷ 5 ∷ memory ∷ unknown_features ∷ []
+
 -- what codes are called, in turn
 abbrev pub names : List (List ℕ)
 names = codes "yes"

@@ -2,9 +2,10 @@
 
 ghost use Rattle.std.specs.Prelude.{◌≡◌, ◌⊎◌, ◌==◌, ℕ, List, [], false, take, true};
 ghost use Rattle.std.specs.List.{list_any};
-ghost use Rattle.wasm_gen_c_api.specs.Codes.{codes_of_making, memory, short_buffer, yes};
+ghost use Rattle.wasm_gen_c_api.specs.Codes.{codes_of_checking, codes_of_making, memory, short_buffer, yes};
 ghost use Rattle.wasm_gen_c_api.specs.ConfigTexts.{AreTold};
 ghost use Rattle.wasm_gen_c_api.specs.Generate.{IsMade, IsMadeByDefault, generated_features};
+ghost use Rattle.wasm_gen_c_api.specs.Report.{IsReportOf};
 ghost use Rattle.wasm_gen_c_api.specs.Verdicts.{IsChecked};
 ghost use Rattle.wasm_gen_c_api.specs.declared.verdict.Verdict.{Verdict};
 ghost use Rattle.wasm_gen_config.specs.Outcome.{IsGivenByText};
@@ -38,4 +39,11 @@ pub fn generating_has_few_codes()
     ensures given { (text seed old new : List ℕ) (len code : ℕ) → IsMade text seed old new len code → list_any (λ other. code == other) codes_of_making ≡ true }
     ensures by_default { (seed old new : List ℕ) (len code : ℕ) → IsMade [] seed old new len code
         → (code ≡ yes) ⊎ (code ≡ short_buffer) ⊎ (code ≡ 3) ⊎ (code ≡ memory) }
+{}
+
+/// Few codes come of the bytes of a module and of features, also where a report on the module is to be written, which may not fit.
+pub fn checking_has_few_codes()
+    ensures checked { (features : ℕ) (bytes : List ℕ) (verdict : Verdict) → IsChecked features bytes verdict → list_any (λ other. verdict.kind == other) codes_of_checking ≡ true }
+    ensures reported { (features : ℕ) (bytes old new : List ℕ) (len code : ℕ) → IsReportOf features bytes old new len code
+        → (code ≡ short_buffer) ⊎ (list_any (λ other. code == other) codes_of_checking ≡ true) }
 {}

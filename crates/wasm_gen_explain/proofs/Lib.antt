@@ -1,3 +1,4 @@
+pub mod BlockLaws
 pub mod BodyLaws
 pub mod CodeLaws
 pub mod CountLaws
@@ -5,5 +6,6 @@ pub mod ImportLaws
 pub mod ItemLaws
 pub mod ListLaws
 pub mod OperatorLaws
+pub mod PassedLaws
 pub mod PlaceLaws
 pub mod SectionLaws

@@ -4,6 +4,8 @@ pub mod Items
 pub mod Lists
 pub mod Names
 pub mod Operators
+pub mod Passed
 pub mod Places
+pub mod Searches
 pub mod Sections
 pub mod Text

@@ -5,6 +5,7 @@ pub mod CountLaws
 pub mod ImportLaws
 pub mod ItemLaws
 pub mod ListLaws
+pub mod NameLaws
 pub mod OperatorLaws
 pub mod PassedLaws
 pub mod PlaceLaws

@@ -10,3 +10,8 @@ pub mod OperatorLaws
 pub mod PassedLaws
 pub mod PlaceLaws
 pub mod SectionLaws
+pub mod UniqueBodies
+pub mod UniqueItems
+pub mod UniqueOperators
+pub mod UniquePlaces
+pub mod UniqueSections

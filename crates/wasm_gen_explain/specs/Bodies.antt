@@ -25,7 +25,7 @@ pub record IsPast (body : Input) (offset number : ℕ) (now : BodyLeft) : Type 0
   pub begins : first.position ≤ offset
   pub operators : ArePassed (PassesOperator offset) (whole_body first) number now
 
--- the operator of this number, which has this name, ends past a place, or doesn't read, or is lacking
+-- the operator of this number and name ends past a place, or doesn't read, or is lacking
 pub record IsOperatorAt (body : Input) (offset number : ℕ) (name : List ℕ) : Type 0 where
   pub now : BodyLeft
   pub past : IsPast body offset number now
@@ -57,7 +57,7 @@ pub record IsNextBody (old body : Input) (rest : List ℕ) : Type 0 where
 abbrev pub StopsSize : Input → ℕ → Type 0
 StopsSize i offset = (body_at i.rest ≡ None) ⊎ ((body : Input) × (rest : List ℕ) × IsNextBody i body rest × (offset < body.position))
 
--- a place is within the next body, which is that of this function
+-- a place is within the next body, that of this function
 pub record IsWithinBody (function : ℕ) (i : Input) (offset : ℕ) (place : Place) : Type 0 where
   pub body : Input
   pub rest : List ℕ
@@ -66,7 +66,7 @@ pub record IsWithinBody (function : ℕ) (i : Input) (offset : ℕ) (place : Pla
   pub ends : offset ≤ end body
   pub stands : IsInBody function body offset place
 
--- a place is in the next body or in its size
+-- a place is in the next body, that of this function, or in its size
 pub data IsAtBody (function : ℕ) (i : Input) (offset : ℕ) : Place → Type 0 where
   in_size : StopsSize i offset → IsAtBody function i offset (places.Function function)
   within : (place : Place) → IsWithinBody function i offset place → IsAtBody function i offset place
@@ -87,7 +87,7 @@ pub record IsInOneOf (imported count : ℕ) (items : Input) (offset : ℕ) (plac
   pub passed : ArePassed (PassesBody offset) items number now
   pub stands : IsAtBody (imported + number) now offset place
 
--- in some body of a code section, whose function comes after so many others, a place is
+-- a place is in a body of a code section, whose functions come after so many others
 pub record IsInBodies (imported : ℕ) (content : Input) (offset : ℕ) (place : Place) : Type 0 where
   pub count : ℕ
   pub items : Input

@@ -1,6 +1,7 @@
 pub mod Bodies
 pub mod Imports
 pub mod Items
+pub mod LargeIndexes
 pub mod Lists
 pub mod Names
 pub mod Operators

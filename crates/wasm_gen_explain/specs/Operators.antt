@@ -20,7 +20,7 @@ open_after (If type) blocks = blocks + 1
 open_after End blocks = blocks - 1
 open_after _ blocks = blocks
 
--- what is left of a body, and how many of its blocks are open, of which the body itself is one
+-- what is left of a body, and how many blocks are open, the body's own included
 pub record BodyLeft : Type 0 where
   pub input : Input
   pub blocks : ℕ

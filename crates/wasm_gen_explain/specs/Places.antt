@@ -26,7 +26,7 @@ pub record PassesNext (offset : ℕ) (old new : ModuleLeft) : Type 0 where
   pub section : PassesSection offset old.input new.input
   pub counted : new.imported ≡ old.imported + functions_among (imports_of (has old.input.features CompactImports) (section.id, section.content.rest))
 
--- a place is in the first section that isn't passed, or else at the end
+-- a place is in the first section that isn't passed, or at the end
 pub record IsAmong (start : ModuleLeft) (offset : ℕ) (place : Place) : Type 0 where
   pub number : ℕ
   pub now : ModuleLeft

@@ -40,7 +40,7 @@ abbrev pub open_from : Option ℕ → ℕ → ℕ
 open_from None blocks = blocks
 open_from (Some b) blocks = if b == 0x02 then blocks + 1 else if b == 0x03 then blocks + 1 else if b == 0x04 then blocks + 1 else if b == 0x0b then blocks - 1 else blocks
 
--- an operator is read, whose first byte says which blocks it opens
+-- an operator is read, and its first byte says which blocks are open after it
 pub record ReadsOperator (old new : Input) : Type 0 where
   pub operator : Operator ℕ
   pub reads : operator_at old.features old.rest ≡ Some (operator, new.rest)

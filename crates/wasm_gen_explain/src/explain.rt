@@ -37,7 +37,8 @@ fn place_in_sections(
     Ok(Place::End)
 }
 
-/// Returns where in a module a place is, by the bytes up to it: the first part that ends past the place, or that doesn't read. Which rule the module breaks there is not asked.
+/// Returns where in a module a place is: the first part that ends past it, or that doesn't read. Sections and bodies that end before it are passed by their sizes.
+/// Which rule the module breaks there is not asked.
 ///
 /// # Errors
 /// Where memory runs out for a type that is read.

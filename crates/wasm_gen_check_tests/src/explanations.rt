@@ -71,6 +71,7 @@ const ROWS: &str = "
     default | types functions 0a 04 01 02 00 01                                                  | at offset 24: function 0, operator 1
     default | types functions 0a 06 01 04 00 02 40 0b                                            | at offset 26: function 0, operator 2
     default | types functions 0a 06 01 04 00 0b 01 0b                                            | at offset 24: function 0, operator 1 (nop)
+    default | types two-functions 0a 08 02 02 00 0b 03 00 6a 0b                                  | at offset 27: function 1, operator 0 (i32.add)
     // Imported functions come first.
     default | types 02 05 01 00 00 00 00 functions 0a 05 01 03 00 6a 0b                          | at offset 30: function 1, operator 0 (i32.add)
     default | types 02 09 02 00 00 00 00 00 00 00 00 two-functions 0a 08 02 02 00 0b 03 00 01 6a | at offset 39: function 3, operator 1 (i32.add)
@@ -102,6 +103,6 @@ fn holds(alloc: Global, row: &str) -> Option<bool> {
 
 #[test]
 fn errors_stand_there(rt: HostRuntime) -> Result<(), Fail> {
-    check_rows(rt.alloc(), ROWS, 57, holds)?;
+    check_rows(rt.alloc(), ROWS, 58, holds)?;
     Ok(())
 }

@@ -37,9 +37,9 @@ others_counted count so_far item (Some read) =
 pub goes_on : {A : Type 0} (count : A → ℕ) (item_at : ReadingOf A) (n i so_far v : ℕ) (bytes after : List ℕ) (total : Option (ℕ × List ℕ)) → i < n → seen_at count item_at bytes ≡ Some (v, after)
     → counting count so_far (items_at item_at (n - i) bytes) ≡ total → counting count (so_far + v) (items_at item_at (n - (i + 1)) after) ≡ total
 unfolding items_at
-goes_on {A = A} count item_at n i so_far v bytes after total lt h told =
+goes_on {A = A} count item_at n i so_far v bytes after total lt h holds =
     let k : n - i ≡ suc (n - (i + 1)) = omega arith in
-    by_read (item_at bytes) h (rw k at told)
+    by_read (item_at bytes) h (rw k at holds)
   where
     by_read : (read : Option (A × List ℕ)) → count_of count read ≡ Some (v, after)
         → counting count so_far (read >>= λ first. items_at item_at (n - (i + 1)) first.1 >>= λ others. Some (first.0 ∷ others.0, others.1)) ≡ total
@@ -56,10 +56,10 @@ none_counted count (Some read) e = absurd cc
 pub ends : {A : Type 0} (count : A → ℕ) (item_at : ReadingOf A) (n i so_far : ℕ) (bytes all : List ℕ) → i < n → seen_at count item_at bytes ≡ None
     → counting count so_far (items_at item_at (n - i) bytes) ≡ counting count 0 (list_at item_at all) → seen_at (counted count) (list_at item_at) all ≡ None
 unfolding items_at
-ends {A = A} count item_at n i so_far bytes all lt h told =
+ends {A = A} count item_at n i so_far bytes all lt h holds =
     let k : n - i ≡ suc (n - (i + 1)) = omega arith in
     let one : counting count so_far (items_at item_at (n - i) bytes) ≡ None = rw k (by_read (item_at bytes) h) in
-    rw (none_counted count (list_at item_at all) (sym told ∙ one)) refl
+    rw (none_counted count (list_at item_at all) (sym holds ∙ one)) refl
   where
     by_read : (read : Option (A × List ℕ)) → count_of count read ≡ None
         → counting count so_far (read >>= λ first. items_at item_at (n - (i + 1)) first.1 >>= λ others. Some (first.0 ∷ others.0, others.1)) ≡ None
@@ -69,10 +69,10 @@ ends {A = A} count item_at n i so_far bytes all lt h told =
 pub is_done : {A : Type 0} (count : A → ℕ) (item_at : ReadingOf A) (n i so_far : ℕ) (bytes all : List ℕ) → n ≤ i → counting count so_far (items_at item_at (n - i) bytes) ≡ counting count 0 (list_at item_at all)
     → seen_at (counted count) (list_at item_at) all ≡ Some (so_far, bytes)
 unfolding items_at
-is_done count item_at n i so_far bytes all le told =
+is_done count item_at n i so_far bytes all le holds =
     let k : n - i ≡ 0 = omega arith in
     let none : so_far + 0 ≡ so_far = omega arith in
-    whole count (list_at item_at all) ∙ sym told ∙ rw k (ap (λ (v : ℕ). Some (v, bytes)) none)
+    whole count (list_at item_at all) ∙ sym holds ∙ rw k (ap (λ (v : ℕ). Some (v, bytes)) none)
 
 -- (cited by a loop that counts)
 pub ruleset count_loop = (count_unread, begins, goes_on, ends, is_done)

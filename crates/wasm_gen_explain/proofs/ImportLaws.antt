@@ -367,10 +367,10 @@ unread_next compact bytes mid id e f = rw (frame_unread bytes id mid e f) refl
 
 pub imports_next : (old mid new content : Input) (id n : ℕ) → byte_at old.rest ≡ Some (id, mid.rest) → GoesOn old mid → id ≡ 2 → body_at mid.rest ≡ Some (content.rest, new.rest) → content.features ≡ mid.features
     → n ≡ functions_among (flat_map imported_by (entries_in (has content.features CompactImports) content.rest)) → n ≤ length content.rest → CountsNext (has old.features CompactImports) (frame_at old.rest) n
-imports_next old mid new content id n e g is f same told few =
+imports_next old mid new content id n e g is f same holds few =
     let reads = frame_reads old.rest id mid.rest content.rest new.rest e f in
     let features : content.features ≡ old.features = same ∙ g.same_features in
-    rw (reads, is) (rw features at told, few)
+    rw (reads, is) (rw features at holds, few)
 
 pub frame_parts : (bytes : List ℕ) (id : ℕ) (content rest : List ℕ) → frame_at bytes ≡ Some ((id, content), rest) → length content + length rest < length bytes
 unfolding frame_at byte_at

@@ -1,9 +1,17 @@
+pub mod BlockLaws
 pub mod BodyLaws
 pub mod CodeLaws
 pub mod CountLaws
 pub mod ImportLaws
 pub mod ItemLaws
 pub mod ListLaws
+pub mod NameLaws
 pub mod OperatorLaws
+pub mod PassedLaws
 pub mod PlaceLaws
 pub mod SectionLaws
+pub mod UniqueBodies
+pub mod UniqueItems
+pub mod UniqueOperators
+pub mod UniquePlaces
+pub mod UniqueSections

@@ -5,18 +5,21 @@ use Rattle.wasm_core_read.specs.ModuleReading.{frame_at}
 use Rattle.wasm_core_read.specs.PartReading.{body_at, import_at, table_at, global_at, export_at, element_at, data_at}
 use Rattle.wasm_core_read.specs.Reading.{◌>>=◌, ReadingOf, byte_at, bytes_at, filled, name_at, unsigned_at}
 use Rattle.wasm_core_read.specs.TypeReading.{rec_group_at, limits_at, tag_type_at}
-use Rattle.wasm_core_read.proofs.ReadingLaws.{bind_some, frame_shorter, goes_further}
+use Rattle.wasm_core_read.proofs.ReadingLaws.{bind_some, goes_further}
 use Rattle.wasm_spec.specs.Features.{Features, CompactImports, has}
 use Rattle.wasm_spec.specs.TypeReferences.{group_refs}
 use Rattle.wasmparser_entries.specs.Entries.{refs_of_element, refs_of_global, refs_of_table}
 use Rattle.wasmparser_entries.specs.ImportEntries.{entry_refs}
-use Rattle.wasm_gen_explain.specs.Bodies.{StandsInCode, bodies_at}
-use Rattle.wasm_gen_explain.specs.Lists.{EndsItems, StandsInList}
-use Rattle.wasm_gen_explain.specs.Sections.{FindsIn, in_custom, in_types, in_imports, in_functions, in_tables, in_memories, in_globals, in_exports, in_start, in_elements, in_segments, in_data_count, in_tags, in_unknown, no_refs, StandsInWhole, IsFrame, StandsAtSection, no_section, at_frame, in_section, passed, StandsInContent, in_code, around, in_entry, past, unread, before}
+use Rattle.wasm_gen_explain.specs.Bodies.{PassesBody}
+use Rattle.wasm_gen_explain.specs.Items.{PassesItem}
+use Rattle.wasm_gen_explain.specs.Lists.{EndsList, StandsInList}
+use Rattle.wasm_gen_explain.specs.Searches.{FindsAtSection, FindsInCode, FindsInContent}
+use Rattle.wasm_gen_explain.specs.Sections.{FindsIn, in_custom, in_types, in_imports, in_functions, in_tables, in_memories, in_globals, in_exports, in_start, in_elements, in_segments, in_data_count, in_tags, in_unknown, no_refs, StandsInWhole, EndsContent, code, others, IsFrame, IsAtSection, no_section, at_frame, within, IsInContent, in_code, around, in_entry, PassesSection, unread, before}
 use Rattle.wasm_gen_explain.specs.declared.lists.Found.TheVariants.{Around, Entry, Past}
 use Rattle.wasm_gen_explain.specs.declared.lists.Found.{Found}
 use Rattle.wasm_gen_explain.specs.declared.place.Place.{Place}
 use Rattle.wasm_gen_explain.specs.declared.place.Place.TheVariants as places
+use Rattle.wasm_gen_explain.proofs.ListLaws.{list_ends}
 
 -- ---- contents
 
@@ -88,17 +91,18 @@ finds_tags content offset id result e h = subst (λ (k : ℕ). IfOk result (Find
 -- (cited by the search by an id)
 pub ruleset id_steps = (finds_custom, finds_start, finds_data_count, finds_unknown, finds_types, finds_imports, finds_functions, finds_tables, finds_memories, finds_globals, finds_exports, finds_elements, finds_segments, finds_tags)
 
-pub stands_in_code : (imported : ℕ) (content : Input) (offset id : ℕ) (place : Option Place) → id ≡ 10 → StandsInCode imported content offset place → StandsInContent imported content offset id place
-stands_in_code imported content offset id place e h = subst (λ (k : ℕ). StandsInContent imported content offset k place) (sym e) (in_code h)
+pub stands_in_code : (imported : ℕ) (content : Input) (offset id : ℕ) (place : Option Place) → id ≡ 10 → FindsInCode imported content offset place → FindsInContent imported content offset id place
+stands_in_code imported content offset id (Some place) e h = subst (λ (k : ℕ). IsInContent imported content offset k place) (sym e) (in_code place h)
+stands_in_code imported content offset id None e h = subst (λ (k : ℕ). EndsContent content offset k) (sym e) (code h)
 
-pub stands_around : (imported : ℕ) (content : Input) (offset id : ℕ) (found : Found) → FindsIn content offset id found → found ≡ Around → StandsInContent imported content offset id (Some (places.Section id))
-stands_around imported content offset id found h e = around (subst (λ f. FindsIn content offset id f) e h)
+pub stands_around : (imported : ℕ) (content : Input) (offset id : ℕ) (found : Found) → FindsIn content offset id found → found ≡ Around → IsInContent imported content offset id (places.Section id)
+stands_around imported content offset id found h e = around id (subst (λ f. FindsIn content offset id f) e h)
 
-pub stands_in_entry : (imported : ℕ) (content : Input) (offset id number : ℕ) (found : Found) → FindsIn content offset id found → found ≡ Entry number → StandsInContent imported content offset id (Some (places.Entry id number))
-stands_in_entry imported content offset id number found h e = in_entry (subst (λ f. FindsIn content offset id f) e h)
+pub stands_in_entry : (imported : ℕ) (content : Input) (offset id number : ℕ) (found : Found) → FindsIn content offset id found → found ≡ Entry number → IsInContent imported content offset id (places.Entry id number)
+stands_in_entry imported content offset id number found h e = in_entry id number (subst (λ f. FindsIn content offset id f) e h)
 
-pub stands_past : (imported : ℕ) (content : Input) (offset id : ℕ) (found : Found) → FindsIn content offset id found → found ≡ Past → StandsInContent imported content offset id None
-stands_past imported content offset id found h e = past (subst (λ f. FindsIn content offset id f) e h)
+pub stands_past : (content : Input) (offset id : ℕ) (found : Found) → FindsIn content offset id found → found ≡ Past → EndsContent content offset id
+stands_past content offset id found h e = others id (subst (λ f. FindsIn content offset id f) e h)
 
 -- (cited by the search in a content)
 pub ruleset content_steps = (stands_in_code, stands_around, stands_in_entry, stands_past)
@@ -132,58 +136,51 @@ is_frame old mid new content id h g k m f at = record {
   ends = omega (arith, at, g.same_end, m.same_end);
 }
 
-pub ended : (imported : ℕ) (old new : Input) (offset : ℕ) → byte_at old.rest ≡ None → StandsAtSection imported old new offset (Some places.End)
-ended imported old new offset e = no_section e
+pub ended : (imported : ℕ) (old : Input) (offset : ℕ) → byte_at old.rest ≡ None → IsAtSection imported old offset places.End
+ended imported old offset e = no_section e
 
-pub frame_none : (imported : ℕ) (old mid new : Input) (offset id : ℕ) → byte_at old.rest ≡ Some (id, mid.rest) → body_at mid.rest ≡ None → StandsAtSection imported old new offset (Some (places.Section id))
-frame_none imported old mid new offset id h k = at_frame id (unread mid.rest h (frame_unread old.rest id mid.rest h k))
+pub frame_none : (imported : ℕ) (old mid : Input) (offset id : ℕ) → byte_at old.rest ≡ Some (id, mid.rest) → body_at mid.rest ≡ None → IsAtSection imported old offset (places.Section id)
+frame_none imported old mid offset id h k = at_frame id (unread mid.rest h (frame_unread old.rest id mid.rest h k))
 
 pub frame_before : (imported : ℕ) (old mid new content : Input) (offset id : ℕ) → byte_at old.rest ≡ Some (id, mid.rest) → GoesOn old mid → body_at mid.rest ≡ Some (content.rest, new.rest) → GoesOn mid new → content.features ≡ mid.features
-    → end content ≡ new.position → offset < content.position → StandsAtSection imported old new offset (Some (places.Section id))
+    → end content ≡ new.position → offset < content.position → IsAtSection imported old offset (places.Section id)
 frame_before imported old mid new content offset id h g k m f at lt = at_frame id (before content new.rest (is_frame old mid new content id h g k m f at) lt)
 
-goes_past : (old mid new content : Input) (id : ℕ) → IsFrame old id content new.rest → GoesOn old new → old.position < new.position
-goes_past old mid new content id frame g = omega (arith, frame_shorter old.rest (id, content.rest) new.rest frame.reads, g.same_end)
+pub frame_passed : (old mid new content : Input) (offset id : ℕ) → byte_at old.rest ≡ Some (id, mid.rest) → GoesOn old mid → body_at mid.rest ≡ Some (content.rest, new.rest) → GoesOn mid new → content.features ≡ mid.features
+    → end content ≡ new.position → new.position < offset → PassesSection offset old new
+frame_passed old mid new content offset id h g k m f at lt =
+    record { id = id; content = content; frame = is_frame old mid new content id h g k m f at; goes_on = goes_further old mid new g m; ends = omega (arith, lt); whole = inl lt }
 
-pub frame_passed : (imported : ℕ) (old mid new content : Input) (offset id : ℕ) → byte_at old.rest ≡ Some (id, mid.rest) → GoesOn old mid → body_at mid.rest ≡ Some (content.rest, new.rest) → GoesOn mid new → content.features ≡ mid.features
-    → end content ≡ new.position → new.position < offset → StandsAtSection imported old new offset None
-frame_passed imported old mid new content offset id h g k m f at lt =
-    let frame = is_frame old mid new content id h g k m f at in
-    let on = goes_further old mid new g m in
-    passed (record { id = id; content = content; frame = frame; goes_on = on; further = goes_past old mid new content id frame on; ends = omega (arith, lt); whole = inl lt })
-
--- a list that ends at a place or before it
-list_ends : {A : Type 0} (item_at : Features → ReadingOf A) (content : Input) (offset : ℕ) → EndsItems item_at content offset [] → end content ≤ offset
-list_ends item_at content offset e = omega (arith, e.before.ends, e.begins.goes_on.same_end)
+-- a list of entries that ends at a place or before it
+entries_end : {A : Type 0} (item_at : Features → ReadingOf A) (content : Input) (offset : ℕ) → EndsList (PassesItem item_at offset) content offset → end content ≤ offset
+entries_end item_at content offset h = list_ends (PassesItem item_at offset) content offset (λ old new p. (p.goes_on, p.ends)) h
 
 finds_end : (content : Input) (offset id : ℕ) → FindsIn content offset id Past → end content ≤ offset
 finds_end content offset id (in_custom h) = h.0
-finds_end content offset id (in_types h) = list_ends (λ (features : Features). rec_group_at) content offset h
-finds_end content offset id (in_imports h) = list_ends (λ (features : Features). import_at (has features CompactImports)) content offset h
-finds_end content offset id (in_functions h) = list_ends (λ (features : Features). unsigned_at 32) content offset h
-finds_end content offset id (in_tables h) = list_ends (λ (features : Features). table_at) content offset h
-finds_end content offset id (in_memories h) = list_ends (λ (features : Features). limits_at) content offset h
-finds_end content offset id (in_globals h) = list_ends (λ (features : Features). global_at) content offset h
-finds_end content offset id (in_exports h) = list_ends (λ (features : Features). export_at) content offset h
+finds_end content offset id (in_types h) = entries_end (λ (features : Features). rec_group_at) content offset h
+finds_end content offset id (in_imports h) = entries_end (λ (features : Features). import_at (has features CompactImports)) content offset h
+finds_end content offset id (in_functions h) = entries_end (λ (features : Features). unsigned_at 32) content offset h
+finds_end content offset id (in_tables h) = entries_end (λ (features : Features). table_at) content offset h
+finds_end content offset id (in_memories h) = entries_end (λ (features : Features). limits_at) content offset h
+finds_end content offset id (in_globals h) = entries_end (λ (features : Features). global_at) content offset h
+finds_end content offset id (in_exports h) = entries_end (λ (features : Features). export_at) content offset h
 finds_end content offset id (in_start h) = h.0
-finds_end content offset id (in_elements h) = list_ends (λ (features : Features). element_at) content offset h
-finds_end content offset id (in_segments h) = list_ends (λ (features : Features). data_at) content offset h
+finds_end content offset id (in_elements h) = entries_end (λ (features : Features). element_at) content offset h
+finds_end content offset id (in_segments h) = entries_end (λ (features : Features). data_at) content offset h
 finds_end content offset id (in_data_count h) = h.0
-finds_end content offset id (in_tags h) = list_ends (λ (features : Features). tag_type_at) content offset h
+finds_end content offset id (in_tags h) = entries_end (λ (features : Features). tag_type_at) content offset h
 
-content_ends : (imported : ℕ) (content : Input) (offset id : ℕ) → StandsInContent imported content offset id None → end content ≤ offset
-content_ends imported content offset id (in_code h) = list_ends bodies_at content offset h
-content_ends imported content offset id (past h) = finds_end content offset id h
+content_ends : (content : Input) (offset id : ℕ) → EndsContent content offset id → end content ≤ offset
+content_ends content offset id (code h) = list_ends (PassesBody offset) content offset (λ old new p. (p.goes_on, p.ends)) h
+content_ends content offset id (others k h) = finds_end content offset id h
 
 pub frame_stands : (imported : ℕ) (old mid new content : Input) (offset id : ℕ) (place : Option Place) → byte_at old.rest ≡ Some (id, mid.rest) → GoesOn old mid → body_at mid.rest ≡ Some (content.rest, new.rest) → GoesOn mid new
-    → content.features ≡ mid.features → end content ≡ new.position → content.position ≤ offset → StandsInContent imported content offset id place → StandsAtSection imported old new offset place
-frame_stands imported old mid new content offset id (Some place) h g k m f at le s =
-    in_section place (record { id = id; content = content; rest = new.rest; frame = is_frame old mid new content id h g k m f at; begins = le; stands = s })
-frame_stands imported old mid new content offset id None h g k m f at le s =
-    let frame = is_frame old mid new content id h g k m f at in
-    let on = goes_further old mid new g m in
-    let last = content_ends imported content offset id s in
-    passed (record { id = id; content = content; frame = frame; goes_on = on; further = goes_past old mid new content id frame on; ends = omega (arith, at, last); whole = inr s })
+    → content.features ≡ mid.features → end content ≡ new.position → content.position ≤ offset → offset ≤ new.position → FindsInContent imported content offset id place → FindsAtSection imported old new offset place
+frame_stands imported old mid new content offset id (Some place) h g k m f at le ge s =
+    within place (record { id = id; content = content; rest = new.rest; frame = is_frame old mid new content id h g k m f at; begins = le; ends = omega (arith, at, ge); stands = s })
+frame_stands imported old mid new content offset id None h g k m f at le ge s =
+    let last = content_ends content offset id s in
+    record { id = id; content = content; frame = is_frame old mid new content id h g k m f at; goes_on = goes_further old mid new g m; ends = omega (arith, at, last); whole = inr s }
 
 -- (cited by the search for a place at the next section)
 pub ruleset section_steps = (ended, frame_none, frame_before, frame_passed, frame_stands)

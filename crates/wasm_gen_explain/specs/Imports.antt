@@ -26,10 +26,6 @@ entries_in compact content = unwrap_or (filled (list_at (import_at compact) cont
 abbrev pub imports_of : Bool → ℕ × List ℕ → List (ExternalType ℕ)
 imports_of compact section = if section.0 == 2 then flat_map imported_by (entries_in compact section.1) else []
 
--- how many functions sections import
-abbrev pub functions_imported : Bool → List (ℕ × List ℕ) → ℕ
-functions_imported compact sections = functions_among (flat_map (imports_of compact) sections)
-
 -- ---- counting
 
 -- the sum of what each item counts
@@ -37,7 +33,7 @@ abbrev pub counted : {A : Type 0} → (A → ℕ) → List A → ℕ
 counted count [] = 0
 counted count (x ∷ xs) = count x + counted count xs
 
--- the byte by which a group of imports tells its form after the module's name, where there are such groups
+-- the byte that is the form of a group of imports, after the module's name, where there are such groups
 abbrev pub code_of : Bool → List ℕ → Option ℕ
 code_of compact bytes = if compact then group_code bytes else None
 

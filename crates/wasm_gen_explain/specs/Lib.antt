@@ -1,9 +1,12 @@
 pub mod Bodies
 pub mod Imports
 pub mod Items
+pub mod LargeIndexes
 pub mod Lists
 pub mod Names
 pub mod Operators
+pub mod Passed
 pub mod Places
+pub mod Searches
 pub mod Sections
 pub mod Text

@@ -1,15 +1,35 @@
 -- In which operator of a body a place is.
-use Rattle.std.specs.Prelude.{◌≡◌, ◌≤◌, ◌<◌, ◌⊎◌, ℕ, Bool, true, false, List, [], Option, Some, None}
+use Rattle.std.specs.Prelude.{◌≡◌, ◌≤◌, ◌<◌, ◌⊎◌, ℕ, ◌+◌, ◌-◌, List, [], length, Option, Some, None}
 use Rattle.wasm_bodies.specs.OperatorRows.{OperatorCode, Byte, Prefixed}
+use Rattle.wasm_bodies.specs.Operators.{Operator, Block, Loop, If, End}
 use Rattle.wasm_core_read.specs.Input.{Input, GoesOn, end}
-use Rattle.wasm_core_read.specs.TypeReading.{items_at}
 use Rattle.wasm_spec.specs.Features.{Features}
 use Rattle.wasmparser_error.specs.declared.error.ErrorKind.{ErrorKind}
 use Rattle.wasmparser_operators.specs.OperatorAnswers.{IsOperatorRefusal}
 use Rattle.wasmparser_operators.specs.OperatorReading.{operator_at}
-use Rattle.wasmparser_readers.specs.Passing.{rest_of}
 use Rattle.wasm_gen_explain.specs.Items.{EndsPast}
 use Rattle.wasm_gen_explain.specs.Names.{name_of}
+
+-- ---- blocks
+
+-- how many blocks are open after an operator, where so many were open before it
+unfoldable pub open_after : Operator ℕ → ℕ → ℕ
+open_after (Block type) blocks = blocks + 1
+open_after (Loop type) blocks = blocks + 1
+open_after (If type) blocks = blocks + 1
+open_after End blocks = blocks - 1
+open_after _ blocks = blocks
+
+-- what is left of a body, and how many blocks are open, the body's own included
+pub record BodyLeft : Type 0 where
+  pub input : Input
+  pub blocks : ℕ
+
+-- a body of which no operator is passed
+abbrev pub whole_body : Input → BodyLeft
+whole_body first = record { input = first; blocks = 1 }
+
+-- ---- places
 
 -- the next operator is refused
 pub record IsRefused (features : Features) (bytes : List ℕ) : Type 0 where
@@ -17,24 +37,28 @@ pub record IsRefused (features : Features) (bytes : List ℕ) : Type 0 where
   pub refused : IsOperatorRefusal kind features bytes
 
 -- The next operator ends past a place, or is refused.
-abbrev pub StopsOperator : Input → ℕ → Type 0
-StopsOperator i offset = IsRefused i.features i.rest ⊎ EndsPast (end i) offset (operator_at i.features i.rest)
+abbrev pub IsUnpassed : ℕ → Input → Type 0
+IsUnpassed offset i = IsRefused i.features i.rest ⊎ EndsPast (end i) offset (operator_at i.features i.rest)
 
--- so many operators end at a place or before it, and this is left
-pub record ArePassed (old : Input) (offset number : ℕ) (new : Input) : Type 0 where
-  pub passed : rest_of (items_at (operator_at old.features) number old.rest) ≡ Some new.rest
-  pub goes_on : GoesOn old new
-  pub begins : new.position ≤ offset
+-- the next operator reads and ends at a place or before it, and this is left
+pub record PassesOperator (offset : ℕ) (old new : BodyLeft) : Type 0 where
+  pub operator : Operator ℕ
+  pub reads : operator_at old.input.features old.input.rest ≡ Some (operator, new.input.rest)
+  pub goes_on : GoesOn old.input new.input
+  pub ends : new.input.position ≤ offset
+  pub opens : new.blocks ≡ open_after operator old.blocks
 
--- The result of a call that passes an operator which ends at a place or before it. Where it doesn't, the reader stays.
-abbrev pub PassesOperator : Input → Input → ℕ → Bool → Type 0
-PassesOperator old new offset true = (rest_of (operator_at old.features old.rest) ≡ Some new.rest) × GoesOn old new × (old.position < new.position) × (new.position ≤ offset)
-PassesOperator old new offset false = StopsOperator old offset × (new ≡ old)
+-- bytes are left, or a block is open; and the next operator ends past a place, or is refused
+pub record StopsOperator (offset : ℕ) (now : BodyLeft) : Type 0 where
+  pub lacks : (0 < now.blocks) ⊎ (0 < length now.input.rest)
+  pub stops : IsUnpassed offset now.input
 
--- The result of a call that goes to the operator in which a place is: its number, or none where all end at the place or before it.
-abbrev pub FindsOperator : Input → Input → ℕ → Option ℕ → Type 0
-FindsOperator old new offset (Some number) = ArePassed old offset number new × StopsOperator new offset
-FindsOperator old new offset None = (number : ℕ) × ArePassed old offset number new × (new.rest ≡ [])
+-- no block is open, and no bytes are left
+pub record EndsBody (now : BodyLeft) : Type 0 where
+  pub closed : now.blocks ≡ 0
+  pub ended : now.input.rest ≡ []
+
+-- ---- names
 
 -- the name of a code
 abbrev pub code_name : OperatorCode → List ℕ

@@ -9,8 +9,8 @@ use Rattle.wasm_spec.specs.Features.{Features, CompactImports, has}
 use Rattle.wasm_spec.specs.TypeReferences.{group_refs}
 use Rattle.wasmparser_entries.specs.ImportEntries.{entry_refs}
 use Rattle.wasmparser_entries.specs.Entries.{refs_of_element, refs_of_global, refs_of_table}
-use Rattle.wasm_gen_explain.specs.Bodies.{StandsInCode}
-use Rattle.wasm_gen_explain.specs.Lists.{StandsInList}
+use Rattle.wasm_gen_explain.specs.Bodies.{IsInCode, PassesBody}
+use Rattle.wasm_gen_explain.specs.Lists.{EndsList, StandsInList}
 use Rattle.wasm_gen_explain.specs.declared.lists.Found.{Found}
 use Rattle.wasm_gen_explain.specs.declared.lists.Found.TheVariants.{Around, Entry, Past}
 use Rattle.wasm_gen_explain.specs.declared.place.Place.{Place}
@@ -45,12 +45,16 @@ pub data FindsIn (content : Input) (offset : ℕ) : ℕ → Found → Type 0 whe
   in_tags : {found : Found} → StandsInList (λ (features : Features). tag_type_at) no_refs content offset found → FindsIn content offset 13 found
   in_unknown : (id : ℕ) → 14 ≤ id → FindsIn content offset id Around
 
--- where in the content of a section of this id a place is, if it is in it
-pub data StandsInContent (imported : ℕ) (content : Input) (offset : ℕ) : ℕ → Option Place → Type 0 where
-  in_code : {place : Option Place} → StandsInCode imported content offset place → StandsInContent imported content offset 10 place
-  around : {id : ℕ} → FindsIn content offset id Around → StandsInContent imported content offset id (Some (places.Section id))
-  in_entry : {id number : ℕ} → FindsIn content offset id (Entry number) → StandsInContent imported content offset id (Some (places.Entry id number))
-  past : {id : ℕ} → FindsIn content offset id Past → StandsInContent imported content offset id None
+-- a place is in the content of a section of this id
+pub data IsInContent (imported : ℕ) (content : Input) (offset : ℕ) : ℕ → Place → Type 0 where
+  in_code : (place : Place) → IsInCode imported content offset place → IsInContent imported content offset 10 place
+  around : (id : ℕ) → FindsIn content offset id Around → IsInContent imported content offset id (places.Section id)
+  in_entry : (id number : ℕ) → FindsIn content offset id (Entry number) → IsInContent imported content offset id (places.Entry id number)
+
+-- the content of a section of this id ends at a place or before it, with nothing left unread
+pub data EndsContent (content : Input) (offset : ℕ) : ℕ → Type 0 where
+  code : EndsList (PassesBody offset) content offset → EndsContent content offset 10
+  others : (id : ℕ) → FindsIn content offset id Past → EndsContent content offset id
 
 -- ---- sections
 
@@ -65,28 +69,27 @@ pub data StopsFrame (old : Input) (offset id : ℕ) : Type 0 where
   unread : (rest : List ℕ) → byte_at old.rest ≡ Some (id, rest) → frame_at old.rest ≡ None → StopsFrame old offset id
   before : (content : Input) (rest : List ℕ) → IsFrame old id content rest → offset < content.position → StopsFrame old offset id
 
--- a place is in the content of the next section
-pub record IsInSection (imported : ℕ) (old : Input) (offset : ℕ) (place : Place) : Type 0 where
+-- a place is within the content of the next section
+pub record IsWithinSection (imported : ℕ) (old : Input) (offset : ℕ) (place : Place) : Type 0 where
   pub id : ℕ
   pub content : Input
   pub rest : List ℕ
   pub frame : IsFrame old id content rest
   pub begins : content.position ≤ offset
-  pub stands : StandsInContent imported content offset id (Some place)
+  pub ends : offset ≤ end content
+  pub stands : IsInContent imported content offset id place
 
 -- the next section ends before a place, or at it with nothing left unread
-pub record PassesSection (imported : ℕ) (old new : Input) (offset : ℕ) : Type 0 where
+pub record PassesSection (offset : ℕ) (old new : Input) : Type 0 where
   pub id : ℕ
   pub content : Input
   pub frame : IsFrame old id content new.rest
   pub goes_on : GoesOn old new
-  pub further : old.position < new.position
   pub ends : new.position ≤ offset
-  pub whole : (new.position < offset) ⊎ StandsInContent imported content offset id None
+  pub whole : (new.position < offset) ⊎ EndsContent content offset id
 
--- where in the next section a place is, if it is in it
-pub data StandsAtSection (imported : ℕ) (old new : Input) (offset : ℕ) : Option Place → Type 0 where
-  no_section : byte_at old.rest ≡ None → StandsAtSection imported old new offset (Some places.End)
-  at_frame : (id : ℕ) → StopsFrame old offset id → StandsAtSection imported old new offset (Some (places.Section id))
-  in_section : (place : Place) → IsInSection imported old offset place → StandsAtSection imported old new offset (Some place)
-  passed : PassesSection imported old new offset → StandsAtSection imported old new offset None
+-- a place is in the next section, or at the end
+pub data IsAtSection (imported : ℕ) (old : Input) (offset : ℕ) : Place → Type 0 where
+  no_section : byte_at old.rest ≡ None → IsAtSection imported old offset places.End
+  at_frame : (id : ℕ) → StopsFrame old offset id → IsAtSection imported old offset (places.Section id)
+  within : (place : Place) → IsWithinSection imported old offset place → IsAtSection imported old offset place

@@ -1,4 +1,4 @@
--- The line that tells where an error stands.
+-- The line on where an error stands.
 use Rattle.std.specs.Prelude.{ℕ, List, [], ◌∷◌, ◌++◌, codes, decimal}
 use Rattle.wasm_spec.specs.Limits.{most}
 use Rattle.wasm_core_types.specs.Limits.{limit, limit_name}

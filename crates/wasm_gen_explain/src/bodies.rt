@@ -1,7 +1,7 @@
 //! Bodies of functions by places.
 
 ghost use Rattle.std.specs.Prelude.{◌≤◌};
-ghost use Rattle.wasm_gen_explain.specs.Bodies.{GoesThrough, ReadsSized, StandsAtBody, StandsInBody, StandsInCode};
+ghost use Rattle.wasm_gen_explain.specs.Searches.{FindsAtBody, FindsInBodies, FindsInBody, FindsInCode, ReadsSized};
 
 use crate::lists::read_count;
 use crate::operators::{find_operator, next_name};
@@ -16,7 +16,7 @@ pub(crate) const CODE: u8 = 10;
 // Returns where in a function's body a place is, or none where all of the body reads and ends at the place or before it.
 #[tactic(auto, using(crate::proofs::BodyLaws::body_steps))]
 fn place_in_body(function: u64, body: BinaryReader<'_>, offset: u64) -> Option<Place>
-    ensures { StandsInBody function body.entry offset result }
+    ensures { FindsInBody function body.entry offset result }
 {
     let Ok(operators) = FunctionBody::new(body).get_operators_reader() else {
         return Some(Place::Locals { function });
@@ -49,7 +49,7 @@ pub(crate) fn read_sized<'a>(reader: &mut BinaryReader<'a>) -> Result<BinaryRead
 // Returns where in the next body, that of this function, a place is. Passes the body where it ends before the place, or at it and reads.
 #[tactic(auto, using(crate::proofs::BodyLaws::next_steps))]
 fn place_at_body(function: u64, reader: &mut BinaryReader<'_>, offset: u64) -> Option<Place>
-    ensures { StandsAtBody function reader.old reader.new offset result }
+    ensures { FindsAtBody function reader.old reader.new offset result }
 {
     let Ok(body) = read_sized(reader) else {
         return Some(Place::Function { function });
@@ -71,9 +71,8 @@ fn place_at_bodies(
     reader: &mut BinaryReader<'_>,
     offset: u64,
 ) -> Option<Place>
-    requires before { reader.old.position ≤ offset }
-    requires few { imported ≤ reader.old.position }
-    ensures { GoesThrough imported count reader.old reader.new offset result }
+    requires { imported ≤ reader.old.position }
+    ensures { FindsInBodies imported count reader.old reader.new offset result }
 {
     for number in 0..count {
         let function = imported + u64::from(number);
@@ -93,14 +92,14 @@ pub(crate) fn place_in_code(
     offset: u64,
 ) -> Option<Place>
     requires { imported ≤ content.old.position }
-    ensures { StandsInCode imported content.old offset result }
+    ensures { FindsInCode imported content.old offset result }
 {
     let Some(count) = read_count(content, offset) else {
         return Some(Place::Section { id: CODE });
     };
-    let place = place_at_bodies(imported, count, content, offset);
-    if place.is_some() || content.eof() {
-        return place;
+    match place_at_bodies(imported, count, content, offset) {
+        Some(place) => Some(place),
+        None if content.eof() => None,
+        None => Some(Place::Section { id: CODE }),
     }
-    Some(Place::Section { id: CODE })
 }

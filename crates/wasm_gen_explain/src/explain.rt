@@ -1,8 +1,8 @@
 //! Where in a module an error stands, found by parsing it again.
 
-ghost use Rattle.std.specs.Prelude.{◌≡◌, ◌≤◌, IfOk, string_bytes};
+ghost use Rattle.std.specs.Prelude.{◌≡◌, IfOk, string_bytes};
 ghost use Rattle.wasm_core_types.specs.Features.{feature_set};
-ghost use Rattle.wasm_gen_explain.specs.Places.{Explains, StandsAmong, StandsIn};
+ghost use Rattle.wasm_gen_explain.specs.Places.{Explains, IsAmong, IsPlace};
 
 use crate::imported::next_imported;
 use crate::place::Place;
@@ -24,8 +24,7 @@ fn place_in_sections(
     reader: &mut BinaryReader<'_>,
     offset: u64,
 ) -> Result<Place, AllocError>
-    requires { reader.old.position ≤ offset }
-    ensures { IfOk result (StandsAmong reader.old offset) }
+    ensures { IfOk result (IsAmong (record { input = reader.old; imported = 0 }) offset) }
 {
     let mut imported: u64 = 0;
     'sections: while !reader.eof() {
@@ -38,7 +37,8 @@ fn place_in_sections(
     Ok(Place::End)
 }
 
-/// Returns where in a module a place is, by the bytes up to it: the first part that ends past the place, or that doesn't read. Which rule the module breaks there is not asked.
+/// Returns where in a module a place is: the first part that ends past it, or that doesn't read. Sections and bodies that end before it are passed by their sizes.
+/// Which rule the module breaks there is not asked.
 ///
 /// # Errors
 /// Where memory runs out for a type that is read.
@@ -49,7 +49,7 @@ pub fn place_of(
     features: WasmFeatures,
     offset: u64,
 ) -> Result<Place, AllocError>
-    ensures { IfOk result (StandsIn (feature_set features) bytes.now offset) }
+    ensures { IfOk result (IsPlace (feature_set features) bytes.now offset) }
 {
     if offset < HEADER.len() as u64 || !bytes.starts_with(&HEADER) {
         return Ok(Place::Header);
@@ -60,7 +60,7 @@ pub fn place_of(
     place_in_sections(alloc, &mut reader, offset)
 }
 
-/// Returns the line that tells where in a module an error stands, without a line feed: the offset, the place, and if it is a limit its name and the greatest
+/// Returns the line on where in a module an error stands, without a line feed: the offset, the place, and if it is a limit its name and the greatest
 /// number that it lets through. It is such as
 ///
 /// ```text
@@ -71,7 +71,7 @@ pub fn place_of(
 ///
 /// # Errors
 /// Where memory runs out.
-#[tactic(auto, using(crate::proofs::PlaceLaws::tells))]
+#[tactic(auto, using(crate::proofs::PlaceLaws::written))]
 pub fn explain(
     alloc: Global,
     bytes: &[u8],

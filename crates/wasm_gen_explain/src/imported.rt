@@ -146,7 +146,7 @@ fn read_names(reader: &mut BinaryReader<'_>) -> Result<u64, Malformed>
     Ok(names)
 }
 
-// Returns the byte by which a group of imports tells its form, where one is next.
+// Returns the byte that is the form of a group of imports, where one is next.
 fn next_code(reader: &BinaryReader<'_>) -> Option<u8>
     ensures { result ≡ code_of (has reader.now.features CompactImports) reader.now.rest }
 {

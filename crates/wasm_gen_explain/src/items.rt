@@ -1,8 +1,8 @@
 //! Items of sections by places.
 
-ghost use Rattle.std.specs.Prelude.{◌≤◌, ◌≢◌, IfOk};
+ghost use Rattle.std.specs.Prelude.{◌≢◌, IfOk};
 ghost use Rattle.wasmparser_error.specs.declared.error.ErrorKind.TheVariants as kinds;
-ghost use Rattle.wasm_gen_explain.specs.Items.{FindsItem, PassesItem};
+ghost use Rattle.wasm_gen_explain.specs.Searches.{FindsItem, TriesItem};
 
 use std::alloc::{AllocError, Global};
 use wasm_core_read::binary_reader::BinaryReader;
@@ -26,14 +26,14 @@ fn check_memory(kind: ErrorKind) -> Result<(), AllocError>
     }
 }
 
-// Passes an item, and tells whether it reads and ends at a place or before it.
+// Passes an item where it reads and ends at a place or before it. Returns false where it doesn't.
 #[tactic(auto, using(crate::proofs::ItemLaws::item_steps))]
 fn pass_item<'a, T: FromReader<'a> + Drop>(
     alloc: Global,
     reader: &mut BinaryReader<'a>,
     offset: u64,
 ) -> Result<bool, AllocError>
-    ensures { PassesItem (T.form_at reader.old.features) T.indexes reader.old reader.new offset result }
+    ensures { TriesItem T.form_at T.indexes reader.old reader.new offset result }
 {
     match T::from_reader(alloc, reader) {
         Ok(item) => {
@@ -56,8 +56,7 @@ pub(crate) fn find_item<'a, T: FromReader<'a> + Drop>(
     reader: &mut BinaryReader<'a>,
     offset: u64,
 ) -> Result<Option<u32>, AllocError>
-    requires { reader.old.position ≤ offset }
-    ensures { FindsItem (T.form_at reader.old.features) T.indexes count reader.old reader.new offset result }
+    ensures { FindsItem T.form_at T.indexes count reader.old reader.new offset result }
 {
     for number in 0..count {
         if !pass_item::<T>(alloc, reader, offset)? {

@@ -5,6 +5,7 @@ mod bodies;
 pub mod explain;
 mod imported;
 mod items;
+pub mod laws;
 mod lists;
 mod names;
 mod operators;

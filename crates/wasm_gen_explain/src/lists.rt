@@ -1,7 +1,8 @@
 //! Sections that are lists of entries by places.
 
 ghost use Rattle.std.specs.Prelude.{IfOk};
-ghost use Rattle.wasm_gen_explain.specs.Lists.{ReadsCount, StandsInList};
+ghost use Rattle.wasm_gen_explain.specs.Lists.{StandsInList};
+ghost use Rattle.wasm_gen_explain.specs.Searches.{ReadsCount};
 
 use crate::items::find_item;
 use std::alloc::{AllocError, Global};

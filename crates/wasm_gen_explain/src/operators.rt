@@ -1,27 +1,26 @@
 //! Operators of bodies by places.
 
-ghost use Rattle.std.specs.Prelude.{◌≡◌, ◌≤◌};
+ghost use Rattle.std.specs.Prelude.{◌≡◌, ◌<◌, ◌-◌, ◌^◌};
 ghost use Rattle.wasmparser_operators.specs.OperatorReading.{code_at, code_from};
-ghost use Rattle.wasm_gen_explain.specs.Operators.{FindsOperator, PassesOperator, front_name};
+ghost use Rattle.wasm_gen_explain.specs.Operators.{front_name};
+ghost use Rattle.wasm_gen_explain.specs.Searches.{FindsOperator, TriesOperator, open_from};
 
 use crate::names::operator_name;
 use wasm_core_read::binary_reader::BinaryReader;
 use wasmparser_operators::operators_reader::OperatorsReader;
 use wasmparser_readers::passing::fork;
 
-// The bytes that begin a block, and the one that ends it.
+// The first and the last of the bytes that begin a block, and the one that ends it.
 const BLOCK: u8 = 0x02;
-
-const LOOP: u8 = 0x03;
 
 const IF: u8 = 0x04;
 
 const END: u8 = 0x0b;
 
-// Passes an operator, and tells whether it reads and ends at a place or before it.
+// Passes an operator where it reads and ends at a place or before it. Returns false where it doesn't.
 #[tactic(auto, using(crate::proofs::OperatorLaws::operator_steps))]
 fn pass_operator(reader: &mut BinaryReader<'_>, offset: u64) -> bool
-    ensures { PassesOperator reader.old reader.new offset result }
+    ensures { TriesOperator reader.old reader.new offset result }
 {
     let mut operators = OperatorsReader::new(fork(reader));
     match operators.read() {
@@ -36,29 +35,33 @@ fn pass_operator(reader: &mut BinaryReader<'_>, offset: u64) -> bool
 }
 
 // Returns how many blocks are open after an operator with this code, where so many were open before it.
-fn opened(open: u64, code: Option<u8>) -> u64 {
+#[tactic(auto, using(crate::proofs::BlockLaws::opened_steps))]
+fn opened(blocks: u64, code: Option<u8>) -> u64
+    requires { blocks < 2 ^ 64 - 1 }
+    ensures { result ≡ open_from code blocks }
+{
     match code {
-        Some(BLOCK | LOOP | IF) => open.saturating_add(1),
-        Some(END) => open.saturating_sub(1),
-        _ => open,
+        Some(BLOCK..=IF) => blocks + 1,
+        Some(END) => blocks.saturating_sub(1),
+        _ => blocks,
     }
 }
 
-// Goes to the operator in which a place is: the first one that doesn't end at the place or before it, or doesn't read. Returns its number, or none where there is no such
-// operator and the body's block has ended.
+// Goes to the operator in which a place is: the first one that doesn't end at the place or before it, or doesn't read. Returns its number, or none where no block is open
+// and no bytes are left.
 #[tactic(auto, using(crate::proofs::OperatorLaws::operator_loop))]
 pub(crate) fn find_operator(reader: &mut BinaryReader<'_>, offset: u64) -> Option<u64>
-    requires { reader.old.position ≤ offset }
+    requires { 0 < reader.old.position }
     ensures { FindsOperator reader.old reader.new offset result }
 {
     let mut number: u64 = 0;
-    let mut open: u64 = 1;
-    'operators: while open > 0 || !reader.eof() {
+    let mut blocks: u64 = 1;
+    'operators: while blocks > 0 || !reader.eof() {
         let code = reader.peek();
         if !pass_operator(reader, offset) {
             return Some(number);
         }
-        open = opened(open, code);
+        blocks = opened(blocks, code);
         number += 1;
     }
     None

@@ -1,6 +1,6 @@
 //! Places in a module.
 
-/// A place in a module: the innermost of its parts that has a byte, or that the bytes do not have whole. Sections are told by their ids. Functions are
+/// A place in a module: the innermost of its parts that has a byte, or that the bytes do not have whole. A section is named by its id. Functions are
 /// counted as their indexes are, imported ones first.
 #[derive(Clone, Copy, Debug, PartialEq, Eq)]
 pub enum Place {

@@ -3,7 +3,8 @@
 ghost use Rattle.std.specs.Prelude.{◌≡◌, ◌≢◌, ◌≤◌, ◌<◌, IfOk, true};
 ghost use Rattle.wasm_core_read.specs.Input.{end};
 ghost use Rattle.wasm_core_read.specs.Reading.{filled, name_at, unsigned_at};
-ghost use Rattle.wasm_gen_explain.specs.Sections.{FindsIn, StandsAtSection, StandsInContent, StandsInWhole};
+ghost use Rattle.wasm_gen_explain.specs.Searches.{FindsAtSection, FindsInContent};
+ghost use Rattle.wasm_gen_explain.specs.Sections.{FindsIn, StandsInWhole};
 
 use crate::bodies::{CODE, place_in_code, read_sized};
 use crate::lists::{Found, find_in_list};
@@ -97,7 +98,7 @@ fn place_in_content(
     offset: u64,
 ) -> Result<Option<Place>, AllocError>
     requires { imported ≤ content.old.position }
-    ensures { IfOk result (StandsInContent imported content.old offset id) }
+    ensures { IfOk result (FindsInContent imported content.old offset id) }
 {
     if id == CODE {
         return Ok(place_in_code(imported, content, offset));
@@ -118,7 +119,7 @@ pub(crate) fn place_at_section(
     offset: u64,
 ) -> Result<Option<Place>, AllocError>
     requires { imported ≤ reader.old.position }
-    ensures { IfOk result (StandsAtSection imported reader.old reader.new offset) }
+    ensures { IfOk result (FindsAtSection imported reader.old reader.new offset) }
 {
     let Ok(id) = reader.read_u8() else {
         return Ok(Some(Place::End));

@@ -116,7 +116,7 @@ fn put_limit(limit: Limit, out: &mut String) -> Result<(), AllocError>
     put_numbered(" is ", limit.max(), out)
 }
 
-/// Returns the line that tells of an error at a place, without a line feed: its offset, the place, and if it is a limit its name and the greatest number that
+/// Returns the line on an error at a place, without a line feed: its offset, the place, and if it is a limit its name and the greatest number that
 /// it lets through.
 ///
 /// # Errors

@@ -28,6 +28,8 @@ mod function_limits;
 #[cfg(test)]
 mod functions;
 #[cfg(test)]
+mod generate_for_host;
+#[cfg(test)]
 mod globals;
 #[cfg(test)]
 mod import_groups;

@@ -1,5 +1,5 @@
-//! Compares the library's verdicts with those of another judge: `diff COMMAND [WORD..] -- FILE..`, as `diff wasm-validate -- *.wasm`, runs
-//! `COMMAND WORD.. FILE` for each file, whose status is 0 where the module is valid. Tells each file on which they differ; the status is 1 then.
+//! Compares the library's verdicts with those of another validator: `diff COMMAND [WORD..] -- FILE..`, as `diff wasm-validate -- *.wasm`, runs
+//! `COMMAND WORD.. FILE` for each file, whose status is 0 where the module is valid. Names each file on which they differ; the status is 1 then.
 
 use std::process::{Command, ExitCode, Stdio};
 
@@ -37,11 +37,19 @@ fn kind_name(kind: u32) -> String {
     String::from_utf8_lossy(&name[..length]).into_owned()
 }
 
-// Whether the other judge accepts a file.
+// Returns the library's verdict as it is shown.
+fn shown(ours: &Verdict) -> String {
+    match ours.kind {
+        0 => "yes".to_string(),
+        kind => format!("no {} at {}", kind_name(kind), ours.offset),
+    }
+}
+
+// Checks that the other validator accepts a file.
 fn accepts(command: &[String], file: &str) -> std::io::Result<bool> {
-    let mut judge = Command::new(&command[0]);
-    judge.args(&command[1..]).arg(file).stdout(Stdio::null()).stderr(Stdio::null());
-    Ok(judge.status()?.success())
+    let mut other = Command::new(&command[0]);
+    other.args(&command[1..]).arg(file).stdout(Stdio::null()).stderr(Stdio::null());
+    Ok(other.status()?.success())
 }
 
 fn main() -> ExitCode {
@@ -55,13 +63,13 @@ fn main() -> ExitCode {
         let (bytes, other) = match (std::fs::read(file), accepts(&words[..place], file)) {
             (Ok(bytes), Ok(other)) => (bytes, other),
             _ => {
-                eprintln!("diff: cannot judge {file}");
+                eprintln!("diff: cannot check {file}");
                 return ExitCode::from(2);
             }
         };
         let ours = check(&bytes);
         if (ours.kind == 0) != other {
-            println!("{file}: {} at {}, the other judge says {}", kind_name(ours.kind), ours.offset, if other { "yes" } else { "no" });
+            println!("{file}: {}, the other validator says {}", shown(&ours), if other { "yes" } else { "no" });
             differ += 1;
         }
     }

@@ -26,7 +26,7 @@ enum wasm_gen_kind {
     WASM_GEN_MALFORMED = 1,    /* the bytes don't read as a module */
     WASM_GEN_INVALID = 2,      /* they break a rule of validity */
     WASM_GEN_LIMIT = 3,        /* a count, a size, a depth or a sum passes a limit */
-    WASM_GEN_OPERATOR = 4,     /* valid but for a body with an operator outside the table of operators */
+    WASM_GEN_OPERATOR = 4,     /* valid but for a body with an operator outside the table in docs/SPEC.md */
     WASM_GEN_BODY = 5,         /* valid but for the bytes of a body, or its typing */
     WASM_GEN_MEMORY = 9,       /* out of memory: no verdict */
     WASM_GEN_FEATURES = 10,    /* unknown feature bit */

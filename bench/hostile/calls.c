@@ -10,8 +10,8 @@
 #include <unistd.h>
 #include <wasm_gen.h>
 
-enum { ROOM = 64 << 20, PAGE = 4096, KINDS = 16 };
-enum { CHECK, REPORT, MAKE, CALLS };
+enum { MOST_BYTES = 64 << 20, PAGE = 4096 };
+enum { CHECK, REPORT, GENERATE, CALLS };
 
 struct cost {
     uint64_t nanoseconds, memory;
@@ -27,7 +27,7 @@ struct outcome {
 
 /* Memory: what the library holds now, the most of it, how much it may hold, and how many allocations are left before they fail. */
 static size_t held, most_held;
-static size_t memory_limit = (size_t)1 << 30;
+static const size_t memory_limit = (size_t)1 << 30;
 static long allocations_left = -1;
 static int has_failed;
 
@@ -78,9 +78,9 @@ static void save_crash(int number) {
 void prepare(int file) {
     crash_file = file;
     for (int i = 0; i < 3; i++) {
-        uint8_t *place = mmap(NULL, ROOM + PAGE, PROT_READ | PROT_WRITE, MAP_PRIVATE | MAP_ANONYMOUS | MAP_NORESERVE, -1, 0);
+        uint8_t *place = mmap(NULL, MOST_BYTES + PAGE, PROT_READ | PROT_WRITE, MAP_PRIVATE | MAP_ANONYMOUS | MAP_NORESERVE, -1, 0);
         if (place == MAP_FAILED) abort();
-        ends[i] = place + ROOM;
+        ends[i] = place + MOST_BYTES;
         mprotect(ends[i], PAGE, PROT_NONE);
     }
     int signals[] = {SIGSEGV, SIGBUS, SIGILL, SIGFPE, SIGABRT, SIGTRAP, SIGALRM};
@@ -152,26 +152,36 @@ static const char *report_of_refusal(uint32_t kind, size_t length) {
     return named == length && !memcmp(ends[BUFFER] - length, name, length) ? NULL : "the report of a refusal is another text";
 }
 
-/* Calls report with no buffer, with one that is just long enough, and with one that is a byte too short. */
-static const char *report(const uint8_t *bytes, size_t length, uint32_t features, uint32_t kind) {
-    size_t needed = 7, told = 7;
+/* Calls report with a buffer of one page, and checks that it changes no more than the front of it. */
+static const char *report_first(const uint8_t *bytes, size_t length, uint32_t features, uint32_t kind) {
+    size_t needed = 7;
+    uint8_t *page = filled(PAGE);
     uint64_t from = begin();
-    uint32_t first = wasm_gen_report(bytes, length, features, NULL, 0, &needed);
+    uint32_t first = wasm_gen_report(bytes, length, features, page, PAGE, &needed);
     end(REPORT, from);
+    outcome.report_length = needed;
     if (held) return "report keeps memory";
     if (kind == WASM_GEN_MEMORY || kind == WASM_GEN_FEATURES) return first == kind && !needed ? NULL : "report has a text without a verdict";
     if (first == WASM_GEN_MEMORY) return has_failed && !needed ? NULL : "report says memory where an allocation was never refused";
-    if (needed > ROOM) return "a report is too long for this script";
-    if (first != (needed ? WASM_GEN_BUFFER : kind)) return "report without a buffer has another kind";
-    filled(needed);
-    if (wasm_gen_report(bytes, length, features, ends[BUFFER] - needed, needed, &told) != kind || told != needed)
-        return "report has another kind than check, or another length";
-    outcome.report_length = needed;
-    outcome.report_hash = hash(ends[BUFFER] - needed, needed);
+    if (needed > MOST_BYTES) return "a report is too long for this script";
+    size_t written = needed <= PAGE ? needed : 0;
+    if (first != (needed <= PAGE ? kind : WASM_GEN_BUFFER)) return "report has another kind than check";
+    outcome.report_hash = hash(page, written);
+    return is_filled(page + written, PAGE - written) ? NULL : "report changes more than its text";
+}
+
+/* Calls report with a buffer of a page, with one that is just long enough, and with one that is a byte too short. */
+static const char *report(const uint8_t *bytes, size_t length, uint32_t features, uint32_t kind) {
+    const char *wrong = report_first(bytes, length, features, kind);
+    size_t needed = outcome.report_length, again = 7;
+    if (wrong || !needed) return wrong;
+    if (wasm_gen_report(bytes, length, features, filled(needed), needed, &again) != kind || again != needed)
+        return "report has another kind or length the second time";
+    uint64_t sum = hash(ends[BUFFER] - needed, needed);
+    if (needed <= PAGE && sum != outcome.report_hash) return "report has another text the second time";
+    outcome.report_hash = sum;
     if (kind != WASM_GEN_YES && report_of_refusal(kind, needed)) return report_of_refusal(kind, needed);
-    if (!needed) return NULL;
-    filled(needed - 1);
-    if (wasm_gen_report(bytes, length, features, ends[BUFFER] - needed + 1, needed - 1, &told) != WASM_GEN_BUFFER || told != needed)
+    if (wasm_gen_report(bytes, length, features, filled(needed - 1), needed - 1, &again) != WASM_GEN_BUFFER || again != needed)
         return "report fits in a buffer that is too short";
     return is_filled(ends[BUFFER] - needed + 1, needed - 1) ? NULL : "report changes a buffer that is too short";
 }
@@ -204,14 +214,13 @@ const char *examine(const uint8_t *bytes, size_t length, uint32_t features, uint
 }
 
 /* Calls generate with a buffer of so many bytes, and tests its kind and length against those before. */
-static const char *make(const uint8_t *text, size_t text_length, const uint8_t *seed, size_t length, size_t capacity) {
-    size_t told = 7;
-    filled(capacity);
-    uint32_t kind = wasm_gen_generate(text, text_length, seed, length, ends[BUFFER] - capacity, capacity, &told);
+static const char *generate_again(const uint8_t *text, size_t text_length, const uint8_t *seed, size_t length, size_t capacity) {
+    size_t written = 7;
+    uint32_t kind = wasm_gen_generate(text, text_length, seed, length, filled(capacity), capacity, &written);
     int fits = capacity >= outcome.made_length;
-    if (kind != (fits ? WASM_GEN_YES : WASM_GEN_BUFFER) || told != outcome.made_length) return "generate has another kind or length the second time";
+    if (kind != (fits ? WASM_GEN_YES : WASM_GEN_BUFFER) || written != outcome.made_length) return "generate has another kind or length the second time";
     if (!fits && !is_filled(ends[BUFFER] - capacity, capacity)) return "generate changes a buffer that is too short";
-    return fits && !is_filled(ends[BUFFER] - capacity + told, capacity - told) ? "generate writes more than the module" : NULL;
+    return fits && !is_filled(ends[BUFFER] - capacity + written, capacity - written) ? "generate writes more than the module" : NULL;
 }
 
 static int is_kind_of_generate(uint32_t kind) {
@@ -225,26 +234,24 @@ const char *generate(const uint8_t *text, size_t text_length, const uint8_t *see
     last_text = text = placed(TEXT, text, text_length);
     last_text_length = text_length;
     memset(&outcome, 0, sizeof outcome);
-    size_t told = 7;
+    size_t written = 7;
     outcome.made_features = 7;
     outcome.text_kind = wasm_gen_features_of_config(text, text_length, &outcome.made_features);
     uint64_t from = begin();
-    uint32_t kind = outcome.made_kind = wasm_gen_generate(text, text_length, seed, length, NULL, 0, &told);
-    end(MAKE, from);
-    outcome.made_length = told;
+    uint32_t kind = outcome.made_kind = wasm_gen_generate(text, text_length, seed, length, NULL, 0, &written);
+    end(GENERATE, from);
+    outcome.made_length = written;
     if (held) return "generate keeps memory";
     if (!is_kind_of_generate(kind)) return "generate has a kind that is none of its own";
     if ((kind == WASM_GEN_CONFIG_TEXT) != (outcome.text_kind == WASM_GEN_CONFIG_TEXT)) return "generate takes a text without features, or the other way round";
     if (outcome.text_kind != WASM_GEN_YES && (outcome.text_kind != WASM_GEN_CONFIG_TEXT || outcome.made_features)) return "a text that is refused has features";
     if (kind == WASM_GEN_MEMORY && !has_failed) return "generate says memory where an allocation was never refused";
-    if (kind != WASM_GEN_BUFFER) return told ? "a refusal has a length" : NULL;
-    if (told > ROOM / 2) return "a module is too long for this script";
-    const char *wrong = make(text, text_length, seed, length, told - 1);
-    if (!wrong) wrong = make(text, text_length, seed, length, told + 9);
-    uint64_t sum = hash(ends[BUFFER] - told - 9, told);
-    if (!wrong) wrong = make(text, text_length, seed, length, told);
-    *module = ends[BUFFER] - told;
-    return wrong ? wrong : sum == hash(*module, told) ? NULL : "generate makes another module the second time";
+    if (kind != WASM_GEN_BUFFER) return written ? "a refusal has a length" : NULL;
+    if (written > MOST_BYTES / 2) return "a module is too long for this script";
+    const char *wrong = generate_again(text, text_length, seed, length, written - 1);
+    if (!wrong) wrong = generate_again(text, text_length, seed, length, written + 9);
+    uint64_t sum = hash(ends[BUFFER] - written - 9, written);
+    if (!wrong) wrong = generate_again(text, text_length, seed, length, written);
+    *module = ends[BUFFER] - written;
+    return wrong ? wrong : sum == hash(*module, written) ? NULL : "generate makes another module the second time";
 }
-
-void limit_memory(size_t bytes) { memory_limit = bytes; }

@@ -195,11 +195,15 @@ def lists_in(parts):
 
 
 def with_entries(parts):
-    """Pieces of a section or body are left out, repeated or swapped, and sizes fit. This changes the parts."""
+    """Pieces of a section or body are left out, repeated or swapped, and sizes fit."""
     inner = random.choice([it for it in lists_in(parts) if it] or [parts])
     first, last = a_slice(inner, 12)
-    inner[first:last] = random.choice([[], inner[first:last] * 2, inner[first:last][::-1], [b"\0"]])
-    return pieces.together(parts)
+    before = inner[first:last]
+    after = random.choice([[], before * 2, before[::-1], [b"\0"]])
+    inner[first:last] = after
+    module = pieces.together(parts)
+    inner[first : first + len(after)] = before
+    return module
 
 
 def mutant(module, other):

@@ -1,4 +1,4 @@
-// Answers for hostile.py, which writes four bytes with a length and the module, one after the other, on standard input. At a length of 0 a line follows with a
+// Validates modules for hostile.py, which writes four bytes with a length and the module, one after the other, on standard input. At a length of 0 a line follows with a
 // digit for each module since the last line, 1 for a yes. A length whose highest bit is set asks for node's message on a module, in a line of its own.
 const fs = require("fs");
 

@@ -95,10 +95,10 @@ def modules(program, folder, count):
     rows = [row() for _ in range(count)]
     with open(f"{folder}/rows", "w", encoding="utf-8") as file:
         file.writelines(it + "\n" for it in rows)
-    told = subprocess.run([program, "shaped", f"{folder}/rows"], stdout=subprocess.PIPE, text=True, check=True).stdout.splitlines()
-    for it, answer in zip(rows, told, strict=True):
-        is_made, *words = answer.split() if answer.startswith("made ") else ["no"]
-        if words:
-            yield bytes.fromhex(words[1]), int(words[0]), "allow_invalid_funcs=yes" in it, it.encode()
+    lines = subprocess.run([program, "shaped", f"{folder}/rows"], stdout=subprocess.PIPE, text=True, check=True).stdout.splitlines()
+    for it, line in zip(rows, lines, strict=True):
+        if line.startswith("made "):
+            _, features, digits = line.split()
+            yield bytes.fromhex(digits), int(features), "allow_invalid_funcs=yes" in it, it.encode()
         else:
-            yield answer, 0, False, it.encode()
+            yield line, 0, False, it.encode()

@@ -1,4 +1,4 @@
-//! The program that the scripts in `bench/` time. Its first word names the file here that measures; the word `then` parts one measurement
+//! The program that the scripts in `bench/` time or call. Its first word names the file here that does it; the word `then` parts one measurement
 //! from the next. Parsing has a program of its own, `wasmparser_parse_bench`: beside the validator, which calls the same readers, the compiler
 //! inlines fewer of them, and going over imports takes five times as long.
 #![tactic(auto)]
@@ -62,7 +62,7 @@ fn measure<R: Files + Print + Clock + AllocGlobal>(rt: &R, words: &[String]) -> 
         "generate" => generate::measure(rt, &Config::default(), words),
         "generate-gc" => generate::measure(rt, &generate::gc_config(), words),
         "session" => session::measure(rt, words),
-        "shaped" => shaped::measure(rt, words),
+        "shaped" => shaped::print_modules(rt, words),
         "check" => check::measure(rt, words),
         "encode" => encode::measure(rt, words),
         "numbers" => numbers::measure(rt, words),

@@ -12,7 +12,10 @@ use wasm_test_rows::fields::three_fields;
 use wasm_test_rows::values::bytes_of;
 
 /// Makes the modules of the file that the words name. A line that doesn't read ends it.
-pub(crate) fn measure<R: Files + Print + AllocGlobal>(rt: &R, words: &[String]) -> Option<()> {
+pub(crate) fn print_modules<R: Files + Print + AllocGlobal>(
+    rt: &R,
+    words: &[String],
+) -> Option<()> {
     let [name] = words else {
         return None;
     };

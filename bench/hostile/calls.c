@@ -69,7 +69,9 @@ static size_t last_input_length, last_text_length;
 static int crash_file = -1;
 
 static void save_crash(int number) {
+    static const char message[] = "calls.c: a call crashed, or took minutes; its input is in the file `crash`\n";
     (void)number;
+    if (write(2, message, sizeof message - 1) < 0) _exit(4);
     if (write(crash_file, last_text, last_text_length) < 0 || write(crash_file, last_input, last_input_length) < 0) _exit(4);
     _exit(3);
 }

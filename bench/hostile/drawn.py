@@ -82,6 +82,16 @@ def passed_on():
     return with_bodies([function(count, count)], [0, 0], [b"\0\0\x0b", b"\0" + b"".join(b"\x20" + number(i) for i in range(count)) + each * times + b"\x0b"])
 
 
+def compared():
+    """Operators of few bytes that compare a thousand references with others of wider types, or look at all fields of a structure."""
+    count, times = random.choice([1, 30, 1000]), random.choice([1, 20, 300])
+    results, narrower = (b"\x60\0" + listed([type] * count) for type in (b"\x63\0", b"\x63\1"))
+    types = [b"\x50\0\x5f\0", b"\x4f\1\0\x5f" + listed([b"\x7f\0"] * random.choice([0, 10_000])), narrower, results, results]
+    labels = number(times) + bytes(i % 2 for i in range(times)) + b"\0"
+    ways = [b"\x12\0" * times, b"\x10\0" + b"\x41\0\x0d\0" * times, b"\xfb\1\1\x1a" * times + b"\0", b"\2\3\2\4\x10\0\x41\0\x0e" + labels + b"\x0b\x0b"]
+    return with_bodies(types, [2, 3], [b"\0\0\x0b", b"\0" + random.choice(ways) + b"\x0b"])
+
+
 def nested():
     depth = random.choice([1, 100, 5000])
     return with_bodies([function(0, 0)], [0], [b"\0" + random.choice([b"\2\x40", b"\3\x40", b"\x41\0\4\x40"]) * depth + b"\x0b" * (depth + 1)])
@@ -115,7 +125,7 @@ def counted():
 def asking():
     if random.random() < 0.03:
         return PREAMBLE + section_modules.at_a_limit()[0]
-    return random.choice([calls, passed_on, nested, labels, locals_of, types_of, counted])()
+    return random.choice([calls, passed_on, compared, nested, labels, locals_of, types_of, counted])()
 
 
 # Mutants.

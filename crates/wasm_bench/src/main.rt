@@ -1,4 +1,4 @@
-//! The program that the scripts in `bench/` time. Its first word names the file here that measures; the word `then` parts one measurement
+//! The program that the scripts in `bench/` time or call. Its first word names the file here that does it; the word `then` parts one measurement
 //! from the next. Parsing has a program of its own, `wasmparser_parse_bench`: beside the validator, which calls the same readers, the compiler
 //! inlines fewer of them, and going over imports takes five times as long.
 #![tactic(auto)]
@@ -9,6 +9,7 @@ mod generate;
 mod numbers;
 mod sections;
 mod session;
+mod shaped;
 mod shortest;
 
 use std::env;
@@ -19,6 +20,7 @@ use wasm_gen::smith::Config;
 const USAGE: &str = "\
 usage: wasm_bench (generate|generate-gc) FILE LENGTH
        wasm_bench session MODULES
+       wasm_bench shaped FILE
        wasm_bench check FILE TIMES
        wasm_bench encode KIND COUNT TIMES
        wasm_bench numbers (u32|s64) (short|long) COUNT TIMES
@@ -60,6 +62,7 @@ fn measure<R: Files + Print + Clock + AllocGlobal>(rt: &R, words: &[String]) -> 
         "generate" => generate::measure(rt, &Config::default(), words),
         "generate-gc" => generate::measure(rt, &generate::gc_config(), words),
         "session" => session::measure(rt, words),
+        "shaped" => shaped::print_modules(rt, words),
         "check" => check::measure(rt, words),
         "encode" => encode::measure(rt, words),
         "numbers" => numbers::measure(rt, words),

@@ -1,5 +1,6 @@
 -- The codes that the bytes of a module and features come to.
-use Rattle.std.proofs.Common.{◌≡◌, ◌⊎◌, ◌==◌, ◌<◌, ◌≤◌, ◌^◌, ℕ, Bool, true, false, List, [], length, nat_le, Option, Some, None, Result, Ok, Err, IfErr, refl, sym, subst, ap, ◌∙◌, inl, inr, if◌then◌else◌, arith, rules}
+use Rattle.std.proofs.Common.{◌≡◌, ◌⊎◌, ◌==◌, ◌<◌, ◌≤◌, ◌^◌, ℕ, Bool, true, false, List, [], length, nat_le, Option, Some, None, Result, Ok, Err, IfErr, refl, sym, subst, ap, ◌∙◌, inl, inr, if◌then◌else◌}
+use Rattle.std.proofs.lemmas.Bool.{cases_lt}
 use Rattle.std.specs.List.{list_any}
 use Rattle.wasm_spec.specs.Features.{Features}
 use Rattle.wasmparser_error.specs.declared.error.Error.{Error}
@@ -40,7 +41,7 @@ checked_among features bytes verdict (inl small) checked = judged_among features
 checked_among features bytes verdict (inr large) checked = subst (λ (v : Verdict). IsAmong v.kind) (sym (checked.unknown large)) refl
 
 pub checked_codes : (features : ℕ) (bytes : List ℕ) (verdict : Verdict) → IsChecked features bytes verdict → IsAmong verdict.kind
-checked_codes features bytes verdict checked = checked_among features bytes verdict (omega arith) checked
+checked_codes features bytes verdict checked = checked_among features bytes verdict (cases_lt features (2 ^ 22)) checked
 
 -- ---- reports
 
@@ -65,4 +66,4 @@ report_of_among features bytes old new len code (inl small) is = reported_among 
 report_of_among features bytes old new len code (inr large) is = inr (subst IsAmong (sym (is.unknown large).told) refl)
 
 pub reported_codes : (features : ℕ) (bytes old new : List ℕ) (len code : ℕ) → IsReportOf features bytes old new len code → (code ≡ short_buffer) ⊎ IsAmong code
-reported_codes features bytes old new len code is = report_of_among features bytes old new len code (omega arith) is
+reported_codes features bytes old new len code is = report_of_among features bytes old new len code (cases_lt features (2 ^ 22)) is

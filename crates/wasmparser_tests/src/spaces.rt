@@ -159,11 +159,19 @@ fn is_export(
     export: &Export<'_>,
     expected: &str,
 ) -> Option<bool> {
-    let (name, text) = expected.split_once(' ')?;
-    let entity = view.entity_type_from_export(export)?;
-    let found = entity_at(view, export.kind, export.index)?;
-    let is_shown = is_shown(alloc, view, entity, text)?;
-    Some(name == export.name && entity == found && is_shown)
+    let Some((name, text)) = expected.split_once(' ') else {
+        return Some(false);
+    };
+    let Some(entity) = view.entity_type_from_export(export) else {
+        return Some(false);
+    };
+    let Some(found) = entity_at(view, export.kind, export.index) else {
+        return Some(false);
+    };
+    if name != export.name || entity != found {
+        return Some(false);
+    }
+    is_shown(alloc, view, entity, text)
 }
 
 fn has_exports(alloc: Global, view: TypesRef<'_>, expected: &str) -> Option<bool> {

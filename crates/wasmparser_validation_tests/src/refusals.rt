@@ -6,5 +6,4 @@ mod bodies;
 mod from_bytes;
 mod locals;
 mod module_state;
-mod one_local;
 mod stacks;

@@ -33,8 +33,6 @@ mod parts;
 #[cfg(test)]
 mod references;
 #[cfg(test)]
-mod refusals;
-#[cfg(test)]
 mod run_check;
 #[cfg(test)]
 mod run_generate;

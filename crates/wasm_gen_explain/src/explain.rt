@@ -66,7 +66,7 @@ pub fn place_of(
 /// ```text
 /// at offset 61: function 3, operator 12 (i32.add)
 /// at offset 23: section type, entry 0
-/// at offset 15: section memory, entry 100; the limit Memories is 100
+/// at offset 212: section memory, entry 100; the limit Memories is 100
 /// ```
 ///
 /// # Errors

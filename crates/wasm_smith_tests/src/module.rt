@@ -2,6 +2,7 @@
 
 use std::alloc::Global;
 use std::test::Fail;
+use wasm_smith::code::Instructions;
 use wasm_smith::config::Config;
 use wasm_smith::error::Error;
 use wasm_smith::module::Module;
@@ -42,11 +43,23 @@ fn has_types(alloc: Global, module: &Module, types: &str) -> bool {
     holds
 }
 
+// Checks that a module tells of each body if it has raw bytes.
+fn tells_raw_bodies(module: &Module) -> bool {
+    for (function, body) in module.bodies().iter().enumerate() {
+        let is_raw = matches!(&body.instructions, Instructions::Raw(_));
+        if module.is_raw_body(function) != is_raw {
+            return false;
+        }
+    }
+    true
+}
+
 /// Checks that a module has this configuration, these types, and these functions and bodies.
 pub fn has_parts(alloc: Global, module: &Module, config: &Config, types: &str, rest: &str) -> bool {
     let parts = (module.funcs(), module.bodies());
     debugs_same(alloc, module.config(), config)
         && has_types(alloc, module, types)
+        && tells_raw_bodies(module)
         && debugs(alloc, &parts, rest)
 }
 

@@ -17,17 +17,27 @@ use wasmparser_validation_rows::validators::{define_locals, validator_in};
 /// The outcome of an operator that is refused.
 pub const REFUSED: &str = "refused";
 
+/// Returns the validator of the body of a function of this type.
+pub fn validator_of_type(
+    alloc: Global,
+    resources: &ListedResources,
+    ty: u32,
+    features: WasmFeatures,
+) -> Option<FuncValidator<&ListedResources>> {
+    let room = FuncValidatorAllocations::new(alloc);
+    match validator_in(resources, ty, features, room)? {
+        Ok(validator) => Some(validator),
+        Err(_) => None,
+    }
+}
+
 /// Returns the validator of a body that takes an `i32` and an `i64` and gives an `i32`.
 pub fn validator_of(
     alloc: Global,
     resources: &ListedResources,
     features: WasmFeatures,
 ) -> Option<FuncValidator<&ListedResources>> {
-    let room = FuncValidatorAllocations::new(alloc);
-    match validator_in(resources, 1, features, room)? {
-        Ok(validator) => Some(validator),
-        Err(_) => None,
-    }
+    validator_of_type(alloc, resources, 1, features)
 }
 
 // Adds two locals, of which the second has no value at the start, under the default features and more.

@@ -21,6 +21,8 @@ mod locals;
 #[cfg(test)]
 mod more_features;
 #[cfg(test)]
+mod one_local;
+#[cfg(test)]
 mod others;
 #[cfg(test)]
 mod refusals;

@@ -6,4 +6,5 @@ mod bodies;
 mod from_bytes;
 mod locals;
 mod module_state;
+mod one_local;
 mod stacks;

@@ -18,12 +18,15 @@ MOST, SECONDS = 8 << 20, 300
 EACH, SLACK = 100, 1 << 19
 # What may be had for a definition of a made module, as many of the limit on types where there is a refusal, and for each byte of the seed.
 MADE, SEED_TIMES = 250, 160
-# What a configuration isn't refused by.
-UNNAMED = ["wasm_gen: out of memory", f"no end within {SECONDS} s"]
+# Messages that no row may end with, but for the first where a configuration asks for more than memory has.
+OUT_OF_MEMORY = "wasm_gen: out of memory"
+UNNAMED = [OUT_OF_MEMORY, f"no end within {SECONDS} s"]
+MANY_ELEMENTS = "1,000 element segments with min_elements at the limit"
 # The validator's limits on what a configuration bounds, and the greatest maximum that is allowed.
 LIMITS = {"types": 1_000_000, "imports": 1_000_000, "tags": 1_000_000, "funcs": 1_000_000, "globals": 1_000_000, "exports": 1_000_000,
           "element_segments": 100_000, "elements": 10_000_000, "data_segments": 100_000, "tables": 100, "memories": 100}
 GREATEST = 1 << 31
+ASKS_FOR_TOO_MUCH = [MANY_ELEMENTS, *(f"min_{key} at 2^31" for key in LIMITS if key != "types")]
 # Sizes of types of which no module passes the validator's limit, which counts a function one more.
 SIZE_OF_TYPES = 499_999
 past = []
@@ -125,7 +128,7 @@ def configurations():
         yield f"all minimums at {what}", text_of({**minimums, **maximums(of), "max_type_size": size}), 0
     few, most = 1_000, LIMITS["elements"]
     segments = {"min_element_segments": few, "max_element_segments": few, "min_elements": most, "max_elements": most}
-    yield "1,000 element segments with min_elements at the limit", text_of(segments), few * most
+    yield MANY_ELEMENTS, text_of(segments), few * most
 
 
 def seeds(name):
@@ -154,7 +157,7 @@ def generate_row(name, text, least, what, seed, own):
     bound = MADE * (definitions or LIMITS["types"]) + SEED_TIMES * len(seed) + 2 * length + SLACK
     made = f"{length / 1e6:.2f} MB of {definitions} definitions" if length else error
     show(f"generate, {name}, seed of {what}: {made}, {seconds:.2f} s; a process: {figures(whole, len(seed) + length, definitions)}",
-         error not in UNNAMED and whole <= bound)
+         error not in UNNAMED and whole <= bound or error == OUT_OF_MEMORY and name in ASKS_FOR_TOO_MUCH)
 
 
 def generate_rows():

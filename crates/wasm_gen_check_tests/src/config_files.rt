@@ -35,6 +35,7 @@ pub const TEXTS: &str = "
     max_types = +7       | ok max_types=7
     max_types = -0       | ok max_types=0
     // Bounds of numbers.
+    max_types = 3                             | ok max_types=3
     max_types = 4294967295                    | ok max_types=4294967295
     max_types = 4294967296                    | key max_types takes a whole number from 0 to 4294967295
     max_types = -1                            | key max_types takes a whole number from 0 to 4294967295
@@ -130,6 +131,7 @@ pub const TEXTS: &str = "
     Max_types = 1           | key Max_types isn't a field
     max_type = 1            | key max_type isn't a field
     max_typess = 1          | key max_typess isn't a field
+    max_typez = 3           | key max_typez isn't a field
     max-types = 1           | key max-types isn't a field
     maxtypes = 1            | key maxtypes isn't a field
     a = 1                   | key a isn't a field
@@ -182,7 +184,7 @@ pub const TEXTS: &str = "
 ";
 
 // The number of rows.
-pub const COUNT: usize = 154;
+pub const COUNT: usize = 156;
 
 // A number, and the bound that is shown for it.
 const NUMBERS: &str = "

@@ -2,6 +2,7 @@
 
 use std::alloc::Global;
 use std::borrow::{CowSlice, CowStr};
+use std::test::Fail;
 use wasm_encoder::code_section::CodeSection;
 use wasm_encoder::const_expr::ConstExpr;
 use wasm_encoder::custom_section::CustomSection;
@@ -26,7 +27,9 @@ use wasm_encoder::table_section::TableSection;
 use wasm_encoder::tag_section::TagSection;
 use wasm_encoder::type_section::TypeSection;
 use wasm_encoder::types::{AbstractHeapType, FuncType, HeapType, RefType, ValType};
-use wasm_test_rows::values::are_bytes;
+use wasm_gen_rows::modules::module_of;
+use wasm_test_rows::fields::two_fields;
+use wasm_test_rows::rows::check_rows;
 
 const FUNCREF: RefType = RefType {
     nullable: true,
@@ -95,10 +98,6 @@ fn greeting(alloc: Global) -> Result<Vec<u8>, EncodeError> {
     push_greeted(alloc, &mut module)?;
     Ok(module.finish())
 }
-
-const GREETING: &str =
-    "00 61 73 6d 01 00 00 00 01 04 01 60 00 00 02 07 01 01 6d 01 66 00 00 05 03 01 00 01 \
-    07 05 01 01 66 00 00 08 01 00 0c 01 01 0b 08 01 00 41 00 0b 02 68 69 00 03 01 63 07";
 
 fn func_type(
     alloc: Global,
@@ -189,11 +188,6 @@ fn each_space(alloc: Global) -> Result<Vec<u8>, EncodeError> {
     Ok(module.finish())
 }
 
-const EACH_SPACE: &str =
-    "00 61 73 6d 01 00 00 00 01 0c 02 60 02 7f 7e 01 7f 60 02 7e 7f 00 03 02 01 00 \
-    04 04 01 70 00 0a 05 04 01 01 01 05 0d 03 01 00 01 06 06 01 7f 01 41 00 0b 09 07 01 05 70 01 d2 00 0b \
-    0a 06 01 04 00 41 00 0b";
-
 // Returns a body that traps.
 fn trap(alloc: Global) -> Result<Function, EncodeError> {
     let mut body = Function::new(alloc, [])?;
@@ -231,20 +225,33 @@ fn one_function(alloc: Global, is_raw: bool) -> Result<Vec<u8>, EncodeError> {
     Ok(module.finish())
 }
 
-const ONE_FUNCTION: &str =
-    "00 61 73 6d 01 00 00 00 01 04 01 60 00 00 03 02 01 00 0a 05 01 03 00 00 0b";
+/// Modules, and the sections that they are written as.
+pub const WRITTEN: &str = "
+    greeting     | types 02 07 01 01 6d 01 66 00 00 05 03 01 00 01 07 05 01 01 66 00 00 08 01 00 0c 01 01 0b 08 01 00 41 00 0b 02 68 69 00 03 01 63 07
+    each space   | 01 0c 02 60 02 7f 7e 01 7f 60 02 7e 7f 00 functions 04 04 01 70 00 0a 05 04 01 01 01 05 0d 03 01 00 01 06 06 01 7f 01 41 00 0b 09 07 01 05 70 01 d2 00 0b 0a 06 01 04 00 41 00 0b
+    function     | types functions code
+    raw function | types functions code
+";
 
-fn is_made(alloc: Global, made: Result<Vec<u8>, EncodeError>, expected: &str) -> bool {
-    match made {
-        Ok(bytes) => are_bytes(alloc, expected, &bytes),
-        Err(_) => false,
+/// Returns the module of a name.
+pub fn made(alloc: Global, name: &str) -> Result<Vec<u8>, EncodeError> {
+    match name {
+        "greeting" => greeting(alloc),
+        "each space" => each_space(alloc),
+        _ => one_function(alloc, name == "raw function"),
+    }
+}
+
+fn is_written(alloc: Global, row: &str) -> Option<bool> {
+    let (name, sections) = two_fields(row)?;
+    let bytes = module_of(alloc, sections)?;
+    match made(alloc, name) {
+        Ok(found) => Some(found.as_slice() == bytes.as_slice()),
+        Err(_) => None,
     }
 }
 
 #[test]
-fn worked_modules(rt: HostRuntime) {
-    assert!(rt; is_made(rt.alloc(), greeting(rt.alloc()), GREETING));
-    assert!(rt; is_made(rt.alloc(), each_space(rt.alloc()), EACH_SPACE));
-    assert!(rt; is_made(rt.alloc(), one_function(rt.alloc(), false), ONE_FUNCTION));
-    assert!(rt; is_made(rt.alloc(), one_function(rt.alloc(), true), ONE_FUNCTION));
+fn worked_modules(rt: HostRuntime) -> Result<(), Fail> {
+    Ok(check_rows(rt.alloc(), WRITTEN, 4, is_written)?)
 }

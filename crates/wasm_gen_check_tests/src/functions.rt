@@ -1,7 +1,7 @@
 //! Type, function and code sections.
 
 /// How many rows there are.
-pub const COUNT: usize = 58;
+pub const COUNT: usize = 59;
 
 /// Features, sections, and the answer.
 pub const ROWS: &str = "
@@ -36,6 +36,8 @@ pub const ROWS: &str = "
     default | 01 84 80 80 80 10 01 60 00 00            | Malformed
     default | types functions 0a 0b 01 09 00 41 ff ff ff ff 7f 1a 0b | yes
     default | types functions 0a 0b 01 09 00 41 ff ff ff ff 0f 1a 0b | Body
+    // A sum of 64 bits of what is unknown and a number of 32.
+    default | types functions 0a 09 01 07 00 00 41 00 7c 1a 0b | Body
     // A body names a function that an export names too, or none does.
     default | types functions 07 05 01 01 66 00 00 0a 07 01 05 00 d2 00 1a 0b | yes
     default | types functions 0a 07 01 05 00 d2 00 1a 0b | Body

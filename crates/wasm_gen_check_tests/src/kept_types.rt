@@ -82,16 +82,17 @@ fn is_of_group(types: TypesRef<'_>, place: u32, id: u32, first: u32, size: u32) 
     Some(found.index() == id as usize && next == first.checked_add(size)?)
 }
 
-// The groups that a session has met: the first id of each, where it is one, and the id that comes next.
+/// The groups that a session has met: the first id of each, where it is one, and the id that comes next.
 #[derive(Drop)]
-struct Met {
+pub struct Met {
     are_one: bool,
     first: [Option<u32>; 9],
     next: u32,
 }
 
 impl Met {
-    fn new(are_one: bool) -> Met {
+    /// Returns the state before a session meets any.
+    pub fn new(are_one: bool) -> Met {
         Met {
             are_one,
             first: [None; 9],
@@ -142,12 +143,13 @@ fn agrees(met: &mut Met, types: TypesRef<'_>, module: &str) -> bool {
     met.agrees(types, groups_of(module)) == Some(true)
 }
 
-// Checks that the session answers on a row's module as it is to.
-fn is_met(alloc: Global, session: &mut Session, met: &mut Met, row: &str) -> Option<bool> {
+/// Checks that the session answers on a row's module as it is to. None where memory runs out.
+pub fn is_met(alloc: Global, session: &mut Session, met: &mut Met, row: &str) -> Option<bool> {
     let (module, sections) = two_fields(row)?;
     let bytes = module_of(alloc, sections)?;
     match on_types_after(session, &bytes, met, module, agrees) {
         Ok(holds) => Some(holds && !is_refused(module)),
+        Err(e) if e.kind == ErrorKind::Memory => None,
         Err(e) => Some(
             is_refused(module) && met.enter_all(groups_of(module), e.kind) == Some(true),
         ),

@@ -11,8 +11,8 @@ use wasm_gen_rows::new_session::{on_new_session, renew};
 use wasm_test_rows::fields::{count_of_rows, four_fields, is_row};
 use wasm_test_rows::values::bool_of;
 
-// Before a row the session is `new` or `restarted`, or goes `on`; then its input, the answer, and whether the session has failed.
-const ROWS: &str = "
+/// Before a row the session is `new` or `restarted`, or goes `on`; then its input, the answer, and whether the session has failed.
+pub const ROWS: &str = "
     // A failed session waits for a restart.
     new       | header                                  | yes       | no
     on        |                                         | Malformed | yes
@@ -45,10 +45,6 @@ const ROWS: &str = "
     on        | header                                  | Failed    | yes
     new       | header types 03 02 01 01 code           | Invalid   | yes
     on        | header                                  | Failed    | yes
-    // Names of 100,000 bytes, and of one more.
-    new       | header 00 a3 8d 06 a0 8d 06 6e*100000   | yes         | no
-    on        | header 00 a4 8d 06 a1 8d 06 6e*100001   | Limit(Name) | yes
-    on        | header 00 a3 8d 06 a0 8d 06 6e*100000   | Failed      | yes
     // A body that leaves a value over, and an operator of atomics.
     new       | header types functions 0a 06 01 04 00 41 00 0b      | Body     | no
     on        | header types functions 0a 07 01 05 00 fe 03 00 0b   | Operator | no
@@ -67,6 +63,14 @@ const ROWS: &str = "
     new       | header 05 03 01 00 01 0c 01 01 0b 03 01 01 00 | yes       | no
     on        | header 05 03 01 00 01 0c 01 02 0b 03 01 01 00 | Malformed | yes
     on        | header 05 03 01 00 01 0c 01 01 0b 03 01 01 00 | Failed    | yes
+";
+
+// The same of large modules.
+const LARGE: &str = "
+    // Names of 100,000 bytes, and of one more.
+    new       | header 00 a3 8d 06 a0 8d 06 6e*100000   | yes         | no
+    on        | header 00 a4 8d 06 a1 8d 06 6e*100001   | Limit(Name) | yes
+    on        | header 00 a3 8d 06 a0 8d 06 6e*100000   | Failed      | yes
     // Two modules of 524,288 types each, all of them different, and then the first one of them alone.
     new       | header 01 8380a002 808020 6006@00*524288          | yes    | no
     on        | header 01 8380a002 808020 6006@00*524288..1048576 | yes    | no
@@ -92,8 +96,8 @@ const OWN_IDS: &str = "
     on        | header 01 868060 818020 600000*524289    | Failed | yes
 ";
 
-// Readies the session for a row.
-fn ready(alloc: Global, session: &mut Session, state: &str) -> Option<()> {
+/// Readies the session for a row.
+pub fn ready(alloc: Global, session: &mut Session, state: &str) -> Option<()> {
     match state {
         "new" => renew(alloc, session),
         "restarted" => session.restart(ValidatorId::new(7)),
@@ -140,7 +144,8 @@ fn has_answers(alloc: Global, features: WasmFeatures, table: &str, count: usize)
 
 #[test]
 fn session_goes_on_or_has_failed(rt: HostRuntime) {
-    assert!(rt; has_answers(rt.alloc(), WasmFeatures::default(), ROWS, 52));
+    assert!(rt; has_answers(rt.alloc(), WasmFeatures::default(), ROWS, 42));
+    assert!(rt; has_answers(rt.alloc(), WasmFeatures::default(), LARGE, 10));
     assert!(rt; has_answers(rt.alloc(), features_of_own_ids(), OWN_IDS, 10));
 }
 

@@ -37,10 +37,24 @@ pub fn answers(alloc: Global, session: &mut Session, bytes: &[u8], expected: &st
     }
 }
 
-/// Checks that a new session with these features gives the answer.
+// Answers after which a session goes on.
+const GOES_ON: [&str; 4] = ["yes", "Body", "Operator", "Limit(Locals)"];
+
+// Checks that a session has failed after an answer of the field, or goes on.
+fn has_failed_after(expected: &str) -> bool {
+    for answer in GOES_ON {
+        if has_word(expected, answer) {
+            return false;
+        }
+    }
+    true
+}
+
+/// Checks that a new session with these features gives the answer, and has failed or goes on as it is to after this one.
 pub fn answers_under(alloc: Global, features: WasmFeatures, bytes: &[u8], expected: &str) -> bool {
     let mut session = Session::new(alloc, features, ValidatorId::new(0));
-    let holds = answers(alloc, &mut session, bytes, expected);
+    let is_answer = answers(alloc, &mut session, bytes, expected);
+    let has_failed = session.has_failed();
     drop(session);
-    holds
+    is_answer && has_failed == has_failed_after(expected)
 }

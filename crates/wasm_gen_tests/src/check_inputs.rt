@@ -1,5 +1,7 @@
 //! Checking inputs one after the other, and what is told of them.
 
+use crate::answers::is_front;
+use crate::fakes::{NarrowWriter, WhenFull};
 use std::alloc::{AllocError, Global};
 use wasm_gen::check_inputs::{Inputs, check_inputs};
 use wasm_gen::error::RunError;
@@ -62,10 +64,10 @@ impl Inputs for Named {
     }
 
     fn tell(&mut self, fault: RunError, name: &str) {
-        let text = if fault == RunError::Read {
-            "cannot read"
-        } else {
-            "another fault"
+        let text = match fault {
+            RunError::Read => "cannot read",
+            RunError::Write => "cannot write",
+            _ => "another fault",
         };
         let _ = self.add(name, text);
     }
@@ -92,6 +94,44 @@ fn tells(alloc: Global, explain: bool, expected: &str) -> bool {
         told: String::new(alloc),
     };
     come_to_outcomes(alloc, &mut inputs, explain) && inputs.told.as_str() == expected
+}
+
+// Checks that the inputs end with a fault, after so many that have a line.
+fn end_after(outcomes: &[Outcome], lines: usize) -> bool {
+    let Some((last, before)) = outcomes.split_last() else {
+        return false;
+    };
+    let answers = before.iter().filter(|it| **it != Outcome::Fault).count();
+    *last == Outcome::Fault && answers == lines
+}
+
+// Checks that a writer of this room takes as much of the lines, and that the inputs end with the one whose line it doesn't take.
+fn end_at_a_full_writer(alloc: Global, inputs: &mut Named, room: usize) -> bool {
+    let mut writer = NarrowWriter::new(alloc, room, WhenFull::Fails);
+    let are_ended = match check_inputs(alloc, inputs, NAMES, &mut writer, false) {
+        Ok(outcomes) => {
+            let lines = writer.taken.iter().filter(|byte| **byte == b'\n').count();
+            end_after(&outcomes, lines)
+        }
+        Err(_) => false,
+    };
+    are_ended && is_front(&writer.taken, WRITTEN.as_bytes(), room)
+}
+
+// Checks that they do so, and that the fault is told.
+fn tells_of_a_full_writer(alloc: Global, room: usize) -> bool {
+    let mut inputs = Named {
+        told: String::new(alloc),
+    };
+    end_at_a_full_writer(alloc, &mut inputs, room)
+        && inputs.told.as_str().ends_with(": cannot write\n")
+}
+
+#[test]
+fn failed_write_ends_the_run(rt: HostRuntime) {
+    for room in 0..WRITTEN.len() {
+        assert!(rt; tells_of_a_full_writer(rt.alloc(), room));
+    }
 }
 
 #[test]

@@ -93,6 +93,18 @@ pub struct TellingReader<'a> {
     pub told: Option<Told>,
 }
 
+impl<'a> TellingReader<'a> {
+    /// Returns a reader of these bytes that fails where so many are left, and counts nothing.
+    pub fn failing(bytes: &'a [u8], left: usize) -> Self {
+        TellingReader {
+            rest: bytes,
+            fails_with: Some(left),
+            kind: ErrorKind::BrokenPipe,
+            told: None,
+        }
+    }
+}
+
 impl TellingReader<'_> {
     // Counts one more read. The counts are dropped where one of them has no room for it.
     fn count(&mut self, failures: u64, ends: u64)

@@ -33,6 +33,8 @@ mod parts;
 #[cfg(test)]
 mod references;
 #[cfg(test)]
+mod refusals;
+#[cfg(test)]
 mod run_check;
 #[cfg(test)]
 mod run_generate;

@@ -1,7 +1,7 @@
 //! Making a module of what a reader gives.
 
 use crate::answers::is_front;
-use crate::fakes::{NarrowWriter, ScriptedReader, WhenFull};
+use crate::fakes::{NarrowWriter, ScriptedReader, TellingReader, WhenFull};
 use std::alloc::Global;
 use std::io;
 use wasm_core::limits::Limit;
@@ -33,9 +33,9 @@ fn writes_the_module_of_a_seed(rt: HostRuntime) {
 }
 
 // Checks that a writer of this room takes as much of the module, and the run is refused where that is not all.
-fn fills(alloc: Global, room: usize) -> bool {
+fn fills(alloc: Global, room: usize, when_full: WhenFull) -> bool {
     let mut reader = SEED;
-    let mut writer = NarrowWriter::new(alloc, room, WhenFull::Fails);
+    let mut writer = NarrowWriter::new(alloc, room, when_full);
     let answer = run_generate(alloc, &plain_config(), &mut reader, &mut writer);
     let expected = if room < MODULE.len() {
         Err(RunError::Write)
@@ -48,7 +48,9 @@ fn fills(alloc: Global, room: usize) -> bool {
 #[test]
 fn writes_as_much_as_there_is_room(rt: HostRuntime) {
     for room in 0..=MODULE.len() {
-        assert!(rt; fills(rt.alloc(), room));
+        for when_full in [WhenFull::Fails, WhenFull::TakesNone] {
+            assert!(rt; fills(rt.alloc(), room, when_full));
+        }
     }
 }
 
@@ -86,7 +88,11 @@ fn writes_nothing_of_a_refused_seed(rt: HostRuntime) {
 #[test]
 fn writes_nothing_where_a_read_fails(rt: HostRuntime) {
     let config = plain_config();
-    for script in ["!", "\x01!", "\x01~!", "\x01~\0!"] {
+    for left in 0..=SEED.len() {
+        let reader = TellingReader::failing(SEED, left);
+        assert!(rt; is_refused_for(rt.alloc(), &config, reader, RunError::Read));
+    }
+    for script in ["\x01~!", "\x01~\0!"] {
         let reader = ScriptedReader::new(script);
         assert!(rt; is_refused_for(rt.alloc(), &config, reader, RunError::Read));
     }

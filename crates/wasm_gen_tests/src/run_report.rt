@@ -1,9 +1,10 @@
 //! Reporting on what a reader gives.
 
 use crate::answers::is_front;
-use crate::fakes::{NarrowWriter, ScriptedReader, WhenFull};
+use crate::fakes::{NarrowWriter, ScriptedReader, TellingReader, WhenFull};
 use std::alloc::Global;
 use wasm_core::features::WasmFeatures;
+use wasm_gen::device::Source;
 use wasm_gen::error::RunError;
 use wasm_gen::run::run_report;
 use wasm_gen::session::Session;
@@ -60,17 +61,35 @@ fn writes_as_much_as_there_is_room(rt: HostRuntime) {
 }
 
 // Checks that a read that fails is returned as an error, that nothing is written, and that the session is as it was.
+fn is_refused<R: Source>(alloc: Global, session: &mut Session, reader: &mut R) -> bool {
+    let mut written = Vec::new(alloc);
+    let answer = run_report(alloc, session, reader, &mut written);
+    answer == Err(RunError::Read) && written.is_empty() && !session.has_failed()
+}
+
+// Checks that it is where each of the reads of a module fails.
+fn fails_at_each(alloc: Global, session: &mut Session, _row: &str) -> Option<bool> {
+    for left in 0..=MODULE.len() {
+        let mut reader = TellingReader::failing(MODULE, left);
+        if !is_refused(alloc, session, &mut reader) {
+            return Some(false);
+        }
+    }
+    Some(true)
+}
+
 fn fails_after(alloc: Global, session: &mut Session, script: &str) -> Option<bool> {
     let mut reader = ScriptedReader::new(script);
-    let mut written = Vec::new(alloc);
-    let answer = run_report(alloc, session, &mut reader, &mut written);
-    Some(answer == Err(RunError::Read) && written.is_empty() && !session.has_failed())
+    Some(is_refused(alloc, session, &mut reader))
 }
 
 #[test]
 fn failed_read_reports_nothing(rt: HostRuntime) {
-    for script in ["!", "\0!", "\0a!", "\0a~!", "\0a~s!"] {
-        let holds = on_new_session(rt.alloc(), WasmFeatures::default(), script, fails_after);
+    let features = WasmFeatures::default();
+    let holds = on_new_session(rt.alloc(), features, "", fails_at_each);
+    assert!(rt; holds == Some(true));
+    for script in ["\0a~!", "\0a~s!"] {
+        let holds = on_new_session(rt.alloc(), features, script, fails_after);
         assert!(rt; holds == Some(true));
     }
 }

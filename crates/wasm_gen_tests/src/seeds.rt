@@ -74,21 +74,13 @@ fn drawn_lists_are_made_from_seeds(rt: HostRuntime) {
 // A configuration; how many groups there are, of how many types each, with how many parameters; the index of each function's type, a byte each; and the
 // sections that are made of the seed for them, or `none` where there is no seed.
 const ROWS: &str = "
-    // One function of one type.
-    | 1 1 0 | 00 | types functions code
-    default | 1 1 0 | 00 | types functions code
     // Parameters have their bound, and types that the configuration enables.
     | 1 1 20 | 00 | 01 18 01 60 14 7b*20 00 functions code
-    | 1 1 21 | 00 | none
     simd_enabled=no | 1 1 1 | 00 | none
     // Types and functions have their bounds.
     | 100 1 0 | 63*100    | 01 ad 02 64 600000*100 03 65 64 63*100 0a 91 03 64 0300000b*100
     | 100 1 0 | 63*100 00 | none
     | 101 1 0 |           | none
-    // An index past the types.
-    | 1 1 0 | 01 | none
-    // A group of two types.
-    | 1 2 0 | 00 | none
     // Parts that a boolean asks for are left out, and configurations out of reach refused.
     allow_invalid_funcs=yes disallow_traps=yes generate_custom_sections=yes | 1 1 0 | 00 | types functions code
     min_types=1           | 1 1 0 | 00 | none
@@ -174,11 +166,17 @@ fn holds(alloc: Global, row: &str) -> Option<bool> {
 
 #[test]
 fn seeds_are_found_within_the_bounds(rt: HostRuntime) -> Result<(), Fail> {
-    Ok(check_rows(rt.alloc(), ROWS, 18, holds)?)
+    Ok(check_rows(rt.alloc(), ROWS, 13, holds)?)
 }
 
-// A configuration, groups of types in words, the index of each function's type, and the sections that are made of the seed for them, or `none`.
-const IN_WORDS: &str = "
+/// A configuration, groups of types in words, the index of each function's type, and the sections that are made of the seed for them, or `none`.
+pub const IN_WORDS: &str = "
+    // One function of one type. A group of two types, more parameters than there may be, and an index past the types.
+    | func ->         | 0 | types functions code
+    default | func -> | 0 | types functions code
+    | func ->, func -> | 0 | none
+    | func i64*21 ->  | 0 | none
+    | func ->         | 1 | none
     // A reference to a type of an earlier group, two types that refer to each other, and one that refers to itself.
     gc_enabled=yes | func -> ; struct 0?    | 0 | 01 09 02 60 00 00 5f 01 63 00 00 functions code
     gc_enabled=yes | struct 1?, struct 0?   |   | 01 0d 01 4e 02 5f 01 63 01 00 5f 01 63 00 00
@@ -236,5 +234,5 @@ fn holds_in_words(alloc: Global, row: &str) -> Option<bool> {
 
 #[test]
 fn seeds_are_found_for_types_in_words(rt: HostRuntime) -> Result<(), Fail> {
-    Ok(check_rows(rt.alloc(), IN_WORDS, 21, holds_in_words)?)
+    Ok(check_rows(rt.alloc(), IN_WORDS, 26, holds_in_words)?)
 }

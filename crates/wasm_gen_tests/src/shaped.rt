@@ -1,6 +1,6 @@
 //! Modules that are made for shapes, and shapes for which none are.
 
-use crate::generated::makes;
+use crate::generated::{are_fronts_made, makes};
 use std::alloc::Global;
 use std::test::Fail;
 use wasm_gen_rows::modules::parts_of;
@@ -9,8 +9,8 @@ use wasm_smith_config_rows::shaped::with_shapes;
 use wasm_test_rows::fields::four_fields;
 use wasm_test_rows::rows::check_rows;
 
-// A configuration, its shapes, a seed, and the sections that are made of it, or why none are.
-const MADE: &str = "
+/// A configuration, its shapes, a seed, and the sections that are made of it, or why none are.
+pub const MADE: &str = "
     // A module's types, imports and exports: nothing is drawn for these, so that the first byte is that of a table and the second that of a memory.
     default | module / / | |
     default | module / / | 00 01 | 05 03 01 00 00
@@ -65,8 +65,8 @@ const MADE: &str = "
     default export_everything=yes | imports / one m a memory 0.. ; / | 00 01 | 02 08 01 01 6d 01 61 02 00 00 07 04 01 00 02 00
 ";
 
-// The same of shapes that may not be asked for, beside some that may.
-const REFUSED: &str = "
+/// The same of shapes that may not be asked for, beside some that may.
+pub const REFUSED: &str = "
     default | module func 1? -> ; / / | | refused: shape groups
     default | module / one m f func 0 ; / | | refused: shape imports
     default | module / / f func 0 | | refused: shape exports
@@ -111,7 +111,7 @@ fn holds(alloc: Global, row: &str) -> Option<bool> {
     let (settings, shapes, seed, expected) = four_fields(row)?;
     let config = with_shapes(alloc, config_in(settings)?, shapes)?;
     let seed = parts_of(alloc, seed)?;
-    Some(makes(alloc, &config, &seed, expected))
+    Some(makes(alloc, &config, &seed, expected) && are_fronts_made(alloc, &seed))
 }
 
 #[test]

@@ -1,6 +1,6 @@
 //! Modules of the configurations that ask for something special: exports of everything, raw bodies, custom sections, and segments that can't trap.
 
-use crate::generated::{is_answered, is_module_of, is_refusal};
+use crate::generated::{are_fronts_made, is_answered, is_module_of, is_refusal};
 use std::alloc::Global;
 use std::test::Fail;
 use wasm_gen::generate::generate;
@@ -10,8 +10,8 @@ use wasm_smith_config_rows::settings::config_in;
 use wasm_test_rows::fields::four_fields;
 use wasm_test_rows::rows::check_rows;
 
-// A configuration, a seed, the sections that are made of it or why none are, and what a new session with the features of the configuration says of them.
-const ROWS: &str = "
+/// A configuration, a seed, the sections that are made of it or why none are, and what a new session with the features of the configuration says of them.
+pub const ROWS: &str = "
     // Exports of everything: two functions; one of each kind; types that are too large, and just not too large; other bounds on the number of exports.
     export_everything=yes | 01 00 00 00 01 01 | types 03 03 02 00 00 07 08 02 00 00 00 01 31 00 01 0a 09 02 03 00 00 0b 03 00 00 0b | yes
     default export_everything=yes min_types=1 min_funcs=1 min_tables=1 min_memories=1 min_tags=1 min_globals=1 | | types functions 04 04 01 70 00 00 05 03 01 00 00 0d 03 01 00 00 06 06 01 7f 00 41 00 0b 07 14 05 00 00 00 01 31 01 00 01 32 02 00 01 33 03 00 01 34 04 00 code | yes
@@ -57,6 +57,7 @@ const ROWS: &str = "
     disallow_traps=yes min_memories=1 max_memories=1 min_data_segments=1 max_data_segments=1 | 00 00 00 00 00 00 00 ff 01 | 05 03 01 00 00 0c 01 01 0b 06 01 00 41 00 0b 00 | yes
     disallow_traps=yes min_memories=1 max_memories=1 min_data_segments=1 max_data_segments=1 | 00 01 01 00 00 00 00 00 00 00 00 aa ff ff ff ff ff ff ff ff 01 | 05 09 01 04 80 80 80 80 80 80 40 0c 01 01 0b 07 01 00 42 7f 0b 01 aa | yes
     disallow_traps=yes min_tables=1 max_tables=1 min_element_segments=1 max_element_segments=1 min_elements=3 | | 04 04 01 70 00 00 09 06 01 04 41 00 0b 00 | yes
+    disallow_traps=yes min_tables=1 max_tables=1 min_element_segments=1 max_element_segments=1 min_elements=2147483648 max_elements=2147483648 | | 04 04 01 70 00 00 09 06 01 04 41 00 0b 00 | yes
     // Fewer items than the minimum where the table is smaller, an item in its last place, contents cut at a memory of three pages of a byte, and an offset of 32
     // bits that is written as a negative number.
     disallow_traps=yes min_tables=1 max_tables=1 min_element_segments=1 max_element_segments=1 min_elements=3 | 00 00 00 00 00 02 00 00 00 00 00 00 01 00 01 01 01 01 01 01 | 04 04 01 70 00 02 09 0c 01 04 41 00 0b 02 d0 70 0b d0 70 0b | yes
@@ -89,10 +90,11 @@ fn holds(alloc: Global, row: &str) -> Option<bool> {
     let (settings, seed, expected, answer) = four_fields(row)?;
     let config = config_in(settings)?;
     let seed = parts_of(alloc, seed)?;
-    Some(is_made(alloc, &config, &seed, expected, answer))
+    let is_made = is_made(alloc, &config, &seed, expected, answer);
+    Some(is_made && are_fronts_made(alloc, &seed))
 }
 
 #[test]
 fn special_configurations_make_these_modules(rt: HostRuntime) -> Result<(), Fail> {
-    Ok(check_rows(rt.alloc(), ROWS, 49, holds)?)
+    Ok(check_rows(rt.alloc(), ROWS, 50, holds)?)
 }

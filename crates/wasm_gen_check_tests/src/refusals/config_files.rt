@@ -8,7 +8,8 @@ use wasm_test_rows::rows::check_rows;
 const TEXTS: &str = "
     max_types = 7\\ngc_enabled = false   | ok max_types=7 gc_enabled=no
     allowed_instructions = \"Numeric\" | shows allowed_instructions: InstructionKinds { bits: 3 }
-    shape = 1                          | key shape isn't a field
+    max_types = 3                      | ok max_types=3
+    max_typez = 3                      | key max_typez isn't a field
     max_types = -1                     | key max_types takes a whole number from 0 to 4294967295
     max_types =                        | text
     \\xFF                               | text
@@ -24,5 +25,5 @@ fn holds_then(alloc: Global, row: &str) -> Option<bool> {
 
 #[test]
 fn texts_give_this(rt: HostRuntime) -> Result<(), Fail> {
-    Ok(check_rows(rt.alloc(), TEXTS, 6, holds_then)?)
+    Ok(check_rows(rt.alloc(), TEXTS, 7, holds_then)?)
 }

@@ -1,16 +1,19 @@
 //! Sessions that run out of memory.
 
+use crate::refusals::rows::joined;
+use crate::sessions::{ROWS, ready};
 use std::alloc::Global;
 use std::test::Fail;
 use wasm_core::features::{Flags, WasmFeatures};
 use wasm_gen::judge::{ErrorKind, ValidatorId};
 use wasm_gen::session::Session;
 use wasm_gen_rows::answers::refusal_of;
+use wasm_gen_rows::modules::parts_of;
 use wasm_gen_rows::new_session::on_new_session;
-use wasm_test_rows::fields::{has_word, two_fields};
+use wasm_test_rows::fields::{four_fields, has_word, is_row, two_fields};
 use wasm_test_rows::limits::limit_of;
 use wasm_test_rows::rows::check_rows;
-use wasm_test_rows::values::bytes_of;
+use wasm_test_rows::values::{bool_of, bytes_of};
 
 // Modules, and what a session answers: `yes`, or the name of a refusal.
 const MODULES: &str = "
@@ -34,6 +37,8 @@ fn kind_of(word: &str) -> Option<ErrorKind> {
         "Malformed" | "malformed" => Some(ErrorKind::Malformed),
         "Invalid" | "invalid" => Some(ErrorKind::Invalid),
         "Body" | "body" => Some(ErrorKind::Body),
+        "Operator" => Some(ErrorKind::Operator),
+        "Failed" => Some(ErrorKind::Failed),
         _ => {
             let limit = word.strip_prefix("Limit(")?.strip_suffix(')')?;
             Some(ErrorKind::Limit(limit_of(limit)?))
@@ -91,4 +96,39 @@ fn holds(alloc: Global, row: &str) -> Option<bool> {
 #[test]
 fn sessions_go_on_after_memory_ran_out(rt: HostRuntime) -> Result<(), Fail> {
     Ok(check_rows(rt.alloc(), MODULES, 12, holds)?)
+}
+
+// Returns the bytes of a row's input.
+fn input_bytes(alloc: Global, input: &str) -> Option<Vec<u8>> {
+    let input = joined(alloc, input)?;
+    parts_of(alloc, &input)
+}
+
+// Checks a row, before which the session is readied.
+fn goes_on(alloc: Global, session: &mut Session, row: &str) -> Option<bool> {
+    let (state, input, expected, has_failed) = four_fields(row)?;
+    let has_failed = bool_of(has_failed)?;
+    ready(alloc, session, state)?;
+    let bytes = match input_bytes(alloc, input) {
+        Some(bytes) => bytes,
+        None => input_bytes(alloc, input)?,
+    };
+    let is_answer = answers(session, &bytes, expected);
+    Some(is_answer && session.has_failed() == has_failed)
+}
+
+// Checks all rows of a table, one after the other.
+fn goes_through(alloc: Global, session: &mut Session, table: &str) -> Option<bool> {
+    for row in table.lines() {
+        if is_row(row) && !goes_on(alloc, session, row)? {
+            return Some(false);
+        }
+    }
+    Some(true)
+}
+
+#[test]
+fn sessions_go_on_from_module_to_module(rt: HostRuntime) {
+    let holds = on_new_session(rt.alloc(), WasmFeatures::default(), ROWS, goes_through);
+    assert!(rt; holds == Some(true));
 }

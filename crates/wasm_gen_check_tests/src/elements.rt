@@ -1,7 +1,7 @@
 //! Element segments.
 
 /// How many rows there are.
-pub const COUNT: usize = 43;
+pub const COUNT: usize = 44;
 
 /// Features, sections, the answer, and what the row shows.
 pub const ROWS: &str = "
@@ -12,6 +12,7 @@ pub const ROWS: &str = "
     default                 | types functions 04 04 01 70 00 01 09 08 01 00 41 00 0b 02 00 01 code | Invalid                | none after one
     default                 | types 02 05 01 00 00 00 00 functions 04 04 01 70 00 01 09 08 01 00 41 00 0b 02 00 01 code | yes                    | an imported one too
     default                 | types functions 04 04 01 6f 00 01 09 06 01 00 41 00 0b 00 code       | Invalid                | a table of others
+    default                 | types functions 04 04 01 73 00 01 09 06 01 00 41 00 0b 00 code       | Invalid                | a table of no functions
     default                 | types functions 04 0a 01 40 00 64 70 00 01 d2 00 0b 09 07 01 00 41 00 0b 01 00 code | yes                    | a table without null
     // Offsets.
     default                 | 04 04 01 70 00 01 09 06 01 00 42 00 0b 00                            | Invalid                | i64

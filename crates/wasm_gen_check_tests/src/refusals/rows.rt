@@ -126,7 +126,7 @@ fn data_segments_are_answered(rt: HostRuntime) -> Result<(), Fail> {
 
 #[test]
 fn elements_are_answered(rt: HostRuntime) -> Result<(), Fail> {
-    Ok(check_short_rows(rt.alloc(), elements::ROWS, 41)?)
+    Ok(check_short_rows(rt.alloc(), elements::ROWS, 42)?)
 }
 
 #[test]

@@ -18,7 +18,7 @@ MOST, SECONDS = 8 << 20, 300
 EACH, SLACK = 100, 1 << 19
 # What may be had for a definition of a made module, as many of the limit on types where there is a refusal, and for each byte of the seed.
 MADE, SEED_TIMES = 250, 160
-# Messages that no row may end with, but for the first where a configuration asks for more than memory has.
+# Messages that no row may end with. Those of configurations that ask for too much may end with the first.
 OUT_OF_MEMORY = "wasm_gen: out of memory"
 UNNAMED = [OUT_OF_MEMORY, f"no end within {SECONDS} s"]
 MANY_ELEMENTS = "1,000 element segments with min_elements at the limit"
@@ -26,6 +26,7 @@ MANY_ELEMENTS = "1,000 element segments with min_elements at the limit"
 LIMITS = {"types": 1_000_000, "imports": 1_000_000, "tags": 1_000_000, "funcs": 1_000_000, "globals": 1_000_000, "exports": 1_000_000,
           "element_segments": 100_000, "elements": 10_000_000, "data_segments": 100_000, "tables": 100, "memories": 100}
 GREATEST = 1 << 31
+# Configurations that may run out of memory.
 ASKS_FOR_TOO_MUCH = [MANY_ELEMENTS, *(f"min_{key} at 2^31" for key in LIMITS if key != "types")]
 # Sizes of types of which no module passes the validator's limit, which counts a function one more.
 SIZE_OF_TYPES = 499_999
